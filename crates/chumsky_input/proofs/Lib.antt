@@ -1,0 +1,3 @@
+pub mod PrimaryLemmas
+pub mod Events
+pub mod Ascii

@@ -1,0 +1,41 @@
+-- What counts of what a run holds.
+use Rattle.std.specs.Prelude.{◌≡◌, ℕ, Option, List, map, option_map}
+use Rattle.chumsky_input.specs.declared.error.Error as error_trait
+use Rattle.chumsky_input.specs.declared.inspector.Inspector as inspector_trait
+use Rattle.chumsky_input.specs.declared.input.Input as input_trait
+use Rattle.chumsky_input.specs.declared.input_ref.InputRef.{InputRef}
+use Rattle.chumsky_input.specs.declared.input_ref.Located.{Located}
+use Rattle.chumsky_input.specs.declared.input_ref.Checkpoint.{Checkpoint}
+use Rattle.chumsky_input.specs.Outcome.{Event}
+
+-- the tokens, the place, the context, the state, the error that is kept and those that were emitted
+pub record Held (Tok Cx St Er : Type 0) : Type 0 where
+  pub tokens : List Tok
+  pub place : ℕ
+  pub context : Cx
+  pub state : St
+  pub kept : Option (Event Er)
+  pub emitted : List Er
+
+-- an event, of an error and its place
+abbrev pub located : {E S : Type 0} → (E → S) → Located E → Event S
+located seen l = record { place = l.place; error = seen l.error }
+
+module _ {I X Tok Sp Cu Er St Cx Mk : Type 0} (source : input_trait.Ghosts I Cu Tok Sp) (errors : error_trait.Ghosts Er I Tok Sp) (states : inspector_trait.Ghosts St I Mk Tok Sp) where
+  abbrev pub held : InputRef I X Cu Tok Sp Er St Cx Mk → Held Tok Cx states.Seen errors.Seen
+  held inp =
+      record {
+        tokens = source.cursor_tokens inp.cursor; place = source.place inp.cursor; context = inp.context.now; state = states.seen inp.state.now;
+        kept = option_map (located errors.seen) inp.kept; emitted = map errors.seen inp.emitted.items
+      }
+
+-- what a checkpoint holds
+pub record Marks (Tok Mk : Type 0) : Type 0 where
+  pub tokens : List Tok
+  pub place : ℕ
+  pub emitted : ℕ
+  pub mark : Mk
+
+module _ {I Tok Sp Cu St Mk : Type 0} (source : input_trait.Ghosts I Cu Tok Sp) (states : inspector_trait.Ghosts St I Mk Tok Sp) where
+  abbrev pub marks : Checkpoint Cu Mk → Marks Tok states.Marked
+  marks c = record { tokens = source.cursor_tokens c.cursor; place = source.place c.cursor; emitted = c.emitted; mark = states.marked c.mark }

@@ -1,0 +1,296 @@
+//! What a parser is lent: where its run stands, and what it holds.
+ghost use Rattle.std.specs.Prelude.{◌≡◌, ◌∷◌, [], option_map, option_to_list, slice_get, MatchResult, Option, Some, None, ℕ, ◌≤◌, IsTrue, is_some, IfOk};
+ghost use Rattle.std.specs.Iterator.{YieldsFirstBy, item_count};
+ghost use Rattle.chumsky_input.specs.Held.{Held, held, marks, located};
+ghost use Rattle.chumsky_input.specs.Maybe.{maybe_value};
+ghost use Rattle.chumsky_input.specs.Wanted.{wanted, plain_wanted, Token};
+ghost use Rattle.chumsky_input.specs.Run.{took, TookValue, LacksToken, marked_here, gone_back, Adds, Fails, KeepsPast, final_error, with_last, with_emitted};
+
+use crate::error::Error;
+use crate::extra::ParserExtra;
+use crate::input::{Input, ValueInput};
+use crate::inspector::Inspector;
+use crate::stop::{Fault, Stop};
+use crate::util::{DefaultExpected, MaybeRef, Plain};
+use std::alloc::{AllocError, Global};
+use std::marker::PhantomData;
+
+/// An error and the place of its failure: how many tokens stand before it.
+#[derive(Drop)]
+pub struct Located<E> {
+    pub place: usize,
+    pub error: E,
+}
+
+/// Where a run stood: what `InputRef::rewind` goes back to.
+#[derive(Drop)]
+pub struct Checkpoint<C, M> {
+    pub cursor: C,
+    pub emitted: usize,
+    pub mark: M,
+}
+
+/// What a parser is lent by a run: a cursor into the input, the state, the context, the error of the furthest failure
+/// so far and the errors that were emitted.
+pub struct InputRef<'src, 'p, I: Input<'src>, E: ParserExtra<I>> {
+    pub cursor: I::Cursor,
+    pub state: &'p mut E::State,
+    pub context: &'p E::Context,
+    pub kept: Option<Located<E::Error>>,
+    pub emitted: Vec<E::Error>,
+    pub alloc: Global,
+    pub source: PhantomData<&'src ()>,
+}
+
+/// One expectation, or none.
+#[derive(Drop)]
+pub struct One<'s, T> {
+    pub left: Option<DefaultExpected<'s, T>>,
+}
+
+impl<'s, T: Drop> Iterator for One<'s, T> {
+    type Item = DefaultExpected<'s, T>;
+
+    ghost next_gives = { YieldsFirstBy wanted (λ s. option_to_list (option_map wanted s.left)) };
+
+    ghost remaining = { item_count (λ s. option_to_list (option_map wanted s.left)) };
+
+    fn next(&mut self) -> Option<DefaultExpected<'s, T>> {
+        self.left.take()
+    }
+}
+
+impl<'src, 'p, I: Input<'src>, E: ParserExtra<I>> InputRef<'src, 'p, I, E> {
+    /// The next token where it lies, which is taken and told to the state; none at the end of input.
+    #[inline]
+    pub fn next_maybe(&mut self) -> Option<MaybeRef<'src, I::Token>>
+        ensures taken { option_map maybe_value result ≡ slice_get (held I.Input E.Error.Error E.State.Inspector self.old).tokens (held I.Input E.Error.Error E.State.Inspector self.old).place }
+        ensures moves { held I.Input E.Error.Error E.State.Inspector self.new ≡ took E.State.after (held I.Input E.Error.Error E.State.Inspector self.old) (option_map maybe_value result) }
+        ensures lent { self.new.state.ghost_name ≡ self.old.state.ghost_name }
+    {
+        match I::next_maybe(&mut self.cursor) {
+            None => None,
+            Some(token) => {
+                self.state.on_token(token.get());
+                Some(token)
+            }
+        }
+    }
+
+    /// Takes the next token, if there is one, and says whether there was.
+    #[inline]
+    pub fn advance(&mut self) -> bool
+        ensures moves { held I.Input E.Error.Error E.State.Inspector self.new ≡ took E.State.after (held I.Input E.Error.Error E.State.Inspector self.old) (slice_get (held I.Input E.Error.Error E.State.Inspector self.old).tokens (held I.Input E.Error.Error E.State.Inspector self.old).place) }
+        ensures tells { result ≡ is_some (slice_get (held I.Input E.Error.Error E.State.Inspector self.old).tokens (held I.Input E.Error.Error E.State.Inspector self.old).place) }
+        ensures lent { self.new.state.ghost_name ≡ self.old.state.ghost_name }
+    {
+        let token = self.next_maybe();
+        token.is_some()
+    }
+
+    /// A checkpoint to go back to. A refusal changes nothing.
+    #[inline]
+    pub fn save(&self) -> Result<Checkpoint<I::Cursor, <E::State as Inspector<I>>::Mark>, AllocError>
+        ensures { MatchResult result (λ c. marks I.Input E.State.Inspector c ≡ marked_here E.State.mark (held I.Input E.Error.Error E.State.Inspector self.now)) (λ _. ¬ E.State.takes_no_memory) }
+    {
+        let mark = self.state.on_save()?;
+        Ok(Checkpoint {
+            cursor: self.cursor,
+            emitted: self.emitted.len(),
+            mark,
+        })
+    }
+
+    /// Goes back to a checkpoint of this input: the cursor stands where it stood, the errors emitted since are dropped,
+    /// and the state gets its mark. Failures stay. A refusal changes nothing.
+    #[inline]
+    pub fn rewind(&mut self, to: &Checkpoint<I::Cursor, <E::State as Inspector<I>>::Mark>) -> Result<(), AllocError>
+        requires { (marks I.Input E.State.Inspector to.now).tokens ≡ (held I.Input E.Error.Error E.State.Inspector self.old).tokens }
+        ensures back { MatchResult result (λ _. held I.Input E.Error.Error E.State.Inspector self.new ≡ gone_back E.State.back (held I.Input E.Error.Error E.State.Inspector self.old) (marks I.Input E.State.Inspector to.now)) (λ _. (held I.Input E.Error.Error E.State.Inspector self.new ≡ held I.Input E.Error.Error E.State.Inspector self.old) × ¬ E.State.takes_no_memory) }
+        ensures lent { self.new.state.ghost_name ≡ self.old.state.ghost_name }
+    {
+        self.state.on_rewind(&to.mark)?;
+        self.cursor = to.cursor;
+        self.emitted.truncate(to.emitted);
+        Ok(())
+    }
+
+    /// Where the run stands.
+    #[inline]
+    pub fn cursor(&self) -> I::Cursor
+        ensures { result ≡ self.now.cursor }
+    {
+        self.cursor
+    }
+
+    /// The span from a cursor of this input, not past the present one, to the present one.
+    #[inline]
+    pub fn span_since(&self, before: &I::Cursor) -> I::Span
+        requires tokens { I.cursor_tokens before.now ≡ (held I.Input E.Error.Error E.State.Inspector self.now).tokens }
+        requires order { I.place before.now ≤ (held I.Input E.Error.Error E.State.Inspector self.now).place }
+        ensures { result ≡ I.span_between (I.cursor_tokens before.now) (I.place before.now) (held I.Input E.Error.Error E.State.Inspector self.now).place }
+    {
+        I::span(before, &self.cursor)
+    }
+
+    /// Emits an error, which stands whatever the parser answers, unless the run goes back past it.
+    pub fn emit(&mut self, error: E::Error) -> Result<(), AllocError>
+        ensures emits { MatchResult result (λ _. held I.Input E.Error.Error E.State.Inspector self.new ≡ with_emitted (held I.Input E.Error.Error E.State.Inspector self.old) (E.Error.seen error)) (λ _. held I.Input E.Error.Error E.State.Inspector self.new ≡ held I.Input E.Error.Error E.State.Inspector self.old) }
+        ensures lent { self.new.state.ghost_name ≡ self.old.state.ghost_name }
+    {
+        self.emitted.push(error)?;
+        Ok(())
+    }
+
+    /// A failure with an error at a place.
+    pub fn add_event(&mut self, place: usize, error: E::Error) -> Fault
+        ensures adds { Adds E.Error.merged E.Error.takes_no_memory (record { place = place; error = E.Error.seen error }) (held I.Input E.Error.Error E.State.Inspector self.old) (held I.Input E.Error.Error E.State.Inspector self.new) result }
+        ensures lent { self.new.state.ghost_name ≡ self.old.state.ghost_name }
+    {
+        match self.kept.take() {
+            None => {
+                self.kept = Some(Located { place, error });
+                Fault::Fail
+            }
+            Some(kept) => {
+                if kept.place < place {
+                    self.kept = Some(Located { place, error });
+                    Fault::Fail
+                } else if place < kept.place {
+                    self.kept = Some(kept);
+                    Fault::Fail
+                } else {
+                    match kept.error.merge(error) {
+                        Ok(error) => {
+                            self.kept = Some(Located { place, error });
+                            Fault::Fail
+                        }
+                        Err(_) => Fault::Stop(Stop::Memory),
+                    }
+                }
+            }
+        }
+    }
+
+    /// A failure where something was expected, with the span between two cursors. Where the error that is kept lies
+    /// further on, none is built.
+    pub fn expected(
+        &mut self,
+        from: &I::Cursor,
+        to: &I::Cursor,
+        what: Plain,
+        found: Option<MaybeRef<'src, I::Token>>,
+    ) -> Fault
+        requires { I.cursor_tokens to.now ≡ I.cursor_tokens from.now }
+        ensures fails { Fails E.Error.merged E.Error.takes_no_memory (record { place = I.place from.now; error = E.Error.expectation (plain_wanted what) (option_map maybe_value found.entry) (I.span_between (I.cursor_tokens from.now) (I.place from.now) (I.place to.now)) }) (held I.Input E.Error.Error E.State.Inspector self.old) (held I.Input E.Error.Error E.State.Inspector self.new) result }
+        ensures lent { self.new.state.ghost_name ≡ self.old.state.ghost_name }
+    {
+        let place = I::place(from);
+        if self.keeps_past(place) {
+            return Fault::Fail;
+        }
+        let span = I::span(from, to);
+        let expected = what.as_expected();
+        match E::Error::expected_found(self.alloc, One { left: expected }, found, span) {
+            Ok(error) => self.add_event(place, error),
+            Err(_) => Fault::Stop(Stop::Memory),
+        }
+    }
+
+    /// The same where one token was expected.
+    pub fn expected_token(
+        &mut self,
+        from: &I::Cursor,
+        to: &I::Cursor,
+        token: &I::Token,
+        found: Option<MaybeRef<'src, I::Token>>,
+    ) -> Fault
+        requires { I.cursor_tokens to.now ≡ I.cursor_tokens from.now }
+        ensures fails { Fails E.Error.merged E.Error.takes_no_memory (record { place = I.place from.now; error = E.Error.expectation (Token token.now ∷ []) (option_map maybe_value found.entry) (I.span_between (I.cursor_tokens from.now) (I.place from.now) (I.place to.now)) }) (held I.Input E.Error.Error E.State.Inspector self.old) (held I.Input E.Error.Error E.State.Inspector self.new) result }
+        ensures lent { self.new.state.ghost_name ≡ self.old.state.ghost_name }
+    {
+        let place = I::place(from);
+        if self.keeps_past(place) {
+            return Fault::Fail;
+        }
+        let span = I::span(from, to);
+        let expected = DefaultExpected::Token(MaybeRef::Ref(token));
+        match E::Error::expected_found(self.alloc, One { left: Some(expected) }, found, span) {
+            Ok(error) => self.add_event(place, error),
+            Err(_) => Fault::Stop(Stop::Memory),
+        }
+    }
+
+    /// The last error of a failure: the one that is kept, or where there is none that of an empty expectation.
+    pub fn last_error(&mut self) -> Result<E::Error, AllocError>
+        ensures error { IfOk result (λ e. E.Error.seen e ≡ final_error E.Error.expectation I.span_between (held I.Input E.Error.Error E.State.Inspector self.old).kept (held I.Input E.Error.Error E.State.Inspector self.old).tokens (held I.Input E.Error.Error E.State.Inspector self.old).place) }
+        ensures leaves { held I.Input E.Error.Error E.State.Inspector self.new ≡ record (held I.Input E.Error.Error E.State.Inspector self.old) { kept = None } }
+        ensures lent { self.new.state.ghost_name ≡ self.old.state.ghost_name }
+    {
+        match self.kept.take() {
+            Some(kept) => Ok(kept.error),
+            None => {
+                let span = I::span(&self.cursor, &self.cursor);
+                E::Error::expected_found(self.alloc, One { left: None }, None, span)
+            }
+        }
+    }
+
+    /// Emits the last error of a failure.
+    pub fn add_last(&mut self) -> Result<(), AllocError>
+        ensures last { MatchResult result (λ _. held I.Input E.Error.Error E.State.Inspector self.new ≡ with_last E.Error.expectation I.span_between (held I.Input E.Error.Error E.State.Inspector self.old)) (λ _. (held I.Input E.Error.Error E.State.Inspector self.new).state ≡ (held I.Input E.Error.Error E.State.Inspector self.old).state) }
+        ensures lent { self.new.state.ghost_name ≡ self.old.state.ghost_name }
+    {
+        let error = self.last_error()?;
+        self.emitted.push(error)?;
+        Ok(())
+    }
+
+    /// A run at the start of an input.
+    #[inline]
+    pub fn new(alloc: Global, input: I, state: &'p mut E::State, context: &'p E::Context) -> InputRef<'src, 'p, I, E>
+        ensures begins { held I.Input E.Error.Error E.State.Inspector result ≡ record { tokens = I.tokens input; place = 0; context = context.now; state = E.State.seen state.entry.now; kept = None; emitted = [] } }
+        ensures lent { result.state.ghost_name ≡ state.entry.ghost_name }
+    {
+        InputRef {
+            cursor: input.begin(),
+            state,
+            context,
+            kept: None,
+            emitted: Vec::new(alloc),
+            alloc,
+            source: PhantomData,
+        }
+    }
+
+    /// Whether the error that is kept lies past a place.
+    pub fn keeps_past(&self, place: usize) -> bool
+        ensures { IsTrue result → KeepsPast place (held I.Input E.Error.Error E.State.Inspector self.now).kept }
+    {
+        match &self.kept {
+            None => false,
+            Some(kept) => place < kept.place,
+        }
+    }
+}
+
+impl<'src, 'p, I: ValueInput<'src>, E: ParserExtra<I>> InputRef<'src, 'p, I, E> {
+    /// The next token by value, which is taken and told to the state; none at the end of input. A refusal changes
+    /// nothing.
+    #[inline]
+    pub fn next(&mut self) -> Result<Option<I::Token>, AllocError>
+        ensures takes { MatchResult result (λ o. TookValue I.seen E.State.after (held I.Input E.Error.Error E.State.Inspector self.old) (held I.Input E.Error.Error E.State.Inspector self.new) o) (λ _. LacksToken I.takes_no_memory (held I.Input E.Error.Error E.State.Inspector self.old) (held I.Input E.Error.Error E.State.Inspector self.new)) }
+        ensures lent { self.new.state.ghost_name ≡ self.old.state.ghost_name }
+    {
+        let mut ahead = self.cursor;
+        match I::next_maybe(&mut ahead) {
+            None => Ok(None),
+            Some(token) => {
+                let value = I::value_of(token.get())?;
+                self.cursor = ahead;
+                self.state.on_token(token.get());
+                Ok(Some(value))
+            }
+        }
+    }
+}

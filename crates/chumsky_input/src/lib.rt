@@ -1,0 +1,12 @@
+//! What a run of a parser stands on: inputs, errors, states, and what is lent to a parser.
+#![tactic(auto)]
+
+pub mod error;
+pub mod extra;
+pub mod input;
+pub mod input_ref;
+pub mod inspector;
+pub mod same;
+pub mod span;
+pub mod stop;
+pub mod util;

@@ -1,0 +1,48 @@
+//! How a run ends without an answer.
+ghost use Rattle.std.specs.Prelude.{◌≡◌};
+ghost use Rattle.chumsky_input.specs.declared.stop.Fault.TheVariants as fault;
+ghost use Rattle.chumsky_input.specs.declared.stop.Stop.TheVariants.{Memory};
+
+use std::alloc::AllocError;
+
+/// Why a run was refused. No combinator catches one: after a `Stop` the parser is as before, the state is what the
+/// run left, and there is neither an output nor an error.
+#[derive(Clone, Copy, PartialEq, Eq)]
+pub enum Stop {
+    /// A request for memory was refused.
+    Memory = 1,
+    /// A repetition without a cap met an item that consumed nothing, and would never have ended.
+    NoProgress = 2,
+    /// More rules were open at once than the limit allows.
+    TooDeep = 3,
+    /// More items were counted than a `usize` holds.
+    CountTooLarge = 4,
+}
+
+/// Why a parser gives no output: it failed, and its errors are with the input that it was lent; or it was refused.
+#[derive(Clone, Copy, PartialEq, Eq)]
+pub enum Fault {
+    Fail,
+    Stop(Stop),
+}
+
+/// What a parser answers.
+pub type PResult<O> = Result<O, Fault>;
+
+impl From<AllocError> for Fault {
+    ghost from_gives = { λ _ f. f ≡ fault.Stop Memory };
+
+    #[inline]
+    fn from(_error: AllocError) -> Fault {
+        Fault::Stop(Stop::Memory)
+    }
+}
+
+impl From<AllocError> for Stop {
+    ghost from_gives = { λ _ s. s ≡ Memory };
+
+    #[inline]
+    fn from(_error: AllocError) -> Stop {
+        Stop::Memory
+    }
+}
