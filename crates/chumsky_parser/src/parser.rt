@@ -8,30 +8,44 @@ use chumsky_input::input_ref::InputRef;
 use chumsky_input::input::Input;
 use chumsky_input::stop::PResult;
 
-pub trait Parser<'src, I: Input<'src>, O, E: ParserExtra<I>> {
+/// Says of a type that it parses outputs `O` out of inputs `I` with the extra `E`, and no more.
+///
+/// Builders ask for this alone, and running a parser asks for `Parser`: so what a function builds costs its check next
+/// to nothing until it is run. A parser type of one's own needs this impl, an empty one, beside that of `Parser`.
+pub trait IsParser<I, O, E> {}
+
+/// A parser of outputs `O` over inputs `I`.
+///
+/// Both functions mean one relation, `meaning`: from where a run begins to the outcomes that it may have. `go_emit`
+/// makes the output, `go_check` only says whether there is one.
+pub trait Parser<'src, I: Input<'src>, O, E: ParserExtra<I>>: IsParser<I, O, E> {
     ghost use Rattle.chumsky_input.specs.Words.{Does};
     ghost use Rattle.chumsky_input.specs.Outcome.{EndsAfterStart, Agreeing};
 
-    /// That the parser may be run.
+    /// That the parser may be run: its closures may be called.
     ghost ready: { Self → Type 0 };
     /// What a run may do.
     ghost meaning: { Self → Does I I.Token I.Span E.Error E.State E.State.Mark E.Context O };
-    /// That its closures answer alike each time.
+    /// That the parser's closures answer alike each time.
     ghost steady: { Self → Type 0 };
-    /// Which values are the same.
+    /// Which outputs count as the same.
     ghost same: { Self → O → O → Type 0 };
 
+    /// Runs the parser for its output. On failure the errors are with `inp`, and its cursor is where the parser left it.
     fn go_emit(&self, inp: &mut InputRef<'src, '_, I, E>) -> PResult<O>
         requires { ready self.now }
         ensures ran { Ran E.Error.merged E.Error.takes_no_memory (meaning self.now E.Error.Error E.State.Inspector) true (held I.Input E.Error.Error E.State.Inspector inp.old) (held I.Input E.Error.Error E.State.Inspector inp.new) (with_value result) }
         ensures lent { inp.new.state.ghost_name ≡ inp.old.state.ghost_name };
 
+    /// Runs the parser without its output: nothing is made for one.
     fn go_check(&self, inp: &mut InputRef<'src, '_, I, E>) -> PResult<()>
         requires { ready self.now }
         ensures ran { Ran E.Error.merged E.Error.takes_no_memory (meaning self.now E.Error.Error E.State.Inspector) false (held I.Input E.Error.Error E.State.Inspector inp.old) (held I.Input E.Error.Error E.State.Inspector inp.new) (without_value result) }
         ensures lent { inp.new.state.ghost_name ≡ inp.old.state.ghost_name };
 
+    /// No answer ends before its start.
     ghost ends_after_start: { (p : Self) → EndsAfterStart (meaning p E.Error.Error E.State.Inspector) };
 
+    /// Two answers of a steady parser agree, with an output or without.
     ghost agrees: { (p : Self) → steady p → Agreeing (same p) (meaning p E.Error.Error E.State.Inspector) (meaning p E.Error.Error E.State.Inspector) };
 }

@@ -3,8 +3,8 @@ use Rattle.chumsky_input.specs.declared.stop.Fault.TheVariants as fault
 use Rattle.chumsky_input.specs.declared.stop.Stop.TheVariants.{Memory}
 use Rattle.chumsky_input.specs.Held.{held, marks}
 use Rattle.chumsky_parser.proofs.ChainedLemmas.{emit_err}
-use Rattle.chumsky_parser.proofs.PrimitiveLemmas.{end_there, end_unmarked, end_unrestored, end_misses}
-use Rattle.chumsky_parser.proofs.primitive.EndParserUnit.go_emit.Goals as goal
+use Rattle.chumsky_primitive.proofs.EndLemmas.{end_there, end_unmarked, end_unrestored, end_misses}
+use Rattle.chumsky_primitive.proofs.end.EndParserUnit.go_emit.Goals as goal
 
 pub returns-in_err-before-clause-ran : goal.returns-in_err-before-clause-ran
 returns-in_err-before-clause-ran g c =

@@ -1,10 +1,10 @@
 use Rattle.std.proofs.Common.{rules, refl, false, sym}
 use Rattle.chumsky_input.specs.Held.{held}
-use Rattle.chumsky_parser.proofs.PrimitiveLemmas.{any_skips, any_stays, any_misses}
-use Rattle.chumsky_parser.proofs.primitive.AnyParserToken.go_check.Goals as goal
+use Rattle.chumsky_primitive.proofs.AnyLemmas.{any_skips, any_stays, any_misses}
+use Rattle.chumsky_primitive.proofs.any.AnyParserToken.go_check.Goals as goal
 
-pub returns-then-skip-clause-ran : goal.returns-then-skip-clause-ran
-returns-then-skip-clause-ran g c = any_skips g.I.Input g.I.ValueInput.seen g.I.ValueInput.takes_no_memory g.E.Error.Error g.E.State.Inspector (held g.I.Input g.E.Error.Error g.E.State.Inspector c.args.inp.now) _ (search rules) c.advance.ensures.moves
+pub returns-then-advance-clause-ran : goal.returns-then-advance-clause-ran
+returns-then-advance-clause-ran g c = any_skips g.I.Input g.I.ValueInput.seen g.I.ValueInput.takes_no_memory g.E.Error.Error g.E.State.Inspector (held g.I.Input g.E.Error.Error g.E.State.Inspector c.args.inp.now) _ (search rules) c.advance.ensures.moves
 
 pub returns-clause-ran : goal.returns-clause-ran
 returns-clause-ran g c =

@@ -1,7 +1,7 @@
 use Rattle.std.proofs.Common.{rules, refl, true}
 use Rattle.chumsky_input.specs.Held.{held}
-use Rattle.chumsky_parser.proofs.PrimitiveLemmas.{any_takes, any_misses, any_lacks}
-use Rattle.chumsky_parser.proofs.primitive.AnyParserToken.go_emit.Goals as goal
+use Rattle.chumsky_primitive.proofs.AnyLemmas.{any_takes, any_misses, any_lacks}
+use Rattle.chumsky_primitive.proofs.any.AnyParserToken.go_emit.Goals as goal
 
 pub returns-in-Ok-Some-clause-ran : goal.returns-in-Ok-Some-clause-ran
 returns-in-Ok-Some-clause-ran g c = any_takes g.I.Input g.I.ValueInput.seen g.I.ValueInput.takes_no_memory g.E.Error.Error g.E.State.Inspector (held g.I.Input g.E.Error.Error g.E.State.Inspector c.args.inp.now) _ _ (rw c.in-Ok-Some.field-0-is at c.in-Ok-Some.ensures.takes)

@@ -1,0 +1,68 @@
+-- What is left of a failure, and of a yes with nothing added.
+use Rattle.std.proofs.Common.{◌≡◌, ℕ, ◌+◌, Bool, true, false, Option, Some, None, List, [], ◌∷◌, ◌++◌, refl, sym, ◌∙◌, ap, subst, Result, Ok, Err, option_to_list, option_map, inl, inr, ◌⊎◌, length}
+use Rattle.std.specs.Prelude.{slice_get, take, is_some}
+use Rattle.std.proofs.lemmas.List.{append-nil}
+use Rattle.std.proofs.Math.Seq.{take-length}
+use Rattle.chumsky_input.specs.declared.error.Error as error_trait
+use Rattle.chumsky_input.specs.declared.inspector.Inspector as inspector_trait
+use Rattle.chumsky_input.specs.declared.input.Input as input_trait
+use Rattle.chumsky_input.specs.declared.stop.Fault.{Fault}
+use Rattle.chumsky_input.specs.declared.stop.Fault.TheVariants as fault
+use Rattle.chumsky_input.specs.declared.stop.Stop.TheVariants.{Memory}
+use Rattle.chumsky_input.specs.Held.{Held, Marks}
+use Rattle.chumsky_input.specs.Wanted as wanted
+use Rattle.chumsky_input.specs.Outcome.{Event, Meaning, Beginning, Outcome, Verdict, Yes, No, Halt, Clash, HasEventAt}
+use Rattle.chumsky_input.specs.Primary.{primary}
+use Rattle.chumsky_input.specs.Run.{Ran, SameRun, Leaves, LeavesBy, begin, answer, took, TookValue, LacksToken, Adds, Fails, added, gone_back, marked_here}
+use Rattle.chumsky_input.proofs.PrimaryLemmas.{kept-same}
+use Rattle.chumsky_parser.proofs.ChainedLemmas.{ran-from, ran-moved, same_run-trans}
+use Rattle.chumsky_parser.specs.Failure.{IsWanted, FailsAt, Refuses, Misses, expects, wanting}
+
+module _ {Tok Cx St Er V : Type 0} (merged : Er → Er → Er) (safe : Type 0) (meaning : Meaning Tok Cx St Er V) (wanted : Bool) (old : Held Tok Cx St Er) where
+  -- a yes, with nothing added
+  pub ran-yes : (v : Option V) (end : ℕ) (state : St) → meaning (begin wanted old) (record { verdict = Yes v; end = end; state = state; events = []; emitted = [] })
+      → Ran merged safe meaning wanted old (record old { place = end; state = state }) (Ok v)
+  ran-yes v end state m =
+      record {
+        outcome = record { verdict = Yes v; end = end; state = state; events = []; emitted = [] };
+        meant = m; answered = refl; state = refl;
+        left = record { end = refl; kept = kept-same merged old.kept; emitted = sym (append-nil old.emitted) };
+        same = record { tokens = refl; context = refl }
+      }
+
+  -- a refusal for want of memory
+  pub ran-halts : (new : Held Tok Cx St Er) → SameRun old new
+      → ((o : Outcome V Er St) → o.verdict ≡ Halt Memory → o.state ≡ new.state → meaning (begin wanted old) o) → Ran merged safe meaning wanted old new (Err (fault.Stop Memory))
+  ran-halts new same m =
+      record {
+        outcome = record { verdict = Halt Memory; end = old.place; state = new.state; events = []; emitted = [] };
+        meant = m _ refl refl; answered = refl; state = refl; left = tt; same = same
+      }
+
+  -- a failure with one event
+  ran-adds : (e : Event Er) (new : Held Tok Cx St Er) (f : Fault) → Adds merged safe e old new f
+      → ((o : Outcome V Er St) → FailsAt e old.place old.state o → meaning (begin wanted old) o) → Ran merged safe meaning wanted old new (Err f)
+  ran-adds e new fault.Fail a m =
+      record {
+        outcome = record { verdict = No; end = old.place; state = old.state; events = e ∷ []; emitted = [] };
+        meant = m _ (record { by = inl (refl, refl); end_at = refl; left = refl; emitted = refl });
+        answered = refl; state = ap (λ (h : Held Tok Cx St Er). h.state) a;
+        left = record { end = ap (λ (h : Held Tok Cx St Er). h.place) a; kept = ap (λ (h : Held Tok Cx St Er). h.kept) a; emitted = ap (λ (h : Held Tok Cx St Er). h.emitted) a ∙ sym (append-nil old.emitted) };
+        same = record { tokens = ap (λ (h : Held Tok Cx St Er). h.tokens) a; context = ap (λ (h : Held Tok Cx St Er). h.context) a }
+      }
+  ran-adds e new (fault.Stop s) a m =
+      record {
+        outcome = record { verdict = Clash e; end = old.place; state = old.state; events = []; emitted = [] };
+        meant = m _ (record { by = inr (refl, refl); end_at = refl; left = refl; emitted = refl });
+        answered = ap (λ z. Err (fault.Stop z)) a.0; state = ap (λ (h : Held Tok Cx St Er). h.state) a.3;
+        left = (a.1, subst (HasEventAt e.place) (sym (append-nil (option_to_list old.kept))) a.2);
+        same = record { tokens = ap (λ (h : Held Tok Cx St Er). h.tokens) a.3; context = ap (λ (h : Held Tok Cx St Er). h.context) a.3 }
+      }
+
+  -- an expectation that the start does not meet
+  pub ran-misses : (e : Event Er) (new : Held Tok Cx St Er) (f : Fault) → Fails merged safe e old new f
+      → ((o : Outcome V Er St) → Misses safe e old.place old.state o → meaning (begin wanted old) o) → Ran merged safe meaning wanted old new (Err f)
+  ran-misses e new f (inl a) m = ran-adds e new f a (λ o h. m o (inr h))
+  ran-misses e new f (inr l) m =
+      rw l.0 (ran-halts new (record { tokens = ap (λ (h : Held Tok Cx St Er). h.tokens) l.2; context = ap (λ (h : Held Tok Cx St Er). h.context) l.2 })
+        (λ o v s. m o (inl (l.1, v, s ∙ ap (λ (h : Held Tok Cx St Er). h.state) l.2))))

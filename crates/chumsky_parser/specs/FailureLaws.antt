@@ -1,0 +1,43 @@
+-- The laws of failures and of wanted values.
+use Rattle.std.proofs.Common.{◌≡◌, ℕ, ◌≤◌, ◌+◌, Bool, true, false, Option, Some, None, List, [], ◌∷◌, ◌++◌, refl, sym, ◌∙◌, ap, subst, arith, inl, inr}
+use Rattle.std.specs.Prelude.{slice_get, ⊤}
+use Rattle.chumsky_input.specs.Outcome.{Event, Meaning, Beginning, Outcome, Verdict, Yes, No, Halt, Clash, IsAnswer, SameValue, SameAnswer, Alike, Agree, EndsAfterStart, Agreeing}
+use Rattle.chumsky_parser.specs.Failure.{IsWanted, FailsAt, Refuses, Misses, wanting}
+
+module _ {V Er St : Type 0} (same : V → V → Type 0) where
+  fails-answer : {e : Event Er} {end : ℕ} {s : St} {o : Outcome V Er St} → FailsAt e end s o → IsAnswer o.verdict → (o.verdict ≡ No) × (o.events ≡ e ∷ [])
+  fails-answer m a = elim m.by [ inl h ↦ h | inr h ↦ absurd (subst IsAnswer h.0 a) ]
+
+  fails-agree : {e e' : Event Er} {end end' : ℕ} {s s' : St} {o q : Outcome V Er St} → e ≡ e' → end ≡ end' → s ≡ s' → FailsAt e end s o → FailsAt e' end' s' q → IsAnswer o.verdict → IsAnswer q.verdict → Agree same o q
+  fails-agree x y w m n a z =
+      let om = fails-answer m a in
+      let qm = fails-answer n z in
+      record { answer = rw (om.0, qm.0) tt; end = cc; state = cc; events = cc; emitted = cc }
+
+  pub misses-agree : {safe : Type 0} {e e' : Event Er} {end end' : ℕ} {s s' : St} {o q : Outcome V Er St} → e ≡ e' → end ≡ end' → s ≡ s' → Misses safe e end s o → Misses safe e' end' s' q → IsAnswer o.verdict → IsAnswer q.verdict → Agree same o q
+  misses-agree x y w (inl r) n a z = absurd (subst IsAnswer r.1 a)
+  misses-agree x y w (inr m) (inl r) a z = absurd (subst IsAnswer r.1 z)
+  misses-agree x y w (inr m) (inr n) a z = fails-agree x y w m n a z
+
+  pub misses-ends : {safe : Type 0} {e : Event Er} {end p : ℕ} {s : St} {o : Outcome V Er St} → p ≤ end → Misses safe e end s o → IsAnswer o.verdict → p ≤ o.end
+  misses-ends l (inl r) a = absurd (subst IsAnswer r.1 a)
+  misses-ends l (inr f) a = omega (arith, f.end_at)
+
+pub wanted-same : {V S : Type 0} (seen : V → S) (t : V) (b c : Bool) (v w : Option V) → IsWanted (λ x. seen x ≡ seen t) b v → IsWanted (λ x. seen x ≡ seen t) c w → SameValue (λ x y. seen x ≡ seen y) v w
+wanted-same seen t true true (Some v) (Some w) p q = p ∙ sym q
+wanted-same seen t true true (Some v) None p q = absurd q
+wanted-same seen t true true None w p q = absurd p
+wanted-same seen t true false (Some v) (Some w) p q = absurd q
+wanted-same seen t true false (Some v) None p q = tt
+wanted-same seen t true false None w p q = absurd p
+wanted-same seen t false c (Some v) w p q = absurd p
+wanted-same seen t false c None w p q = tt
+
+pub wanting-same : {V : Type 0} (same : V → V → Type 0) (b c : Bool) (v : V) → same v v → SameValue same (wanting b v) (wanting c v)
+wanting-same same true true v s = s
+wanting-same same true false v s = tt
+wanting-same same false c v s = tt
+
+-- there is one value
+abbrev pub SameUnit : Unit {0} → Unit {0} → Type 0
+SameUnit x y = ⊤

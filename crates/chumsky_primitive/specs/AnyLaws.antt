@@ -1,0 +1,31 @@
+-- The laws of any token.
+use Rattle.std.proofs.Common.{◌≡◌, ℕ, ◌≤◌, ◌+◌, Bool, true, false, Option, Some, None, List, [], ◌∷◌, ◌++◌, refl, sym, ◌∙◌, ap, subst, arith, inl, inr}
+use Rattle.std.specs.Prelude.{slice_get, ⊤}
+use Rattle.chumsky_input.specs.declared.error.Error as error_trait
+use Rattle.chumsky_input.specs.declared.inspector.Inspector as inspector_trait
+use Rattle.chumsky_input.specs.declared.input.Input as input_trait
+use Rattle.chumsky_input.specs.Outcome.{Event, Meaning, Beginning, Outcome, Verdict, Yes, No, Halt, Clash, IsAnswer, SameValue, SameAnswer, Alike, Agree, EndsAfterStart, Agreeing}
+use Rattle.chumsky_parser.specs.FailureLaws.{misses-agree, misses-ends, wanted-same}
+use Rattle.chumsky_primitive.specs.Any.{MeansAny, MeansAnyAt, Takes}
+
+module _ {I Tok Sp Cu Er St Mk Cx S : Type 0} (source : input_trait.Ghosts I Cu Tok Sp) (seen : Tok → S) (safe : Tok → Type 0) (errors : error_trait.Ghosts Er I Tok Sp) (states : inspector_trait.Ghosts St I Mk Tok Sp) where
+  any_ends : (t : Option Tok) (b : Beginning Tok Cx states.Seen) (o : Outcome Tok errors.Seen states.Seen) → MeansAnyAt source seen safe errors states t b o → IsAnswer o.verdict → b.start ≤ o.end
+  any_ends (Some t) b o (inl r) a = absurd (subst IsAnswer r.1 a)
+  any_ends (Some t) b o (inr m) a = omega (arith, ap (λ (x : Outcome Tok errors.Seen states.Seen). x.end) m.outcome)
+  any_ends None b o m a = misses-ends (λ x y. x ≡ y) (omega arith) m a
+
+  pub any-ends : EndsAfterStart (MeansAny {Cx = Cx} source seen safe errors states)
+  any-ends b o m a = any_ends _ b o m.by_token a
+
+  any_agree : (t : Option Tok) (b c : Beginning Tok Cx states.Seen) (o q : Outcome Tok errors.Seen states.Seen) → Alike b c → MeansAnyAt source seen safe errors states t b o → MeansAnyAt source seen safe errors states t c q → IsAnswer o.verdict → IsAnswer q.verdict → Agree (λ x y. seen x ≡ seen y) o q
+  any_agree (Some t) b c o q alike (inl r) n a z = absurd (subst IsAnswer r.1 a)
+  any_agree (Some t) b c o q alike (inr m) (inl r) a z = absurd (subst IsAnswer r.1 z)
+  any_agree (Some t) b c o q alike (inr m) (inr n) a z =
+      let e : Outcome Tok errors.Seen states.Seen = record { verdict = Yes m.value; end = b.start + 1; state = states.after b.state t; events = []; emitted = [] } in
+      let f : Outcome Tok errors.Seen states.Seen = record { verdict = Yes n.value; end = c.start + 1; state = states.after c.state t; events = []; emitted = [] } in
+      let ef : Agree (λ x y. seen x ≡ seen y) e f = record { answer = wanted-same seen t b.wanted c.wanted m.value n.value m.is_value n.is_value; end = ap (λ p. p + 1) alike.start; state = ap (λ s. states.after s t) alike.state; events = refl; emitted = refl } in
+      rw (m.outcome, n.outcome) ef
+  any_agree None b c o q alike m n a z = misses-agree (λ x y. seen x ≡ seen y) (cc (alike.tokens, alike.start)) alike.start alike.state m n a z
+
+  pub any-agrees : Agreeing (λ x y. seen x ≡ seen y) (MeansAny {Cx = Cx} source seen safe errors states) (MeansAny source seen safe errors states)
+  any-agrees b c o q alike m n a z = any_agree _ b c o q alike m.by_token (rw (alike.tokens, alike.start) n.by_token) a z

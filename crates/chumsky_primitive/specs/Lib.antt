@@ -1,0 +1,4 @@
+pub mod End
+pub mod EndLaws
+pub mod Any
+pub mod AnyLaws

@@ -1,0 +1,52 @@
+//! Any token.
+use chumsky_input::extra::ParserExtra;
+use chumsky_input::input::{Tokens, ValueInput};
+use chumsky_input::input_ref::InputRef;
+use chumsky_input::stop::{Fault, PResult, Stop};
+use chumsky_input::util::Plain;
+use chumsky_parser::parser::{IsParser, Parser};
+use std::marker::PhantomData;
+
+/// Takes one token, whichever it is. See `any`.
+#[derive(Drop)]
+#[derive_where(Clone, Copy)]
+pub struct Any<I, E> {
+    pub of: PhantomData<(I, E)>,
+}
+
+impl<I: Tokens, E> IsParser<I, I::Token, E> for Any<I, E> {}
+
+impl<'src, I: ValueInput<'src>, E: ParserExtra<I>> Parser<'src, I, I::Token, E> for Any<I, E> {
+    ghost use Rattle.std.specs.Prelude.{◌≡◌, ⊤};
+    ghost use Rattle.chumsky_primitive.specs.Any.{MeansAny};
+    ghost use Rattle.chumsky_primitive.specs.AnyLaws.{any-ends, any-agrees};
+
+    ghost ready = { λ _. ⊤ };
+    ghost meaning = { λ _ errors states. MeansAny I.Input I.seen I.takes_no_memory errors states };
+    ghost steady = { λ _. ⊤ };
+    ghost same = { λ _ v w. I.seen v ≡ I.seen w };
+    ghost ends_after_start = { λ _. any-ends _ _ _ _ _ };
+    ghost agrees = { λ _ _. any-agrees _ _ _ _ _ };
+
+    #[inline]
+    fn go_emit(&self, inp: &mut InputRef<'src, '_, I, E>) -> PResult<I::Token> {
+        match inp.next() {
+            Ok(Some(token)) => Ok(token),
+            Ok(None) => {
+                let here = inp.cursor;
+                Err(inp.expected(&here, &here, Plain::Any, None))
+            }
+            Err(_) => Err(Fault::Stop(Stop::Memory)),
+        }
+    }
+
+    #[inline]
+    fn go_check(&self, inp: &mut InputRef<'src, '_, I, E>) -> PResult<()> {
+        if inp.advance() {
+            return Ok(());
+        }
+        let here = inp.cursor;
+        Err(inp.expected(&here, &here, Plain::Any, None))
+    }
+}
+

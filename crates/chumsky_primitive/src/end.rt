@@ -1,0 +1,57 @@
+//! The end of input.
+use chumsky_input::extra::ParserExtra;
+use chumsky_input::input::Input;
+use chumsky_input::input_ref::InputRef;
+use chumsky_input::stop::PResult;
+use chumsky_input::util::Plain;
+use chumsky_parser::parser::{IsParser, Parser};
+use std::marker::PhantomData;
+
+/// Says yes at the end of input alone. See `end`.
+#[derive(Drop)]
+#[derive_where(Clone, Copy)]
+pub struct End<I, E> {
+    pub of: PhantomData<(I, E)>,
+}
+
+impl<I, E> IsParser<I, (), E> for End<I, E> {}
+
+impl<'src, I: Input<'src>, E: ParserExtra<I>> Parser<'src, I, (), E> for End<I, E> {
+    ghost use Rattle.std.specs.Prelude.{⊤};
+    ghost use Rattle.chumsky_parser.specs.FailureLaws.{SameUnit};
+    ghost use Rattle.chumsky_primitive.specs.End.{MeansEnd};
+    ghost use Rattle.chumsky_primitive.specs.EndLaws.{end-ends, end-agrees};
+
+    ghost ready = { λ _. ⊤ };
+    ghost meaning = { λ _ errors states. MeansEnd I.Input errors states };
+    ghost steady = { λ _. ⊤ };
+    ghost same = { λ _. SameUnit };
+    ghost ends_after_start = { λ _. end-ends _ _ _ };
+    ghost agrees = { λ _ _. end-agrees _ _ _ };
+
+    #[inline]
+    fn go_emit(&self, inp: &mut InputRef<'src, '_, I, E>) -> PResult<()> {
+        let before = inp.save()?;
+        match inp.next_maybe() {
+            None => Ok(()),
+            Some(token) => {
+                let past = inp.cursor;
+                inp.rewind(&before)?;
+                Err(inp.expected(&before.cursor, &past, Plain::EndOfInput, Some(token)))
+            }
+        }
+    }
+
+    #[inline]
+    fn go_check(&self, inp: &mut InputRef<'src, '_, I, E>) -> PResult<()> {
+        let before = inp.save()?;
+        match inp.next_maybe() {
+            None => Ok(()),
+            Some(token) => {
+                let past = inp.cursor;
+                inp.rewind(&before)?;
+                Err(inp.expected(&before.cursor, &past, Plain::EndOfInput, Some(token)))
+            }
+        }
+    }
+}

@@ -1,0 +1,6 @@
+//! Parsers of single tokens and of fixed sequences.
+#![tactic(auto)]
+
+pub mod any;
+pub mod end;
+pub mod make;
