@@ -12,10 +12,11 @@ use Rattle.chumsky_input.specs.Held.{Held}
 use Rattle.chumsky_input.specs.Outcome.{Event, Meaning, Beginning, Outcome, Verdict, Yes, No, Halt, Clash, HasEventAt, Agreeing, Agree, SameValue, SameAnswer, IsAnswer, Alike}
 use Rattle.chumsky_input.specs.Primary.{primary}
 use Rattle.chumsky_input.specs.Run.{Ran, SameRun, Leaves, LeavesBy, begin, answer, with_value, without_value, final_error, with_last}
-use Rattle.chumsky_parser.specs.declared.run.ParseResult.{ParseResult}
-use Rattle.chumsky_parser.specs.Answer.{Asked, SettlesAs, reported, IsOutput, Reports, RefusesBy, Answers, Parses, WholeRun}
-use Rattle.chumsky_parser.specs.Primitive.{MeansEnd}
-use Rattle.chumsky_parser.specs.PrimitiveLaws.{SameUnit, end-agrees}
+use Rattle.chumsky_parser.specs.declared.result.ParseResult.{ParseResult}
+use Rattle.chumsky.specs.Answer.{Asked, SettlesAs, reported, IsOutput, Reports, RefusesBy, Answers, Parses, WholeRun}
+use Rattle.chumsky_primitive.specs.End.{MeansEnd}
+use Rattle.chumsky_parser.specs.FailureLaws.{SameUnit}
+use Rattle.chumsky_primitive.specs.EndLaws.{end-agrees}
 use Rattle.chumsky_parser.specs.Laws.{chained-agrees, given-agrees}
 
 module _ {Tok Cx St Er V : Type 0} {merged : Er → Er → Er} {safe : Type 0} {part : Meaning Tok Cx St Er V} {asked wanted : Bool} where

@@ -13,8 +13,8 @@ use Rattle.chumsky_input.specs.Outcome.{Meaning, Beginning, Outcome, Verdict, Ye
 use Rattle.chumsky_input.specs.Primary.{primary}
 use Rattle.chumsky_input.specs.Run.{final_error, with_last}
 use Rattle.chumsky_parser.specs.Chained.{Chained, Given}
-use Rattle.chumsky_parser.specs.Primitive.{MeansEnd}
-use Rattle.chumsky_parser.specs.declared.run.ParseResult.{ParseResult}
+use Rattle.chumsky_primitive.specs.End.{MeansEnd}
+use Rattle.chumsky_parser.specs.declared.result.ParseResult.{ParseResult}
 
 module _ {Tok Cx St Er V : Type 0} where
   -- the part, run for its value or without one whatever the whole is asked for

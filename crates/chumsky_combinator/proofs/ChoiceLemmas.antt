@@ -13,7 +13,7 @@ use Rattle.chumsky_input.specs.Run.{Ran, SameRun, Leaves, LeavesBy, begin, answe
 use Rattle.chumsky_input.proofs.PrimaryLemmas.{kept-same, primary-append, has_event_at-kept}
 use Rattle.chumsky_combinator.specs.Choice.{OrElse, Attempt, Else}
 use Rattle.chumsky_parser.proofs.ChainedLemmas.{same_run-trans}
-use Rattle.chumsky_parser.proofs.PrimitiveLemmas.{ran-halts}
+use Rattle.chumsky_parser.proofs.FailureLemmas.{ran-halts}
 
 module _ {Tok Cx St Mk Er V : Type 0} (merged : Er → Er → Er) (safe : Type 0) (mark : St → Mk) (back : St → Mk → St) (quiet : Type 0) (first second : Meaning Tok Cx St Er V) (wanted : Bool) (old : Held Tok Cx St Er) where
   -- a verdict of the attempt that stands

@@ -1,7 +1,7 @@
 -- Ordered choice.
 use Rattle.std.specs.Prelude.{◌≡◌, ℕ, Bool, true, false, Option, Some, None, List, [], ◌∷◌, ◌++◌, ◌⊎◌}
 use Rattle.chumsky_input.specs.Outcome.{Meaning, Beginning, Outcome, Verdict, Yes, No, Halt, Clash}
-use Rattle.chumsky_parser.specs.Primitive.{Refuses}
+use Rattle.chumsky_parser.specs.Failure.{Refuses}
 
 module _ {Tok Cx St Mk Er V : Type 0} (mark : St → Mk) (back : St → Mk → St) (safe : Type 0) where
   -- after a no, gone back, the second; any other verdict stands

@@ -1,15 +1,18 @@
-//! The first of two that does not say no.
+//! Ordered choice.
 use chumsky_input::extra::ParserExtra;
 use chumsky_input::input_ref::InputRef;
 use chumsky_input::input::Input;
 use chumsky_input::stop::{Fault, PResult};
-use chumsky_parser::parser::Parser;
+use chumsky_parser::parser::{IsParser, Parser};
 
+/// The first of two parsers, and where that fails, gone back from, the second. See `or`.
 #[derive(Clone, Copy, Drop)]
 pub struct Or<A, B> {
     pub first: A,
     pub second: B,
 }
+
+impl<I, O, E, A: IsParser<I, O, E>, B: IsParser<I, O, E>> IsParser<I, O, E> for Or<A, B> {}
 
 impl<'src, I: Input<'src>, O, E: ParserExtra<I>, A: Parser<'src, I, O, E>, B: Parser<'src, I, O, E>> Parser<'src, I, O, E> for Or<A, B> {
     ghost use Rattle.chumsky_combinator.specs.Choice.{OrElse, SameEither};
@@ -22,6 +25,7 @@ impl<'src, I: Input<'src>, O, E: ParserExtra<I>, A: Parser<'src, I, O, E>, B: Pa
     ghost ends_after_start = { λ p. or_else-ends _ _ _ _ _ (A.ends_after_start p.first) (B.ends_after_start p.second) };
     ghost agrees = { λ p s. or_else-agrees _ _ _ _ _ (A.same p.first) (B.same p.second) (A.agrees p.first s.0) (B.agrees p.second s.1) };
 
+    #[inline]
     fn go_emit(&self, inp: &mut InputRef<'src, '_, I, E>) -> PResult<O> {
         let before = inp.save()?;
         match self.first.go_emit(inp) {
@@ -34,6 +38,7 @@ impl<'src, I: Input<'src>, O, E: ParserExtra<I>, A: Parser<'src, I, O, E>, B: Pa
         }
     }
 
+    #[inline]
     fn go_check(&self, inp: &mut InputRef<'src, '_, I, E>) -> PResult<()> {
         let before = inp.save()?;
         match self.first.go_check(inp) {

@@ -4,14 +4,18 @@ use chumsky_input::extra::ParserExtra;
 use chumsky_input::input_ref::InputRef;
 use chumsky_input::input::Input;
 use chumsky_input::stop::PResult;
-use chumsky_parser::parser::Parser;
+use chumsky_parser::parser::{IsParser, Parser};
 
-#[derive(Clone, Copy, Drop)]
+/// One parser, and then another from where the first ended. See `then`.
+#[derive(Drop)]
+#[derive_where(Clone, Copy; A, B)]
 pub struct Then<A, B, O, U, E> {
     pub first: A,
     pub second: B,
     pub of: PhantomData<(O, U, E)>,
 }
+
+impl<I, O, U, E, A: IsParser<I, O, E>, B: IsParser<I, U, E>> IsParser<I, (O, U), E> for Then<A, B, O, U, E> {}
 
 impl<'src, I: Input<'src>, O: Drop, U, E: ParserExtra<I>, A: Parser<'src, I, O, E>, B: Parser<'src, I, U, E>>
     Parser<'src, I, (O, U), E> for Then<A, B, O, U, E>
@@ -26,12 +30,14 @@ impl<'src, I: Input<'src>, O: Drop, U, E: ParserExtra<I>, A: Parser<'src, I, O, 
     ghost ends_after_start = { λ p. sequence-ends _ _ (A.ends_after_start p.first) (B.ends_after_start p.second) };
     ghost agrees = { λ p s. sequence-agrees _ _ (A.same p.first) (B.same p.second) (A.agrees p.first s.0) (B.agrees p.second s.1) };
 
+    #[inline]
     fn go_emit(&self, inp: &mut InputRef<'src, '_, I, E>) -> PResult<(O, U)> {
         let a = self.first.go_emit(inp)?;
         let b = self.second.go_emit(inp)?;
         Ok((a, b))
     }
 
+    #[inline]
     fn go_check(&self, inp: &mut InputRef<'src, '_, I, E>) -> PResult<()> {
         self.first.go_check(inp)?;
         self.second.go_check(inp)

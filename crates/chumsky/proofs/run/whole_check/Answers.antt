@@ -1,7 +1,7 @@
 use Rattle.std.proofs.Common.{rules}
 use Rattle.chumsky_parser.proofs.ChainedLemmas.{failed, chained, ran-given, check_err, check_ok}
-use Rattle.chumsky_parser.proofs.AnswerLemmas.{ran-asked}
-use Rattle.chumsky_parser.proofs.run.run_check.Goals as goal
+use Rattle.chumsky.proofs.AnswerLemmas.{ran-asked}
+use Rattle.chumsky.proofs.run.whole_check.Goals as goal
 
 pub returns-in_err-go_check-clause-ran : goal.returns-in_err-go_check-clause-ran
 returns-in_err-go_check-clause-ran g c = failed c.go_check.ensures.ran (check_err c.in_err-go_check.was) (check_err (search rules))

@@ -1,7 +1,7 @@
 use Rattle.std.proofs.Common.{rules}
 use Rattle.chumsky_parser.proofs.ChainedLemmas.{failed, chained, ran-given, emit_err, emit_ok, check_err, check_ok}
-use Rattle.chumsky_parser.proofs.AnswerLemmas.{ran-asked}
-use Rattle.chumsky_parser.proofs.run.run_emit.Goals as goal
+use Rattle.chumsky.proofs.AnswerLemmas.{ran-asked}
+use Rattle.chumsky.proofs.run.whole_emit.Goals as goal
 
 pub returns-in_err-value-clause-ran : goal.returns-in_err-value-clause-ran
 returns-in_err-value-clause-ran g c = failed c.go_emit.ensures.ran (emit_err c.in_err-value.was) (emit_err (search rules))
