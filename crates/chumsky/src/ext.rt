@@ -1,0 +1,122 @@
+//! What every parser can be asked for: larger parsers, and runs.
+ghost use Rattle.std.specs.Prelude.{◌≡◌, true, false, Some, None};
+ghost use Rattle.chumsky.specs.Answer.{WholeRun, Parses};
+
+use crate::run;
+use chumsky_combinator::choice::Or;
+use chumsky_combinator::mapped::Map;
+use chumsky_combinator::sequence::Then;
+use chumsky_input::extra::ParserExtra;
+use chumsky_input::input::Input;
+use chumsky_input::stop::Stop;
+use chumsky_parser::parser::{IsParser, Parser};
+use chumsky_parser::result::ParseResult;
+use std::alloc::Global;
+use std::marker::PhantomData;
+
+/// The builders and run forms of parsers. Every parser has them.
+pub trait ParserExt<'src, I, O, E>: IsParser<I, O, E> + Sized {
+    /// This parser, then `other` from where it ended; the output is the pair of theirs. The first failure is the
+    /// whole's.
+    #[inline]
+    final fn then<U, B: IsParser<I, U, E>>(self, other: B) -> Then<Self, B, O, U, E>
+        ensures first { result.first ≡ self }
+        ensures second { result.second ≡ other }
+    {
+        Then {
+            first: self,
+            second: other,
+            of: PhantomData,
+        }
+    }
+
+    /// This parser, or where it fails `other`, from the same place. The first that succeeds stands, even if the other
+    /// would have gone further. Longer choices are `choice((a, b, c))`.
+    #[inline]
+    final fn or<B: IsParser<I, O, E>>(self, other: B) -> Or<Self, B>
+        ensures first { result.first ≡ self }
+        ensures second { result.second ≡ other }
+    {
+        Or {
+            first: self,
+            second: other,
+        }
+    }
+
+    /// This parser, its output put through `mapper`, which is not called where no output is wanted.
+    #[inline]
+    final fn map<U, F: Fn(O) -> U>(self, mapper: F) -> Map<Self, O, F, U>
+        ensures parser { result.parser ≡ self }
+        ensures mapper { result.mapper ≡ mapper }
+    {
+        Map {
+            parser: self,
+            mapper,
+            of: PhantomData,
+        }
+    }
+
+    /// Runs the parser and then the end of input over `input`, in the default state and under the default context.
+    ///
+    /// The answer is a `ParseResult`, or a `Stop` where the run was refused. With no errors there is an output; on
+    /// failure the last error is that of the failure furthest in the input, merged in order of arrival where several
+    /// stand there.
+    final fn parse(&self, alloc: Global, input: I) -> Result<ParseResult<O, E::Error>, Stop>
+    where
+        I: Input<'src>,
+        O: Drop,
+        E: ParserExtra<I>,
+        E::State: Default + Drop,
+        E::Context: Default + Drop,
+        Self: Parser<'src, I, O, E>,
+        requires { Self.ready self.now }
+        ensures { (first : E.State) × (last : E.State) × E.State.is_default first × Parses I.Input E.Error.Error E.State.Inspector E.Context.is_default (Self.steady self.now) (Self.same self.now) Some (WholeRun I.Input E.Error.Error E.State.Inspector (Self.meaning self.now E.Error.Error E.State.Inspector)) true (I.tokens input) (E.State.seen first) (E.State.seen last) result }
+    {
+        let mut state = E::State::default();
+        run::parse_with_state(self, alloc, input, &mut state)
+    }
+
+    /// `parse` from a state of the caller's, which is left as the run left it.
+    final fn parse_with_state(&self, alloc: Global, input: I, state: &mut E::State) -> Result<ParseResult<O, E::Error>, Stop>
+    where
+        I: Input<'src>,
+        O: Drop,
+        E: ParserExtra<I>,
+        E::Context: Default + Drop,
+        Self: Parser<'src, I, O, E>,
+        requires { Self.ready self.now }
+        ensures { Parses I.Input E.Error.Error E.State.Inspector E.Context.is_default (Self.steady self.now) (Self.same self.now) Some (WholeRun I.Input E.Error.Error E.State.Inspector (Self.meaning self.now E.Error.Error E.State.Inspector)) true (I.tokens input) (E.State.seen state.old) (E.State.seen state.new) result }
+    {
+        run::parse_with_state(self, alloc, input, state)
+    }
+
+    /// `parse` without the output: only whether there is one, and the errors. Nothing is made for an output.
+    final fn check(&self, alloc: Global, input: I) -> Result<ParseResult<(), E::Error>, Stop>
+    where
+        I: Input<'src>,
+        E: ParserExtra<I>,
+        E::State: Default + Drop,
+        E::Context: Default + Drop,
+        Self: Parser<'src, I, O, E>,
+        requires { Self.ready self.now }
+        ensures { (first : E.State) × (last : E.State) × E.State.is_default first × Parses I.Input E.Error.Error E.State.Inspector E.Context.is_default (Self.steady self.now) (Self.same self.now) (λ _. None) (WholeRun I.Input E.Error.Error E.State.Inspector (Self.meaning self.now E.Error.Error E.State.Inspector)) false (I.tokens input) (E.State.seen first) (E.State.seen last) result }
+    {
+        let mut state = E::State::default();
+        run::check_with_state(self, alloc, input, &mut state)
+    }
+
+    /// `check` from a state of the caller's, which is left as the run left it.
+    final fn check_with_state(&self, alloc: Global, input: I, state: &mut E::State) -> Result<ParseResult<(), E::Error>, Stop>
+    where
+        I: Input<'src>,
+        E: ParserExtra<I>,
+        E::Context: Default + Drop,
+        Self: Parser<'src, I, O, E>,
+        requires { Self.ready self.now }
+        ensures { Parses I.Input E.Error.Error E.State.Inspector E.Context.is_default (Self.steady self.now) (Self.same self.now) (λ _. None) (WholeRun I.Input E.Error.Error E.State.Inspector (Self.meaning self.now E.Error.Error E.State.Inspector)) false (I.tokens input) (E.State.seen state.old) (E.State.seen state.new) result }
+    {
+        run::check_with_state(self, alloc, input, state)
+    }
+}
+
+impl<'src, I, O, E, P: IsParser<I, O, E>> ParserExt<'src, I, O, E> for P {}
