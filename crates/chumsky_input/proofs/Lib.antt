@@ -1,3 +1,4 @@
 pub mod PrimaryLemmas
 pub mod Events
 pub mod Ascii
+pub mod RichLemmas

@@ -31,11 +31,11 @@ module _ {Er : Type 0} where
   furthest_first x [] = (x, [], events_at-same (max x.place 0) x [] (omega arith), omega arith)
   furthest_first x (y ∷ ys) =
       elim (eqb_tells x.place (furthest (x ∷ y ∷ ys))) [
-        inl t ↦ (x, _, events_at-same (furthest (x ∷ y ∷ ys)) x (y ∷ ys) t.1, t.1)
-      | inr f ↦
-          let further : furthest (x ∷ y ∷ ys) ≡ furthest (y ∷ ys) = omega (arith, f.1) in
-          let h = furthest_first y ys in
-          (h.0, h.1, events_at-other (furthest (x ∷ y ∷ ys)) x (y ∷ ys) f.1 ∙ ap (λ p. events_at p (y ∷ ys)) further ∙ h.2, h.3 ∙ sym further)
+        | inl t ↦ (x, _, events_at-same (furthest (x ∷ y ∷ ys)) x (y ∷ ys) t.1, t.1)
+        | inr f ↦
+            let further : furthest (x ∷ y ∷ ys) ≡ furthest (y ∷ ys) = omega (arith, f.1) in
+            let h = furthest_first y ys in
+            (h.0, h.1, events_at-other (furthest (x ∷ y ∷ ys)) x (y ∷ ys) f.1 ∙ ap (λ p. events_at p (y ∷ ys)) further ∙ h.2, h.3 ∙ sym further)
       ]
 
 module _ {Er : Type 0} (merged : Er → Er → Er) where
@@ -55,16 +55,16 @@ module _ {Er : Type 0} (merged : Er → Er → Er) where
       let left : primary merged (option_to_list (primary merged (x ∷ xs)) ++ ys) ≡ merged_left merged (events_at top (k ∷ ys)) = ap (λ o. primary merged (option_to_list o ++ ys)) kept ∙ ap (λ p. merged_left merged (events_at p (k ∷ ys))) kept_top in
       let right : primary merged ((x ∷ xs) ++ ys) ≡ merged_left merged (events_at top (x ∷ xs) ++ events_at top ys) = ap (λ p. merged_left merged (events_at p ((x ∷ xs) ++ ys))) whole ∙ ap (merged_left merged) (events_at-append top (x ∷ xs) ys) in
       let middle : merged_left merged (events_at top (k ∷ ys)) ≡ merged_left merged (events_at top (x ∷ xs) ++ events_at top ys) =
-          elim (eqb_tells (furthest (x ∷ xs)) top) [
-            inl t ↦
-              let at_top : events_at top (x ∷ xs) ≡ e ∷ es = ap (λ p. events_at p (x ∷ xs)) (sym t.1) ∙ first.2 in
-              ap (merged_left merged) (events_at-same top k ys (first.3 ∙ t.1))
-                ∙ ap (λ a. Some (record { place = e.place; error = a })) (sym (fold-append (λ a z. merged a z.error) e.error es (events_at top ys)))
-                ∙ ap (λ zs. merged_left merged (zs ++ events_at top ys)) (sym at_top)
-          | inr f ↦
-              ap (merged_left merged) (events_at-other top k ys (λ q. f.1 (sym first.3 ∙ q)))
-                ∙ ap (λ zs. merged_left merged (zs ++ events_at top ys)) (sym (events_at-above top (x ∷ xs) (omega (arith, f.1))))
-          ] in
+      elim (eqb_tells (furthest (x ∷ xs)) top) [
+        | inl t ↦
+            let at_top : events_at top (x ∷ xs) ≡ e ∷ es = ap (λ p. events_at p (x ∷ xs)) (sym t.1) ∙ first.2 in
+            ap (merged_left merged) (events_at-same top k ys (first.3 ∙ t.1))
+            ∙ ap (λ a. Some (record { place = e.place; error = a })) (sym (fold-append (λ a z. merged a z.error) e.error es (events_at top ys)))
+            ∙ ap (λ zs. merged_left merged (zs ++ events_at top ys)) (sym at_top)
+        | inr f ↦
+            ap (merged_left merged) (events_at-other top k ys (λ q. f.1 (sym first.3 ∙ q)))
+            ∙ ap (λ zs. merged_left merged (zs ++ events_at top ys)) (sym (events_at-above top (x ∷ xs) (omega (arith, f.1))))
+      ] in
       left ∙ middle ∙ sym right
 
   -- what is kept is at the place of an event
@@ -91,10 +91,10 @@ module _ {Er : Type 0} (merged : Er → Er → Er) where
   has_event_at-furthest x [] = inl (omega arith)
   has_event_at-furthest x (y ∷ ys) =
       elim (eqb_tells x.place (furthest (x ∷ y ∷ ys))) [
-        inl t ↦ inl t.1
-      | inr f ↦
-          let further : furthest (y ∷ ys) ≡ furthest (x ∷ y ∷ ys) = omega (arith, f.1) in
-          inr (subst (λ p. HasEventAt p (y ∷ ys)) further (has_event_at-furthest y ys))
+        | inl t ↦ inl t.1
+        | inr f ↦
+            let further : furthest (y ∷ ys) ≡ furthest (x ∷ y ∷ ys) = omega (arith, f.1) in
+            inr (subst (λ p. HasEventAt p (y ∷ ys)) further (has_event_at-furthest y ys))
       ]
 
   -- where the one that is kept of a first part is at a place, an event of that part is
@@ -107,8 +107,8 @@ module _ {Er : Type 0} (merged : Er → Er → Er) where
       let kept : primary merged (x ∷ xs) ≡ Some k = ap (merged_left merged) first.2 in
       let h2 : HasEventAt p (k ∷ ys) = subst (λ o. HasEventAt p (option_to_list o ++ ys)) kept h in
       elim h2 [
-        inl e ↦ has_event_at-left p (x ∷ xs) ys (subst (λ q. HasEventAt q (x ∷ xs)) (sym first.3 ∙ e) (has_event_at-furthest x xs))
-      | inr r ↦ has_event_at-right p (x ∷ xs) ys r
+        | inl e ↦ has_event_at-left p (x ∷ xs) ys (subst (λ q. HasEventAt q (x ∷ xs)) (sym first.3 ∙ e) (has_event_at-furthest x xs))
+        | inr r ↦ has_event_at-right p (x ∷ xs) ys r
       ]
 
   pub primary-one : (e : Event Er) → primary merged (e ∷ []) ≡ Some e
@@ -132,7 +132,7 @@ module _ {Er : Type 0} (merged : Er → Er → Er) where
   primary-here k e h =
       let top = max k.place (max e.place 0) in
       ap (merged_left merged) (events_at-same top k (e ∷ []) (omega arith) ∙ ap (λ es. k ∷ es) (events_at-same top e [] (omega arith)))
-        ∙ ap (λ p. Some (record { place = p; error = merged k.error e.error })) h
+      ∙ ap (λ p. Some (record { place = p; error = merged k.error e.error })) h
 
   -- the kept error, after one more event
   pub kept-none : (o : Option (Event Er)) (e : Event Er) → o ≡ None → Some e ≡ primary merged (option_to_list o ++ e ∷ [])

@@ -25,8 +25,12 @@ module _ {I X Tok Sp Cu Er St Cx Mk : Type 0} (source : input_trait.Ghosts I Cu 
   abbrev pub held : InputRef I X Cu Tok Sp Er St Cx Mk → Held Tok Cx states.Seen errors.Seen
   held inp =
       record {
-        tokens = source.cursor_tokens inp.cursor; place = source.place inp.cursor; context = inp.context.now; state = states.seen inp.state.now;
-        kept = option_map (located errors.seen) inp.kept; emitted = map errors.seen inp.emitted.items
+        tokens = source.cursor_tokens inp.cursor;
+        place = source.place inp.cursor;
+        context = inp.context.now;
+        state = states.seen inp.state.now;
+        kept = option_map (located errors.seen) inp.kept;
+        emitted = map errors.seen inp.emitted.items;
       }
 
 -- what a checkpoint holds

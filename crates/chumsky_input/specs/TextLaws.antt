@@ -28,7 +28,7 @@ chars_cut bs c h = ap chars (sym (take-append-drop c bs)) ∙ chars-append (take
 pub text_offset_place : (bs : List ℕ) (c : ℕ) → IsTextCursor bs c → text_offset bs (text_place bs c) ≡ c
 text_offset_place bs c h =
     rw (chars_cut bs c h, take_at (chars (take c bs)) (chars (drop c bs)) (length (chars (take c bs))) refl, encodes-chars (take c bs) (IsUtf8-take bs c h.text h.boundary))
-      (length-take-le c bs h.boundary.0)
+    (length-take-le c bs h.boundary.0)
 
 pub text_place_end : (bs : List ℕ) (c : ℕ) → IsTextCursor bs c → text_place bs c ≤ length (chars bs)
 text_place_end bs c h = let e = ap length (chars_cut bs c h) in omega (arith, length-append {A = ℕ}, simp length-append at e)
@@ -64,13 +64,13 @@ text_one_cursor bs c d h k e = sym (text_offset_place bs c h) ∙ ap (text_offse
 pub text_before : (bs : List ℕ) (c d : ℕ) → IsTextCursor bs c → IsTextCursor bs d → c < d → text_place bs c < text_place bs d
 text_before bs c d h k l =
     ⊎_elim (λ g. g) (λ g. absurd (let m = text_offset_mono bs (text_place bs d) (text_place bs c) g in omega (arith, text_offset_place bs c h, text_offset_place bs d k, m)))
-      (cases_lt (text_place bs c) (text_place bs d))
+    (cases_lt (text_place bs c) (text_place bs d))
 
 pub text_not_before : (bs : List ℕ) (c d : ℕ) → IsTextCursor bs c → IsTextCursor bs d → d ≤ c → text_place bs d ≤ text_place bs c
 text_not_before bs c d h k l =
     ⊎_elim (λ g. absurd (let m : text_offset bs (text_place bs c) ≤ text_offset bs (text_place bs d) = text_offset_mono bs (text_place bs c) (text_place bs d) (omega arith) in
-      let s : c ≡ d = omega (arith, text_offset_place bs c h, text_offset_place bs d k, m) in let t = ap (text_place bs) s in omega arith)) (λ g. g)
-      (cases_lt (text_place bs c) (text_place bs d))
+    let s : c ≡ d = omega (arith, text_offset_place bs c h, text_offset_place bs d k, m) in let t = ap (text_place bs) s in omega arith)) (λ g. g)
+    (cases_lt (text_place bs c) (text_place bs d))
 
 pub text_le : (bs : List ℕ) (c d : ℕ) → IsTextCursor bs c → IsTextCursor bs d → text_place bs c ≤ text_place bs d → c ≤ d
 text_le bs c d h k l =
@@ -78,9 +78,10 @@ text_le bs c d h k l =
     omega (arith, text_offset_place bs c h, text_offset_place bs d k, m)
 
 pub text_is_before : (bs : List ℕ) (c d : ℕ) → IsTextCursor bs c → IsTextCursor bs d → (IsTrue (nat_lt c d) → text_place bs c < text_place bs d) × (text_place bs c < text_place bs d → IsTrue (nat_lt c d))
-text_is_before bs c d h k =
-    (λ t. text_before bs c d h k (grind (arith, nat_tests)),
-     λ l. ⊎_elim (λ m. grind (arith, nat_tests)) (λ m. absurd (let n = text_not_before bs c d h k m in omega arith)) (cases_lt c d))
+text_is_before bs c d h k = (
+  λ t. text_before bs c d h k (grind (arith, nat_tests)),
+  λ l. ⊎_elim (λ m. grind (arith, nat_tests)) (λ m. absurd (let n = text_not_before bs c d h k m in omega arith)) (cases_lt c d),
+)
 
 -- the characters between two cursors
 pub text_between : (bs : List ℕ) (c d : ℕ) → IsTextCursor bs c → IsTextCursor bs d → text_place bs c ≤ text_place bs d
@@ -93,8 +94,8 @@ text_between bs c d h k l =
     let whole : chars bs ≡ chars (take c bs) ++ (chars middle ++ chars (drop d bs)) = chars_cut bs d k ∙ ap (λ t. t ++ chars (drop d bs)) front ∙ append_assoc (chars (take c bs)) (chars middle) (chars (drop d bs)) in
     let n : length (chars middle) ≡ text_place bs d - text_place bs c = (let e = ap length front in omega (arith, simp length-append at e)) in
     sym (ap (λ t. take (text_place bs d - text_place bs c) (drop (text_place bs c) t)) whole
-      ∙ ap (take (text_place bs d - text_place bs c)) (drop_at (chars (take c bs)) (chars middle ++ chars (drop d bs)) (text_place bs c) refl)
-      ∙ take_at (chars middle) (chars (drop d bs)) (text_place bs d - text_place bs c) n)
+    ∙ ap (take (text_place bs d - text_place bs c)) (drop_at (chars (take c bs)) (chars middle ++ chars (drop d bs)) (text_place bs c) refl)
+    ∙ take_at (chars middle) (chars (drop d bs)) (text_place bs d - text_place bs c) n)
 
 pub text_place_within : (bs : List ℕ) (c : ℕ) → IsTextCursor bs c → text_place bs c ≤ c
 text_place_within bs c h =

@@ -12,9 +12,11 @@ use std::alloc::{AllocError, Global};
 pub trait Error<I: Tokens>: Drop {
     /// What counts of an error.
     ghost Seen: { Type 0 };
+
     ghost seen: { Self → Seen };
     /// The error of an expectation, and the merge of two errors.
     ghost expectation: { List (Wanted I.Token) → Option I.Token → I.Span → Seen };
+
     ghost merged: { Seen → Seen → Seen };
     /// That errors are built and merged without a request for memory.
     ghost takes_no_memory: { Type 0 };
@@ -45,9 +47,13 @@ pub struct EmptyErr;
 
 impl<I: Tokens> Error<I> for EmptyErr {
     ghost Seen = { ⊤ };
+
     ghost seen = { λ _. tt };
+
     ghost expectation = { λ _ _ _. tt };
+
     ghost merged = { λ a b. a };
+
     ghost takes_no_memory = { ⊤ };
 
     #[inline]

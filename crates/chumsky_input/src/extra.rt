@@ -7,7 +7,9 @@ use std::marker::PhantomData;
 /// The error, the state and the context of parsers over the inputs `I`.
 pub trait ParserExtra<I: Tokens> {
     type Error: Error<I>;
+
     type State: Inspector<I>;
+
     type Context;
 }
 
@@ -16,7 +18,9 @@ pub struct Full<E, S, C>(PhantomData<(E, S, C)>);
 
 impl<I: Tokens, E: Error<I>, S: Inspector<I>, C> ParserExtra<I> for Full<E, S, C> {
     type Error = E;
+
     type State = S;
+
     type Context = C;
 }
 

@@ -12,6 +12,7 @@ use std::alloc::AllocError;
 /// What an input is made of: its tokens, and the spans of its parts.
 pub trait Tokens {
     type Token: Drop;
+
     type Span: Drop;
 }
 
@@ -21,6 +22,7 @@ pub trait Input<'src>: Tokens + 'src {
 
     /// The tokens of an input, and of the input that a cursor stands in.
     ghost tokens: { Self → List Self.Token };
+
     ghost cursor_tokens: { Self.Cursor → List Self.Token };
     /// The number of tokens before a cursor.
     ghost place: { Self.Cursor → ℕ };
@@ -55,6 +57,7 @@ pub trait Input<'src>: Tokens + 'src {
 pub trait ValueInput<'src>: Input<'src> {
     /// What counts of a token.
     ghost Seen: { Type 0 };
+
     ghost seen: { Self.Token → Seen };
     /// That a token is had by value without a request for memory.
     ghost takes_no_memory: { Self.Token → Type 0 };
@@ -76,6 +79,7 @@ pub struct TextCursor<'src> {
 
 impl<'src> Clone for TextCursor<'src> {
     ghost is_clone = { λ x y. y ≡ x };
+
     ghost is_infallible = { λ _. ⊤ };
 
     #[inline]
@@ -89,6 +93,7 @@ impl<'src> Copy for TextCursor<'src> {}
 /// The tokens of a text are its characters.
 impl<'src> Tokens for &'src str {
     type Token = char;
+
     type Span = SimpleSpan;
 }
 
@@ -97,9 +102,13 @@ impl<'src> Input<'src> for &'src str {
     type Cursor = TextCursor<'src>;
 
     ghost tokens = { λ s. chars s.now };
+
     ghost cursor_tokens = { λ c. chars c.text.now };
+
     ghost place = { λ c. c.place };
+
     ghost span_between = { λ ts i j. record { start = char_offset ts i; end = char_offset ts j } };
+
     ghost within = { λ c. place_in_text c.text.now c.at c.place c.utf8 c.boundary c.count };
 
     #[inline]
@@ -175,7 +184,9 @@ fn decode<'src>(cursor: &mut TextCursor<'src>) -> Option<MaybeRef<'src, char>>
 
 impl<'src> ValueInput<'src> for &'src str {
     ghost Seen = { ℕ };
+
     ghost seen = { λ c. c };
+
     ghost takes_no_memory = { λ _. ⊤ };
 
     #[inline]

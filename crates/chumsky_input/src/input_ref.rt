@@ -90,7 +90,9 @@ impl<'src, 'p, I: Input<'src>, E: ParserExtra<I>> InputRef<'src, 'p, I, E> {
 
     /// A checkpoint to go back to. A refusal changes nothing.
     #[inline]
-    pub fn save(&self) -> Result<Checkpoint<I::Cursor, <E::State as Inspector<I>>::Mark>, AllocError>
+    pub fn save(
+        &self,
+    ) -> Result<Checkpoint<I::Cursor, <E::State as Inspector<I>>::Mark>, AllocError>
         ensures { MatchResult result (λ c. marks I.Input E.State.Inspector c ≡ marked_here E.State.mark (held I.Input E.Error.Error E.State.Inspector self.now)) (λ _. ¬ E.State.takes_no_memory) }
     {
         let mark = self.state.on_save()?;
@@ -104,7 +106,10 @@ impl<'src, 'p, I: Input<'src>, E: ParserExtra<I>> InputRef<'src, 'p, I, E> {
     /// Goes back to a checkpoint of this input: the cursor stands where it stood, the errors emitted since are dropped,
     /// and the state gets its mark. Failures stay. A refusal changes nothing.
     #[inline]
-    pub fn rewind(&mut self, to: &Checkpoint<I::Cursor, <E::State as Inspector<I>>::Mark>) -> Result<(), AllocError>
+    pub fn rewind(
+        &mut self,
+        to: &Checkpoint<I::Cursor, <E::State as Inspector<I>>::Mark>,
+    ) -> Result<(), AllocError>
         requires { (marks I.Input E.State.Inspector to.now).tokens ≡ (held I.Input E.Error.Error E.State.Inspector self.old).tokens }
         ensures back { MatchResult result (λ _. held I.Input E.Error.Error E.State.Inspector self.new ≡ gone_back E.State.back (held I.Input E.Error.Error E.State.Inspector self.old) (marks I.Input E.State.Inspector to.now)) (λ _. (held I.Input E.Error.Error E.State.Inspector self.new ≡ held I.Input E.Error.Error E.State.Inspector self.old) × ¬ E.State.takes_no_memory) }
         ensures lent { self.new.state.ghost_name ≡ self.old.state.ghost_name }
@@ -215,7 +220,14 @@ impl<'src, 'p, I: Input<'src>, E: ParserExtra<I>> InputRef<'src, 'p, I, E> {
         }
         let span = I::span(from, to);
         let expected = DefaultExpected::Token(MaybeRef::Ref(token));
-        match E::Error::expected_found(self.alloc, One { left: Some(expected) }, found, span) {
+        match E::Error::expected_found(
+            self.alloc,
+            One {
+                left: Some(expected),
+            },
+            found,
+            span,
+        ) {
             Ok(error) => self.add_event(place, error),
             Err(_) => Fault::Stop(Stop::Memory),
         }
@@ -248,7 +260,12 @@ impl<'src, 'p, I: Input<'src>, E: ParserExtra<I>> InputRef<'src, 'p, I, E> {
 
     /// A run at the start of an input.
     #[inline]
-    pub fn new(alloc: Global, input: I, state: &'p mut E::State, context: &'p E::Context) -> InputRef<'src, 'p, I, E>
+    pub fn new(
+        alloc: Global,
+        input: I,
+        state: &'p mut E::State,
+        context: &'p E::Context,
+    ) -> InputRef<'src, 'p, I, E>
         ensures begins { held I.Input E.Error.Error E.State.Inspector result ≡ record { tokens = I.tokens input; place = 0; context = context.now; state = E.State.seen state.entry.now; kept = None; emitted = [] } }
         ensures lent { result.state.ghost_name ≡ state.entry.ghost_name }
     {

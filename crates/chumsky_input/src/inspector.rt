@@ -11,12 +11,17 @@ pub trait Inspector<I: Tokens> {
 
     /// What counts of a state, and of a mark.
     ghost Seen: { Type 0 };
+
     ghost seen: { Self → Seen };
+
     ghost Marked: { Type 0 };
+
     ghost marked: { Self.Mark → Marked };
     /// The state after a token, the mark of a state, and the state that a mark leads back to.
     ghost after: { Seen → I.Token → Seen };
+
     ghost mark: { Seen → Marked };
+
     ghost back: { Seen → Marked → Seen };
     /// That marks are made and gone back to without a request for memory.
     ghost takes_no_memory: { Type 0 };
@@ -45,13 +50,21 @@ impl<I: Tokens> Inspector<I> for () {
     type Mark = ();
 
     ghost Seen = { ⊤ };
+
     ghost seen = { λ s. s };
+
     ghost Marked = { ⊤ };
+
     ghost marked = { λ m. m };
+
     ghost after = { λ s t. s };
+
     ghost mark = { λ s. s };
+
     ghost back = { λ s m. s };
+
     ghost takes_no_memory = { ⊤ };
+
     ghost goes_back = { λ s. refl };
 
     #[inline]

@@ -6,6 +6,7 @@ pub mod extra;
 pub mod input;
 pub mod input_ref;
 pub mod inspector;
+pub mod rich;
 pub mod same;
 pub mod span;
 pub mod stop;

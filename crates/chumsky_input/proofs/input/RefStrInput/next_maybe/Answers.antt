@@ -29,7 +29,7 @@ invariant_of-cursor c =
     record {
       utf8 = c.args.cursor.now.utf8;
       boundary = (ascii_steps _ _ _ (stands d) c.args.cursor.now.count (in_text d) (small d)).boundary;
-      count = ascii_moves _ _ _ (stands d) c.args.cursor.now.count (in_text d) (small d)
+      count = ascii_moves _ _ _ (stands d) c.args.cursor.now.count (in_text d) (small d);
     }
 
 pub returns-then-byte-lt128-clause-token : goal.returns-then-byte-lt128-clause-token

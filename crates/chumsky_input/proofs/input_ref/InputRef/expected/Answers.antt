@@ -14,6 +14,6 @@ returns-in-Ok-clause-fails g c =
     let h = c.in-Ok.ensures.error in
     let l = drained_view _ _ h.0 _ h.1 ∙ c.as_expected-expected.ensures in
     inl (adds_at g.E.Error.Error.merged g.E.Error.Error.takes_no_memory (held g.I.Input g.E.Error.Error g.E.State.Inspector c.args.self.now) (held g.I.Input g.E.Error.Error g.E.State.Inspector c.add_event.new.self)
-      c.add_event.result c.place-place.ensures
-      (h.2 ∙ ap (λ xs. g.E.Error.Error.expectation xs (option_map maybe_value c.args.found) c.span-span.result) l ∙ ap (g.E.Error.Error.expectation (plain_wanted c.args.what) (option_map maybe_value c.args.found)) c.span-span.ensures)
-      c.add_event.ensures.adds)
+    c.add_event.result c.place-place.ensures
+    (h.2 ∙ ap (λ xs. g.E.Error.Error.expectation xs (option_map maybe_value c.args.found) c.span-span.result) l ∙ ap (g.E.Error.Error.expectation (plain_wanted c.args.what) (option_map maybe_value c.args.found)) c.span-span.ensures)
+    c.add_event.ensures.adds)

@@ -10,6 +10,6 @@ returns-in-None-clause-error g c =
     let e = g.E.Error.Error in
     let inp = c.args.self.now in
     IfOk-weaker c.expected_found.result _ _
-      (λ x h. h.2 ∙ ap (λ xs. e.expectation xs None c.span-span.result) (drained_view _ _ h.0 _ h.1) ∙ ap (e.expectation [] None) c.span-span.ensures
-        ∙ ap (λ k. final_error e.expectation g.I.Input.span_between (option_map (located e.seen) k) (g.I.Input.cursor_tokens inp.cursor) (g.I.Input.place inp.cursor)) c.in-None.ensures.value)
-      c.expected_found.ensures.error
+    (λ x h. h.2 ∙ ap (λ xs. e.expectation xs None c.span-span.result) (drained_view _ _ h.0 _ h.1) ∙ ap (e.expectation [] None) c.span-span.ensures
+    ∙ ap (λ k. final_error e.expectation g.I.Input.span_between (option_map (located e.seen) k) (g.I.Input.cursor_tokens inp.cursor) (g.I.Input.place inp.cursor)) c.in-None.ensures.value)
+    c.expected_found.ensures.error

@@ -1,0 +1,251 @@
+//! An error that says what was expected and what was found.
+ghost use Rattle.std.specs.Prelude.{◌≡◌, List, [], ◌∷◌, Option, Some, None, IfOk, OnOk, IsOk, map, option_map, option_copied};
+ghost use Rattle.std.specs.Iterator.{IsFinite, Drains};
+ghost use Rattle.std.specs.List.{filter_map};
+ghost use Rattle.std.specs.Slice.Iter.{iter_rest};
+ghost use Rattle.std.specs.Cow.{cow_str_bytes};
+ghost use Rattle.chumsky_input.specs.Maybe.{maybe_value};
+ghost use Rattle.chumsky_input.specs.Rich.{RichSeen, rich_seen, rich_span, rich_found, rich_patterns, rich_message, rich_expectation, rich_merged, Empty, add_new, pattern_same, pattern_map, wanted_pattern};
+ghost use Rattle.chumsky_input.specs.RichLaws.{pattern_same_laws};
+
+use crate::error::Error;
+use crate::input::Tokens;
+use crate::same::SameClone;
+use crate::span::SimpleSpan;
+use crate::util::{DefaultExpected, Expectation, MaybeRef};
+use std::alloc::{AllocError, Global};
+use std::borrow::CowStr;
+
+/// Something that would have been accepted.
+#[derive(Clone, Drop)]
+pub enum RichPattern<T> {
+    /// That token.
+    Token(T),
+    /// Any token.
+    Any,
+    /// Some token that the parser didn't name.
+    SomethingElse,
+    EndOfInput,
+}
+
+impl<T: PartialEq> PartialEq for RichPattern<T> {
+    ghost eq = { pattern_same T.eq };
+
+    ghost laws = { pattern_same_laws T.eq T.laws };
+
+    fn eq(&self, other: &Self) -> bool {
+        match (self, other) {
+            (RichPattern::Token(one), RichPattern::Token(two)) => *one == *two,
+            (RichPattern::Any, RichPattern::Any) => true,
+            (RichPattern::SomethingElse, RichPattern::SomethingElse) => true,
+            (RichPattern::EndOfInput, RichPattern::EndOfInput) => true,
+            _ => false,
+        }
+    }
+}
+
+/// What was expected and what was found, or a message.
+#[derive(PartialEq, Drop)]
+enum RichReason<T> {
+    Expected(Vec<RichPattern<T>>, Option<T>),
+    Custom(CowStr<'static>),
+}
+
+/// An error that says where it stands, and what was expected and found there. A custom error has a message in place of
+/// the last two.
+#[derive(PartialEq, Drop)]
+pub struct Rich<T> {
+    span: SimpleSpan,
+    reason: RichReason<T>,
+}
+
+impl<T> Rich<T> {
+    /// A custom error: it shows its message alone, with no found token and no patterns.
+    #[inline]
+    pub fn custom(span: SimpleSpan, message: CowStr<'static>) -> Self
+        ensures span { rich_span result ≡ span }
+        ensures found { rich_found result ≡ None }
+        ensures patterns { rich_patterns result ≡ [] }
+        ensures message { rich_message result ≡ Some (cow_str_bytes message.entry) }
+    {
+        Rich {
+            span,
+            reason: RichReason::Custom(message),
+        }
+    }
+
+    /// Where the error stands.
+    #[inline]
+    pub fn span(&self) -> &SimpleSpan
+        ensures { result.now ≡ rich_span self.now }
+    {
+        &self.span
+    }
+
+    /// The token that was found. None at the end of input, and of a custom error.
+    #[inline]
+    pub fn found(&self) -> Option<&T>
+        ensures { option_copied result ≡ rich_found self.now }
+    {
+        match &self.reason {
+            RichReason::Expected(_, Some(token)) => Some(token),
+            _ => None,
+        }
+    }
+
+    /// What was expected, each once. Of a custom error nothing.
+    #[inline]
+    pub fn expected(&self) -> std::slice::Iter<'_, RichPattern<T>>
+        ensures { iter_rest result ≡ rich_patterns self.now }
+    {
+        match &self.reason {
+            RichReason::Expected(patterns, _) => patterns.iter(),
+            RichReason::Custom(_) => {
+                let none: &[RichPattern<T>] = &[];
+                none.iter()
+            }
+        }
+    }
+
+    /// The message of a custom error.
+    #[inline]
+    pub fn reason(&self) -> Option<&str>
+        ensures { option_copied result ≡ rich_message self.now }
+    {
+        match &self.reason {
+            RichReason::Expected(_, _) => None,
+            RichReason::Custom(message) => Some(message.as_str()),
+        }
+    }
+}
+
+impl<T: SameClone + Drop, I: Tokens<Token = T, Span = SimpleSpan>> Error<I> for Rich<T> {
+    ghost Seen = { RichSeen T.Seen };
+
+    ghost seen = { rich_seen T.seen };
+
+    ghost expectation = { rich_expectation T.seen T.same };
+
+    ghost merged = { rich_merged T.same };
+
+    ghost takes_no_memory = { Empty };
+
+    fn expected_found<'a, X: Iterator + Drop>(
+        alloc: Global,
+        expected: X,
+        found: Option<MaybeRef<'a, T>>,
+        span: SimpleSpan,
+    ) -> Result<Self, AllocError>
+    where
+        X::Item: Expectation<T> + Drop,
+        requires can { X.can_next expected }
+        requires ends { IsFinite (X.remaining expected) }
+        ensures error { IfOk result (λ e. (xs : List X.Item) × Drains X.next_gives expected xs × (rich_seen T.seen e ≡ rich_expectation T.seen T.same (map X.Item.expectation xs) (option_map maybe_value found.entry) span)) }
+        ensures memory { Empty → IsOk result }
+    {
+        let patterns = patterns_of(alloc, expected)?;
+        let found = match found {
+            Some(token) => Some(token_of(token)?),
+            None => None,
+        };
+        Ok(Rich {
+            span,
+            reason: RichReason::Expected(patterns, found),
+        })
+    }
+
+    fn merge(self, other: Self) -> Result<Self, AllocError>
+        ensures error { IfOk result (λ e. rich_seen T.seen e ≡ rich_merged T.same (rich_seen T.seen self) (rich_seen T.seen other)) }
+        ensures memory { Empty → IsOk result }
+    {
+        let Rich { span, reason } = self;
+        let Rich {
+            span: other_span,
+            reason: other_reason,
+        } = other;
+        match reason {
+            RichReason::Custom(message) => Ok(Rich {
+                span,
+                reason: RichReason::Custom(message),
+            }),
+            RichReason::Expected(mut patterns, found) => match other_reason {
+                RichReason::Custom(message) => Ok(Rich {
+                    span: other_span,
+                    reason: RichReason::Custom(message),
+                }),
+                RichReason::Expected(others, _) => {
+                    append_new(&mut patterns, others)?;
+                    Ok(Rich {
+                        span,
+                        reason: RichReason::Expected(patterns, found),
+                    })
+                }
+            },
+        }
+    }
+}
+
+/// A token of one's own, as it counts.
+fn token_of<'a, T: SameClone>(token: MaybeRef<'a, T>) -> Result<T, AllocError>
+    ensures { IfOk result (λ t. T.seen t ≡ T.seen (maybe_value token.entry)) }
+{
+    match token {
+        MaybeRef::Ref(lent) => lent.clone(),
+        MaybeRef::Val(owned) => Ok(owned),
+    }
+}
+
+/// The pattern that shows an expectation, as it counts.
+fn pattern_of<T: SameClone, X: Expectation<T>>(
+    expected: &X,
+) -> Result<Option<RichPattern<T>>, AllocError>
+    ensures { IfOk result (λ o. option_map (pattern_map T.seen) o ≡ option_map (pattern_map T.seen) (wanted_pattern (X.expectation expected.now))) }
+{
+    match expected.as_expected() {
+        DefaultExpected::Token(token) => Ok(Some(RichPattern::Token(token_of(token)?))),
+        DefaultExpected::Any => Ok(Some(RichPattern::Any)),
+        DefaultExpected::SomethingElse => Ok(Some(RichPattern::SomethingElse)),
+        DefaultExpected::NothingElse => Ok(None),
+        DefaultExpected::EndOfInput => Ok(Some(RichPattern::EndOfInput)),
+    }
+}
+
+/// The patterns that show some expectations, each once, in the order of their first arrival.
+fn patterns_of<T: SameClone + Drop, X: Iterator + Drop>(
+    alloc: Global,
+    expected: X,
+) -> Result<Vec<RichPattern<T>>, AllocError>
+where
+    X::Item: Expectation<T> + Drop,
+    requires can { X.can_next expected }
+    requires ends { IsFinite (X.remaining expected) }
+    ensures { IfOk result (λ v. (xs : List X.Item) × Drains X.next_gives expected xs × (map (pattern_map T.seen) v.items ≡ add_new (pattern_same T.same) [] (map (pattern_map T.seen) (filter_map wanted_pattern (map X.Item.expectation xs))))) }
+{
+    let mut patterns = Vec::new(alloc);
+    for item in expected {
+        if let Some(pattern) = pattern_of(&item)? {
+            push_new(&mut patterns, pattern)?;
+        }
+    }
+    Ok(patterns)
+}
+
+/// Appends the items of `others` that `items` lacks.
+fn append_new<P: PartialEq + Drop>(items: &mut Vec<P>, others: Vec<P>) -> Result<(), AllocError>
+    ensures { OnOk result (items.new.items ≡ add_new P.eq items.old.items others.items) }
+{
+    for item in others {
+        push_new(items, item)?;
+    }
+    Ok(())
+}
+
+/// Appends an item that `items` lacks.
+fn push_new<P: PartialEq + Drop>(items: &mut Vec<P>, item: P) -> Result<(), AllocError>
+    ensures { OnOk result (items.new.items ≡ add_new P.eq items.old.items (item ∷ [])) }
+{
+    if !items.as_slice().contains(&item) {
+        items.push(item)?;
+    }
+    Ok(())
+}
