@@ -57,7 +57,7 @@ module _ {I Tok Sp Cu Er St Mk Cx V W : Type 0} (source : input_trait.Ghosts I C
       let q = rw t.0 at p in
       rw q.1 (record {
         output = rw q.2 tt;
-        errors_are = q.3 ∙ ap (λ (h : Held Tok Cx states.Seen errors.Seen). h.emitted) t.1 ∙ ap (λ z. z ++ final_error errors.expectation source.span_between mid.kept mid.tokens mid.place ∷ []) (l.emitted ∙ ap (λ z. z ++ emitted) e) ∙ ap (λ z. emitted ++ z ∷ []) last
+        errors_are = q.3 ∙ ap (λ (h : Held Tok Cx states.Seen errors.Seen). h.emitted) t.1 ∙ ap (λ z. z ++ final_error errors.expectation source.span_between mid.kept mid.tokens mid.place ∷ []) (l.emitted ∙ ap (λ z. z ++ emitted) e) ∙ ap (λ z. emitted ++ z ∷ []) last;
       })
   reports No end state events emitted (Err fault.Fail) s r a l (inr t) p k e i = rw (rw t.0 at p) refl
   reports No end state events emitted (Err (fault.Stop z)) s r a l t p k e i = let no : ⊥ = cc in absurd no
@@ -114,11 +114,13 @@ module _ {I Tok Sp Cu Er St V W : Type 0} (source : input_trait.Ghosts I Cu Tok 
   pub reports_same : (other o : Outcome V errors.Seen St) (new : St) (r : Result (ParseResult W Er) Stop) → (IsAnswer o.verdict → Agree same other o) → IsAnswer other.verdict → new ≡ o.state → Answers source errors (λ v w. v ≡ gives w) ts o r
       → IfOk r (λ parsed. Reports source errors (λ v w. SameValue same v (gives w)) ts other parsed × (new ≡ other.state))
   reports_same other o new (Ok parsed) h a n p =
-      let g = h (answers_output same gives o.verdict parsed.output p.output) in
-      (record {
-        output = output_same same gives other.verdict o.verdict parsed.output g.answer a p.output;
-        errors_are = p.errors_are ∙ errors_same other.verdict o.verdict other o parsed.output g.answer a p.output g.end g.events g.emitted
-      }, n ∙ sym g.state)
+      let g = h (answers_output same gives o.verdict parsed.output p.output) in (
+        record {
+          output = output_same same gives other.verdict o.verdict parsed.output g.answer a p.output;
+          errors_are = p.errors_are ∙ errors_same other.verdict o.verdict other o parsed.output g.answer a p.output g.end g.events g.emitted;
+        },
+        n ∙ sym g.state,
+      )
   reports_same other o new (Err e) h a n p = tt
 
 module _ {I Tok Sp Cu Er St Mk Cx V W : Type 0} (source : input_trait.Ghosts I Cu Tok Sp) (errors : error_trait.Ghosts Er I Tok Sp) (states : inspector_trait.Ghosts St I Mk Tok Sp) (gives : W → Option V) (ts : List Tok) (before mid after : Held Tok Cx states.Seen errors.Seen) where
@@ -133,11 +135,16 @@ module _ {I Tok Sp Cu Er St Mk Cx V W : Type 0} (source : input_trait.Ghosts I C
       let meant : meaning (record { wanted = wanted; tokens = ts; start = 0; context = context; state = old }) o = subst (λ z. meaning z o) begun h.meant in
       let state : new ≡ o.state = n ∙ settled_state source errors states gives ts before mid after a s t ∙ h.state in
       let answered : Answers source errors (λ v w. v ≡ gives w) ts o r =
-          reports source errors states gives ts before mid after o.verdict o.end o.state o.events o.emitted a s r (sym e ∙ h.answered) h.left t p
-            (ap (λ (z : Held Tok Cx states.Seen errors.Seen). z.kept) b) (ap (λ (z : Held Tok Cx states.Seen errors.Seen). z.emitted) b) (h.same.tokens ∙ ap (λ (z : Held Tok Cx states.Seen errors.Seen). z.tokens) b) in
+      reports source errors states gives ts before mid after o.verdict o.end o.state o.events o.emitted a s r (sym e ∙ h.answered) h.left t p
+      (ap (λ (z : Held Tok Cx states.Seen errors.Seen). z.kept) b) (ap (λ (z : Held Tok Cx states.Seen errors.Seen). z.emitted) b) (h.same.tokens ∙ ap (λ (z : Held Tok Cx states.Seen errors.Seen). z.tokens) b) in
       record {
-        context = context; context_is = d; outcome = o; meant = meant; state = state; answered = answered;
-        agreed = λ y w other m z. reports_same source errors same gives ts other o new r (λ q. ag y _ _ other o (record { tokens = refl; start = refl; context = refl; state = refl }) m meant z q) z state answered
+        context = context;
+        context_is = d;
+        outcome = o;
+        meant = meant;
+        state = state;
+        answered = answered;
+        agreed = λ y w other m z. reports_same source errors same gives ts other o new r (λ q. ag y _ _ other o (record { tokens = refl; start = refl; context = refl; state = refl }) m meant z q) z state answered;
       }
 
 module _ {I Tok Sp Cu Er St Mk Cx : Type 0} (source : input_trait.Ghosts I Cu Tok Sp) (errors : error_trait.Ghosts Er I Tok Sp) (states : inspector_trait.Ghosts St I Mk Tok Sp) where

@@ -77,7 +77,12 @@ pub trait ParserExt<'src, I, O, E>: IsParser<I, O, E> + Sized {
     }
 
     /// `parse` from a state of the caller's, which is left as the run left it.
-    final fn parse_with_state(&self, alloc: Global, input: I, state: &mut E::State) -> Result<ParseResult<O, E::Error>, Stop>
+    final fn parse_with_state(
+        &self,
+        alloc: Global,
+        input: I,
+        state: &mut E::State,
+    ) -> Result<ParseResult<O, E::Error>, Stop>
     where
         I: Input<'src>,
         O: Drop,
@@ -106,7 +111,12 @@ pub trait ParserExt<'src, I, O, E>: IsParser<I, O, E> + Sized {
     }
 
     /// `check` from a state of the caller's, which is left as the run left it.
-    final fn check_with_state(&self, alloc: Global, input: I, state: &mut E::State) -> Result<ParseResult<(), E::Error>, Stop>
+    final fn check_with_state(
+        &self,
+        alloc: Global,
+        input: I,
+        state: &mut E::State,
+    ) -> Result<ParseResult<(), E::Error>, Stop>
     where
         I: Input<'src>,
         E: ParserExtra<I>,

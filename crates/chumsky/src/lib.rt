@@ -4,9 +4,8 @@
 #![tactic(auto)]
 
 mod ext;
-mod run;
-
 pub mod prelude;
+mod run;
 
 /// Inputs, and what a parser is lent.
 pub mod input {
@@ -27,6 +26,7 @@ pub mod util {
 /// What errors say.
 pub mod error {
     pub use chumsky_input::error::{EmptyErr, Error};
+    pub use chumsky_input::rich::{Rich, RichPattern};
 }
 
 /// The types of a parser beside its input and its output.

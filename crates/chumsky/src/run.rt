@@ -15,7 +15,10 @@ use std::alloc::Global;
 use std::marker::PhantomData;
 
 /// The parser, and then the end of input.
-fn whole_emit<'src, I: Input<'src>, O: Drop, E: ParserExtra<I>, P: Parser<'src, I, O, E>>(parser: &P, inp: &mut InputRef<'src, '_, I, E>) -> PResult<O>
+fn whole_emit<'src, I: Input<'src>, O: Drop, E: ParserExtra<I>, P: Parser<'src, I, O, E>>(
+    parser: &P,
+    inp: &mut InputRef<'src, '_, I, E>,
+) -> PResult<O>
     requires { P.ready parser.now }
     ensures ran { Ran E.Error.merged E.Error.takes_no_memory (WholeRun I.Input E.Error.Error E.State.Inspector (P.meaning parser.now E.Error.Error E.State.Inspector)) true (held I.Input E.Error.Error E.State.Inspector inp.old) (held I.Input E.Error.Error E.State.Inspector inp.new) (with_value result) }
     ensures lent { inp.new.state.ghost_name ≡ inp.old.state.ghost_name }
@@ -27,7 +30,10 @@ fn whole_emit<'src, I: Input<'src>, O: Drop, E: ParserExtra<I>, P: Parser<'src, 
 }
 
 /// The same without the output.
-fn whole_check<'src, I: Input<'src>, O, E: ParserExtra<I>, P: Parser<'src, I, O, E>>(parser: &P, inp: &mut InputRef<'src, '_, I, E>) -> PResult<()>
+fn whole_check<'src, I: Input<'src>, O, E: ParserExtra<I>, P: Parser<'src, I, O, E>>(
+    parser: &P,
+    inp: &mut InputRef<'src, '_, I, E>,
+) -> PResult<()>
     requires { P.ready parser.now }
     ensures ran { Ran E.Error.merged E.Error.takes_no_memory (WholeRun I.Input E.Error.Error E.State.Inspector (P.meaning parser.now E.Error.Error E.State.Inspector)) false (held I.Input E.Error.Error E.State.Inspector inp.old) (held I.Input E.Error.Error E.State.Inspector inp.new) (without_value result) }
     ensures lent { inp.new.state.ghost_name ≡ inp.old.state.ghost_name }
@@ -39,7 +45,10 @@ fn whole_check<'src, I: Input<'src>, O, E: ParserExtra<I>, P: Parser<'src, I, O,
 }
 
 /// The output of an answer. A failure adds its last error to those that were emitted.
-fn settle<'src, I: Input<'src>, O, E: ParserExtra<I>>(inp: &mut InputRef<'src, '_, I, E>, answer: PResult<O>) -> Result<Option<O>, Stop>
+fn settle<'src, I: Input<'src>, O, E: ParserExtra<I>>(
+    inp: &mut InputRef<'src, '_, I, E>,
+    answer: PResult<O>,
+) -> Result<Option<O>, Stop>
     ensures settles { SettlesAs E.Error.expectation I.span_between answer (held I.Input E.Error.Error E.State.Inspector inp.old) (held I.Input E.Error.Error E.State.Inspector inp.new) result }
     ensures lent { inp.new.state.ghost_name ≡ inp.old.state.ghost_name }
 {
@@ -54,7 +63,13 @@ fn settle<'src, I: Input<'src>, O, E: ParserExtra<I>>(inp: &mut InputRef<'src, '
 }
 
 /// `ParserExt::parse_with_state`.
-pub(crate) fn parse_with_state<'src, I: Input<'src>, O: Drop, E: ParserExtra<I>, P: Parser<'src, I, O, E>>(
+pub(crate) fn parse_with_state<
+    'src,
+    I: Input<'src>,
+    O: Drop,
+    E: ParserExtra<I>,
+    P: Parser<'src, I, O, E>,
+>(
     parser: &P,
     alloc: Global,
     input: I,
@@ -89,7 +104,13 @@ where
 }
 
 /// `ParserExt::check_with_state`.
-pub(crate) fn check_with_state<'src, I: Input<'src>, O, E: ParserExtra<I>, P: Parser<'src, I, O, E>>(
+pub(crate) fn check_with_state<
+    'src,
+    I: Input<'src>,
+    O,
+    E: ParserExtra<I>,
+    P: Parser<'src, I, O, E>,
+>(
     parser: &P,
     alloc: Global,
     input: I,

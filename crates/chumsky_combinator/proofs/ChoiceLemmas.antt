@@ -29,7 +29,10 @@ module _ {Tok Cx St Mk Er V : Type 0} (merged : Er → Er → Er) (safe : Type 0
       record {
         outcome = h.outcome;
         meant = record { cases = inr (record { attempt = h.outcome; meant = h.meant; then_else = stands h.outcome.verdict h.outcome r h.answered n }) };
-        answered = h.answered; state = h.state; left = h.left; same = h.same
+        answered = h.answered;
+        state = h.state;
+        left = h.left;
+        same = h.same;
       }
 
   -- of a no, after what it left
@@ -47,18 +50,20 @@ module _ {Tok Cx St Mk Er V : Type 0} (merged : Er → Er → Er) (safe : Type 0
       record {
         end = l.end;
         kept = l.kept ∙ ap (λ z. primary merged (option_to_list z ++ q.events)) (k ∙ t.kept) ∙ primary-append merged (option_to_list old.kept ++ p.events) q.events ∙ ap (primary merged) (append_assoc (option_to_list old.kept) p.events q.events);
-        emitted = l.emitted ∙ ap (λ z. z ++ q.emitted) e
+        emitted = l.emitted ∙ ap (λ z. z ++ q.emitted) e;
       }
   back_left p No q mid bk new t k e l =
       record {
         end = l.end;
         kept = l.kept ∙ ap (λ z. primary merged (option_to_list z ++ q.events)) (k ∙ t.kept) ∙ primary-append merged (option_to_list old.kept ++ p.events) q.events ∙ ap (primary merged) (append_assoc (option_to_list old.kept) p.events q.events);
-        emitted = l.emitted ∙ ap (λ z. z ++ q.emitted) e
+        emitted = l.emitted ∙ ap (λ z. z ++ q.emitted) e;
       }
   back_left p (Halt _) q mid bk new t k e l = tt
-  back_left p (Clash x) q mid bk new t k e l =
-      (l.0, subst (HasEventAt x.place) (append_assoc (option_to_list old.kept) p.events q.events)
-        (has_event_at-kept merged x.place (option_to_list old.kept ++ p.events) q.events (subst (λ z. HasEventAt x.place (option_to_list z ++ q.events)) (k ∙ t.kept) l.1)))
+  back_left p (Clash x) q mid bk new t k e l = (
+    l.0,
+    subst (HasEventAt x.place) (append_assoc (option_to_list old.kept) p.events q.events)
+        (has_event_at-kept merged x.place (option_to_list old.kept ++ p.events) q.events (subst (λ z. HasEventAt x.place (option_to_list z ++ q.events)) (k ∙ t.kept) l.1)),
+  )
 
   -- the second alternative, gone back to the start from the first
   pub ran-second : (m : Marks Tok Mk) (mid bk new : Held Tok Cx St Er) (r : Result (Option V) Fault) → Ran merged safe first wanted old mid (Err fault.Fail)
@@ -74,9 +79,10 @@ module _ {Tok Cx St Mk Er V : Type 0} (merged : Er → Er → Er) (safe : Type 0
       record {
         outcome = record o { events = p.events ++ o.events };
         meant = record { cases = inr (record { attempt = p; meant = h.meant; then_else = rw t.1 (inr (o, subst (λ z. second z o) begun k.meant, refl)) }) };
-        answered = k.answered; state = k.state;
+        answered = k.answered;
+        state = k.state;
         left = back_left p o.verdict o mid b new t.0 refl cut k.left;
-        same = record { tokens = k.same.tokens ∙ h.same.tokens; context = k.same.context ∙ h.same.context }
+        same = record { tokens = k.same.tokens ∙ h.same.tokens; context = k.same.context ∙ h.same.context };
       }
 
   -- want of memory at the mark, and at going back
@@ -89,4 +95,4 @@ module _ {Tok Cx St Mk Er V : Type 0} (merged : Er → Er → Er) (safe : Type 0
       let p = h.outcome in
       let t = tried p.verdict p.end p.state p.events p.emitted h.answered mid h.left in
       rw e (ran-halts merged safe _ wanted old mid h.same
-        (λ o v s. record { cases = inr (record { attempt = p; meant = h.meant; then_else = rw t.1 (inl (may, v, s ∙ h.state)) }) }))
+      (λ o v s. record { cases = inr (record { attempt = p; meant = h.meant; then_else = rw t.1 (inl (may, v, s ∙ h.state)) }) }))

@@ -72,9 +72,9 @@ module _ {Tok Cx St Mk Er V : Type 0} (mark : St → Mk) (back : St → Mk → S
   pub or_else-agrees : Agreeing sf first first → Agreeing ss second second → Agreeing (SameEither sf ss) (OrElse mark back safe first second) (OrElse mark back safe first second)
   or_else-agrees hf hs b c o q alike m n a z =
       elim m.cases [
-        inl r ↦ absurd (subst IsAnswer r.1 a)
-      | inr t ↦ elim n.cases [
-          inl r ↦ absurd (subst IsAnswer r.1 z)
-        | inr u ↦ else_agree hf hs b c o q t.attempt u.attempt alike t.meant u.meant t.attempt.verdict u.attempt.verdict refl refl t.then_else u.then_else a z
+        | inl r ↦ absurd (subst IsAnswer r.1 a)
+        | inr t ↦ elim n.cases [
+          | inl r ↦ absurd (subst IsAnswer r.1 z)
+          | inr u ↦ else_agree hf hs b c o q t.attempt u.attempt alike t.meant u.meant t.attempt.verdict u.attempt.verdict refl refl t.then_else u.then_else a z
         ]
       ]

@@ -1,7 +1,7 @@
 //! Ordered choice.
 use chumsky_input::extra::ParserExtra;
-use chumsky_input::input_ref::InputRef;
 use chumsky_input::input::Input;
+use chumsky_input::input_ref::InputRef;
 use chumsky_input::stop::{Fault, PResult};
 use chumsky_parser::parser::{IsParser, Parser};
 
@@ -14,15 +14,27 @@ pub struct Or<A, B> {
 
 impl<I, O, E, A: IsParser<I, O, E>, B: IsParser<I, O, E>> IsParser<I, O, E> for Or<A, B> {}
 
-impl<'src, I: Input<'src>, O, E: ParserExtra<I>, A: Parser<'src, I, O, E>, B: Parser<'src, I, O, E>> Parser<'src, I, O, E> for Or<A, B> {
+impl<
+    'src,
+    I: Input<'src>,
+    O,
+    E: ParserExtra<I>,
+    A: Parser<'src, I, O, E>,
+    B: Parser<'src, I, O, E>,
+> Parser<'src, I, O, E> for Or<A, B> {
     ghost use Rattle.chumsky_combinator.specs.Choice.{OrElse, SameEither};
     ghost use Rattle.chumsky_combinator.specs.ChoiceLaws.{or_else-ends, or_else-agrees};
 
     ghost ready = { λ p. A.ready p.first × B.ready p.second };
+
     ghost meaning = { λ p errors states. OrElse states.mark states.back states.takes_no_memory (A.meaning p.first errors states) (B.meaning p.second errors states) };
+
     ghost steady = { λ p. A.steady p.first × B.steady p.second };
+
     ghost same = { λ p. SameEither (A.same p.first) (B.same p.second) };
+
     ghost ends_after_start = { λ p. or_else-ends _ _ _ _ _ (A.ends_after_start p.first) (B.ends_after_start p.second) };
+
     ghost agrees = { λ p s. or_else-agrees _ _ _ _ _ (A.same p.first) (B.same p.second) (A.agrees p.first s.0) (B.agrees p.second s.1) };
 
     #[inline]

@@ -1,10 +1,10 @@
 //! One parser after another.
-use std::marker::PhantomData;
 use chumsky_input::extra::ParserExtra;
-use chumsky_input::input_ref::InputRef;
 use chumsky_input::input::Input;
+use chumsky_input::input_ref::InputRef;
 use chumsky_input::stop::PResult;
 use chumsky_parser::parser::{IsParser, Parser};
+use std::marker::PhantomData;
 
 /// One parser, and then another from where the first ended. See `then`.
 #[derive(Drop)]
@@ -15,19 +15,31 @@ pub struct Then<A, B, O, U, E> {
     pub of: PhantomData<(O, U, E)>,
 }
 
-impl<I, O, U, E, A: IsParser<I, O, E>, B: IsParser<I, U, E>> IsParser<I, (O, U), E> for Then<A, B, O, U, E> {}
+impl<I, O, U, E, A: IsParser<I, O, E>, B: IsParser<I, U, E>> IsParser<I, (O, U), E>
+    for Then<A, B, O, U, E> {}
 
-impl<'src, I: Input<'src>, O: Drop, U, E: ParserExtra<I>, A: Parser<'src, I, O, E>, B: Parser<'src, I, U, E>>
-    Parser<'src, I, (O, U), E> for Then<A, B, O, U, E>
-{
+impl<
+    'src,
+    I: Input<'src>,
+    O: Drop,
+    U,
+    E: ParserExtra<I>,
+    A: Parser<'src, I, O, E>,
+    B: Parser<'src, I, U, E>,
+> Parser<'src, I, (O, U), E> for Then<A, B, O, U, E> {
     ghost use Rattle.chumsky_parser.specs.Chained.{Sequence, SamePair};
     ghost use Rattle.chumsky_parser.specs.Laws.{sequence-ends, sequence-agrees};
 
     ghost ready = { λ p. A.ready p.first × B.ready p.second };
+
     ghost meaning = { λ p errors states. Sequence (A.meaning p.first errors states) (B.meaning p.second errors states) };
+
     ghost steady = { λ p. A.steady p.first × B.steady p.second };
+
     ghost same = { λ p. SamePair (A.same p.first) (B.same p.second) };
+
     ghost ends_after_start = { λ p. sequence-ends _ _ (A.ends_after_start p.first) (B.ends_after_start p.second) };
+
     ghost agrees = { λ p s. sequence-agrees _ _ (A.same p.first) (B.same p.second) (A.agrees p.first s.0) (B.agrees p.second s.1) };
 
     #[inline]

@@ -23,19 +23,28 @@ module _ {Tok Cx St Er V W : Type 0} (merged : Er → Er → Er) (safe : Type 0)
       record {
         outcome = record { verdict = No; end = end; state = state; events = events; emitted = emitted };
         meant = record { first = record { verdict = No; end = end; state = state; events = events; emitted = emitted }; meant = m; follows = refl };
-        answered = cc; state = s; left = record { end = l.end; kept = l.kept; emitted = l.emitted }; same = same
+        answered = cc;
+        state = s;
+        left = record { end = l.end; kept = l.kept; emitted = l.emitted };
+        same = same;
       }
   chained_err (Halt h) new end state events emitted f m a s l same =
       record {
         outcome = record { verdict = Halt h; end = end; state = state; events = events; emitted = emitted };
         meant = record { first = record { verdict = Halt h; end = end; state = state; events = events; emitted = emitted }; meant = m; follows = refl };
-        answered = cc; state = s; left = tt; same = same
+        answered = cc;
+        state = s;
+        left = tt;
+        same = same;
       }
   chained_err (Clash e) new end state events emitted f m a s l same =
       record {
         outcome = record { verdict = Clash e; end = end; state = state; events = events; emitted = emitted };
         meant = record { first = record { verdict = Clash e; end = end; state = state; events = events; emitted = emitted }; meant = m; follows = refl };
-        answered = cc; state = s; left = l; same = same
+        answered = cc;
+        state = s;
+        left = l;
+        same = same;
       }
 
   -- a part that did not say yes
@@ -49,18 +58,20 @@ module _ {Tok Cx St Er V W : Type 0} (merged : Er → Er → Er) (safe : Type 0)
       record {
         end = l.end;
         kept = l.kept ∙ ap (λ k. primary merged (option_to_list k ++ q.events)) first.kept ∙ primary-append merged (option_to_list old.kept ++ p.events) q.events ∙ ap (primary merged) (append_assoc (option_to_list old.kept) p.events q.events);
-        emitted = l.emitted ∙ ap (λ es. es ++ q.emitted) first.emitted ∙ append_assoc old.emitted p.emitted q.emitted
+        emitted = l.emitted ∙ ap (λ es. es ++ q.emitted) first.emitted ∙ append_assoc old.emitted p.emitted q.emitted;
       }
   chained_left p q No mid new first l =
       record {
         end = l.end;
         kept = l.kept ∙ ap (λ k. primary merged (option_to_list k ++ q.events)) first.kept ∙ primary-append merged (option_to_list old.kept ++ p.events) q.events ∙ ap (primary merged) (append_assoc (option_to_list old.kept) p.events q.events);
-        emitted = l.emitted ∙ ap (λ es. es ++ q.emitted) first.emitted ∙ append_assoc old.emitted p.emitted q.emitted
+        emitted = l.emitted ∙ ap (λ es. es ++ q.emitted) first.emitted ∙ append_assoc old.emitted p.emitted q.emitted;
       }
   chained_left p q (Halt _) mid new first l = tt
-  chained_left p q (Clash e) mid new first l =
-      (l.0, subst (HasEventAt e.place) (append_assoc (option_to_list old.kept) p.events q.events)
-        (has_event_at-kept merged e.place (option_to_list old.kept ++ p.events) q.events (subst (λ k. HasEventAt e.place (option_to_list k ++ q.events)) first.kept l.1)))
+  chained_left p q (Clash e) mid new first l = (
+    l.0,
+    subst (HasEventAt e.place) (append_assoc (option_to_list old.kept) p.events q.events)
+        (has_event_at-kept merged e.place (option_to_list old.kept ++ p.events) q.events (subst (λ k. HasEventAt e.place (option_to_list k ++ q.events)) first.kept l.1)),
+  )
 
   begins : (p : Outcome V Er St) (mid : Held Tok Cx St Er) → SameRun old mid → mid.place ≡ p.end → mid.state ≡ p.state → begin wanted mid ≡ from (begin wanted old) p
   begins p mid same end state = cc (same.tokens, same.context)
@@ -76,9 +87,10 @@ module _ {Tok Cx St Er V W : Type 0} (merged : Er → Er → Er) (safe : Type 0)
       record {
         outcome = after p q;
         meant = record { first = p; meant = m; follows = (q, subst (λ y. next y (from (begin wanted old) p) q) xv (subst (λ b. next x b q) (begins p mid same l.end s) second.meant), refl) };
-        answered = second.answered; state = second.state;
+        answered = second.answered;
+        state = second.state;
         left = chained_left p q q.verdict mid new l second.left;
-        same = same_run-trans old mid new same second.same
+        same = same_run-trans old mid new same second.same;
       }
   chained_ok No x mid end state events emitted m a s l same new r second = let no : ⊥ = cc in absurd no
   chained_ok (Halt h) x mid end state events emitted m a s l same new r second = let no : ⊥ = cc in absurd no
@@ -96,9 +108,11 @@ module _ {Tok Cx St Er V : Type 0} {merged : Er → Er → Er} {safe : Type 0} w
   ran-given {v} {wanted} {old} =
       record {
         outcome = record { verdict = Yes v; end = old.place; state = old.state; events = []; emitted = [] };
-        meant = refl; answered = refl; state = refl;
+        meant = refl;
+        answered = refl;
+        state = refl;
         left = record { end = refl; kept = kept-same merged old.kept; emitted = sym (append-nil old.emitted) };
-        same = record { tokens = refl; context = refl }
+        same = record { tokens = refl; context = refl };
       }
 
 module _ {Tok Cx St Er V : Type 0} (merged : Er → Er → Er) (safe : Type 0) (m n : Meaning Tok Cx St Er V) (wanted : Bool) (old new : Held Tok Cx St Er) where
@@ -149,9 +163,12 @@ module _ {Tok Cx St Er V : Type 0} {merged : Er → Er → Er} {safe : Type 0} {
   ran-from {old} {mid} {new} {r} same cursor state kept emitted h =
       let begun : begin wanted mid ≡ begin wanted old = cc (same.tokens, same.context) in
       record {
-        outcome = h.outcome; meant = subst (λ b. meaning b h.outcome) begun h.meant; answered = h.answered; state = h.state;
+        outcome = h.outcome;
+        meant = subst (λ b. meaning b h.outcome) begun h.meant;
+        answered = h.answered;
+        state = h.state;
         left = rebased merged safe h.outcome.verdict h.outcome old mid new kept emitted h.left;
-        same = same_run-trans old mid new same h.same
+        same = same_run-trans old mid new same h.same;
       }
 
 module _ {Tok Cx St Er V : Type 0} {merged : Er → Er → Er} {safe : Type 0} {m n : Meaning Tok Cx St Er V} {wanted : Bool} where
@@ -160,7 +177,10 @@ module _ {Tok Cx St Er V : Type 0} {merged : Er → Er → Er} {safe : Type 0} {
       → ((o : Outcome V Er St) → m (begin wanted mid) o → n (begin wanted old) o) → Ran merged safe m wanted mid new r → Ran merged safe n wanted old new r
   ran-moved {old} {mid} {new} {r} same kept emitted f h =
       record {
-        outcome = h.outcome; meant = f h.outcome h.meant; answered = h.answered; state = h.state;
+        outcome = h.outcome;
+        meant = f h.outcome h.meant;
+        answered = h.answered;
+        state = h.state;
         left = rebased merged safe h.outcome.verdict h.outcome old mid new kept emitted h.left;
-        same = same_run-trans old mid new same h.same
+        same = same_run-trans old mid new same h.same;
       }

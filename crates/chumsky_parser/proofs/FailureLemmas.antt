@@ -25,9 +25,11 @@ module _ {Tok Cx St Er V : Type 0} (merged : Er → Er → Er) (safe : Type 0) (
   ran-yes v end state m =
       record {
         outcome = record { verdict = Yes v; end = end; state = state; events = []; emitted = [] };
-        meant = m; answered = refl; state = refl;
+        meant = m;
+        answered = refl;
+        state = refl;
         left = record { end = refl; kept = kept-same merged old.kept; emitted = sym (append-nil old.emitted) };
-        same = record { tokens = refl; context = refl }
+        same = record { tokens = refl; context = refl };
       }
 
   -- a refusal for want of memory
@@ -36,7 +38,11 @@ module _ {Tok Cx St Er V : Type 0} (merged : Er → Er → Er) (safe : Type 0) (
   ran-halts new same m =
       record {
         outcome = record { verdict = Halt Memory; end = old.place; state = new.state; events = []; emitted = [] };
-        meant = m _ refl refl; answered = refl; state = refl; left = tt; same = same
+        meant = m _ refl refl;
+        answered = refl;
+        state = refl;
+        left = tt;
+        same = same;
       }
 
   -- a failure with one event
@@ -46,17 +52,19 @@ module _ {Tok Cx St Er V : Type 0} (merged : Er → Er → Er) (safe : Type 0) (
       record {
         outcome = record { verdict = No; end = old.place; state = old.state; events = e ∷ []; emitted = [] };
         meant = m _ (record { by = inl (refl, refl); end_at = refl; left = refl; emitted = refl });
-        answered = refl; state = ap (λ (h : Held Tok Cx St Er). h.state) a;
+        answered = refl;
+        state = ap (λ (h : Held Tok Cx St Er). h.state) a;
         left = record { end = ap (λ (h : Held Tok Cx St Er). h.place) a; kept = ap (λ (h : Held Tok Cx St Er). h.kept) a; emitted = ap (λ (h : Held Tok Cx St Er). h.emitted) a ∙ sym (append-nil old.emitted) };
-        same = record { tokens = ap (λ (h : Held Tok Cx St Er). h.tokens) a; context = ap (λ (h : Held Tok Cx St Er). h.context) a }
+        same = record { tokens = ap (λ (h : Held Tok Cx St Er). h.tokens) a; context = ap (λ (h : Held Tok Cx St Er). h.context) a };
       }
   ran-adds e new (fault.Stop s) a m =
       record {
         outcome = record { verdict = Clash e; end = old.place; state = old.state; events = []; emitted = [] };
         meant = m _ (record { by = inr (refl, refl); end_at = refl; left = refl; emitted = refl });
-        answered = ap (λ z. Err (fault.Stop z)) a.0; state = ap (λ (h : Held Tok Cx St Er). h.state) a.3;
+        answered = ap (λ z. Err (fault.Stop z)) a.0;
+        state = ap (λ (h : Held Tok Cx St Er). h.state) a.3;
         left = (a.1, subst (HasEventAt e.place) (sym (append-nil (option_to_list old.kept))) a.2);
-        same = record { tokens = ap (λ (h : Held Tok Cx St Er). h.tokens) a.3; context = ap (λ (h : Held Tok Cx St Er). h.context) a.3 }
+        same = record { tokens = ap (λ (h : Held Tok Cx St Er). h.tokens) a.3; context = ap (λ (h : Held Tok Cx St Er). h.context) a.3 };
       }
 
   -- an expectation that the start does not meet
@@ -65,4 +73,4 @@ module _ {Tok Cx St Er V : Type 0} (merged : Er → Er → Er) (safe : Type 0) (
   ran-misses e new f (inl a) m = ran-adds e new f a (λ o h. m o (inr h))
   ran-misses e new f (inr l) m =
       rw l.0 (ran-halts new (record { tokens = ap (λ (h : Held Tok Cx St Er). h.tokens) l.2; context = ap (λ (h : Held Tok Cx St Er). h.context) l.2 })
-        (λ o v s. m o (inl (l.1, v, s ∙ ap (λ (h : Held Tok Cx St Er). h.state) l.2))))
+      (λ o v s. m o (inl (l.1, v, s ∙ ap (λ (h : Held Tok Cx St Er). h.state) l.2))))

@@ -4,8 +4,8 @@ ghost use Rattle.chumsky_input.specs.Held.{held};
 ghost use Rattle.chumsky_input.specs.Run.{Ran, with_value, without_value};
 
 use chumsky_input::extra::ParserExtra;
-use chumsky_input::input_ref::InputRef;
 use chumsky_input::input::Input;
+use chumsky_input::input_ref::InputRef;
 use chumsky_input::stop::PResult;
 
 /// Says of a type that it parses outputs `O` out of inputs `I` with the extra `E`, and no more.

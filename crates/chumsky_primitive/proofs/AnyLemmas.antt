@@ -17,7 +17,6 @@ use Rattle.chumsky_input.specs.Run.{Ran, SameRun, Leaves, LeavesBy, begin, answe
 use Rattle.chumsky_input.proofs.PrimaryLemmas.{kept-same}
 use Rattle.chumsky_parser.proofs.ChainedLemmas.{ran-from, ran-moved, same_run-trans}
 use Rattle.chumsky_parser.specs.Failure.{IsWanted, FailsAt, Refuses, Misses, expects, wanting}
-
 use Rattle.chumsky_parser.proofs.FailureLemmas.{ran-yes, ran-halts, ran-misses}
 use Rattle.chumsky_primitive.specs.Any.{MeansAny, MeansAnyAt, Takes}
 
@@ -26,13 +25,13 @@ module _ {I Tok Sp Cu Er St Mk Cx S : Type 0} (source : input_trait.Ghosts I Cu 
       → Ran errors.merged errors.takes_no_memory (MeansAny source seen safe errors states) true old new (Ok (Some v))
   any_takes v new k =
       rw k.3 (ran-yes errors.merged errors.takes_no_memory _ true old (Some v) (old.place + 1) (states.after old.state k.0)
-        (record { by_token = rw k.1 (inr (record { value = Some v; is_value = k.2; outcome = refl })) }))
+      (record { by_token = rw k.1 (inr (record { value = Some v; is_value = k.2; outcome = refl })) }))
 
   skips : (t : Option Tok) (new : Held Tok Cx states.Seen errors.Seen) → slice_get old.tokens old.place ≡ t → is_some t ≡ true → new ≡ took states.after old t
       → Ran errors.merged errors.takes_no_memory (MeansAny source seen safe errors states) false old new (Ok None)
   skips (Some t) new e s k =
       rw k (ran-yes errors.merged errors.takes_no_memory _ false old None (old.place + 1) (states.after old.state t)
-        (record { by_token = rw e (inr (record { value = None; is_value = tt; outcome = refl })) }))
+      (record { by_token = rw e (inr (record { value = None; is_value = tt; outcome = refl })) }))
   skips None new e s k = let no : ⊥ = cc in absurd no
 
   pub any_skips : (new : Held Tok Cx states.Seen errors.Seen) → is_some (slice_get old.tokens old.place) ≡ true → new ≡ took states.after old (slice_get old.tokens old.place)
@@ -60,4 +59,4 @@ module _ {I Tok Sp Cu Er St Mk Cx S : Type 0} (source : input_trait.Ghosts I Cu 
       → Ran errors.merged errors.takes_no_memory (MeansAny source seen safe errors states) true old new (Err (fault.Stop Memory))
   any_lacks new k =
       rw k.0 (ran-halts errors.merged errors.takes_no_memory _ true old old (record { tokens = refl; context = refl })
-        (λ o v s. record { by_token = rw k.1.1 (inl ((refl, k.1.2), v, s)) }))
+      (λ o v s. record { by_token = rw k.1.1 (inl ((refl, k.1.2), v, s)) }))

@@ -17,7 +17,6 @@ use Rattle.chumsky_input.specs.Run.{Ran, SameRun, Leaves, LeavesBy, begin, answe
 use Rattle.chumsky_input.proofs.PrimaryLemmas.{kept-same}
 use Rattle.chumsky_parser.proofs.ChainedLemmas.{ran-from, ran-moved, same_run-trans}
 use Rattle.chumsky_parser.specs.Failure.{IsWanted, FailsAt, Refuses, Misses, expects, wanting}
-
 use Rattle.chumsky_parser.proofs.FailureLemmas.{ran-yes, ran-halts, ran-misses}
 use Rattle.chumsky_primitive.specs.End.{MeansEnd, MeansEndAt}
 
@@ -36,7 +35,7 @@ module _ {I Tok Sp Cu Er St Mk Cx : Type 0} (source : input_trait.Ghosts I Cu To
       → Ran errors.merged errors.takes_no_memory (MeansEnd source errors states) w old new (Err (fault.Stop Memory))
   end_unrestored t mid new e k n may =
       rw (n, k) (ran-halts errors.merged errors.takes_no_memory _ w old (took states.after old (Some t)) (record { tokens = refl; context = refl })
-        (λ o v s. record { by_token = rw (sym e) (inr (inl (may, v, s))) }))
+      (λ o v s. record { by_token = rw (sym e) (inr (inl (may, v, s))) }))
 
   -- the event of the end, where the token was taken and gone back from
   back_from : (t : Tok) (new : Held Tok Cx states.Seen errors.Seen) (f : Fault) → Some t ≡ slice_get old.tokens old.place
@@ -44,9 +43,9 @@ module _ {I Tok Sp Cu Er St Mk Cx : Type 0} (source : input_trait.Ghosts I Cu To
       → Ran errors.merged errors.takes_no_memory (MeansEnd source errors states) w old new (Err f)
   back_from t new f e k =
       ran-moved (record { tokens = refl; context = refl }) refl refl (λ o h. record { by_token = rw (sym e) (inr (inr h)) })
-        (ran-misses errors.merged errors.takes_no_memory
-          (λ b o. Misses errors.takes_no_memory (expects source errors b.tokens (wanted.EndOfInput ∷ []) (Some t) b.start (b.start + 1)) b.start (states.back (states.after old.state t) (states.mark old.state)) o)
-          w (record old { state = states.back (states.after old.state t) (states.mark old.state) }) _ new f k (λ o h. h))
+      (ran-misses errors.merged errors.takes_no_memory
+      (λ b o. Misses errors.takes_no_memory (expects source errors b.tokens (wanted.EndOfInput ∷ []) (Some t) b.start (b.start + 1)) b.start (states.back (states.after old.state t) (states.mark old.state)) o)
+      w (record old { state = states.back (states.after old.state t) (states.mark old.state) }) _ new f k (λ o h. h))
 
   pub end_misses : (t : Tok) (m : Marks Tok states.Marked) (past : ℕ) (mid back new : Held Tok Cx states.Seen errors.Seen) (f : Fault)
       → Some t ≡ slice_get old.tokens old.place → m ≡ marked_here states.mark old → mid ≡ took states.after old (Some t) → past ≡ mid.place → back ≡ gone_back states.back mid m

@@ -28,9 +28,9 @@ module _ {I Tok Sp Cu Er St Mk Cx : Type 0} (source : input_trait.Ghosts I Cu To
   pub end-agrees : Agreeing SameUnit (MeansEnd {Cx = Cx} source errors states) (MeansEnd source errors states)
   end-agrees b c o q alike m n a z =
       elim m.by_token [
-        inl r ↦ absurd (subst IsAnswer r.1 a)
-      | inr h ↦ elim n.by_token [
-          inl r ↦ absurd (subst IsAnswer r.1 z)
-        | inr k ↦ end_agree _ b c o q alike h (rw (alike.tokens, alike.start) k) a z
+        | inl r ↦ absurd (subst IsAnswer r.1 a)
+        | inr h ↦ elim n.by_token [
+          | inl r ↦ absurd (subst IsAnswer r.1 z)
+          | inr k ↦ end_agree _ b c o q alike h (rw (alike.tokens, alike.start) k) a z
         ]
       ]

@@ -22,10 +22,15 @@ impl<'src, I: ValueInput<'src>, E: ParserExtra<I>> Parser<'src, I, I::Token, E> 
     ghost use Rattle.chumsky_primitive.specs.AnyLaws.{any-ends, any-agrees};
 
     ghost ready = { λ _. ⊤ };
+
     ghost meaning = { λ _ errors states. MeansAny I.Input I.seen I.takes_no_memory errors states };
+
     ghost steady = { λ _. ⊤ };
+
     ghost same = { λ _ v w. I.seen v ≡ I.seen w };
+
     ghost ends_after_start = { λ _. any-ends _ _ _ _ _ };
+
     ghost agrees = { λ _ _. any-agrees _ _ _ _ _ };
 
     #[inline]
@@ -49,4 +54,3 @@ impl<'src, I: ValueInput<'src>, E: ParserExtra<I>> Parser<'src, I, I::Token, E> 
         Err(inp.expected(&here, &here, Plain::Any, None))
     }
 }
-

@@ -23,10 +23,15 @@ impl<'src, I: Input<'src>, E: ParserExtra<I>> Parser<'src, I, (), E> for End<I, 
     ghost use Rattle.chumsky_primitive.specs.EndLaws.{end-ends, end-agrees};
 
     ghost ready = { λ _. ⊤ };
+
     ghost meaning = { λ _ errors states. MeansEnd I.Input errors states };
+
     ghost steady = { λ _. ⊤ };
+
     ghost same = { λ _. SameUnit };
+
     ghost ends_after_start = { λ _. end-ends _ _ _ };
+
     ghost agrees = { λ _ _. end-agrees _ _ _ };
 
     #[inline]

@@ -26,4 +26,4 @@ returns-in_err-rewind-in-Err-Fail-clause-ran g c =
 pub returns-clause-ran : goal.returns-clause-ran
 returns-clause-ran g c =
     ran-second g.E.Error.Error.merged g.E.Error.Error.takes_no_memory g.E.State.Inspector.mark g.E.State.Inspector.back g.E.State.Inspector.takes_no_memory _ _ true (held g.I.Input g.E.Error.Error g.E.State.Inspector c.args.inp.now) (marks g.I.Input g.E.State.Inspector c.in_ok-before.before) (held g.I.Input g.E.Error.Error g.E.State.Inspector c.go_emit.new.inp) (held g.I.Input g.E.Error.Error g.E.State.Inspector c.rewind.new.self) _ _
-      (rw (emit_err (c.in-Err-Fail.is ∙ ap Err c.in-Err-Fail.field-0-is)) at c.go_emit.ensures.ran) c.in_ok-before.ensures c.in_ok-rewind-in-Err-Fail.ensures.back c.go_emit-in-Err-Fail.ensures.ran
+    (rw (emit_err (c.in-Err-Fail.is ∙ ap Err c.in-Err-Fail.field-0-is)) at c.go_emit.ensures.ran) c.in_ok-before.ensures c.in_ok-rewind-in-Err-Fail.ensures.back c.go_emit-in-Err-Fail.ensures.ran

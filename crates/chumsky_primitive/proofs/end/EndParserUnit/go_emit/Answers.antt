@@ -23,5 +23,5 @@ returns-in_err-rewind-in-Some-clause-ran g c =
 pub returns-clause-ran : goal.returns-clause-ran
 returns-clause-ran g c =
     end_misses g.I.Input g.E.Error.Error g.E.State.Inspector true (held g.I.Input g.E.Error.Error g.E.State.Inspector c.args.inp.now) _ (marks g.I.Input g.E.State.Inspector c.in_ok-before.before) _
-      (held g.I.Input g.E.Error.Error g.E.State.Inspector c.next_maybe.new.self) (held g.I.Input g.E.Error.Error g.E.State.Inspector c.rewind.new.self) _ _
-      c.in-Some.ensures.taken c.in_ok-before.ensures c.in-Some.ensures.moves refl c.in_ok-rewind-in-Some.ensures.back c.expected.ensures.fails
+    (held g.I.Input g.E.Error.Error g.E.State.Inspector c.next_maybe.new.self) (held g.I.Input g.E.Error.Error g.E.State.Inspector c.rewind.new.self) _ _
+    c.in-Some.ensures.taken c.in_ok-before.ensures c.in-Some.ensures.moves refl c.in_ok-rewind-in-Some.ensures.back c.expected.ensures.fails
