@@ -10,15 +10,16 @@ use chumsky_input::stop::PResult;
 
 /// Says of a type that it parses outputs `O` out of inputs `I` with the extra `E`, and no more.
 ///
-/// Builders ask for this alone, and running a parser asks for `Parser`: so what a function builds costs its check next
-/// to nothing until it is run. A parser type of one's own needs this impl, an empty one, beside that of `Parser`.
+/// Builders ask for this alone, and running a parser asks for `Parser`: so what a function builds costs its check little
+/// until it is run. A parser type of one's own has builders and run forms once it has this impl, an empty one, beside
+/// that of `Parser`.
 pub trait IsParser<I, O, E> {}
 
 /// A parser of outputs `O` over inputs `I`.
 ///
 /// Both functions mean one relation, `meaning`: from where a run begins to the outcomes that it may have. `go_emit`
 /// makes the output, `go_check` only says whether there is one.
-pub trait Parser<'src, I: Input<'src>, O, E: ParserExtra<I>>: IsParser<I, O, E> {
+pub trait Parser<'src, I: Input<'src>, O, E: ParserExtra<I>> {
     ghost use Rattle.chumsky_input.specs.Words.{Does};
     ghost use Rattle.chumsky_input.specs.Outcome.{EndsAfterStart, Agreeing};
 
