@@ -29,6 +29,11 @@ pub mod error {
     pub use chumsky_input::rich::{Rich, RichPattern};
 }
 
+/// Sequences of tokens.
+pub mod container {
+    pub use chumsky_parser::container::{OrderedSeq, Seq};
+}
+
 /// The types of a parser beside its input and its output.
 pub mod extra {
     pub use chumsky_input::extra::{Context, Default, Err, Full, ParserExtra, State};
@@ -43,7 +48,8 @@ pub mod inspector {
 pub mod primitive {
     pub use chumsky_primitive::any::Any;
     pub use chumsky_primitive::end::End;
-    pub use chumsky_primitive::make::{any, end};
+    pub use chumsky_primitive::just::Just;
+    pub use chumsky_primitive::make::{any, end, just};
 }
 
 /// Parsers made of parsers.

@@ -7,4 +7,4 @@ pub use chumsky_input::rich::Rich;
 pub use chumsky_input::span::SimpleSpan;
 pub use chumsky_parser::parser::{IsParser, Parser};
 pub use chumsky_parser::result::ParseResult;
-pub use chumsky_primitive::make::{any, end};
+pub use chumsky_primitive::make::{any, end, just};

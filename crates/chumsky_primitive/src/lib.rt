@@ -3,4 +3,5 @@
 
 pub mod any;
 pub mod end;
+pub mod just;
 pub mod make;

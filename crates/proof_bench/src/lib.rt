@@ -5,6 +5,11 @@
 use chumsky::prelude::*;
 use std::alloc::Global;
 
+/// No parser: the part of each time that is fixed.
+pub fn nothing(text: &str) -> bool {
+    text.is_empty()
+}
+
 /// Two parsers.
 pub fn parsers_2(alloc: Global, text: &str) -> bool {
     let parser = any::<_, extra::Err<EmptyErr>>().then(any());
@@ -34,6 +39,28 @@ pub fn parsers_8(alloc: Global, text: &str) -> bool {
 /// Sixteen.
 pub fn parsers_16(alloc: Global, text: &str) -> bool {
     let first = any::<_, extra::Err<EmptyErr>>()
+        .then(any())
+        .then(any())
+        .then(any())
+        .map(|_| 'a');
+    let second = any().then(any()).then(any()).then(any()).map(|_| 'b');
+    let third = any().then(any()).then(any()).then(any()).map(|_| 'c');
+    let fourth = any().then(any()).then(any()).then(any()).map(|_| 'd');
+    first.or(second).or(third.or(fourth)).check(alloc, text).is_ok()
+}
+
+/// An extra of the caller's own, in place of `extra::Err<EmptyErr>`.
+pub struct Own;
+
+impl<'src> extra::ParserExtra<&'src str> for Own {
+    type Error = EmptyErr;
+    type State = ();
+    type Context = ();
+}
+
+/// Sixteen, with an extra of their own.
+pub fn parsers_16_own(alloc: Global, text: &str) -> bool {
+    let first = any::<_, Own>()
         .then(any())
         .then(any())
         .then(any())

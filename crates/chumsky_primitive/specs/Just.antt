@@ -1,0 +1,59 @@
+-- A fixed sequence of tokens.
+use Rattle.std.specs.Prelude.{◌≡◌, ℕ, ◌+◌, Bool, true, false, Option, Some, None, List, [], ◌∷◌, ◌⊎◌, slice_get}
+use Rattle.chumsky_input.specs.declared.error.Error as error_trait
+use Rattle.chumsky_input.specs.declared.inspector.Inspector as inspector_trait
+use Rattle.chumsky_input.specs.declared.input.Input as input_trait
+use Rattle.chumsky_input.specs.Wanted as wanted
+use Rattle.chumsky_input.specs.Outcome.{Meaning, Beginning, Outcome, Yes}
+use Rattle.chumsky_parser.specs.Chained.{Chained, Given}
+use Rattle.chumsky_parser.specs.Failure.{IsWanted, Refuses, Misses, expects}
+
+-- the place past what was found at one
+abbrev pub past : {Tok : Type 0} → Option Tok → ℕ → ℕ
+past None p = p
+past (Some t) p = p + 1
+
+-- the state, told of what was found
+abbrev pub told : {Tok St : Type 0} → (St → Tok → St) → Option Tok → St → St
+told after None s = s
+told after (Some t) s = after s t
+
+-- what was found is a token that equals the member
+abbrev pub is_member : {Tok : Type 0} → (Tok → Tok → Bool) → Tok → Option Tok → Bool
+is_member equal m None = false
+is_member equal m (Some t) = equal m t
+
+module _ {I Tok Sp Cu Er St Mk Cx : Type 0} (source : input_trait.Ghosts I Cu Tok Sp) (equal : Tok → Tok → Bool) (errors : error_trait.Ghosts Er I Tok Sp) (states : inspector_trait.Ghosts St I Mk Tok Sp) where
+  -- a member is taken; where another token or none is found, that is gone back from
+  abbrev pub MeansFound : Tok → Option Tok → Bool → Meaning Tok Cx states.Seen errors.Seen (Unit {0})
+  MeansFound m found true b o = o ≡ record { verdict = Yes None; end = past found b.start; state = told states.after found b.state; events = []; emitted = [] }
+  MeansFound m found false b o =
+      let gone = told states.after found b.state in
+      Refuses (states.takes_no_memory → ⊥) gone o ⊎ Misses errors.takes_no_memory (expects source errors b.tokens (wanted.Token m ∷ []) found b.start (past found b.start)) b.start (states.back gone (states.mark b.state)) o
+
+  -- one member
+  pub record MeansMember (m : Tok) (b : Beginning Tok Cx states.Seen) (o : Outcome (Unit {0}) errors.Seen states.Seen) : Type 0 where
+    pub by_token : Refuses (states.takes_no_memory → ⊥) b.state o ⊎ MeansFound m (slice_get b.tokens b.start) (is_member equal m (slice_get b.tokens b.start)) b o
+
+  -- the members, each where the former ended
+  abbrev pub MeansMembers : List Tok → Meaning Tok Cx states.Seen errors.Seen (Unit {0})
+  MeansMembers [] = Given None
+  MeansMembers (m ∷ ms) = Chained (MeansMember m) (λ _. MeansMembers ms)
+
+  module _ {V : Type 0} (copies : V → Type 0) (safe : Type 0) where
+    -- nothing is done, but for a copy where a value is wanted
+    pub record Copies (b : Beginning Tok Cx states.Seen) (o : Outcome V errors.Seen states.Seen) : Type 0 where
+      pub value : Option V
+      pub is_value : IsWanted copies b.wanted value
+      pub outcome : Given value b o
+
+    abbrev pub MeansCopy : Meaning Tok Cx states.Seen errors.Seen V
+    MeansCopy b o = Refuses ((b.wanted ≡ true) × (safe → ⊥)) b.state o ⊎ Copies b o
+
+    -- all the members, and then a copy of their sequence
+    abbrev pub MeansJust : List Tok → Meaning Tok Cx states.Seen errors.Seen V
+    MeansJust ms = Chained (MeansMembers ms) (λ _. MeansCopy)
+
+-- both are copies
+abbrev pub BothCopies : {V : Type 0} → (V → Type 0) → V → V → Type 0
+BothCopies copies v w = copies v × copies w
