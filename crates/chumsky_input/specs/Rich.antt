@@ -1,9 +1,8 @@
 -- What counts of a `Rich`, and how two are merged.
-use Rattle.std.specs.Prelude.{ℕ, Bool, cond, List, [], ◌∷◌, ◌++◌, Option, Some, None, option_map, map, ◌==◌}
+use Rattle.std.specs.Prelude.{ℕ, Bool, cond, List, [], ◌∷◌, ◌++◌, Option, Some, None, option_map, map, string_bytes, ◌==◌}
 use Rattle.std.specs.List.{list_any, filter_map}
 use Rattle.std.specs.Option.{option_eq}
 use Rattle.std.specs.Ordering.{on, eq_of_both}
-use Rattle.std.specs.Cow.{cow_str_bytes}
 use Rattle.chumsky_input.specs.Wanted.{Wanted}
 use Rattle.chumsky_input.specs.Wanted as wanted
 use Rattle.chumsky_input.specs.declared.span.SimpleSpan.{SimpleSpan}
@@ -71,7 +70,7 @@ rich_patterns e = elim e.reason [ Expected ps f ↦ ps.items | Custom m ↦ [] ]
 
 -- the bytes of a custom error's message
 abbrev pub rich_message : {T : Type 0} → Rich T → Option (List ℕ)
-rich_message e = elim e.reason [ Expected ps f ↦ None | Custom m ↦ Some (cow_str_bytes m) ]
+rich_message e = elim e.reason [ Expected ps f ↦ None | Custom m ↦ Some (string_bytes m) ]
 
 -- what counts of e, where `seen` shows what counts of a token
 abbrev pub rich_seen : {T S : Type 0} → (T → S) → Rich T → RichSeen S

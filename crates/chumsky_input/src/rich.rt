@@ -1,9 +1,8 @@
 //! An error that says what was expected and what was found.
-ghost use Rattle.std.specs.Prelude.{◌≡◌, List, [], ◌∷◌, Option, Some, None, IfOk, OnOk, IsOk, map, option_map, option_copied};
+ghost use Rattle.std.specs.Prelude.{◌≡◌, List, [], ◌∷◌, Option, Some, None, IfOk, OnOk, IsOk, map, option_map, option_copied, string_bytes};
 ghost use Rattle.std.specs.Iterator.{IsFinite, Drains};
 ghost use Rattle.std.specs.List.{filter_map};
 ghost use Rattle.std.specs.Slice.Iter.{iter_rest};
-ghost use Rattle.std.specs.Cow.{cow_str_bytes};
 ghost use Rattle.chumsky_input.specs.Maybe.{maybe_value};
 ghost use Rattle.chumsky_input.specs.Rich.{RichSeen, rich_seen, rich_span, rich_found, rich_patterns, rich_message, rich_expectation, rich_merged, Empty, add_new, pattern_same, pattern_map, wanted_pattern};
 ghost use Rattle.chumsky_input.specs.RichLaws.{pattern_same_laws};
@@ -14,7 +13,6 @@ use crate::same::SameClone;
 use crate::span::SimpleSpan;
 use crate::util::{DefaultExpected, Expectation, MaybeRef};
 use std::alloc::{AllocError, Global};
-use std::borrow::CowStr;
 
 /// Something that would have been accepted.
 #[derive(Clone, Drop)]
@@ -48,7 +46,7 @@ impl<T: PartialEq> PartialEq for RichPattern<T> {
 #[derive(PartialEq, Drop)]
 enum RichReason<T> {
     Expected(Vec<RichPattern<T>>, Option<T>),
-    Custom(CowStr<'static>),
+    Custom(String),
 }
 
 /// An error that says where it stands, and what was expected and found there. A custom error has a message in place of
@@ -62,11 +60,11 @@ pub struct Rich<T> {
 impl<T> Rich<T> {
     /// A custom error: it shows its message alone, with no found token and no patterns.
     #[inline]
-    pub fn custom(span: SimpleSpan, message: CowStr<'static>) -> Self
+    pub fn custom(span: SimpleSpan, message: String) -> Self
         ensures span { rich_span result ≡ span }
         ensures found { rich_found result ≡ None }
         ensures patterns { rich_patterns result ≡ [] }
-        ensures message { rich_message result ≡ Some (cow_str_bytes message.entry) }
+        ensures message { rich_message result ≡ Some (string_bytes message) }
     {
         Rich {
             span,

@@ -1,8 +1,8 @@
 //! Parsers that the tests run, each built and run in one function.
 #![tactic(auto)]
 
-use chumsky::prelude::*;
 use chumsky::Stop;
+use chumsky::prelude::*;
 use std::alloc::Global;
 
 #[cfg(test)]
@@ -11,7 +11,10 @@ mod tests;
 type Errors = extra::Err<Rich<char>>;
 
 /// What `parse` gives of `just("ab").or(just("ac"))`.
-pub fn parse_ab_or_ac(alloc: Global, text: &str) -> Result<ParseResult<&'static str, Rich<char>>, Stop> {
+pub fn parse_ab_or_ac(
+    alloc: Global,
+    text: &str,
+) -> Result<ParseResult<&'static str, Rich<char>>, Stop> {
     just::<_, _, Errors>("ab").or(just("ac")).parse(alloc, text)
 }
 
@@ -21,7 +24,10 @@ pub fn check_ab_or_ac(alloc: Global, text: &str) -> Result<ParseResult<(), Rich<
 }
 
 /// What `parse` gives of `just("")`.
-pub fn parse_nothing(alloc: Global, text: &str) -> Result<ParseResult<&'static str, Rich<char>>, Stop> {
+pub fn parse_nothing(
+    alloc: Global,
+    text: &str,
+) -> Result<ParseResult<&'static str, Rich<char>>, Stop> {
     just::<_, _, Errors>("").parse(alloc, text)
 }
 
@@ -31,21 +37,39 @@ pub fn check_nothing(alloc: Global, text: &str) -> Result<ParseResult<(), Rich<c
 }
 
 /// What `parse_with_state` gives of `just('é').then(just('x'))`.
-pub fn parse_accent_then_x(alloc: Global, text: &str) -> Result<ParseResult<(char, char), Rich<char>>, Stop> {
-    just::<_, _, Errors>('é').then(just('x')).parse_with_state(alloc, text, &mut ())
+pub fn parse_accent_then_x(
+    alloc: Global,
+    text: &str,
+) -> Result<ParseResult<(char, char), Rich<char>>, Stop> {
+    let mut state = ();
+    just::<_, _, Errors>('é')
+        .then(just('x'))
+        .parse_with_state(alloc, text, &mut state)
 }
 
 /// What `check_with_state` gives of it.
 pub fn check_accent_then_x(alloc: Global, text: &str) -> Result<ParseResult<(), Rich<char>>, Stop> {
-    just::<_, _, Errors>('é').then(just('x')).check_with_state(alloc, text, &mut ())
+    let mut state = ();
+    just::<_, _, Errors>('é')
+        .then(just('x'))
+        .check_with_state(alloc, text, &mut state)
 }
 
 /// `any`, mapped, and then `end`, with errors that say nothing.
-pub fn parse_any_mapped(alloc: Global, text: &str) -> Result<ParseResult<(u32, ()), EmptyErr>, Stop> {
-    any::<_, extra::Default>().map(|c| c as u32).then(end()).parse(alloc, text)
+pub fn parse_any_mapped(
+    alloc: Global,
+    text: &str,
+) -> Result<ParseResult<(u32, ()), EmptyErr>, Stop> {
+    any::<_, extra::Default>()
+        .map(|c| c as u32)
+        .then(end())
+        .parse(alloc, text)
 }
 
 /// The same without the output.
 pub fn check_any_mapped(alloc: Global, text: &str) -> Result<ParseResult<(), EmptyErr>, Stop> {
-    any::<_, extra::Default>().map(|c| c as u32).then(end()).check(alloc, text)
+    any::<_, extra::Default>()
+        .map(|c| c as u32)
+        .then(end())
+        .check(alloc, text)
 }
