@@ -1,0 +1,191 @@
+//! One run of the program, over any input and any outputs.
+ghost use Rattle.std.specs.Prelude.{◌≡◌, ◌⊎◌, [], ◌∷◌, ◌++◌, codes, OnOk, IfSome, IfOk};
+ghost use Rattle.std.specs.Io.KnownBytes.{Appends};
+ghost use Rattle.chk.specs.Show.{stop_text};
+
+use crate::ab::{check_ab, parse_ab};
+use crate::show::{ErrorLine, stop_name};
+use chumsky::error::Rich;
+use chumsky::{ParseResult, Stop};
+use std::alloc::Global;
+use std::fmt::Display;
+use std::io::{ErrorKind, Read, Write};
+
+const ACCEPTED: u8 = 0;
+
+const REJECTED: u8 = 1;
+
+const FAILED: u8 = 2;
+
+const REFUSED: u8 = 3;
+
+/// What the program is to do with its input.
+#[derive(Clone, Copy)]
+enum Command {
+    Parse,
+    Check,
+}
+
+/// The grammars.
+#[derive(Clone, Copy)]
+enum Grammar {
+    Ab,
+}
+
+/// Why a run gives no answer.
+#[derive(Clone, Copy)]
+enum Failure {
+    Usage,
+    Unreadable,
+    NotUtf8,
+    Refused(Stop),
+    Unwritable,
+}
+
+impl From<Stop> for Failure {
+    fn from(stop: Stop) -> Failure {
+        Failure::Refused(stop)
+    }
+}
+
+/// Runs the program on the words after its name. The result is its exit status.
+pub fn run<R: Read, W: Write, E: Write>(
+    alloc: Global,
+    words: &[String],
+    input: &mut R,
+    out: &mut W,
+    err: &mut E,
+) -> u8 {
+    match answer(alloc, words, input, out) {
+        Ok(status) => status,
+        Err(Failure::Usage) => complain(err, "usage: chk parse|check NAME"),
+        Err(Failure::Unreadable) => complain(err, "cannot read input"),
+        Err(Failure::NotUtf8) => complain(err, "input is not UTF-8"),
+        Err(Failure::Refused(stop)) => refuse(out, stop),
+        Err(Failure::Unwritable) => FAILED,
+    }
+}
+
+/// Says what is wrong, if it can be said at all.
+fn complain<E: Write>(err: &mut E, message: &str) -> u8 {
+    let _ = writeln!(err, "{message}");
+    FAILED
+}
+
+/// Says why the run was refused.
+pub fn refuse<W: Write>(out: &mut W, stop: Stop) -> u8
+    ensures status { (result ≡ REFUSED) ⊎ (result ≡ FAILED) }
+    ensures printed { result ≡ REFUSED → Appends (W.contents out.old) (W.contents out.new) (codes "refused " ++ (stop_text stop ++ 10 ∷ [])) }
+{
+    match writeln!(out, "refused {}", stop_name(stop)) {
+        Ok(()) => REFUSED,
+        Err(_) => FAILED,
+    }
+}
+
+/// The steps of a run, up to the first that fails.
+fn answer<R: Read, W: Write>(
+    alloc: Global,
+    words: &[String],
+    input: &mut R,
+    out: &mut W,
+) -> Result<u8, Failure> {
+    let (command, grammar) = request(words).ok_or(Failure::Usage)?;
+    let text = read_text(alloc, input)?;
+    match command {
+        Command::Parse => parse(alloc, grammar, text.as_str(), out),
+        Command::Check => check(alloc, grammar, text.as_str(), out),
+    }
+}
+
+/// What the words ask for, if they ask for anything.
+fn request(words: &[String]) -> Option<(Command, Grammar)> {
+    let [command, name] = words else {
+        return None;
+    };
+    let command = match command.as_str() {
+        "parse" => Command::Parse,
+        "check" => Command::Check,
+        _ => return None,
+    };
+    let grammar = match name.as_str() {
+        "ab" => Grammar::Ab,
+        _ => return None,
+    };
+    Some((command, grammar))
+}
+
+/// The whole input.
+fn read_text<R: Read>(alloc: Global, input: &mut R) -> Result<String, Failure> {
+    let mut bytes = Vec::new(alloc);
+    match input.read_to_end(&mut bytes) {
+        Ok(_) => String::from_utf8(bytes).map_err(|_| Failure::NotUtf8),
+        Err(error) if error.kind() == ErrorKind::OutOfMemory => Err(Failure::Refused(Stop::Memory)),
+        Err(_) => Err(Failure::Unreadable),
+    }
+}
+
+/// Prints the output of the text, or its errors.
+fn parse<W: Write>(
+    alloc: Global,
+    grammar: Grammar,
+    text: &str,
+    out: &mut W,
+) -> Result<u8, Failure> {
+    match grammar {
+        Grammar::Ab => {
+            let answer = parse_ab(alloc, text)?;
+            match report(out, &answer)? {
+                Some((first, second)) => accept(out, format_args!("ok {first}{second}")),
+                None => Ok(REJECTED),
+            }
+        }
+    }
+}
+
+/// Prints whether the text is right, or its errors.
+fn check<W: Write>(
+    alloc: Global,
+    grammar: Grammar,
+    text: &str,
+    out: &mut W,
+) -> Result<u8, Failure> {
+    let answer = match grammar {
+        Grammar::Ab => check_ab(alloc, text)?,
+    };
+    match report(out, &answer)? {
+        Some(()) => accept(out, "ok"),
+        None => Ok(REJECTED),
+    }
+}
+
+/// Prints the errors of an answer. Without errors the output is what is left to print.
+fn report<'a, O, W: Write>(
+    out: &mut W,
+    answer: &'a ParseResult<O, Rich<char>>,
+) -> Result<Option<&'a O>, Failure> {
+    for error in answer.errors() {
+        print(out, ErrorLine(error))?;
+    }
+    if answer.errors().len() == 0 {
+        Ok(answer.output())
+    } else {
+        Ok(None)
+    }
+}
+
+/// Prints a line, and answers that the text is right.
+fn accept<D: Display + Drop, W: Write>(out: &mut W, line: D) -> Result<u8, Failure>
+    ensures status { IfOk result (λ status. status ≡ ACCEPTED) }
+    ensures printed { OnOk result (IfSome (D.output line) (λ text. Appends (W.contents out.old) (W.contents out.new) (text ++ 10 ∷ []))) }
+{
+    print(out, line)?;
+    Ok(ACCEPTED)
+}
+
+/// Prints a line.
+fn print<D: Display + Drop, W: Write>(out: &mut W, line: D) -> Result<(), Failure>
+    ensures { OnOk result (IfSome (D.output line) (λ text. Appends (W.contents out.old) (W.contents out.new) (text ++ 10 ∷ []))) }
+{
+    writeln!(out, "{line}").map_err(|_| Failure::Unwritable)
+}

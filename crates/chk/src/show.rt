@@ -1,0 +1,117 @@
+//! How errors print.
+ghost use Rattle.std.specs.Prelude.{◌≡◌, Some};
+ghost use Rattle.std.specs.Option.{option_copied};
+ghost use Rattle.chk.specs.Show.{is_plain, symbol_text, pattern_text, patterns_text, found_text, error_text, stop_text};
+
+use chumsky::Stop;
+use chumsky::error::{Rich, RichPattern};
+use std::fmt;
+use std::fmt::Display;
+
+/// A character: between quotes if it is printable ASCII, else by its number.
+#[derive(Clone, Copy)]
+pub struct Symbol(pub char);
+
+impl Display for Symbol {
+    ghost output = { λ s. Some (symbol_text s.0) };
+
+    fn fmt<W: fmt::Write>(&self, f: &mut fmt::Formatter<W>) -> fmt::Result {
+        let symbol = self.0;
+        if is_plain(symbol) {
+            write!(f, "'{symbol}'")
+        } else {
+            write!(f, "U+{:04X}", u32::from(symbol))
+        }
+    }
+}
+
+/// Whether a character is printable ASCII.
+fn is_plain(symbol: char) -> bool
+    ensures { result ≡ is_plain symbol }
+{
+    matches!(symbol, ' '..='~')
+}
+
+/// Something that was expected.
+#[derive(Clone, Copy)]
+struct Pattern<'a>(&'a RichPattern<char>);
+
+impl Display for Pattern<'_> {
+    ghost output = { λ p. Some (pattern_text p.0.now) };
+
+    fn fmt<W: fmt::Write>(&self, f: &mut fmt::Formatter<W>) -> fmt::Result {
+        match self.0 {
+            RichPattern::Token(token) => write!(f, "{}", Symbol(*token)),
+            RichPattern::Any => write!(f, "any"),
+            RichPattern::SomethingElse => write!(f, "something else"),
+            RichPattern::EndOfInput => write!(f, "end of input"),
+        }
+    }
+}
+
+/// All that was expected, or that nothing was.
+#[derive(Clone, Copy)]
+struct Patterns<'a>(&'a [RichPattern<char>]);
+
+impl Display for Patterns<'_> {
+    ghost output = { λ p. Some (patterns_text p.0.now) };
+
+    fn fmt<W: fmt::Write>(&self, f: &mut fmt::Formatter<W>) -> fmt::Result {
+        let [first, others @ ..] = self.0 else {
+            return write!(f, "nothing");
+        };
+        write!(f, "{}", Pattern(first))?;
+        for other in others {
+            write!(f, ", {}", Pattern(other))?;
+        }
+        Ok(())
+    }
+}
+
+/// What was found: a character, or the end of the input.
+#[derive(Clone, Copy)]
+struct Found<'a>(Option<&'a char>);
+
+impl Display for Found<'_> {
+    ghost output = { λ s. Some (found_text (option_copied s.0)) };
+
+    fn fmt<W: fmt::Write>(&self, f: &mut fmt::Formatter<W>) -> fmt::Result {
+        match self.0 {
+            Some(found) => write!(f, "{}", Symbol(*found)),
+            None => write!(f, "end"),
+        }
+    }
+}
+
+/// An error, as the text of one line.
+#[derive(Clone, Copy)]
+pub struct ErrorLine<'a>(pub &'a Rich<char>);
+
+impl Display for ErrorLine<'_> {
+    ghost output = { λ e. Some (error_text e.0.now) };
+
+    fn fmt<W: fmt::Write>(&self, f: &mut fmt::Formatter<W>) -> fmt::Result {
+        let error = self.0;
+        let span = *error.span();
+        write!(f, "error {}..{} ", span.start, span.end)?;
+        match error.reason() {
+            Some(message) => write!(f, "{message}"),
+            None => {
+                let patterns = Patterns(error.expected().as_slice());
+                write!(f, "expected {patterns} found {}", Found(error.found()))
+            }
+        }
+    }
+}
+
+/// The name of a refusal.
+pub fn stop_name(stop: Stop) -> &'static str
+    ensures { result.now ≡ stop_text stop }
+{
+    match stop {
+        Stop::Memory => "Memory",
+        Stop::NoProgress => "NoProgress",
+        Stop::TooDeep => "TooDeep",
+        Stop::CountTooLarge => "CountTooLarge",
+    }
+}

@@ -1,0 +1,210 @@
+//! What the program answers, word for word.
+use crate::run::run;
+use std::alloc::{AllocError, Global};
+use std::io;
+use std::io::{Read, Write};
+use std::test::Fail;
+
+/// What a run left behind.
+#[derive(Drop)]
+struct Outcome {
+    status: u8,
+    out: Vec<u8>,
+    err: Vec<u8>,
+}
+
+fn owned(alloc: Global, words: &[&str]) -> Result<Vec<String>, AllocError> {
+    let mut all = Vec::new(alloc);
+    for word in words {
+        all.push(String::from_str(alloc, *word)?)?;
+    }
+    Ok(all)
+}
+
+fn run_on(alloc: Global, words: &[&str], input: &[u8]) -> Result<Outcome, AllocError> {
+    let words = owned(alloc, words)?;
+    let mut left = input;
+    let mut out = Vec::new(alloc);
+    let mut err = Vec::new(alloc);
+    let status = run(alloc, words.as_slice(), &mut left, &mut out, &mut err);
+    Ok(Outcome { status, out, err })
+}
+
+/// Gives an `a`, and then fails.
+#[derive(Drop)]
+struct Torn {
+    given: bool,
+}
+
+impl Read for Torn {
+    fn read(&mut self, buf: &mut [u8]) -> io::Result<usize> {
+        match buf {
+            [first, ..] if !self.given => {
+                *first = b'a';
+                self.given = true;
+                Ok(1)
+            }
+            _ => Err(io::Error::other("torn")),
+        }
+    }
+}
+
+/// Takes so many writes, and then fails.
+#[derive(Drop)]
+struct Brittle {
+    writes: usize,
+    kept: Vec<u8>,
+}
+
+impl Write for Brittle {
+    fn write(&mut self, buf: &[u8]) -> io::Result<usize> {
+        if self.writes == 0 {
+            return Err(io::Error::other("full"));
+        }
+        self.writes -= 1;
+        self.kept.extend_from_slice(buf)?;
+        Ok(buf.len())
+    }
+
+    fn flush(&mut self) -> io::Result<()> {
+        Ok(())
+    }
+}
+
+#[test]
+fn parses(rt: HostRuntime) -> Result<(), Fail> {
+    let rows = [
+        ("ab", 0, "ok ab\n"),
+        ("ba", 0, "ok ba\n"),
+        ("b\u{e9}", 0, "ok b\u{e9}\n"),
+        ("ac", 1, "error 1..2 expected 'b' found 'c'\n"),
+        ("", 1, "error 0..0 expected 'a', 'b' found end\n"),
+        ("abc", 1, "error 2..3 expected end of input found 'c'\n"),
+        ("b", 1, "error 1..1 expected any found end\n"),
+        ("\u{e9}", 1, "error 0..2 expected 'a', 'b' found U+00E9\n"),
+        ("ab\n", 1, "error 2..3 expected end of input found U+000A\n"),
+        ("a\u{1f600}", 1, "error 1..5 expected 'b' found U+1F600\n"),
+        ("a ", 1, "error 1..2 expected 'b' found ' '\n"),
+        ("a~", 1, "error 1..2 expected 'b' found '~'\n"),
+        ("a\u{7f}", 1, "error 1..2 expected 'b' found U+007F\n"),
+    ];
+    for (text, status, line) in rows {
+        let got = run_on(rt.alloc(), &["parse", "ab"], text.as_bytes())?;
+        assert_eq!(rt; got.out.as_slice(), line.as_bytes(), "at {text:?}");
+        assert_eq!(rt; got.status, status, "at {text:?}");
+        assert_eq!(rt; got.err.len(), 0, "at {text:?}");
+    }
+    Ok(())
+}
+
+#[test]
+fn checks(rt: HostRuntime) -> Result<(), Fail> {
+    let rows = [
+        ("ab", 0, "ok\n"),
+        ("ac", 1, "error 1..2 expected 'b' found 'c'\n"),
+        ("", 1, "error 0..0 expected 'a', 'b' found end\n"),
+    ];
+    for (text, status, line) in rows {
+        let got = run_on(rt.alloc(), &["check", "ab"], text.as_bytes())?;
+        assert_eq!(rt; got.out.as_slice(), line.as_bytes(), "at {text:?}");
+        assert_eq!(rt; got.status, status, "at {text:?}");
+        assert_eq!(rt; got.err.len(), 0, "at {text:?}");
+    }
+    Ok(())
+}
+
+fn is_usage(alloc: Global, words: &[&str]) -> Result<bool, AllocError> {
+    let words = owned(alloc, words)?;
+    let mut out = Vec::new(alloc);
+    let mut err = Vec::new(alloc);
+    let mut torn = Torn { given: false };
+    let status = run(alloc, words.as_slice(), &mut torn, &mut out, &mut err);
+    let usage = b"usage: chk parse|check NAME\n";
+    Ok(status == 2 && out.is_empty() && err.as_slice() == usage.as_slice() && !torn.given)
+}
+
+#[test]
+fn wrong_words_are_found_before_the_input_is_read(rt: HostRuntime) -> Result<(), Fail> {
+    assert!(rt; is_usage(rt.alloc(), &[])?);
+    assert!(rt; is_usage(rt.alloc(), &["parse"])?);
+    assert!(rt; is_usage(rt.alloc(), &["parse", "ab", "ab"])?);
+    assert!(rt; is_usage(rt.alloc(), &["parse", "abc"])?);
+    assert!(rt; is_usage(rt.alloc(), &["parse", "AB"])?);
+    assert!(rt; is_usage(rt.alloc(), &["Parse", "ab"])?);
+    assert!(rt; is_usage(rt.alloc(), &["", "ab"])?);
+    assert!(rt; is_usage(rt.alloc(), &["parse", "ab "])?);
+    Ok(())
+}
+
+#[test]
+fn input_is_utf_8(rt: HostRuntime) -> Result<(), Fail> {
+    for input in [b"\xff\xfe".as_slice(), b"ab\xc3", b"a\xed\xa0\x80"] {
+        let got = run_on(rt.alloc(), &["parse", "ab"], input)?;
+        assert_eq!(rt; got.status, 2);
+        assert_eq!(rt; got.out.len(), 0);
+        assert_eq!(rt; got.err.as_slice(), b"input is not UTF-8\n".as_slice());
+    }
+    Ok(())
+}
+
+#[test]
+fn a_read_that_fails_is_told(rt: HostRuntime) -> Result<(), Fail> {
+    let alloc = rt.alloc();
+    let words = owned(alloc, &["parse", "ab"])?;
+    for given in [false, true] {
+        let mut out = Vec::new(alloc);
+        let mut err = Vec::new(alloc);
+        let mut torn = Torn { given };
+        let status = run(alloc, words.as_slice(), &mut torn, &mut out, &mut err);
+        assert_eq!(rt; status, 2);
+        assert_eq!(rt; out.len(), 0);
+        assert_eq!(rt; err.as_slice(), b"cannot read input\n".as_slice());
+    }
+    Ok(())
+}
+
+/// How many writes a text takes, where a failure of any of them leaves status 2, no message and the text so far.
+fn writes_needed(alloc: Global, text: &str, line: &str) -> Result<Option<usize>, AllocError> {
+    let words = owned(alloc, &["parse", "ab"])?;
+    for writes in 0..30 {
+        let mut left = text.as_bytes();
+        let kept = Vec::new(alloc);
+        let mut out = Brittle { writes, kept };
+        let mut err = Vec::new(alloc);
+        let status = run(alloc, words.as_slice(), &mut left, &mut out, &mut err);
+        let kept = out.kept.as_slice();
+        if !err.is_empty() || !line.as_bytes().starts_with(kept) {
+            return Ok(None);
+        }
+        if status != 2 {
+            return Ok((kept.len() == line.len()).then_some(writes));
+        }
+    }
+    Ok(None)
+}
+
+#[test]
+fn a_write_that_fails_says_nothing_more(rt: HostRuntime) -> Result<(), Fail> {
+    let alloc = rt.alloc();
+    let of_output = writes_needed(alloc, "ab", "ok ab\n")?;
+    let of_error = writes_needed(alloc, "ac", "error 1..2 expected 'b' found 'c'\n")?;
+    assert!(rt; of_output.is_some_and(|writes| writes > 0));
+    assert!(rt; of_error.is_some_and(|writes| writes > 0));
+    Ok(())
+}
+
+#[test]
+fn a_message_that_cannot_be_written_changes_nothing(rt: HostRuntime) -> Result<(), Fail> {
+    let alloc = rt.alloc();
+    for (name, input) in [("no", b"ab".as_slice()), ("ab", b"\xff")] {
+        let words = owned(alloc, &["parse", name])?;
+        let mut left = input;
+        let mut out = Vec::new(alloc);
+        let kept = Vec::new(alloc);
+        let mut err = Brittle { writes: 0, kept };
+        let status = run(alloc, words.as_slice(), &mut left, &mut out, &mut err);
+        assert_eq!(rt; status, 2);
+        assert_eq!(rt; out.len(), 0);
+    }
+    Ok(())
+}
