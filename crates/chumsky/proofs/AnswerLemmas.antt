@@ -1,19 +1,17 @@
 -- What a whole run answers.
-use Rattle.std.proofs.Common.{◌≡◌, ℕ, Bool, true, false, Option, Some, None, List, [], ◌∷◌, ◌++◌, refl, sym, ◌∙◌, ap, subst, Result, Ok, Err, option_to_list, inl, inr, ◌⊎◌, map, IfOk}
-use Rattle.std.specs.Prelude.{⊤}
+use Rattle.std.proofs.Common.{◌≡◌, ℕ, Bool, false, Option, Some, None, List, [], ◌∷◌, ◌++◌, refl, sym, ◌∙◌, ap, subst, Result, Ok, Err, option_to_list, inl, inr, map, IfOk}
 use Rattle.chumsky_input.specs.declared.error.Error as error_trait
 use Rattle.chumsky_input.specs.declared.inspector.Inspector as inspector_trait
 use Rattle.chumsky_input.specs.declared.input.Input as input_trait
 use Rattle.chumsky_input.specs.declared.stop.Stop.{Stop}
-use Rattle.chumsky_input.specs.declared.stop.Stop.TheVariants.{Memory}
 use Rattle.chumsky_input.specs.declared.stop.Fault.{Fault}
 use Rattle.chumsky_input.specs.declared.stop.Fault.TheVariants as fault
 use Rattle.chumsky_input.specs.Held.{Held}
-use Rattle.chumsky_input.specs.Outcome.{Event, Meaning, Beginning, Outcome, Verdict, Yes, No, Halt, Clash, HasEventAt, Agreeing, Agree, SameValue, SameAnswer, IsAnswer, Alike}
+use Rattle.chumsky_input.specs.Outcome.{Event, Meaning, Outcome, Verdict, Yes, No, Halt, Clash, HasEventAt, Agreeing, Agree, SameValue, SameAnswer, IsAnswer}
 use Rattle.chumsky_input.specs.Primary.{primary}
-use Rattle.chumsky_input.specs.Run.{Ran, SameRun, Leaves, LeavesBy, begin, answer, with_value, without_value, final_error, with_last}
+use Rattle.chumsky_input.specs.Run.{Ran, LeavesBy, begin, answer, with_value, without_value, final_error}
 use Rattle.chumsky_parser.specs.declared.result.ParseResult.{ParseResult}
-use Rattle.chumsky.specs.Answer.{Asked, SettlesAs, reported, IsOutput, Reports, RefusesBy, Answers, Parses, WholeRun}
+use Rattle.chumsky.specs.Answer.{Asked, SettlesAs, reported, IsOutput, Reports, Answers, Parses, WholeRun}
 use Rattle.chumsky_primitive.specs.End.{MeansEnd}
 use Rattle.chumsky_parser.specs.FailureLaws.{SameUnit}
 use Rattle.chumsky_primitive.specs.EndLaws.{end-agrees}

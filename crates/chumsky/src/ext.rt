@@ -19,7 +19,7 @@ pub trait ParserExt<'src, I, O, E>: IsParser<I, O, E> + Sized {
     /// This parser, then `other` from where it ended; the output is the pair of theirs. The first failure is the
     /// whole's.
     #[inline]
-    final fn then<U, B: IsParser<I, U, E>>(self, other: B) -> Then<Self, B, O, U, E>
+    final fn then<U, B: IsParser<I, U, E>>(self, other: B) -> Then<Self, B, O, U>
         ensures first { result.first ≡ self }
         ensures second { result.second ≡ other }
     {
@@ -31,7 +31,7 @@ pub trait ParserExt<'src, I, O, E>: IsParser<I, O, E> + Sized {
     }
 
     /// This parser, or where it fails `other`, from the same place. The first that succeeds stands, even if the other
-    /// would have gone further. Longer choices are `choice((a, b, c))`.
+    /// would have gone further.
     #[inline]
     final fn or<B: IsParser<I, O, E>>(self, other: B) -> Or<Self, B>
         ensures first { result.first ≡ self }

@@ -1,18 +1,15 @@
 -- What an ordered choice leaves.
-use Rattle.std.proofs.Common.{◌≡◌, ℕ, Bool, true, false, Option, Some, None, List, [], ◌∷◌, ◌++◌, refl, sym, ◌∙◌, ap, subst, Result, Ok, Err, append_assoc, option_to_list, inl, inr, length, take}
-use Rattle.std.proofs.lemmas.List.{append-nil}
-use Rattle.std.proofs.Math.Seq.{take-append_seam, take-length}
+use Rattle.std.proofs.Common.{◌≡◌, ℕ, Bool, Option, List, ◌++◌, refl, ◌∙◌, ap, subst, Result, Err, append_assoc, option_to_list, inl, inr, length, take}
+use Rattle.std.proofs.Math.Seq.{take-append_seam}
 use Rattle.chumsky_input.specs.declared.stop.Fault.{Fault}
 use Rattle.chumsky_input.specs.declared.stop.Fault.TheVariants as fault
-use Rattle.chumsky_input.specs.declared.stop.Stop.{Stop}
 use Rattle.chumsky_input.specs.declared.stop.Stop.TheVariants.{Memory}
-use Rattle.chumsky_input.specs.Outcome.{Event, Meaning, Beginning, Outcome, Verdict, Yes, No, Halt, Clash, HasEventAt}
+use Rattle.chumsky_input.specs.Outcome.{Event, Meaning, Outcome, Verdict, Yes, No, Halt, Clash, HasEventAt}
 use Rattle.chumsky_input.specs.Held.{Held, Marks}
 use Rattle.chumsky_input.specs.Primary.{primary}
-use Rattle.chumsky_input.specs.Run.{Ran, SameRun, Leaves, LeavesBy, begin, answer, gone_back, marked_here}
-use Rattle.chumsky_input.proofs.PrimaryLemmas.{kept-same, primary-append, has_event_at-kept}
-use Rattle.chumsky_combinator.specs.Choice.{OrElse, Attempt, Else}
-use Rattle.chumsky_parser.proofs.ChainedLemmas.{same_run-trans}
+use Rattle.chumsky_input.specs.Run.{Ran, Leaves, LeavesBy, begin, answer, gone_back, marked_here}
+use Rattle.chumsky_input.proofs.PrimaryLemmas.{primary-append, has_event_at-kept}
+use Rattle.chumsky_combinator.specs.Choice.{OrElse, Else}
 use Rattle.chumsky_parser.proofs.FailureLemmas.{ran-halts}
 
 module _ {Tok Cx St Mk Er V : Type 0} (merged : Er → Er → Er) (safe : Type 0) (mark : St → Mk) (back : St → Mk → St) (quiet : Type 0) (first second : Meaning Tok Cx St Er V) (wanted : Bool) (old : Held Tok Cx St Er) where

@@ -1,5 +1,5 @@
 -- What an output mapper leaves.
-use Rattle.std.proofs.Common.{Bool, Option, Some, None, Result, Ok, Err}
+use Rattle.std.proofs.Common.{Bool, Some, Ok}
 use Rattle.chumsky_input.specs.Held.{Held}
 use Rattle.chumsky_input.specs.Run.{Ran}
 use Rattle.chumsky_parser.specs.Chained.{Given}

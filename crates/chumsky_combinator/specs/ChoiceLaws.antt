@@ -1,7 +1,7 @@
 -- The laws of ordered choice.
-use Rattle.std.proofs.Common.{◌≡◌, ℕ, ◌≤◌, ◌++◌, Bool, true, false, Option, Some, None, List, [], refl, sym, ◌∙◌, ap, subst, arith, inl, inr}
+use Rattle.std.proofs.Common.{◌≡◌, ◌≤◌, ◌++◌, Option, Some, None, refl, sym, ap, subst, arith, inl, inr}
 use Rattle.chumsky_input.specs.Outcome.{Meaning, Beginning, Outcome, Verdict, Yes, No, Halt, Clash, SameValue, SameAnswer, Alike, Agree, EndsAfterStart, Agreeing, IsAnswer}
-use Rattle.chumsky_combinator.specs.Choice.{OrElse, Attempt, Else, SameEither}
+use Rattle.chumsky_combinator.specs.Choice.{OrElse, Else, SameEither}
 
 module _ {V : Type 0} (s t : V → V → Type 0) (h : (v w : V) → s v w → t v w) where
   value-weaker : (v w : Option V) → SameValue s v w → SameValue t v w

@@ -1,9 +1,8 @@
 -- The laws of output mappers.
-use Rattle.std.proofs.Common.{◌≡◌, ℕ, ◌≤◌, Bool, true, false, Option, Some, None, List, [], refl, sym, ◌∙◌, ap, subst, arith}
-use Rattle.chumsky_input.specs.Outcome.{Meaning, Beginning, Outcome, Verdict, Yes, No, SameValue, Alike, Agree, EndsAfterStart, Agreeing, IsAnswer}
-use Rattle.chumsky_parser.specs.Chained.{Chained, Given}
+use Rattle.std.proofs.Common.{◌≤◌, Option, Some, None}
+use Rattle.chumsky_input.specs.Outcome.{Meaning, Beginning, Outcome, SameValue, Alike, Agree, EndsAfterStart, Agreeing, IsAnswer}
 use Rattle.chumsky_parser.specs.Laws.{chained-ends, chained-agrees, given-ends, given-agrees}
-use Rattle.chumsky_combinator.specs.Mapped.{GivenAs, GivenBy, Mapped, SameMapped}
+use Rattle.chumsky_combinator.specs.Mapped.{GivenAs, Mapped, SameMapped}
 
 module _ {Tok Cx St Er V W : Type 0} (maps : V → W → Type 0) where
   given_as-ends : (v : Option V) (b : Beginning Tok Cx St) (o : Outcome W Er St) → GivenAs maps v b o → IsAnswer o.verdict → b.start ≤ o.end

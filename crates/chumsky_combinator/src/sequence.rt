@@ -9,14 +9,14 @@ use std::marker::PhantomData;
 /// One parser, and then another from where the first ended. See `then`.
 #[derive(Drop)]
 #[derive_where(Clone, Copy; A, B)]
-pub struct Then<A, B, O, U, E> {
+pub struct Then<A, B, O, U> {
     pub first: A,
     pub second: B,
-    pub of: PhantomData<(O, U, E)>,
+    pub of: PhantomData<(O, U)>,
 }
 
 impl<I, O, U, E, A: IsParser<I, O, E>, B: IsParser<I, U, E>> IsParser<I, (O, U), E>
-    for Then<A, B, O, U, E> {}
+    for Then<A, B, O, U> {}
 
 impl<
     'src,
@@ -26,7 +26,7 @@ impl<
     E: ParserExtra<I>,
     A: Parser<'src, I, O, E>,
     B: Parser<'src, I, U, E>,
-> Parser<'src, I, (O, U), E> for Then<A, B, O, U, E> {
+> Parser<'src, I, (O, U), E> for Then<A, B, O, U> {
     ghost use Rattle.chumsky_parser.specs.Chained.{Sequence, SamePair};
     ghost use Rattle.chumsky_parser.specs.Laws.{sequence-ends, sequence-agrees};
 

@@ -1,9 +1,9 @@
 -- What a failure leaves.
-use Rattle.std.proofs.Common.{◌≡◌, ℕ, ◌<◌, Option, Some, None, List, [], ◌∷◌, ◌++◌, map, option_map, option_to_list, take, refl, sym, ◌∙◌, ap, subst, arith, inl, inr}
+use Rattle.std.proofs.Common.{◌≡◌, ℕ, ◌<◌, Option, Some, None, List, map, option_map, take, refl, sym, ◌∙◌, ap}
 use Rattle.std.proofs.lemmas.List.{take-map}
 use Rattle.chumsky_input.specs.declared.input_ref.Located.{Located}
 use Rattle.chumsky_input.specs.declared.stop.Fault.{Fault}
-use Rattle.chumsky_input.specs.Outcome.{Event, HasEventAt}
+use Rattle.chumsky_input.specs.Outcome.{Event}
 use Rattle.chumsky_input.specs.Held.{Held, Marks, located}
 use Rattle.chumsky_input.specs.Run.{added, gone_back, KeepsPast, Adds}
 use Rattle.chumsky_input.proofs.PrimaryLemmas.{kept-none, kept-further, kept-nearer, kept-here}

@@ -1,9 +1,9 @@
 -- Cursors into a text.
 use Rattle.std.specs.Prelude.{◌≡◌, ℕ, ◌≤◌, ◌-◌, List, length, take, drop}
 use Rattle.std.specs.Str.{chars, encode_utf8_all, IsUtf8, IsCharBoundary}
-use Rattle.std.proofs.Common.{ap, sym, ◌∙◌, arith, rules, subst}
+use Rattle.std.proofs.Common.{ap, sym, ◌∙◌, arith, subst}
 use Rattle.std.proofs.lemmas.Str.{IsUtf8-had, encodes-chars}
-use Rattle.chumsky_input.specs.Text.{text_place, text_offset, IsTextCursor}
+use Rattle.chumsky_input.specs.Text.{text_place, IsTextCursor}
 use Rattle.chumsky_input.specs.TextLaws.{text_place_end, text_offset_place, text_le, text_between}
 
 -- the byte offset of the place i among these characters

@@ -1,5 +1,5 @@
 -- What counts of what a run holds.
-use Rattle.std.specs.Prelude.{◌≡◌, ℕ, Option, List, map, option_map}
+use Rattle.std.specs.Prelude.{ℕ, Option, List, map, option_map}
 use Rattle.chumsky_input.specs.declared.error.Error as error_trait
 use Rattle.chumsky_input.specs.declared.inspector.Inspector as inspector_trait
 use Rattle.chumsky_input.specs.declared.input.Input as input_trait

@@ -1,5 +1,3 @@
-use Rattle.std.specs.Prelude.{◌≡◌}
-use Rattle.std.specs.Borrow.{Bor}
 use Rattle.chumsky_input.specs.declared.util.MaybeRef.{MaybeRef}
 use Rattle.chumsky_input.specs.declared.util.MaybeRef.TheVariants.{Ref, Val}
 

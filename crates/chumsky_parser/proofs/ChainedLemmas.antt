@@ -1,5 +1,5 @@
 -- What is left of one part after another.
-use Rattle.std.proofs.Common.{◌≡◌, ℕ, Bool, Option, Some, None, List, [], ◌∷◌, ◌++◌, refl, sym, ◌∙◌, ap, subst, Result, Ok, Err, append_assoc, option_to_list, rules, length}
+use Rattle.std.proofs.Common.{◌≡◌, ℕ, Bool, Option, Some, None, List, [], ◌++◌, refl, sym, ◌∙◌, ap, subst, Result, Ok, Err, append_assoc, option_to_list}
 use Rattle.std.proofs.lemmas.List.{append-nil}
 use Rattle.chumsky_input.specs.declared.stop.Fault.{Fault}
 use Rattle.chumsky_input.specs.Held.{Held}
@@ -7,7 +7,7 @@ use Rattle.chumsky_input.specs.Outcome.{Event, Meaning, Beginning, Outcome, Verd
 use Rattle.chumsky_input.specs.Primary.{primary}
 use Rattle.chumsky_input.specs.Run.{Ran, SameRun, Leaves, LeavesBy, begin, answer, with_value, without_value}
 use Rattle.chumsky_input.proofs.PrimaryLemmas.{kept-same, primary-append, has_event_at-kept}
-use Rattle.chumsky_parser.specs.Chained.{from, retold, after, Follows, Chained, Given}
+use Rattle.chumsky_parser.specs.Chained.{from, after, Chained, Given}
 
 module _ {Tok Cx St Er : Type 0} where
   pub same_run-trans : (old mid new : Held Tok Cx St Er) → SameRun old mid → SameRun mid new → SameRun old new

@@ -1,22 +1,14 @@
 -- What is left of a failure, and of a yes with nothing added.
-use Rattle.std.proofs.Common.{◌≡◌, ℕ, ◌+◌, Bool, true, false, Option, Some, None, List, [], ◌∷◌, ◌++◌, refl, sym, ◌∙◌, ap, subst, Result, Ok, Err, option_to_list, option_map, inl, inr, ◌⊎◌, length}
-use Rattle.std.specs.Prelude.{slice_get, take, is_some}
+use Rattle.std.proofs.Common.{◌≡◌, ℕ, Bool, Option, [], ◌∷◌, refl, sym, ◌∙◌, ap, subst, Ok, Err, option_to_list, inl, inr}
 use Rattle.std.proofs.lemmas.List.{append-nil}
-use Rattle.std.proofs.Math.Seq.{take-length}
-use Rattle.chumsky_input.specs.declared.error.Error as error_trait
-use Rattle.chumsky_input.specs.declared.inspector.Inspector as inspector_trait
-use Rattle.chumsky_input.specs.declared.input.Input as input_trait
 use Rattle.chumsky_input.specs.declared.stop.Fault.{Fault}
 use Rattle.chumsky_input.specs.declared.stop.Fault.TheVariants as fault
 use Rattle.chumsky_input.specs.declared.stop.Stop.TheVariants.{Memory}
-use Rattle.chumsky_input.specs.Held.{Held, Marks}
-use Rattle.chumsky_input.specs.Wanted as wanted
-use Rattle.chumsky_input.specs.Outcome.{Event, Meaning, Beginning, Outcome, Verdict, Yes, No, Halt, Clash, HasEventAt}
-use Rattle.chumsky_input.specs.Primary.{primary}
-use Rattle.chumsky_input.specs.Run.{Ran, SameRun, Leaves, LeavesBy, begin, answer, took, TookValue, LacksToken, Adds, Fails, added, gone_back, marked_here}
+use Rattle.chumsky_input.specs.Held.{Held}
+use Rattle.chumsky_input.specs.Outcome.{Event, Meaning, Outcome, Yes, No, Halt, Clash, HasEventAt}
+use Rattle.chumsky_input.specs.Run.{Ran, SameRun, begin, Adds, Fails}
 use Rattle.chumsky_input.proofs.PrimaryLemmas.{kept-same}
-use Rattle.chumsky_parser.proofs.ChainedLemmas.{ran-from, ran-moved, same_run-trans}
-use Rattle.chumsky_parser.specs.Failure.{IsWanted, FailsAt, Refuses, Misses, expects, wanting}
+use Rattle.chumsky_parser.specs.Failure.{FailsAt, Misses}
 
 module _ {Tok Cx St Er V : Type 0} (merged : Er → Er → Er) (safe : Type 0) (meaning : Meaning Tok Cx St Er V) (wanted : Bool) (old : Held Tok Cx St Er) where
   -- a yes, with nothing added

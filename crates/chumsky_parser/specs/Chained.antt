@@ -1,5 +1,5 @@
 -- One part after another.
-use Rattle.std.specs.Prelude.{◌≡◌, ℕ, Bool, Option, Some, None, List, [], ◌++◌}
+use Rattle.std.specs.Prelude.{◌≡◌, Option, Some, None, [], ◌++◌}
 use Rattle.chumsky_input.specs.Outcome.{Meaning, Beginning, Outcome, Verdict, Yes, No, Halt, Clash}
 
 abbrev pub both : {V W : Type 0} → Option V → Option W → Option (V × W)

@@ -4,7 +4,7 @@ use Rattle.chumsky_input.specs.declared.error.Error as error_trait
 use Rattle.chumsky_input.specs.declared.input.Input as input_trait
 use Rattle.chumsky_input.specs.declared.stop.Stop.TheVariants.{Memory}
 use Rattle.chumsky_input.specs.Wanted.{Wanted}
-use Rattle.chumsky_input.specs.Outcome.{Event, Outcome, Verdict, Yes, No, Halt, Clash}
+use Rattle.chumsky_input.specs.Outcome.{Event, Outcome, No, Halt, Clash}
 
 -- a value with P where one is wanted, else none
 abbrev pub IsWanted : {V : Type 0} → (V → Type 0) → Bool → Option V → Type 0

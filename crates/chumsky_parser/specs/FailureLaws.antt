@@ -1,8 +1,8 @@
 -- The laws of failures and of wanted values.
-use Rattle.std.proofs.Common.{◌≡◌, ℕ, ◌≤◌, ◌+◌, Bool, true, false, Option, Some, None, List, [], ◌∷◌, ◌++◌, refl, sym, ◌∙◌, ap, subst, arith, inl, inr}
-use Rattle.std.specs.Prelude.{slice_get, ⊤}
-use Rattle.chumsky_input.specs.Outcome.{Event, Meaning, Beginning, Outcome, Verdict, Yes, No, Halt, Clash, IsAnswer, SameValue, SameAnswer, Alike, Agree, EndsAfterStart, Agreeing}
-use Rattle.chumsky_parser.specs.Failure.{IsWanted, FailsAt, Refuses, Misses, wanting}
+use Rattle.std.proofs.Common.{◌≡◌, ℕ, ◌≤◌, Bool, true, false, Option, Some, None, [], ◌∷◌, sym, ◌∙◌, subst, arith, inl, inr}
+use Rattle.std.specs.Prelude.{⊤}
+use Rattle.chumsky_input.specs.Outcome.{Event, Outcome, No, IsAnswer, SameValue, Agree}
+use Rattle.chumsky_parser.specs.Failure.{IsWanted, FailsAt, Misses, wanting}
 
 module _ {V Er St : Type 0} (same : V → V → Type 0) where
   fails-answer : {e : Event Er} {end : ℕ} {s : St} {o : Outcome V Er St} → FailsAt e end s o → IsAnswer o.verdict → (o.verdict ≡ No) × (o.events ≡ e ∷ [])

@@ -1,7 +1,6 @@
 -- What the end of input leaves.
-use Rattle.std.proofs.Common.{◌≡◌, ℕ, ◌+◌, Bool, true, false, Option, Some, None, List, [], ◌∷◌, ◌++◌, refl, sym, ◌∙◌, ap, subst, Result, Ok, Err, option_to_list, option_map, inl, inr, ◌⊎◌, length}
-use Rattle.std.specs.Prelude.{slice_get, take, is_some}
-use Rattle.std.proofs.lemmas.List.{append-nil}
+use Rattle.std.proofs.Common.{◌≡◌, ℕ, ◌+◌, Bool, Some, None, [], ◌∷◌, refl, sym, ◌∙◌, ap, Ok, Err, inl, inr, length}
+use Rattle.std.specs.Prelude.{slice_get, take}
 use Rattle.std.proofs.Math.Seq.{take-length}
 use Rattle.chumsky_input.specs.declared.error.Error as error_trait
 use Rattle.chumsky_input.specs.declared.inspector.Inspector as inspector_trait
@@ -11,14 +10,11 @@ use Rattle.chumsky_input.specs.declared.stop.Fault.TheVariants as fault
 use Rattle.chumsky_input.specs.declared.stop.Stop.TheVariants.{Memory}
 use Rattle.chumsky_input.specs.Held.{Held, Marks}
 use Rattle.chumsky_input.specs.Wanted as wanted
-use Rattle.chumsky_input.specs.Outcome.{Event, Meaning, Beginning, Outcome, Verdict, Yes, No, Halt, Clash, HasEventAt}
-use Rattle.chumsky_input.specs.Primary.{primary}
-use Rattle.chumsky_input.specs.Run.{Ran, SameRun, Leaves, LeavesBy, begin, answer, took, TookValue, LacksToken, Adds, Fails, added, gone_back, marked_here}
-use Rattle.chumsky_input.proofs.PrimaryLemmas.{kept-same}
-use Rattle.chumsky_parser.proofs.ChainedLemmas.{ran-from, ran-moved, same_run-trans}
-use Rattle.chumsky_parser.specs.Failure.{IsWanted, FailsAt, Refuses, Misses, expects, wanting}
+use Rattle.chumsky_input.specs.Run.{Ran, took, Fails, gone_back, marked_here}
+use Rattle.chumsky_parser.proofs.ChainedLemmas.{ran-moved}
+use Rattle.chumsky_parser.specs.Failure.{Misses, expects, wanting}
 use Rattle.chumsky_parser.proofs.FailureLemmas.{ran-yes, ran-halts, ran-misses}
-use Rattle.chumsky_primitive.specs.End.{MeansEnd, MeansEndAt}
+use Rattle.chumsky_primitive.specs.End.{MeansEnd}
 
 module _ {I Tok Sp Cu Er St Mk Cx : Type 0} (source : input_trait.Ghosts I Cu Tok Sp) (errors : error_trait.Ghosts Er I Tok Sp) (states : inspector_trait.Ghosts St I Mk Tok Sp) (w : Bool) (old : Held Tok Cx states.Seen errors.Seen) where
   pub end_there : (new : Held Tok Cx states.Seen errors.Seen) → None ≡ slice_get old.tokens old.place → new ≡ old

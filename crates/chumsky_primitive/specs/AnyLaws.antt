@@ -1,12 +1,11 @@
 -- The laws of any token.
-use Rattle.std.proofs.Common.{◌≡◌, ℕ, ◌≤◌, ◌+◌, Bool, true, false, Option, Some, None, List, [], ◌∷◌, ◌++◌, refl, sym, ◌∙◌, ap, subst, arith, inl, inr}
-use Rattle.std.specs.Prelude.{slice_get, ⊤}
+use Rattle.std.proofs.Common.{◌≡◌, ◌≤◌, ◌+◌, Option, Some, None, [], refl, ap, subst, arith, inl, inr}
 use Rattle.chumsky_input.specs.declared.error.Error as error_trait
 use Rattle.chumsky_input.specs.declared.inspector.Inspector as inspector_trait
 use Rattle.chumsky_input.specs.declared.input.Input as input_trait
-use Rattle.chumsky_input.specs.Outcome.{Event, Meaning, Beginning, Outcome, Verdict, Yes, No, Halt, Clash, IsAnswer, SameValue, SameAnswer, Alike, Agree, EndsAfterStart, Agreeing}
+use Rattle.chumsky_input.specs.Outcome.{Beginning, Outcome, Yes, IsAnswer, Alike, Agree, EndsAfterStart, Agreeing}
 use Rattle.chumsky_parser.specs.FailureLaws.{misses-agree, misses-ends, wanted-same}
-use Rattle.chumsky_primitive.specs.Any.{MeansAny, MeansAnyAt, Takes}
+use Rattle.chumsky_primitive.specs.Any.{MeansAny, MeansAnyAt}
 
 module _ {I Tok Sp Cu Er St Mk Cx S : Type 0} (source : input_trait.Ghosts I Cu Tok Sp) (seen : Tok → S) (safe : Tok → Type 0) (errors : error_trait.Ghosts Er I Tok Sp) (states : inspector_trait.Ghosts St I Mk Tok Sp) where
   any_ends : (t : Option Tok) (b : Beginning Tok Cx states.Seen) (o : Outcome Tok errors.Seen states.Seen) → MeansAnyAt source seen safe errors states t b o → IsAnswer o.verdict → b.start ≤ o.end

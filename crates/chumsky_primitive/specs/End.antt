@@ -1,10 +1,10 @@
 -- The end of input.
-use Rattle.std.specs.Prelude.{◌≡◌, ℕ, ◌+◌, Bool, Option, Some, None, List, [], ◌∷◌, ◌⊎◌, slice_get}
+use Rattle.std.specs.Prelude.{◌+◌, Option, Some, None, [], ◌∷◌, ◌⊎◌, slice_get}
 use Rattle.chumsky_input.specs.declared.error.Error as error_trait
 use Rattle.chumsky_input.specs.declared.inspector.Inspector as inspector_trait
 use Rattle.chumsky_input.specs.declared.input.Input as input_trait
 use Rattle.chumsky_input.specs.Wanted as wanted
-use Rattle.chumsky_input.specs.Outcome.{Event, Meaning, Beginning, Outcome}
+use Rattle.chumsky_input.specs.Outcome.{Meaning, Beginning, Outcome}
 use Rattle.chumsky_parser.specs.Chained.{Given}
 use Rattle.chumsky_parser.specs.Failure.{Refuses, Misses, expects, wanting}
 

@@ -1,10 +1,9 @@
 -- The laws of the end of input.
-use Rattle.std.proofs.Common.{◌≡◌, ℕ, ◌≤◌, ◌+◌, Bool, true, false, Option, Some, None, List, [], ◌∷◌, ◌++◌, refl, sym, ◌∙◌, ap, subst, arith, inl, inr}
-use Rattle.std.specs.Prelude.{slice_get, ⊤}
+use Rattle.std.proofs.Common.{◌≤◌, Option, Some, None, ap, subst, arith, inl, inr}
 use Rattle.chumsky_input.specs.declared.error.Error as error_trait
 use Rattle.chumsky_input.specs.declared.inspector.Inspector as inspector_trait
 use Rattle.chumsky_input.specs.declared.input.Input as input_trait
-use Rattle.chumsky_input.specs.Outcome.{Event, Meaning, Beginning, Outcome, Verdict, Yes, No, Halt, Clash, IsAnswer, SameValue, SameAnswer, Alike, Agree, EndsAfterStart, Agreeing}
+use Rattle.chumsky_input.specs.Outcome.{Beginning, Outcome, IsAnswer, Alike, Agree, EndsAfterStart, Agreeing}
 use Rattle.chumsky_parser.specs.Laws.{given-agrees}
 use Rattle.chumsky_parser.specs.FailureLaws.{SameUnit, misses-agree, misses-ends, wanting-same}
 use Rattle.chumsky_primitive.specs.End.{MeansEnd, MeansEndAt}

@@ -1,4 +1,4 @@
-use Rattle.std.proofs.Common.{rules, ◌≡◌, refl, Some, None}
+use Rattle.std.proofs.Common.{rules, refl, Some}
 use Rattle.chumsky_input.specs.Held.{held}
 use Rattle.chumsky.proofs.AnswerLemmas.{parses, told-with, whole-agrees}
 use Rattle.chumsky.proofs.run.parse_with_state.Goals as goal

@@ -1,7 +1,6 @@
-use Rattle.std.proofs.Common.{rules, ◌≡◌, ◌+◌, ◌++◌, ◌∙◌, ◌≤◌, ap, sym, drop, arith, length, slice_get, None}
+use Rattle.std.proofs.Common.{◌≡◌, ◌+◌, ◌++◌, ◌∙◌, ◌≤◌, ap, sym, drop, arith, length, slice_get}
 use Rattle.std.specs.Char.{encode_utf8}
 use Rattle.std.specs.Str.{chars}
-use Rattle.std.proofs.lemmas.Grind.{common_steps}
 use Rattle.std.proofs.lemmas.Str.{IsUtf8-had}
 use Rattle.chumsky_input.specs.Text.{text_place, IsTextCursor}
 use Rattle.chumsky_input.specs.TextLaws.{text_steps, text_token, text_moves, text_place_within, text_past_end}

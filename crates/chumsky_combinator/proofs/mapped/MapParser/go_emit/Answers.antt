@@ -1,4 +1,4 @@
-use Rattle.std.proofs.Common.{rules, Some, refl}
+use Rattle.std.proofs.Common.{rules}
 use Rattle.chumsky_parser.proofs.ChainedLemmas.{failed, chained, emit_err, emit_ok}
 use Rattle.chumsky_combinator.proofs.MappedLemmas.{ran-given_by}
 use Rattle.chumsky_combinator.proofs.mapped.MapParser.go_emit.Goals as goal

@@ -1,5 +1,5 @@
-use Rattle.std.proofs.Common.{rules, refl}
-use Rattle.chumsky_parser.proofs.ChainedLemmas.{failed, chained, ran-given, last_check, check_err, check_ok}
+use Rattle.std.proofs.Common.{rules}
+use Rattle.chumsky_parser.proofs.ChainedLemmas.{failed, chained, last_check, check_err, check_ok}
 use Rattle.chumsky_combinator.proofs.sequence.ThenParserTuple2.go_check.Goals as goal
 
 pub returns-in_err-go_check-clause-ran : goal.returns-in_err-go_check-clause-ran

@@ -1,4 +1,4 @@
-use Rattle.std.proofs.Common.{rules, refl}
+use Rattle.std.proofs.Common.{rules}
 use Rattle.chumsky_parser.proofs.ChainedLemmas.{failed, chained, ran-given, emit_err, emit_ok}
 use Rattle.chumsky_combinator.proofs.sequence.ThenParserTuple2.go_emit.Goals as goal
 

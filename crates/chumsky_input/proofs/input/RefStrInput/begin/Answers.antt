@@ -1,4 +1,4 @@
-use Rattle.std.proofs.Common.{rules, sym}
+use Rattle.std.proofs.Common.{sym}
 use Rattle.std.proofs.lemmas.Str.{IsCharBoundary-start}
 use Rattle.chumsky_input.specs.TextLaws.{text_place_start}
 use Rattle.chumsky_input.proofs.input.RefStrInput.begin.Goals as goal

@@ -1,4 +1,4 @@
-use Rattle.std.proofs.Common.{◌≡◌, ◌<◌, length, slice_index_or, arith, subst, ap, ◌∙◌}
+use Rattle.std.proofs.Common.{◌<◌, length, slice_index_or, arith, ap}
 use Rattle.std.proofs.lemmas.Str.{IsUtf8-had}
 use Rattle.chumsky_input.specs.Text.{IsTextCursor}
 use Rattle.chumsky_input.proofs.Ascii.{ascii_steps, ascii_moves, ascii_token, place_within}

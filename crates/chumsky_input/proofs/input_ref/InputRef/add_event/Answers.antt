@@ -1,4 +1,4 @@
-use Rattle.std.proofs.Common.{rules, ◌≡◌, ◌∙◌, sym, refl, arith}
+use Rattle.std.proofs.Common.{rules, refl}
 use Rattle.chumsky_input.specs.Held.{held}
 use Rattle.chumsky_input.proofs.Events.{adds_first, adds_further, adds_nearer, adds_here}
 use Rattle.chumsky_input.proofs.input_ref.InputRef.add_event.Goals as goal

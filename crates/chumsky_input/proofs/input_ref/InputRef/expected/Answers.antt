@@ -1,6 +1,6 @@
-use Rattle.std.proofs.Common.{rules, inl, inr, refl, ◌≡◌, ◌∙◌, Some, sym, ap, subst, option_to_list, option_map}
+use Rattle.std.proofs.Common.{inl, refl, ◌∙◌, sym, ap, option_map}
 use Rattle.chumsky_input.specs.Held.{held}
-use Rattle.chumsky_input.specs.Wanted.{wanted, plain_wanted}
+use Rattle.chumsky_input.specs.Wanted.{plain_wanted}
 use Rattle.chumsky_input.specs.Maybe.{maybe_value}
 use Rattle.chumsky_input.specs.ExpectsLaws.{drained_view}
 use Rattle.chumsky_input.proofs.Events.{adds_nothing, adds_at}

@@ -1,4 +1,4 @@
-use Rattle.std.proofs.Common.{rules, inl, inr, refl, ◌≡◌, ◌∙◌, Some, sym, ap, subst, option_map, [], ◌∷◌}
+use Rattle.std.proofs.Common.{inl, refl, ◌∙◌, sym, ap, option_map, [], ◌∷◌}
 use Rattle.chumsky_input.specs.Held.{held}
 use Rattle.chumsky_input.specs.Wanted.{Token}
 use Rattle.chumsky_input.specs.Maybe.{maybe_value}

@@ -1,4 +1,4 @@
-use Rattle.std.proofs.Common.{rules, ◌≡◌, ◌∙◌, ap, [], None, option_map}
+use Rattle.std.proofs.Common.{◌∙◌, ap, [], None, option_map}
 use Rattle.std.proofs.lemmas.Result.{IfOk-weaker}
 use Rattle.chumsky_input.specs.Held.{located}
 use Rattle.chumsky_input.specs.Run.{final_error}

@@ -1,4 +1,4 @@
-use Rattle.std.proofs.Common.{rules, refl}
+use Rattle.std.proofs.Common.{refl}
 use Rattle.chumsky_input.specs.Held.{held, marks}
 use Rattle.chumsky_input.proofs.Events.{cut}
 use Rattle.chumsky_input.proofs.input_ref.InputRef.rewind.Goals as goal

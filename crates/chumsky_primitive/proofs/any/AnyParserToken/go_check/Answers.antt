@@ -1,4 +1,4 @@
-use Rattle.std.proofs.Common.{rules, refl, false, sym}
+use Rattle.std.proofs.Common.{rules, false}
 use Rattle.chumsky_input.specs.Held.{held}
 use Rattle.chumsky_primitive.proofs.AnyLemmas.{any_skips, any_stays, any_misses}
 use Rattle.chumsky_primitive.proofs.any.AnyParserToken.go_check.Goals as goal

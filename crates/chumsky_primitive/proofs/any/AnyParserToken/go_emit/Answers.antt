@@ -1,4 +1,4 @@
-use Rattle.std.proofs.Common.{rules, refl, true}
+use Rattle.std.proofs.Common.{true}
 use Rattle.chumsky_input.specs.Held.{held}
 use Rattle.chumsky_primitive.proofs.AnyLemmas.{any_takes, any_misses, any_lacks}
 use Rattle.chumsky_primitive.proofs.any.AnyParserToken.go_emit.Goals as goal
