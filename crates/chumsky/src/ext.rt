@@ -64,6 +64,7 @@ pub trait ParserExt<'src, I, O, E>: IsParser<I, O, E> + Sized {
     final fn parse(&self, alloc: Global, input: I) -> Result<ParseResult<O, E::Error>, Stop>
     where
         I: Input<'src>,
+        I::Token: 'src,
         O: Drop,
         E: ParserExtra<I>,
         E::State: Default + Drop,
@@ -85,6 +86,7 @@ pub trait ParserExt<'src, I, O, E>: IsParser<I, O, E> + Sized {
     ) -> Result<ParseResult<O, E::Error>, Stop>
     where
         I: Input<'src>,
+        I::Token: 'src,
         O: Drop,
         E: ParserExtra<I>,
         E::Context: Default + Drop,
@@ -99,6 +101,7 @@ pub trait ParserExt<'src, I, O, E>: IsParser<I, O, E> + Sized {
     final fn check(&self, alloc: Global, input: I) -> Result<ParseResult<(), E::Error>, Stop>
     where
         I: Input<'src>,
+        I::Token: 'src,
         E: ParserExtra<I>,
         E::State: Default + Drop,
         E::Context: Default + Drop,
@@ -119,6 +122,7 @@ pub trait ParserExt<'src, I, O, E>: IsParser<I, O, E> + Sized {
     ) -> Result<ParseResult<(), E::Error>, Stop>
     where
         I: Input<'src>,
+        I::Token: 'src,
         E: ParserExtra<I>,
         E::Context: Default + Drop,
         Self: Parser<'src, I, O, E>,

@@ -77,6 +77,7 @@ pub(crate) fn parse_with_state<
 ) -> Result<ParseResult<O, E::Error>, Stop>
 where
     E::Context: Default + Drop,
+    I::Token: 'src,
     requires { P.ready parser.now }
     ensures { Parses I.Input E.Error.Error E.State.Inspector E.Context.is_default (P.steady parser.now) (P.same parser.now) Some (WholeRun I.Input E.Error.Error E.State.Inspector (P.meaning parser.now E.Error.Error E.State.Inspector)) true (I.tokens input) (E.State.seen state.old) (E.State.seen state.new) result }
 {
@@ -118,6 +119,7 @@ pub(crate) fn check_with_state<
 ) -> Result<ParseResult<(), E::Error>, Stop>
 where
     E::Context: Default + Drop,
+    I::Token: 'src,
     requires { P.ready parser.now }
     ensures { Parses I.Input E.Error.Error E.State.Inspector E.Context.is_default (P.steady parser.now) (P.same parser.now) (λ _. None) (WholeRun I.Input E.Error.Error E.State.Inspector (P.meaning parser.now E.Error.Error E.State.Inspector)) false (I.tokens input) (E.State.seen state.old) (E.State.seen state.new) result }
 {

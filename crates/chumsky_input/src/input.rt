@@ -17,7 +17,7 @@ pub trait Tokens {
 }
 
 /// A list of tokens, and cursors that stand at its places: before the first token, between two, or past the last.
-pub trait Input<'src>: Tokens + 'src {
+pub trait Input<'src>: Tokens {
     type Cursor: Copy;
 
     /// The tokens of an input, and of the input that a cursor stands in.

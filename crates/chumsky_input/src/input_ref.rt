@@ -39,7 +39,7 @@ pub struct InputRef<'src, 'p, I: Input<'src>, E: ParserExtra<I>> {
     pub kept: Option<Located<E::Error>>,
     pub emitted: Vec<E::Error>,
     pub alloc: Global,
-    pub source: PhantomData<&'src ()>,
+    pub source: PhantomData<&'src I::Token>,
 }
 
 /// One expectation, or none.

@@ -2,6 +2,8 @@
 #![tactic(auto)]
 
 use chumsky::Stop;
+use chumsky::extra::ParserExtra;
+use chumsky::input::ValueInput;
 use chumsky::prelude::*;
 use std::alloc::Global;
 
@@ -72,4 +74,17 @@ pub fn check_any_mapped(alloc: Global, text: &str) -> Result<ParseResult<(), Emp
         .map(|c| c as u32)
         .then(end())
         .check(alloc, text)
+}
+
+/// Whether the input has just two tokens, of any input and under any extra.
+pub fn check_two_tokens<'src, I: ValueInput<'src>, E: ParserExtra<I>>(
+    alloc: Global,
+    input: I,
+) -> Result<ParseResult<(), E::Error>, Stop>
+where
+    I::Token: 'src,
+    E::State: Default + Drop,
+    E::Context: Default + Drop,
+{
+    any::<I, E>().then(any()).check(alloc, input)
 }

@@ -1,6 +1,6 @@
 use crate::{
-    check_ab_or_ac, check_accent_then_x, check_any_mapped, check_nothing, parse_ab_or_ac,
-    parse_accent_then_x, parse_any_mapped, parse_nothing,
+    check_ab_or_ac, check_accent_then_x, check_any_mapped, check_nothing, check_two_tokens,
+    parse_ab_or_ac, parse_accent_then_x, parse_any_mapped, parse_nothing,
 };
 use chumsky::error::RichPattern;
 use chumsky::prelude::*;
@@ -114,4 +114,16 @@ fn a_mapper_makes_the_output(rt: HostRuntime) {
         .into_output_errors();
     assert!(rt; output.is_none());
     assert!(rt; errors.len() == 1);
+}
+
+#[test]
+fn a_generic_caller_runs_its_parser(rt: HostRuntime) {
+    let checked = check_two_tokens::<_, extra::Default>(rt.alloc(), "éb")
+        .ok()
+        .expect(&rt, "the run was refused");
+    assert!(rt; checked.errors().len() == 0);
+    let checked = check_two_tokens::<_, extra::Default>(rt.alloc(), "éba")
+        .ok()
+        .expect(&rt, "the run was refused");
+    assert!(rt; checked.errors().len() == 1);
 }
