@@ -46,7 +46,11 @@ pub fn parsers_16(alloc: Global, text: &str) -> bool {
     let second = any().then(any()).then(any()).then(any()).map(|_| 'b');
     let third = any().then(any()).then(any()).then(any()).map(|_| 'c');
     let fourth = any().then(any()).then(any()).then(any()).map(|_| 'd');
-    first.or(second).or(third.or(fourth)).check(alloc, text).is_ok()
+    first
+        .or(second)
+        .or(third.or(fourth))
+        .check(alloc, text)
+        .is_ok()
 }
 
 /// An extra of the caller's own, in place of `extra::Err<EmptyErr>`.
@@ -54,7 +58,9 @@ pub struct Own;
 
 impl<'src> extra::ParserExtra<&'src str> for Own {
     type Error = EmptyErr;
+
     type State = ();
+
     type Context = ();
 }
 
@@ -68,5 +74,9 @@ pub fn parsers_16_own(alloc: Global, text: &str) -> bool {
     let second = any().then(any()).then(any()).then(any()).map(|_| 'b');
     let third = any().then(any()).then(any()).then(any()).map(|_| 'c');
     let fourth = any().then(any()).then(any()).then(any()).map(|_| 'd');
-    first.or(second).or(third.or(fourth)).check(alloc, text).is_ok()
+    first
+        .or(second)
+        .or(third.or(fourth))
+        .check(alloc, text)
+        .is_ok()
 }
