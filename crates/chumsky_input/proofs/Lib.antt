@@ -1,4 +1,5 @@
 pub mod PrimaryLemmas
 pub mod Events
+pub mod AsideLemmas
 pub mod Ascii
 pub mod RichLemmas

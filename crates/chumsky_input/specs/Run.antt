@@ -38,9 +38,13 @@ module _ {Tok Cx St Er : Type 0} where
   TookValue seen after old new None = (slice_get old.tokens old.place ≡ None) × (new ≡ old)
   TookValue seen after old new (Some v) = (t : Tok) × (slice_get old.tokens old.place ≡ Some t) × (seen v ≡ seen t) × (new ≡ took after old (Some t))
 
+  -- a token is there, and to have it by value may take memory
+  abbrev pub TokenMayLack : (Tok → Type 0) → Held Tok Cx St Er → Type 0
+  TokenMayLack safe h = (t : Tok) × (slice_get h.tokens h.place ≡ Some t) × (safe t → ⊥)
+
   -- that of a token there is no memory for nothing is taken
   abbrev pub LacksToken : (Tok → Type 0) → Held Tok Cx St Er → Held Tok Cx St Er → Type 0
-  LacksToken safe old new = (new ≡ old) × ((t : Tok) × (slice_get old.tokens old.place ≡ Some t) × (safe t → ⊥))
+  LacksToken safe old new = (new ≡ old) × TokenMayLack safe old
 
   -- a checkpoint here, and back to one
   abbrev pub marked_here : {Mk : Type 0} → (St → Mk) → Held Tok Cx St Er → Marks Tok Mk

@@ -1,8 +1,8 @@
 //! Inputs: lists of tokens with offsets.
-ghost use Rattle.std.specs.Prelude.{◌≡◌, ℕ, ◌+◌, ◌≤◌, ◌<◌, List, length, slice_get, Option, Some, None, MatchOption, MatchResult, option_map, ⊤, Ok};
-ghost use Rattle.std.specs.Str.{chars, IsUtf8, IsCharBoundary};
+ghost use Rattle.std.specs.Prelude.{◌≡◌, ℕ, ◌+◌, ◌≤◌, ◌<◌, List, length, slice_get, slice_range, Option, Some, None, MatchOption, MatchResult, option_map, ⊤, Ok};
+ghost use Rattle.std.specs.Str.{chars, encode_utf8_all, IsUtf8, IsCharBoundary};
 ghost use Rattle.chumsky_input.specs.Text.{text_place};
-ghost use Rattle.chumsky_input.specs.Maybe.{maybe_value};
+ghost use Rattle.chumsky_input.specs.Maybe.{maybe_value, ref_value};
 ghost use Rattle.chumsky_input.specs.Cursors.{char_offset, place_in_text};
 
 use crate::span::SimpleSpan;
@@ -65,6 +65,33 @@ pub trait ValueInput<'src>: Input<'src> {
     /// A token by value.
     fn value_of(token: &Self::Token) -> Result<Self::Token, AllocError>
         ensures { MatchResult result (λ t. seen t ≡ seen token.now) (λ _. ¬ (takes_no_memory token.now)) };
+}
+
+/// An input whose tokens lie in it.
+pub trait BorrowInput<'src>: Input<'src> {
+    /// The token at a cursor where it lies, and the cursor moves past it; at the end none, and the cursor stays.
+    fn next_ref(cursor: &mut Self::Cursor) -> Option<&'src Self::Token>
+        ensures token { option_map ref_value result ≡ slice_get (Self.cursor_tokens cursor.old) (Self.place cursor.old) }
+        ensures tokens { Self.cursor_tokens cursor.new ≡ Self.cursor_tokens cursor.old }
+        ensures moves { MatchOption result (cursor.new ≡ cursor.old) (λ _. Self.place cursor.new ≡ Self.place cursor.old + 1) };
+}
+
+/// An input that can be cut.
+pub trait SliceInput<'src>: Input<'src> {
+    type Slice: Copy;
+
+    /// What counts of a slice.
+    ghost SliceSeen: { Type 0 };
+
+    ghost slice_seen: { Self.Slice → SliceSeen };
+    /// What counts of the slice of just these tokens.
+    ghost slice_of: { List Self.Token → SliceSeen };
+
+    /// The part of an input from one cursor to another, which is not before it.
+    fn slice(from: &Self::Cursor, to: &Self::Cursor) -> Self::Slice
+        requires same { Self.cursor_tokens to.now ≡ Self.cursor_tokens from.now }
+        requires order { Self.place from.now ≤ Self.place to.now }
+        ensures { slice_seen result ≡ slice_of (slice_range (Self.cursor_tokens from.now) (Self.place from.now) (Self.place to.now)) };
 }
 
 /// A place in a text.
@@ -194,5 +221,24 @@ impl<'src> ValueInput<'src> for &'src str {
         ensures { MatchResult result (λ t. t ≡ token.now) (λ _. ¬ ⊤) }
     {
         Ok(*token)
+    }
+}
+
+/// What counts of a part of a text are its bytes.
+impl<'src> SliceInput<'src> for &'src str {
+    type Slice = &'src str;
+
+    ghost SliceSeen = { List ℕ };
+
+    ghost slice_seen = { λ s. s.now };
+
+    ghost slice_of = { encode_utf8_all };
+
+    #[inline]
+    fn slice(from: &TextCursor<'src>, to: &TextCursor<'src>) -> &'src str {
+        let text: &'src str = to.text;
+        let start = from.at;
+        let end = to.at;
+        &text[start..end]
     }
 }

@@ -1,17 +1,19 @@
 //! What a parser is lent: where its run stands, and what it holds.
-ghost use Rattle.std.specs.Prelude.{◌≡◌, ◌∷◌, [], option_map, option_to_list, slice_get, MatchResult, Option, Some, None, ℕ, ◌≤◌, IsTrue, is_some, IfOk};
-ghost use Rattle.std.specs.Iterator.{YieldsFirstBy, item_count};
+ghost use Rattle.std.specs.Prelude.{◌≡◌, ◌∷◌, [], option_map, option_to_list, slice_get, slice_range, MatchResult, Option, Some, None, ℕ, ◌≤◌, IsTrue, is_some, IfOk, List, OnErr};
+ghost use Rattle.std.specs.Borrow.{sem};
+ghost use Rattle.std.specs.Iterator.{YieldsFirstBy, item_count, IsFinite};
 ghost use Rattle.chumsky_input.specs.Held.{Held, held, marks, located};
-ghost use Rattle.chumsky_input.specs.Maybe.{maybe_value};
-ghost use Rattle.chumsky_input.specs.Wanted.{wanted, plain_wanted, Token};
-ghost use Rattle.chumsky_input.specs.Run.{took, TookValue, LacksToken, marked_here, gone_back, Adds, Fails, KeepsPast, final_error, with_last, with_emitted};
+ghost use Rattle.chumsky_input.specs.Lending.{LendsState};
+ghost use Rattle.chumsky_input.specs.Maybe.{maybe_value, ref_value};
+ghost use Rattle.chumsky_input.specs.Wanted.{wanted, plain_wanted, Token, Wanted, Shows};
+ghost use Rattle.chumsky_input.specs.Run.{took, TookValue, LacksToken, TokenMayLack, marked_here, gone_back, Adds, Fails, KeepsPast, final_error, with_last, with_emitted};
 
 use crate::error::Error;
 use crate::extra::ParserExtra;
-use crate::input::{Input, ValueInput};
+use crate::input::{BorrowInput, Input, SliceInput, ValueInput};
 use crate::inspector::Inspector;
 use crate::stop::{Fault, Stop};
-use crate::util::{DefaultExpected, MaybeRef, Plain};
+use crate::util::{DefaultExpected, Expectation, MaybeRef, Plain};
 use std::alloc::{AllocError, Global};
 use std::marker::PhantomData;
 
@@ -39,7 +41,7 @@ pub struct InputRef<'src, 'p, I: Input<'src>, E: ParserExtra<I>> {
     pub kept: Option<Located<E::Error>>,
     pub emitted: Vec<E::Error>,
     pub alloc: Global,
-    pub source: PhantomData<&'src I::Token>,
+    pub source: PhantomData<(&'src I::Token, I)>,
 }
 
 /// One expectation, or none.
@@ -86,6 +88,15 @@ impl<'src, 'p, I: Input<'src>, E: ParserExtra<I>> InputRef<'src, 'p, I, E> {
     {
         let token = self.next_maybe();
         token.is_some()
+    }
+
+    /// Takes the next token, if there is one.
+    #[inline]
+    pub fn skip(&mut self)
+        ensures moves { held I.Input E.Error.Error E.State.Inspector self.new ≡ took E.State.after (held I.Input E.Error.Error E.State.Inspector self.old) (slice_get (held I.Input E.Error.Error E.State.Inspector self.old).tokens (held I.Input E.Error.Error E.State.Inspector self.old).place) }
+        ensures lent { self.new.state.ghost_name ≡ self.old.state.ghost_name }
+    {
+        let _there = self.advance();
     }
 
     /// A checkpoint to go back to. A refusal changes nothing.
@@ -233,9 +244,38 @@ impl<'src, 'p, I: Input<'src>, E: ParserExtra<I>> InputRef<'src, 'p, I, E> {
         }
     }
 
+    /// The same where each item of an iterator was expected. Where the error that is kept lies further on, no item is
+    /// asked for.
+    pub fn expected_each<X: Iterator + Drop>(
+        &mut self,
+        from: &I::Cursor,
+        to: &I::Cursor,
+        expected: X,
+        found: Option<MaybeRef<'src, I::Token>>,
+    ) -> Fault
+    where
+        X::Item: Expectation<I::Token> + Drop,
+        requires can { X.can_next expected }
+        requires ends { IsFinite (X.remaining expected) }
+        requires tokens { I.cursor_tokens to.now ≡ I.cursor_tokens from.now }
+        ensures fails { (es : List (Wanted I.Token)) → Shows X.next_gives X.Item.expectation expected es → Fails E.Error.merged E.Error.takes_no_memory (record { place = I.place from.now; error = E.Error.expectation es (option_map maybe_value found.entry) (I.span_between (I.cursor_tokens from.now) (I.place from.now) (I.place to.now)) }) (held I.Input E.Error.Error E.State.Inspector self.old) (held I.Input E.Error.Error E.State.Inspector self.new) result }
+        ensures lent { self.new.state.ghost_name ≡ self.old.state.ghost_name }
+    {
+        let place = I::place(from);
+        if self.keeps_past(place) {
+            return Fault::Fail;
+        }
+        let span = I::span(from, to);
+        match E::Error::expected_found(self.alloc, expected, found, span) {
+            Ok(error) => self.add_event(place, error),
+            Err(_) => Fault::Stop(Stop::Memory),
+        }
+    }
+
     /// The last error of a failure: the one that is kept, or where there is none that of an empty expectation.
     pub fn last_error(&mut self) -> Result<E::Error, AllocError>
         ensures error { IfOk result (λ e. E.Error.seen e ≡ final_error E.Error.expectation I.span_between (held I.Input E.Error.Error E.State.Inspector self.old).kept (held I.Input E.Error.Error E.State.Inspector self.old).tokens (held I.Input E.Error.Error E.State.Inspector self.old).place) }
+        ensures memory { OnErr result ((E.Error.takes_no_memory → ⊥) × ((held I.Input E.Error.Error E.State.Inspector self.old).kept ≡ None)) }
         ensures leaves { held I.Input E.Error.Error E.State.Inspector self.new ≡ record (held I.Input E.Error.Error E.State.Inspector self.old) { kept = None } }
         ensures lent { self.new.state.ghost_name ≡ self.old.state.ghost_name }
     {
@@ -248,14 +288,39 @@ impl<'src, 'p, I: Input<'src>, E: ParserExtra<I>> InputRef<'src, 'p, I, E> {
         }
     }
 
-    /// Emits the last error of a failure.
+    /// Emits the last error of a failure. A refusal loses the error that is kept, and changes nothing else.
     pub fn add_last(&mut self) -> Result<(), AllocError>
-        ensures last { MatchResult result (λ _. held I.Input E.Error.Error E.State.Inspector self.new ≡ with_last E.Error.expectation I.span_between (held I.Input E.Error.Error E.State.Inspector self.old)) (λ _. (held I.Input E.Error.Error E.State.Inspector self.new).state ≡ (held I.Input E.Error.Error E.State.Inspector self.old).state) }
+        ensures last { MatchResult result (λ _. held I.Input E.Error.Error E.State.Inspector self.new ≡ with_last E.Error.expectation I.span_between (held I.Input E.Error.Error E.State.Inspector self.old)) (λ _. held I.Input E.Error.Error E.State.Inspector self.new ≡ record (held I.Input E.Error.Error E.State.Inspector self.old) { kept = None }) }
         ensures lent { self.new.state.ghost_name ≡ self.old.state.ghost_name }
     {
         let error = self.last_error()?;
         self.emitted.push(error)?;
         Ok(())
+    }
+
+    /// The state, to read and to write. Going back undoes what was written only where the state's marks hold it.
+    #[inline]
+    pub fn state(&mut self) -> &mut E::State
+        ensures* writes_back { sem 𝓛 (LendsState I.row E.row I.Cursor.row I.Token.row I.Span.row E.Error.row E.State.row E.Context.row E.State.Mark.row self.entry result) }
+        ensures value { result.now ≡ self.old.state.now }
+    {
+        &mut *self.state
+    }
+
+    /// The context.
+    #[inline]
+    pub fn ctx(&self) -> &'p E::Context
+        ensures { result.now ≡ (held I.Input E.Error.Error E.State.Inspector self.now).context }
+    {
+        self.context
+    }
+
+    /// The allocator that the run was given.
+    #[inline]
+    pub fn alloc(&self) -> Global
+        ensures { result ≡ self.now.alloc }
+    {
+        self.alloc
     }
 
     /// A run at the start of an input.
@@ -282,7 +347,8 @@ impl<'src, 'p, I: Input<'src>, E: ParserExtra<I>> InputRef<'src, 'p, I, E> {
 
     /// Whether the error that is kept lies past a place.
     pub fn keeps_past(&self, place: usize) -> bool
-        ensures { IsTrue result → KeepsPast place (held I.Input E.Error.Error E.State.Inspector self.now).kept }
+        ensures past { IsTrue result → KeepsPast place (held I.Input E.Error.Error E.State.Inspector self.now).kept }
+        ensures converse { KeepsPast place (held I.Input E.Error.Error E.State.Inspector self.now).kept → IsTrue result }
     {
         match &self.kept {
             None => false,
@@ -309,5 +375,60 @@ impl<'src, 'p, I: ValueInput<'src>, E: ParserExtra<I>> InputRef<'src, 'p, I, E> 
                 Ok(Some(value))
             }
         }
+    }
+
+    /// The next token by value, which is neither taken nor told to the state; none at the end of input.
+    #[inline]
+    pub fn peek(&self) -> Result<Option<I::Token>, AllocError>
+        ensures { MatchResult result (λ o. option_map I.seen o ≡ option_map I.seen (slice_get (held I.Input E.Error.Error E.State.Inspector self.now).tokens (held I.Input E.Error.Error E.State.Inspector self.now).place)) (λ _. TokenMayLack I.takes_no_memory (held I.Input E.Error.Error E.State.Inspector self.now)) }
+    {
+        let mut cursor = self.cursor;
+        match I::next_maybe(&mut cursor) {
+            None => Ok(None),
+            Some(token) => {
+                let value = I::value_of(token.get())?;
+                Ok(Some(value))
+            }
+        }
+    }
+}
+
+impl<'src, 'p, I: BorrowInput<'src>, E: ParserExtra<I>> InputRef<'src, 'p, I, E> {
+    /// The next token where it lies in the input, which is taken and told to the state; none at the end of input.
+    #[inline]
+    pub fn next_ref(&mut self) -> Option<&'src I::Token>
+        ensures taken { option_map ref_value result ≡ slice_get (held I.Input E.Error.Error E.State.Inspector self.old).tokens (held I.Input E.Error.Error E.State.Inspector self.old).place }
+        ensures moves { held I.Input E.Error.Error E.State.Inspector self.new ≡ took E.State.after (held I.Input E.Error.Error E.State.Inspector self.old) (option_map ref_value result) }
+        ensures lent { self.new.state.ghost_name ≡ self.old.state.ghost_name }
+    {
+        match I::next_ref(&mut self.cursor) {
+            None => None,
+            Some(token) => {
+                self.state.on_token(token);
+                Some(token)
+            }
+        }
+    }
+
+    /// The next token where it lies in the input, which is neither taken nor told to the state; none at the end of
+    /// input.
+    #[inline]
+    pub fn peek_ref(&self) -> Option<&'src I::Token>
+        ensures { option_map ref_value result ≡ slice_get (held I.Input E.Error.Error E.State.Inspector self.now).tokens (held I.Input E.Error.Error E.State.Inspector self.now).place }
+    {
+        let mut cursor = self.cursor;
+        I::next_ref(&mut cursor)
+    }
+}
+
+impl<'src, 'p, I: SliceInput<'src>, E: ParserExtra<I>> InputRef<'src, 'p, I, E> {
+    /// The part of the input from a cursor of it, not past the present one, to the present one.
+    #[inline]
+    pub fn slice_since(&self, before: &I::Cursor) -> I::Slice
+        requires tokens { I.cursor_tokens before.now ≡ (held I.Input E.Error.Error E.State.Inspector self.now).tokens }
+        requires order { I.place before.now ≤ (held I.Input E.Error.Error E.State.Inspector self.now).place }
+        ensures { I.slice_seen result ≡ I.slice_of (slice_range (I.cursor_tokens before.now) (I.place before.now) (held I.Input E.Error.Error E.State.Inspector self.now).place) }
+    {
+        I::slice(before, &self.cursor)
     }
 }

@@ -1,13 +1,23 @@
 //! What a run of a parser stands on: inputs, errors, states, and what is lent to a parser.
 #![tactic(auto)]
 
+pub mod aside;
+pub mod emitter;
 pub mod error;
 pub mod extra;
 pub mod input;
 pub mod input_ref;
+#[cfg(test)]
+mod input_ref_tests;
 pub mod inspector;
+pub mod map_extra;
+mod numbers;
 pub mod rich;
 pub mod same;
+pub mod simple;
+pub mod slice;
 pub mod span;
 pub mod stop;
+#[cfg(test)]
+mod tests;
 pub mod util;

@@ -11,7 +11,7 @@ use crate::error::Error;
 use crate::input::Tokens;
 use crate::same::SameClone;
 use crate::span::SimpleSpan;
-use crate::util::{DefaultExpected, Expectation, MaybeRef};
+use crate::util::{DefaultExpected, Expectation, MaybeRef, token_of};
 use std::alloc::{AllocError, Global};
 
 /// Something that would have been accepted.
@@ -43,7 +43,7 @@ impl<T: PartialEq> PartialEq for RichPattern<T> {
 }
 
 /// What was expected and what was found, or a message.
-#[derive(PartialEq, Drop)]
+#[derive(Clone, PartialEq, Drop)]
 enum RichReason<T> {
     Expected(Vec<RichPattern<T>>, Option<T>),
     Custom(String),
@@ -51,7 +51,7 @@ enum RichReason<T> {
 
 /// An error that says where it stands, and what was expected and found there. A custom error has a message in place of
 /// the last two.
-#[derive(PartialEq, Drop)]
+#[derive(Clone, PartialEq, Drop)]
 pub struct Rich<T> {
     span: SimpleSpan,
     reason: RichReason<T>,
@@ -180,16 +180,6 @@ impl<T: SameClone + Drop, I: Tokens<Token = T, Span = SimpleSpan>> Error<I> for 
                 }
             },
         }
-    }
-}
-
-/// A token of one's own, as it counts.
-fn token_of<'a, T: SameClone>(token: MaybeRef<'a, T>) -> Result<T, AllocError>
-    ensures { IfOk result (λ t. T.seen t ≡ T.seen (maybe_value token.entry)) }
-{
-    match token {
-        MaybeRef::Ref(lent) => lent.clone(),
-        MaybeRef::Val(owned) => Ok(owned),
     }
 }
 

@@ -1,5 +1,8 @@
 //! Values whose clones are as good as they.
-ghost use Rattle.std.specs.Prelude.{◌≡◌, ◌==◌, ℕ, Bool, refl};
+ghost use Rattle.std.specs.Prelude.{◌≡◌, ◌==◌, ℕ, Bool, true, List, ◌&&◌, map, nat_eq, refl, string_bytes, ⊤};
+ghost use Rattle.std.specs.Cmp.Lexicographic.{pointwise};
+ghost use Rattle.std.proofs.Math.Bool.{beq};
+ghost use Rattle.chumsky_input.specs.Same.{map_same, pair_same, items_equal, both_equal};
 
 /// A type whose clones contracts can't tell from their originals, and whose `==` looks at nothing else.
 ///
@@ -30,14 +33,101 @@ impl SameClone for char {
     ghost eq_same = { λ x y. refl };
 }
 
-impl SameClone for u8 {
-    ghost Seen = { ℕ };
+impl SameClone for bool {
+    ghost Seen = { Bool };
 
     ghost seen = { λ x. x };
 
-    ghost same = { λ x y. x == y };
+    ghost same = { beq };
 
     ghost clone_same = { λ x y e. e };
 
     ghost eq_same = { λ x y. refl };
+}
+
+impl SameClone for () {
+    ghost Seen = { ⊤ };
+
+    ghost seen = { λ x. x };
+
+    ghost same = { λ _ _. true };
+
+    ghost clone_same = { λ x y e. e };
+
+    ghost eq_same = { λ x y. refl };
+}
+
+/// A reference is copied, and the value that it points to counts.
+impl<T: PartialEq> SameClone for &T {
+    ghost Seen = { T };
+
+    ghost seen = { λ x. x.now };
+
+    ghost same = { T.eq };
+
+    ghost clone_same = { λ x y e. Prim.search e };
+
+    ghost eq_same = { λ x y. refl };
+}
+
+impl SameClone for &str {
+    ghost Seen = { List ℕ };
+
+    ghost seen = { λ x. x.now };
+
+    ghost same = { pointwise nat_eq };
+
+    ghost clone_same = { λ x y e. Prim.search e };
+
+    ghost eq_same = { λ x y. refl };
+}
+
+impl<T: PartialEq> SameClone for &[T] {
+    ghost Seen = { List T };
+
+    ghost seen = { λ x. x.now };
+
+    ghost same = { pointwise T.eq };
+
+    ghost clone_same = { λ x y e. Prim.search e };
+
+    ghost eq_same = { λ x y. refl };
+}
+
+/// The bytes count.
+impl SameClone for String {
+    ghost Seen = { List ℕ };
+
+    ghost seen = { λ x. string_bytes x };
+
+    ghost same = { pointwise nat_eq };
+
+    ghost clone_same = { λ x y e. e };
+
+    ghost eq_same = { λ x y. refl };
+}
+
+/// What counts is what counts of the items, in order.
+impl<T: SameClone> SameClone for Vec<T> {
+    ghost Seen = { List T.Seen };
+
+    ghost seen = { λ x. map T.seen x.items };
+
+    ghost same = { pointwise T.same };
+
+    ghost clone_same = { λ x y e. map_same T.is_clone T.seen T.clone_same x.items y.items e.0 };
+
+    ghost eq_same = { λ x y. items_equal T.eq T.same T.seen T.eq_same x.items y.items };
+}
+
+impl<A: SameClone, B: SameClone> SameClone for (A, B) {
+    ghost Seen = { A.Seen × B.Seen };
+
+    ghost seen = { λ x. (A.seen x.0, B.seen x.1) };
+
+    ghost same = { λ x y. A.same x.0 y.0 && B.same x.1 y.1 };
+
+    ghost clone_same = { λ x y e. pair_same (A.clone_same x.0 y.0 e.0) (B.clone_same x.1 y.1 e.1) };
+
+    ghost eq_same = { λ x y. both_equal (A.eq_same x.0 y.0) (B.eq_same x.1 y.1) };
 }

@@ -21,3 +21,10 @@ impl From<Range<usize>> for SimpleSpan {
         }
     }
 }
+
+/// A value, and the span that it was read from.
+#[derive(Clone, Copy, PartialEq, Eq, Drop)]
+pub struct Spanned<T, S> {
+    pub inner: T,
+    pub span: S,
+}

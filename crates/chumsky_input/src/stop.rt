@@ -1,5 +1,6 @@
 //! How a run ends without an answer.
 ghost use Rattle.std.specs.Prelude.{◌≡◌};
+ghost use Rattle.chumsky_input.specs.declared.stop.Failure.TheVariants as failure;
 ghost use Rattle.chumsky_input.specs.declared.stop.Fault.TheVariants as fault;
 ghost use Rattle.chumsky_input.specs.declared.stop.Stop.TheVariants.{Memory};
 
@@ -26,6 +27,16 @@ pub enum Fault {
     Stop(Stop),
 }
 
+/// Why a closure of `custom` gives no output: it failed with an error, which counts as a failure where the closure
+/// stands; or the run is refused, and the stop is passed on as it is.
+///
+/// `?` on a refused request for memory answers `Stop(Stop::Memory)`.
+#[derive(PartialEq, Drop)]
+pub enum Failure<E> {
+    Error(E),
+    Stop(Stop),
+}
+
 /// What a parser answers.
 pub type PResult<O> = Result<O, Fault>;
 
@@ -44,5 +55,23 @@ impl From<AllocError> for Stop {
     #[inline]
     fn from(_error: AllocError) -> Stop {
         Stop::Memory
+    }
+}
+
+impl<E> From<AllocError> for Failure<E> {
+    ghost from_gives = { λ _ f. f ≡ failure.Stop Memory };
+
+    #[inline]
+    fn from(_error: AllocError) -> Failure<E> {
+        Failure::Stop(Stop::Memory)
+    }
+}
+
+impl<E> From<Stop> for Failure<E> {
+    ghost from_gives = { λ s f. f ≡ failure.Stop s };
+
+    #[inline]
+    fn from(stop: Stop) -> Failure<E> {
+        Failure::Stop(stop)
     }
 }

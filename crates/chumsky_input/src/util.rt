@@ -1,7 +1,11 @@
 //! Small helpers that parsers and errors share.
-ghost use Rattle.std.specs.Prelude.{◌≡◌, option_to_list, option_map};
-ghost use Rattle.chumsky_input.specs.Maybe.{maybe_value};
-ghost use Rattle.chumsky_input.specs.Wanted.{Wanted, wanted, plain_wanted};
+ghost use Rattle.std.specs.Prelude.{◌≡◌, IfOk, IsOk, IsTrue, option_to_list, option_map};
+ghost use Rattle.std.specs.Cmp.{on_per};
+ghost use Rattle.chumsky_input.specs.Maybe.{maybe_value, OwnsFreely};
+ghost use Rattle.chumsky_input.specs.Wanted.{Wanted, wanted, wanted_map, owns_token, WantsFreely, plain_wanted};
+
+use crate::same::SameClone;
+use std::alloc::AllocError;
 
 /// A token, or a reference to one that lies in the input.
 #[derive(Clone, Drop)]
@@ -23,8 +27,32 @@ impl<'a, T> MaybeRef<'a, T> {
     }
 }
 
+/// Two are equal where their tokens are, wherever these lie.
+impl<'a, T: PartialEq> PartialEq for MaybeRef<'a, T> {
+    ghost eq = { λ x y. T.eq (maybe_value x) (maybe_value y) };
+
+    ghost laws = { on_per maybe_value T.laws };
+
+    #[inline]
+    fn eq(&self, other: &Self) -> bool {
+        *self.get() == *other.get()
+    }
+}
+
+/// A token of one's own, as it counts: one that is lent is cloned.
+#[inline]
+pub(crate) fn token_of<'a, T: SameClone>(token: MaybeRef<'a, T>) -> Result<T, AllocError>
+    ensures token { IfOk result (λ t. T.seen t ≡ T.seen (maybe_value token.entry)) }
+    ensures memory { OwnsFreely T.is_infallible token.entry → IsOk result }
+{
+    match token {
+        MaybeRef::Ref(lent) => lent.clone(),
+        MaybeRef::Val(owned) => Ok(owned),
+    }
+}
+
 /// What a parser expected at a place.
-#[derive(Clone, Drop)]
+#[derive(Clone, PartialEq, Drop)]
 pub enum DefaultExpected<'a, T> {
     /// That token.
     Token(MaybeRef<'a, T>),
@@ -35,6 +63,26 @@ pub enum DefaultExpected<'a, T> {
     /// No token would have done.
     NothingElse,
     EndOfInput,
+}
+
+impl<'a, T: SameClone> DefaultExpected<'a, T> {
+    /// The same expectation with a token of its own, so that it outlives the input. A token that was lent is cloned.
+    #[inline]
+    pub fn into_owned<'b>(self) -> Result<DefaultExpected<'b, T>, AllocError>
+        ensures expectation { IfOk result (λ e. wanted_map T.seen (wanted e) ≡ wanted_map T.seen (wanted self.entry)) }
+        ensures owned { IfOk result (λ e. IsTrue (owns_token e)) }
+        ensures memory { WantsFreely T.is_infallible self.entry → IsOk result }
+    {
+        match self {
+            DefaultExpected::Token(token) => {
+                Ok(DefaultExpected::Token(MaybeRef::Val(token_of(token)?)))
+            }
+            DefaultExpected::Any => Ok(DefaultExpected::Any),
+            DefaultExpected::SomethingElse => Ok(DefaultExpected::SomethingElse),
+            DefaultExpected::NothingElse => Ok(DefaultExpected::NothingElse),
+            DefaultExpected::EndOfInput => Ok(DefaultExpected::EndOfInput),
+        }
+    }
 }
 
 /// What counts as one expectation: a `DefaultExpected` of any lifetime.

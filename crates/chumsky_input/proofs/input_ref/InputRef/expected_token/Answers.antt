@@ -7,7 +7,7 @@ use Rattle.chumsky_input.proofs.Events.{adds_nothing, adds_at}
 use Rattle.chumsky_input.proofs.input_ref.InputRef.expected_token.Goals as goal
 
 pub returns-then-keeps_past-clause-fails : goal.returns-then-keeps_past-clause-fails
-returns-then-keeps_past-clause-fails g c = inl (adds_nothing _ (held g.I.Input g.E.Error.Error g.E.State.Inspector c.args.self.now) _ (rw (sym c.place-place.ensures) (c.if-keeps_past.ensures refl)))
+returns-then-keeps_past-clause-fails g c = inl (adds_nothing _ (held g.I.Input g.E.Error.Error g.E.State.Inspector c.args.self.now) _ (rw (sym c.place-place.ensures) (c.if-keeps_past.ensures.past refl)))
 
 pub returns-in-Ok-clause-fails : goal.returns-in-Ok-clause-fails
 returns-in-Ok-clause-fails g c =

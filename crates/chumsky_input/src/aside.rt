@@ -1,0 +1,106 @@
+//! What a run sets aside while something runs by itself, and brings back after it.
+ghost use Rattle.std.specs.Prelude.{◌≡◌, ◌++◌, [], None, MatchResult, option_map, map, ◌⊎◌};
+ghost use Rattle.chumsky_input.specs.Held.{held, located};
+ghost use Rattle.chumsky_input.specs.Run.{final_error};
+ghost use Rattle.chumsky_input.specs.Aside.{kept_after, brought_back, without_errors, failure_seen, ClashesWith, SameButErrors, HandsOut};
+
+use crate::error::Error;
+use crate::extra::ParserExtra;
+use crate::input::Input;
+use crate::input_ref::{InputRef, Located};
+use crate::inspector::Inspector;
+use crate::stop::{Failure, Fault, Stop};
+use std::alloc::AllocError;
+
+/// The error that a run kept and those that it emitted, while something runs that is to find none.
+#[derive(Drop)]
+pub struct Aside<E> {
+    pub kept: Option<Located<E>>,
+    pub emitted: Vec<E>,
+}
+
+impl<'src, 'p, I: Input<'src>, E: ParserExtra<I>> InputRef<'src, 'p, I, E> {
+    /// Takes out the error that is kept.
+    #[inline]
+    pub fn take_kept(&mut self) -> Option<Located<E::Error>>
+        ensures kept { option_map (located E.Error.seen) result ≡ (held I.Input E.Error.Error E.State.Inspector self.old).kept }
+        ensures leaves { held I.Input E.Error.Error E.State.Inspector self.new ≡ record (held I.Input E.Error.Error E.State.Inspector self.old) { kept = None } }
+        ensures lent { self.new.state.ghost_name ≡ self.old.state.ghost_name }
+    {
+        self.kept.take()
+    }
+
+    /// Puts an older error before the one that is kept: they count as two events, in this order. A refused merge keeps
+    /// neither.
+    pub fn keep_before(&mut self, older: Option<Located<E::Error>>) -> Result<(), AllocError>
+        ensures keeps { MatchResult result (λ _. held I.Input E.Error.Error E.State.Inspector self.new ≡ kept_after E.Error.merged (option_map (located E.Error.seen) older) (held I.Input E.Error.Error E.State.Inspector self.old)) (λ _. ClashesWith E.Error.takes_no_memory (option_map (located E.Error.seen) older) (held I.Input E.Error.Error E.State.Inspector self.old).kept × (held I.Input E.Error.Error E.State.Inspector self.new ≡ record (held I.Input E.Error.Error E.State.Inspector self.old) { kept = None })) }
+        ensures lent { self.new.state.ghost_name ≡ self.old.state.ghost_name }
+    {
+        match self.kept.take() {
+            None => {
+                self.kept = older;
+                Ok(())
+            }
+            Some(kept) => {
+                self.kept = older;
+                match self.add_event(kept.place, kept.error) {
+                    Fault::Fail => Ok(()),
+                    Fault::Stop(_) => Err(AllocError),
+                }
+            }
+        }
+    }
+
+    /// Takes out the last error of a failure: the one that is kept, or where there is none that of an empty expectation.
+    /// An older one is kept in its place. A refusal changes nothing, and the older one is lost.
+    pub fn hand_out(&mut self, older: Option<Located<E::Error>>) -> Failure<E::Error>
+        ensures hands { HandsOut E.Error.takes_no_memory (final_error E.Error.expectation I.span_between) (option_map (located E.Error.seen) older) (held I.Input E.Error.Error E.State.Inspector self.old) (held I.Input E.Error.Error E.State.Inspector self.new) (failure_seen E.Error.seen result) }
+        ensures lent { self.new.state.ghost_name ≡ self.old.state.ghost_name }
+    {
+        match self.last_error() {
+            Ok(error) => {
+                self.kept = older;
+                Failure::Error(error)
+            }
+            Err(_) => Failure::Stop(Stop::Memory),
+        }
+    }
+
+    /// Puts older errors before those that are emitted. A refusal changes nothing but what is emitted.
+    fn emit_before(&mut self, older: Vec<E::Error>) -> Result<(), AllocError>
+        ensures emits { MatchResult result (λ _. held I.Input E.Error.Error E.State.Inspector self.new ≡ record (held I.Input E.Error.Error E.State.Inspector self.old) { emitted = map E.Error.seen older.items ++ (held I.Input E.Error.Error E.State.Inspector self.old).emitted }) (λ _. (¬ ((held I.Input E.Error.Error E.State.Inspector self.old).emitted ≡ [])) × (held I.Input E.Error.Error E.State.Inspector self.new ≡ record (held I.Input E.Error.Error E.State.Inspector self.old) { emitted = map E.Error.seen older.items })) }
+        ensures lent { self.new.state.ghost_name ≡ self.old.state.ghost_name }
+    {
+        if older.is_empty() {
+            return Ok(());
+        }
+        let mut newer = std::mem::replace(&mut self.emitted, older);
+        if newer.is_empty() {
+            return Ok(());
+        }
+        self.emitted.append(&mut newer)
+    }
+
+    /// Takes out the error that is kept and those that are emitted.
+    #[inline]
+    pub fn set_aside(&mut self) -> Aside<E::Error>
+        ensures kept { option_map (located E.Error.seen) result.kept ≡ (held I.Input E.Error.Error E.State.Inspector self.old).kept }
+        ensures emitted { map E.Error.seen result.emitted.items ≡ (held I.Input E.Error.Error E.State.Inspector self.old).emitted }
+        ensures leaves { held I.Input E.Error.Error E.State.Inspector self.new ≡ without_errors (held I.Input E.Error.Error E.State.Inspector self.old) }
+        ensures lent { self.new.state.ghost_name ≡ self.old.state.ghost_name }
+    {
+        let kept = self.kept.take();
+        let emitted = std::mem::replace(&mut self.emitted, Vec::new(self.alloc));
+        Aside { kept, emitted }
+    }
+
+    /// Brings back what was set aside, before what is held now. A refusal changes nothing but what is kept and emitted.
+    pub fn bring_back(&mut self, older: Aside<E::Error>) -> Result<(), AllocError>
+        ensures back { MatchResult result (λ _. held I.Input E.Error.Error E.State.Inspector self.new ≡ brought_back E.Error.merged (option_map (located E.Error.seen) older.kept) (map E.Error.seen older.emitted.items) (held I.Input E.Error.Error E.State.Inspector self.old)) (λ _. (ClashesWith E.Error.takes_no_memory (option_map (located E.Error.seen) older.kept) (held I.Input E.Error.Error E.State.Inspector self.old).kept ⊎ (¬ ((held I.Input E.Error.Error E.State.Inspector self.old).emitted ≡ []))) × SameButErrors (held I.Input E.Error.Error E.State.Inspector self.old) (held I.Input E.Error.Error E.State.Inspector self.new)) }
+        ensures lent { self.new.state.ghost_name ≡ self.old.state.ghost_name }
+    {
+        self.emit_before(older.emitted)?;
+        self.keep_before(older.kept)?;
+        Ok(())
+    }
+}
