@@ -7,7 +7,7 @@ use Rattle.chumsky_input.specs.Outcome.{Event, Meaning, Beginning, Outcome, Verd
 use Rattle.chumsky_input.specs.Primary.{primary}
 use Rattle.chumsky_input.specs.Run.{Ran, SameRun, Leaves, LeavesBy, begin, answer, with_value, without_value}
 use Rattle.chumsky_input.proofs.PrimaryLemmas.{kept-same, primary-append, has_event_at-kept}
-use Rattle.chumsky_parser.specs.Chained.{from, after, Chained, Given}
+use Rattle.chumsky_parser.specs.Chained.{from, after, Chained, Given, Asked}
 
 module _ {Tok Cx St Er : Type 0} where
   pub same_run-trans : (old mid new : Held Tok Cx St Er) → SameRun old mid → SameRun mid new → SameRun old new
@@ -184,3 +184,7 @@ module _ {Tok Cx St Er V : Type 0} {merged : Er → Er → Er} {safe : Type 0} {
         left = rebased merged safe h.outcome.verdict h.outcome old mid new kept emitted h.left;
         same = same_run-trans old mid new same h.same;
       }
+
+module _ {Tok Cx St Er V : Type 0} {merged : Er → Er → Er} {safe : Type 0} {part : Meaning Tok Cx St Er V} {asked wanted : Bool} where
+  pub ran-asked : {old new : Held Tok Cx St Er} {r : Result (Option V) Fault} → Ran merged safe part asked old new r → Ran merged safe (Asked asked part) wanted old new r
+  ran-asked h = record { outcome = h.outcome; meant = record { run = h.meant }; answered = h.answered; state = h.state; left = h.left; same = h.same }

@@ -1,5 +1,5 @@
 -- One part after another.
-use Rattle.std.specs.Prelude.{◌≡◌, Option, Some, None, [], ◌++◌}
+use Rattle.std.specs.Prelude.{◌≡◌, Bool, Option, Some, None, [], ◌++◌}
 use Rattle.chumsky_input.specs.Outcome.{Meaning, Beginning, Outcome, Verdict, Yes, No, Halt, Clash}
 
 abbrev pub both : {V W : Type 0} → Option V → Option W → Option (V × W)
@@ -45,3 +45,8 @@ module _ {Tok Cx St Er : Type 0} where
   -- both parts, each beginning where the former ended
   abbrev pub Sequence : {V W : Type 0} → Meaning Tok Cx St Er V → Meaning Tok Cx St Er W → Meaning Tok Cx St Er (V × W)
   Sequence first second = Chained first (λ v. Chained second (λ w. Given (both v w)))
+
+module _ {Tok Cx St Er V : Type 0} where
+  -- the part, run for its value or without one whatever the whole is asked for
+  pub record Asked (wanted : Bool) (part : Meaning Tok Cx St Er V) (b : Beginning Tok Cx St) (o : Outcome V Er St) : Type 0 where
+    pub run : part (record b { wanted = wanted }) o

@@ -1,8 +1,9 @@
 -- How a parser fails, or is refused for want of memory.
-use Rattle.std.specs.Prelude.{◌≡◌, ℕ, Bool, true, false, Option, Some, None, List, [], ◌∷◌, ◌⊎◌, ⊤}
+use Rattle.std.specs.Prelude.{◌≡◌, ℕ, Bool, true, false, Option, Some, None, List, [], ◌∷◌, ◌⊎◌, ⊤, Result, Ok, Err}
 use Rattle.chumsky_input.specs.declared.error.Error as error_trait
 use Rattle.chumsky_input.specs.declared.input.Input as input_trait
 use Rattle.chumsky_input.specs.declared.stop.Stop.TheVariants.{Memory}
+use Rattle.chumsky_input.specs.declared.stop.Fault.{Fault}
 use Rattle.chumsky_input.specs.Wanted.{Wanted}
 use Rattle.chumsky_input.specs.Outcome.{Event, Outcome, No, Halt, Clash}
 
@@ -41,3 +42,8 @@ module _ {I Tok Sp Cu Er : Type 0} (source : input_trait.Ghosts I Cu Tok Sp) (er
 abbrev pub wanting : {V : Type 0} → Bool → V → Option V
 wanting true v = Some v
 wanting false v = None
+
+-- the answer, with its value where one is wanted
+abbrev pub asked : {V : Type 0} → Bool → Result V Fault → Result (Option V) Fault
+asked w (Ok v) = Ok (wanting w v)
+asked w (Err f) = Err f

@@ -1,5 +1,5 @@
 -- The laws of failures and of wanted values.
-use Rattle.std.proofs.Common.{◌≡◌, ℕ, ◌≤◌, Bool, true, false, Option, Some, None, [], ◌∷◌, sym, ◌∙◌, subst, arith, inl, inr}
+use Rattle.std.proofs.Common.{◌≡◌, ℕ, ◌≤◌, Bool, true, false, Option, Some, None, [], ◌∷◌, subst, arith, inl, inr}
 use Rattle.std.specs.Prelude.{⊤}
 use Rattle.chumsky_input.specs.Outcome.{Event, Outcome, No, IsAnswer, SameValue, Agree}
 use Rattle.chumsky_parser.specs.Failure.{IsWanted, FailsAt, Misses, wanting}
@@ -23,15 +23,16 @@ module _ {V Er St : Type 0} (same : V → V → Type 0) where
   misses-ends l (inl r) a = absurd (subst IsAnswer r.1 a)
   misses-ends l (inr f) a = omega (arith, f.end_at)
 
-pub wanted-same : {V S : Type 0} (seen : V → S) (t : V) (b c : Bool) (v w : Option V) → IsWanted (λ x. seen x ≡ seen t) b v → IsWanted (λ x. seen x ≡ seen t) c w → SameValue (λ x y. seen x ≡ seen y) v w
-wanted-same seen t true true (Some v) (Some w) p q = p ∙ sym q
-wanted-same seen t true true (Some v) None p q = absurd q
-wanted-same seen t true true None w p q = absurd p
-wanted-same seen t true false (Some v) (Some w) p q = absurd q
-wanted-same seen t true false (Some v) None p q = tt
-wanted-same seen t true false None w p q = absurd p
-wanted-same seen t false c (Some v) w p q = absurd p
-wanted-same seen t false c None w p q = tt
+-- two values, where any two that P allows are the same
+pub wanted-same : {V : Type 0} (P : V → Type 0) (same : V → V → Type 0) → ((v w : V) → P v → P w → same v w) → (b c : Bool) (v w : Option V) → IsWanted P b v → IsWanted P c w → SameValue same v w
+wanted-same P same h true true (Some v) (Some w) p q = h v w p q
+wanted-same P same h true true (Some v) None p q = absurd q
+wanted-same P same h true true None w p q = absurd p
+wanted-same P same h true false (Some v) (Some w) p q = absurd q
+wanted-same P same h true false (Some v) None p q = tt
+wanted-same P same h true false None w p q = absurd p
+wanted-same P same h false c (Some v) w p q = absurd p
+wanted-same P same h false c None w p q = tt
 
 pub wanting-same : {V : Type 0} (same : V → V → Type 0) (b c : Bool) (v : V) → same v v → SameValue same (wanting b v) (wanting c v)
 wanting-same same true true v s = s

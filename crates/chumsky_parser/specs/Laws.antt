@@ -1,7 +1,7 @@
 -- What holds of one part after another, since it holds of the parts.
-use Rattle.std.proofs.Common.{◌≡◌, ℕ, ◌≤◌, Option, Some, None, List, [], refl, ap, subst, arith}
+use Rattle.std.proofs.Common.{◌≡◌, ℕ, ◌≤◌, Bool, Option, Some, None, List, [], refl, ap, subst, arith}
 use Rattle.chumsky_input.specs.Outcome.{Event, Meaning, Beginning, Outcome, Verdict, Yes, No, Halt, Clash, IsAnswer, SameValue, Alike, Agree, EndsAfterStart, Agreeing}
-use Rattle.chumsky_parser.specs.Chained.{from, retold, after, both, Follows, Chained, Given, Sequence, SamePair}
+use Rattle.chumsky_parser.specs.Chained.{from, retold, after, both, Follows, Chained, Given, Asked, Sequence, SamePair}
 
 module _ {Tok Cx St Er V W : Type 0} (part : Meaning Tok Cx St Er V) (next : Option V → Meaning Tok Cx St Er W) where
   chained_ends : EndsAfterStart part → ((v : Option V) → EndsAfterStart (next v)) → (b : Beginning Tok Cx St) (o : Outcome W Er St) (v : Verdict V Er) (end : ℕ) (state : St) (events : List (Event Er)) (emitted : List Er)
@@ -86,3 +86,11 @@ module _ {Tok Cx St Er V W : Type 0} (first : Meaning Tok Cx St Er V) (second : 
   pub sequence-agrees : (sv : V → V → Type 0) (sw : W → W → Type 0) → Agreeing sv first first → Agreeing sw second second → Agreeing (SamePair sv sw) (Sequence first second) (Sequence first second)
   sequence-agrees sv sw f s =
       chained-agrees first first _ _ sv (SamePair sv sw) f (λ v v' e. chained-agrees second second _ _ sw (SamePair sv sw) s (λ w w' d. given-agrees (SamePair sv sw) (both v w) (both v' w') (both-same sv sw v v' w w' e d)))
+
+module _ {Tok Cx St Er V : Type 0} (wanted : Bool) (part : Meaning Tok Cx St Er V) where
+  pub asked-ends : EndsAfterStart part → EndsAfterStart (Asked wanted part)
+  asked-ends h b o m a = h (record b { wanted = wanted }) o m.run a
+
+  pub asked-agrees : (same : V → V → Type 0) → Agreeing same part part → Agreeing same (Asked wanted part) (Asked wanted part)
+  asked-agrees same h b c o q alike m n a z =
+      h (record b { wanted = wanted }) (record c { wanted = wanted }) o q (record { tokens = alike.tokens; start = alike.start; context = alike.context; state = alike.state }) m.run n.run a z

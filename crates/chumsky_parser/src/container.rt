@@ -1,11 +1,14 @@
 //! Sequences of tokens.
-ghost use Rattle.std.specs.Prelude.{◌≡◌, ℕ, List, [], ◌∷◌, drop, refl, MatchOption, nat_eq};
+ghost use Rattle.std.specs.Prelude.{◌≡◌, ℕ, ◌+◌, ◌≤◌, List, [], ◌∷◌, drop, refl, string_bytes, MatchOption, nat_eq};
 ghost use Rattle.std.specs.List.{list_any};
+ghost use Rattle.std.specs.Char.{IsScalar};
+ghost use Rattle.std.specs.Range.{range_inclusive_start};
 ghost use Rattle.std.specs.Str.{chars};
 ghost use Rattle.chumsky_input.specs.Maybe.{maybe_value};
-ghost use Rattle.chumsky_parser.specs.Members.{chars_from};
+ghost use Rattle.chumsky_parser.specs.Members.{chars_from, chars_between, range_past, range_from_start};
 
 use chumsky_input::util::MaybeRef;
+use std::ops::RangeInclusive;
 
 /// A list of tokens.
 pub trait Seq<T: PartialEq> {
@@ -53,6 +56,81 @@ impl<T: PartialEq> Seq<T> for T {
 
 impl<T: PartialEq> OrderedSeq<T> for T {}
 
+/// The members of a slice are its items, and marks count them.
+impl<T: PartialEq> Seq<T> for &[T] {
+    ghost members = { λ s. s.now };
+
+    ghost members_from = { λ s i. drop i s.now };
+
+    ghost all_from = { λ s. refl };
+
+    #[inline]
+    fn contains(&self, token: &T) -> bool {
+        let items: &[T] = *self;
+        items.contains(token)
+    }
+
+    #[inline]
+    fn seq_at(&self, at: usize) -> Option<(MaybeRef<'_, T>, usize)> {
+        item_at(*self, at)
+    }
+}
+
+impl<T: PartialEq> OrderedSeq<T> for &[T] {}
+
+impl<T: PartialEq, const N: usize> Seq<T> for [T; N] {
+    ghost members = { λ s. s };
+
+    ghost members_from = { λ s i. drop i s };
+
+    ghost all_from = { λ s. refl };
+
+    #[inline]
+    fn contains(&self, token: &T) -> bool {
+        let items: &[T] = self;
+        items.contains(token)
+    }
+
+    #[inline]
+    fn seq_at(&self, at: usize) -> Option<(MaybeRef<'_, T>, usize)> {
+        item_at(self, at)
+    }
+}
+
+impl<T: PartialEq, const N: usize> OrderedSeq<T> for [T; N] {}
+
+impl<T: PartialEq> Seq<T> for Vec<T> {
+    ghost members = { λ s. s.items };
+
+    ghost members_from = { λ s i. drop i s.items };
+
+    ghost all_from = { λ s. refl };
+
+    #[inline]
+    fn contains(&self, token: &T) -> bool {
+        self.as_slice().contains(token)
+    }
+
+    #[inline]
+    fn seq_at(&self, at: usize) -> Option<(MaybeRef<'_, T>, usize)> {
+        item_at(self.as_slice(), at)
+    }
+}
+
+impl<T: PartialEq> OrderedSeq<T> for Vec<T> {}
+
+/// The item at an index, and the next index.
+#[inline]
+fn item_at<'a, T>(items: &'a [T], at: usize) -> Option<(MaybeRef<'a, T>, usize)>
+    ensures { MatchOption result (drop at items.now ≡ []) (λ p. drop at items.now ≡ maybe_value p.0 ∷ drop p.1 items.now) }
+{
+    if at < items.len() {
+        Some((MaybeRef::Ref(&items[at]), at + 1))
+    } else {
+        None
+    }
+}
+
 /// The members of a text are its characters, and marks count its bytes.
 impl Seq<char> for &str {
     ghost members = { λ s. chars s.now };
@@ -73,6 +151,27 @@ impl Seq<char> for &str {
 }
 
 impl OrderedSeq<char> for &str {}
+
+/// As of its text.
+impl Seq<char> for String {
+    ghost members = { λ s. chars (string_bytes s) };
+
+    ghost members_from = { λ s i. chars_from (string_bytes s) i };
+
+    ghost all_from = { λ s. refl };
+
+    #[inline]
+    fn contains(&self, token: &char) -> bool {
+        has_char(self.as_str(), *token)
+    }
+
+    #[inline]
+    fn seq_at(&self, at: usize) -> Option<(MaybeRef<'_, char>, usize)> {
+        text_at(self.as_str(), at)
+    }
+}
+
+impl OrderedSeq<char> for String {}
 
 /// Whether a text has a character. One below 128 is a byte by itself, and no part of another: nothing is decoded.
 #[inline]
@@ -117,4 +216,45 @@ fn decoded_at<'a>(text: &'a str, at: usize) -> Option<(MaybeRef<'a, char>, usize
         None => None,
         Some(c) => Some((MaybeRef::Val(c), at + c.len_utf8())),
     }
+}
+
+/// The members of a range are its characters in order, without surrogates. A mark is the distance from the start, as
+/// numbers.
+impl Seq<char> for RangeInclusive<char> {
+    ghost members = { λ r. chars_between (range_inclusive_start r) (range_past r) };
+
+    ghost members_from = { λ r i. chars_between (range_inclusive_start r + i) (range_past r) };
+
+    ghost all_from = { λ r. range_from_start r };
+
+    #[inline]
+    fn contains(&self, token: &char) -> bool {
+        // The cast tells the proof that the token is no surrogate. The value isn't used.
+        let _code = *token as u32;
+        RangeInclusive::contains(self, token)
+    }
+
+    #[inline]
+    fn seq_at(&self, at: usize) -> Option<(MaybeRef<'_, char>, usize)> {
+        let start = *self.start() as u32 as usize;
+        let character = char_at_least(start.checked_add(at)?)?;
+        if RangeInclusive::contains(self, &character) {
+            let next = character as u32 as usize - start + 1;
+            Some((MaybeRef::Val(character), next))
+        } else {
+            None
+        }
+    }
+}
+
+/// The first character whose number is at least `code`.
+#[inline]
+fn char_at_least(code: usize) -> Option<char>
+    ensures { MatchOption result (0x11_0000 ≤ code) (λ c. (code ≤ c) × IsScalar c × (chars_between code c ≡ [])) }
+{
+    if code > 0x10_FFFF {
+        return None;
+    }
+    // Only a surrogate is no character.
+    Some(char::from_u32(code as u32).unwrap_or('\u{E000}'))
 }

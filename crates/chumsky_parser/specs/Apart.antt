@@ -1,0 +1,41 @@
+-- A part that is run by itself, within a closure: its events count as one.
+use Rattle.std.specs.Prelude.{◌≡◌, ℕ, Bool, Option, Some, None, List, ◌++◌, Result, Ok, Err, option_to_list, ◌⊎◌}
+use Rattle.chumsky_input.specs.declared.stop.Stop.TheVariants.{Memory}
+use Rattle.chumsky_input.specs.declared.stop.Failure.{Failure}
+use Rattle.chumsky_input.specs.declared.stop.Failure.TheVariants as failure
+use Rattle.chumsky_input.specs.Outcome.{Event, Meaning, Outcome, Verdict, Yes, No, Halt, Clash, HasEventAt}
+use Rattle.chumsky_input.specs.Primary.{primary}
+use Rattle.chumsky_input.specs.Held.{Held}
+use Rattle.chumsky_input.specs.Run.{begin}
+use Rattle.chumsky_input.specs.Aside.{failure_seen, ClashesWith}
+
+-- what a call that gives a value hands out, and one that gives none
+abbrev pub handed_value : {V E S : Type 0} → (E → S) → Result V (Failure E) → Result (Option V) (Failure S)
+handed_value seen (Ok v) = Ok (Some v)
+handed_value seen (Err f) = Err (failure_seen seen f)
+
+abbrev pub handed_check : {V E S : Type 0} → (E → S) → Result (Unit {0}) (Failure E) → Result (Option V) (Failure S)
+handed_check seen (Ok _) = Ok None
+handed_check seen (Err f) = Err (failure_seen seen f)
+
+module _ {Tok Cx St Er V : Type 0} (merged : Er → Er → Er) (safe : Type 0) (final : Option (Event Er) → List Tok → ℕ → Er) where
+  -- the place and the state of an outcome, and its emitted errors after older ones
+  abbrev pub ended : Outcome V Er St → Held Tok Cx St Er → Held Tok Cx St Er
+  ended o h = record h { place = o.end; state = o.state; emitted = h.emitted ++ o.emitted }
+
+  -- after a yes the part's one event is added, and after a no it is handed out; of a stop only the state is known
+  abbrev pub HandsBy : Verdict V Er → Outcome V Er St → Held Tok Cx St Er → Held Tok Cx St Er → Result (Option V) (Failure Er) → Type 0
+  HandsBy (Yes v) o old new r =
+      ((r ≡ Ok v) × (new ≡ record (ended o old) { kept = primary merged (option_to_list old.kept ++ option_to_list (primary merged o.events)) }))
+      ⊎ ((r ≡ Err (failure.Stop Memory)) × (new.state ≡ o.state) × ClashesWith safe old.kept (primary merged o.events))
+  HandsBy No o old new r =
+      ((r ≡ Err (failure.Error (final (primary merged o.events) old.tokens o.end))) × (new ≡ ended o old))
+      ⊎ ((r ≡ Err (failure.Stop Memory)) × (new.state ≡ o.state) × (safe → ⊥) × (primary merged o.events ≡ None))
+  HandsBy (Halt s) o old new r = (r ≡ Err (failure.Stop s)) × (new.state ≡ o.state)
+  HandsBy (Clash e) o old new r = (r ≡ Err (failure.Stop Memory)) × (new.state ≡ o.state) × (safe → ⊥) × HasEventAt e.place o.events
+
+  -- one outcome of the part, and what is made of it
+  pub record RanApart (meaning : Meaning Tok Cx St Er V) (wanted : Bool) (old new : Held Tok Cx St Er) (result : Result (Option V) (Failure Er)) : Type 0 where
+    pub outcome : Outcome V Er St
+    pub meant : meaning (begin wanted old) outcome
+    pub hands : HandsBy outcome.verdict outcome old new result

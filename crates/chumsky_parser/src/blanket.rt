@@ -1,0 +1,90 @@
+//! Parsers by reference and in boxes, which do as the parser within.
+use crate::parser::{IsParser, Parser};
+use chumsky_input::extra::ParserExtra;
+use chumsky_input::input::Input;
+use chumsky_input::input_ref::InputRef;
+use chumsky_input::stop::PResult;
+use std::rc::Rc;
+
+impl<I, O, E, P: IsParser<I, O, E>> IsParser<I, O, E> for &P {}
+
+impl<'src, I: Input<'src>, O, E: ParserExtra<I>, P: Parser<'src, I, O, E>> Parser<'src, I, O, E>
+    for &P {
+    ghost ready = { λ p. P.ready p.now };
+
+    ghost meaning = { λ p. P.meaning p.now };
+
+    ghost steady = { λ p. P.steady p.now };
+
+    ghost same = { λ p. P.same p.now };
+
+    ghost ends_after_start = { λ p. P.ends_after_start p.now };
+
+    ghost agrees = { λ p. P.agrees p.now };
+
+    #[inline]
+    fn go_emit(&self, inp: &mut InputRef<'src, '_, I, E>) -> PResult<O> {
+        P::go_emit(*self, inp)
+    }
+
+    #[inline]
+    fn go_check(&self, inp: &mut InputRef<'src, '_, I, E>) -> PResult<()> {
+        P::go_check(*self, inp)
+    }
+}
+
+impl<I, O, E, P: IsParser<I, O, E>> IsParser<I, O, E> for Box<P> {}
+
+impl<'src, I: Input<'src>, O, E: ParserExtra<I>, P: Parser<'src, I, O, E>> Parser<'src, I, O, E>
+    for Box<P> {
+    ghost ready = { λ p. P.ready p.value };
+
+    ghost meaning = { λ p. P.meaning p.value };
+
+    ghost steady = { λ p. P.steady p.value };
+
+    ghost same = { λ p. P.same p.value };
+
+    ghost ends_after_start = { λ p. P.ends_after_start p.value };
+
+    ghost agrees = { λ p. P.agrees p.value };
+
+    #[inline]
+    fn go_emit(&self, inp: &mut InputRef<'src, '_, I, E>) -> PResult<O> {
+        (**self).go_emit(inp)
+    }
+
+    #[inline]
+    fn go_check(&self, inp: &mut InputRef<'src, '_, I, E>) -> PResult<()> {
+        (**self).go_check(inp)
+    }
+}
+
+impl<I, O, E, P: IsParser<I, O, E>> IsParser<I, O, E> for Rc<P> {}
+
+impl<'src, I: Input<'src>, O, E: ParserExtra<I>, P: Parser<'src, I, O, E>> Parser<'src, I, O, E>
+    for Rc<P> {
+    ghost use Rattle.std.specs.Rc.{rc_value};
+
+    ghost ready = { λ p. P.ready (rc_value p) };
+
+    ghost meaning = { λ p. P.meaning (rc_value p) };
+
+    ghost steady = { λ p. P.steady (rc_value p) };
+
+    ghost same = { λ p. P.same (rc_value p) };
+
+    ghost ends_after_start = { λ p. P.ends_after_start (rc_value p) };
+
+    ghost agrees = { λ p. P.agrees (rc_value p) };
+
+    #[inline]
+    fn go_emit(&self, inp: &mut InputRef<'src, '_, I, E>) -> PResult<O> {
+        self.as_ref().go_emit(inp)
+    }
+
+    #[inline]
+    fn go_check(&self, inp: &mut InputRef<'src, '_, I, E>) -> PResult<()> {
+        self.as_ref().go_check(inp)
+    }
+}

@@ -1,0 +1,49 @@
+//! A parser of one of two types.
+ghost use Rattle.either.specs.Either.{MatchEither};
+ghost use Rattle.chumsky_parser.specs.EitherLaws.{either-ends, either-agrees};
+
+use crate::parser::{IsParser, Parser};
+use chumsky_input::extra::ParserExtra;
+use chumsky_input::input::Input;
+use chumsky_input::input_ref::InputRef;
+use chumsky_input::stop::PResult;
+use either::Either;
+
+impl<I, O, E, A: IsParser<I, O, E>, B: IsParser<I, O, E>> IsParser<I, O, E> for Either<A, B> {}
+
+impl<
+    'src,
+    I: Input<'src>,
+    O,
+    E: ParserExtra<I>,
+    A: Parser<'src, I, O, E>,
+    B: Parser<'src, I, O, E>,
+> Parser<'src, I, O, E> for Either<A, B> {
+    ghost ready = { λ p. MatchEither p A.ready B.ready };
+
+    ghost meaning = { λ p errors states b o. MatchEither p (λ x. A.meaning x errors states b o) (λ y. B.meaning y errors states b o) };
+
+    ghost steady = { λ p. MatchEither p A.steady B.steady };
+
+    ghost same = { λ p v w. MatchEither p (λ x. A.same x v w) (λ y. B.same y v w) };
+
+    ghost ends_after_start = { λ p. either-ends _ _ A.ends_after_start B.ends_after_start p };
+
+    ghost agrees = { λ p s. either-agrees _ _ A.steady B.steady A.same B.same A.agrees B.agrees p s };
+
+    #[inline]
+    fn go_emit(&self, inp: &mut InputRef<'src, '_, I, E>) -> PResult<O> {
+        match self {
+            Either::Left(first) => first.go_emit(inp),
+            Either::Right(second) => second.go_emit(inp),
+        }
+    }
+
+    #[inline]
+    fn go_check(&self, inp: &mut InputRef<'src, '_, I, E>) -> PResult<()> {
+        match self {
+            Either::Left(first) => first.go_check(inp),
+            Either::Right(second) => second.go_check(inp),
+        }
+    }
+}
