@@ -14,8 +14,9 @@ use Rattle.chumsky_input.specs.Outcome.{Outcome}
 use Rattle.chumsky_input.specs.Run.{Ran, with_value, without_value, begin, took, Fails, gone_back, marked_here}
 use Rattle.chumsky_parser.proofs.ChainedLemmas.{ran-moved, ran-chained, ran-chained_err, ran-given}
 use Rattle.chumsky_parser.specs.Failure.{IsWanted, Misses, expects}
+use Rattle.chumsky_parser.proofs.IgnoringLemmas.{ran-copied, ran-uncopied, ran-lacks_copy}
 use Rattle.chumsky_parser.proofs.FailureLemmas.{ran-yes, ran-halts, ran-misses}
-use Rattle.chumsky_primitive.specs.Just.{past, told, is_member, MeansFound, MeansMember, MeansMembers, MeansCopy, MeansJust}
+use Rattle.chumsky_primitive.specs.Just.{past, told, is_member, MeansFound, MeansMember, MeansMembers, MeansJust}
 
 -- a token is taken where one is found, in one form for both cases
 took-is : {Tok Cx St Er : Type 0} (after : St → Tok → St) (h : Held Tok Cx St Er) (found : Option Tok) → took after h found ≡ record h { place = past found h.place; state = told after found h.state }
@@ -89,9 +90,6 @@ module _ {I Tok Sp Cu Er St Mk Cx : Type 0} (source : input_trait.Ghosts I Cu To
   members_end left mid e c w = c w mid (Ok None) (rw e ran-given)
 
 module _ {I Tok Sp Cu Er St Mk Cx V : Type 0} (source : input_trait.Ghosts I Cu Tok Sp) (equal : Tok → Tok → Bool) (errors : error_trait.Ghosts Er I Tok Sp) (states : inspector_trait.Ghosts St I Mk Tok Sp) (copies : V → Type 0) (safe : Type 0) (ms : List Tok) (old new : Held Tok Cx states.Seen errors.Seen) where
-  copied : (w : Bool) (v : Option V) → IsWanted copies w v → Ran errors.merged errors.takes_no_memory (MeansCopy source equal errors states copies safe) w new new (Ok v)
-  copied w v i = ran-yes errors.merged errors.takes_no_memory _ w new v new.place new.state (inr (record { value = v; is_value = i; outcome = refl }))
-
   -- a member that is not there
   stops : (w : Bool) (f : Fault) → Ran errors.merged errors.takes_no_memory (MeansMembers source equal errors states ms) w old new (Err f)
       → Ran errors.merged errors.takes_no_memory (MeansJust source equal errors states copies safe ms) w old new (Err f)
@@ -103,16 +101,15 @@ module _ {I Tok Sp Cu Er St Mk Cx V : Type 0} (source : input_trait.Ghosts I Cu 
 
   pub just_copies : (v : V) → copies v → Ran errors.merged errors.takes_no_memory (MeansMembers source equal errors states ms) true old new (Ok None)
       → Ran errors.merged errors.takes_no_memory (MeansJust source equal errors states copies safe ms) true old new (Ok (Some v))
-  just_copies v i r = ran-chained errors.merged errors.takes_no_memory _ _ true old None new new (Ok (Some v)) r (copied true (Some v) i)
+  just_copies v i r = ran-chained errors.merged errors.takes_no_memory _ _ true old None new new (Ok (Some v)) r (ran-copied i)
 
   pub just_lacks : (safe → ⊥) → Ran errors.merged errors.takes_no_memory (MeansMembers source equal errors states ms) true old new (Ok None)
       → Ran errors.merged errors.takes_no_memory (MeansJust source equal errors states copies safe ms) true old new (Err (fault.Stop Memory))
   just_lacks may r =
-      ran-chained errors.merged errors.takes_no_memory _ _ true old None new new (Err (fault.Stop Memory)) r
-      (ran-halts errors.merged errors.takes_no_memory _ true new new (record { tokens = refl; context = refl }) (λ o v s. inl ((refl, may), v, s)))
+      ran-chained errors.merged errors.takes_no_memory _ _ true old None new new (Err (fault.Stop Memory)) r (ran-lacks_copy may)
 
   -- all without a copy
   pub just_checks : (x : Result (Unit {0}) Fault) → Ran errors.merged errors.takes_no_memory (MeansMembers source equal errors states ms) false old new (without_value x)
       → Ran errors.merged errors.takes_no_memory (MeansJust source equal errors states copies safe ms) false old new (without_value x)
-  just_checks (Ok u) r = ran-chained errors.merged errors.takes_no_memory _ _ false old None new new (Ok None) r (copied false None tt)
+  just_checks (Ok u) r = ran-chained errors.merged errors.takes_no_memory _ _ false old None new new (Ok None) r ran-uncopied
   just_checks (Err f) r = stops false f r

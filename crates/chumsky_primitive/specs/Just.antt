@@ -6,7 +6,8 @@ use Rattle.chumsky_input.specs.declared.input.Input as input_trait
 use Rattle.chumsky_input.specs.Wanted as wanted
 use Rattle.chumsky_input.specs.Outcome.{Meaning, Beginning, Outcome, Yes}
 use Rattle.chumsky_parser.specs.Chained.{Chained, Given}
-use Rattle.chumsky_parser.specs.Failure.{IsWanted, Refuses, Misses, expects}
+use Rattle.chumsky_parser.specs.Copied.{GivesCopy}
+use Rattle.chumsky_parser.specs.Failure.{Refuses, Misses, expects}
 
 -- the place past what was found at one
 abbrev pub past : {Tok : Type 0} → Option Tok → ℕ → ℕ
@@ -40,20 +41,6 @@ module _ {I Tok Sp Cu Er St Mk Cx : Type 0} (source : input_trait.Ghosts I Cu To
   MeansMembers [] = Given None
   MeansMembers (m ∷ ms) = Chained (MeansMember m) (λ _. MeansMembers ms)
 
-  module _ {V : Type 0} (copies : V → Type 0) (safe : Type 0) where
-    -- nothing is done, but for a copy where a value is wanted
-    pub record Copies (b : Beginning Tok Cx states.Seen) (o : Outcome V errors.Seen states.Seen) : Type 0 where
-      pub value : Option V
-      pub is_value : IsWanted copies b.wanted value
-      pub outcome : Given value b o
-
-    abbrev pub MeansCopy : Meaning Tok Cx states.Seen errors.Seen V
-    MeansCopy b o = Refuses ((b.wanted ≡ true) × (safe → ⊥)) b.state o ⊎ Copies b o
-
-    -- all the members, and then a copy of their sequence
-    abbrev pub MeansJust : List Tok → Meaning Tok Cx states.Seen errors.Seen V
-    MeansJust ms = Chained (MeansMembers ms) (λ _. MeansCopy)
-
--- both are copies
-abbrev pub BothCopies : {V : Type 0} → (V → Type 0) → V → V → Type 0
-BothCopies copies v w = copies v × copies w
+  -- all the members, and then a copy of their sequence
+  abbrev pub MeansJust : {V : Type 0} → (V → Type 0) → Type 0 → List Tok → Meaning Tok Cx states.Seen errors.Seen V
+  MeansJust copies safe ms = Chained (MeansMembers ms) (λ _. GivesCopy copies safe)

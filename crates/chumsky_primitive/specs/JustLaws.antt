@@ -4,24 +4,15 @@ use Rattle.chumsky_input.specs.declared.error.Error as error_trait
 use Rattle.chumsky_input.specs.declared.inspector.Inspector as inspector_trait
 use Rattle.chumsky_input.specs.declared.input.Input as input_trait
 use Rattle.chumsky_input.specs.Outcome.{Beginning, Outcome, Yes, IsAnswer, SameValue, Alike, Agree, EndsAfterStart, Agreeing}
-use Rattle.chumsky_parser.specs.Failure.{IsWanted}
+use Rattle.chumsky_parser.specs.Copied.{BothCopies}
+use Rattle.chumsky_parser.specs.IgnoringLaws.{copy-ends, copy-agrees}
 use Rattle.chumsky_parser.specs.Laws.{chained-ends, chained-agrees, given-ends, given-agrees}
 use Rattle.chumsky_parser.specs.FailureLaws.{SameUnit, misses-agree, misses-ends}
-use Rattle.chumsky_primitive.specs.Just.{past, told, MeansFound, MeansMember, MeansMembers, MeansCopy, MeansJust, BothCopies}
+use Rattle.chumsky_primitive.specs.Just.{past, told, MeansFound, MeansMember, MeansMembers, MeansJust}
 
 past-after : {Tok : Type 0} (t : Option Tok) (p : ℕ) → p ≤ past t p
 past-after None p = omega arith
 past-after (Some t) p = omega arith
-
-copies-both : {V : Type 0} (copies : V → Type 0) (b c : Bool) (v w : Option V) → IsWanted copies b v → IsWanted copies c w → SameValue (BothCopies copies) v w
-copies-both copies true true (Some v) (Some w) p q = (p, q)
-copies-both copies true true (Some v) None p q = absurd q
-copies-both copies true true None w p q = absurd p
-copies-both copies true false (Some v) (Some w) p q = absurd q
-copies-both copies true false (Some v) None p q = tt
-copies-both copies true false None w p q = absurd p
-copies-both copies false c (Some v) w p q = absurd p
-copies-both copies false c None w p q = tt
 
 module _ {I Tok Sp Cu Er St Mk Cx : Type 0} (source : input_trait.Ghosts I Cu Tok Sp) (equal : Tok → Tok → Bool) (errors : error_trait.Ghosts Er I Tok Sp) (states : inspector_trait.Ghosts St I Mk Tok Sp) where
   found_ends : (m : Tok) (t : Option Tok) (e : Bool) (b : Beginning Tok Cx states.Seen) (o : Outcome (Unit {0}) errors.Seen states.Seen) → MeansFound source equal errors states m t e b o → IsAnswer o.verdict → b.start ≤ o.end
@@ -62,18 +53,8 @@ module _ {I Tok Sp Cu Er St Mk Cx : Type 0} (source : input_trait.Ghosts I Cu To
   members-agrees (m ∷ ms) = chained-agrees _ _ _ _ SameUnit SameUnit (member-agrees m) (λ _ _ _. members-agrees ms)
 
   module _ {V : Type 0} (copies : V → Type 0) (safe : Type 0) where
-    copy-ends : EndsAfterStart (MeansCopy {Cx = Cx} source equal errors states copies safe)
-    copy-ends b o (inl r) a = absurd (subst IsAnswer r.1 a)
-    copy-ends b o (inr h) a = given-ends h.value b o h.outcome a
-
-    copy-agrees : Agreeing (BothCopies copies) (MeansCopy {Cx = Cx} source equal errors states copies safe) (MeansCopy source equal errors states copies safe)
-    copy-agrees b c o q alike (inl r) k a z = absurd (subst IsAnswer r.1 a)
-    copy-agrees b c o q alike (inr h) (inl r) a z = absurd (subst IsAnswer r.1 z)
-    copy-agrees b c o q alike (inr h) (inr k) a z =
-        given-agrees (BothCopies copies) h.value k.value (copies-both copies b.wanted c.wanted h.value k.value h.is_value k.is_value) b c o q alike h.outcome k.outcome a z
-
     pub just-ends : (ms : List Tok) → EndsAfterStart (MeansJust {Cx = Cx} source equal errors states copies safe ms)
-    just-ends ms = chained-ends _ _ (members-ends ms) (λ _. copy-ends)
+    just-ends ms = chained-ends _ _ (members-ends ms) (λ _. copy-ends copies safe)
 
     pub just-agrees : (ms : List Tok) → Agreeing (BothCopies copies) (MeansJust {Cx = Cx} source equal errors states copies safe ms) (MeansJust source equal errors states copies safe ms)
-    just-agrees ms = chained-agrees _ _ _ _ SameUnit (BothCopies copies) (members-agrees ms) (λ _ _ _. copy-agrees)
+    just-agrees ms = chained-agrees _ _ _ _ SameUnit (BothCopies copies) (members-agrees ms) (λ _ _ _. copy-agrees copies safe)

@@ -4,3 +4,11 @@ pub mod Any
 pub mod AnyLaws
 pub mod Just
 pub mod JustLaws
+pub mod Empty
+pub mod EmptyLaws
+pub mod OneOf
+pub mod OneOfLaws
+pub mod Select
+pub mod SelectLaws
+pub mod Custom
+pub mod CustomLaws

@@ -18,12 +18,12 @@ impl<I: Tokens, E> IsParser<I, I::Token, E> for Any<I, E> {}
 
 impl<'src, I: ValueInput<'src>, E: ParserExtra<I>> Parser<'src, I, I::Token, E> for Any<I, E> {
     ghost use Rattle.std.specs.Prelude.{◌≡◌, ⊤};
-    ghost use Rattle.chumsky_primitive.specs.Any.{MeansAny};
-    ghost use Rattle.chumsky_primitive.specs.AnyLaws.{any-ends, any-agrees};
+    ghost use Rattle.chumsky_primitive.specs.Any.{MeansAny, CountsAs};
+    ghost use Rattle.chumsky_primitive.specs.AnyLaws.{any-ends, any-agrees, counts-same};
 
     ghost ready = { λ _. ⊤ };
 
-    ghost meaning = { λ _ errors states. MeansAny I.Input I.seen I.takes_no_memory errors states };
+    ghost meaning = { λ _ errors states. MeansAny I.Input (CountsAs I.seen) I.takes_no_memory errors states };
 
     ghost steady = { λ _. ⊤ };
 
@@ -31,7 +31,7 @@ impl<'src, I: ValueInput<'src>, E: ParserExtra<I>> Parser<'src, I, I::Token, E> 
 
     ghost ends_after_start = { λ _. any-ends _ _ _ _ _ };
 
-    ghost agrees = { λ _ _. any-agrees _ _ _ _ _ };
+    ghost agrees = { λ _ _. any-agrees _ _ _ _ _ _ (counts-same I.seen) };
 
     #[inline]
     fn go_emit(&self, inp: &mut InputRef<'src, '_, I, E>) -> PResult<I::Token> {

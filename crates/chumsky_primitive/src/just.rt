@@ -30,7 +30,8 @@ where
     I::Token: PartialEq,
 {
     ghost use Rattle.std.specs.Prelude.{⊤};
-    ghost use Rattle.chumsky_primitive.specs.Just.{MeansJust, BothCopies};
+    ghost use Rattle.chumsky_parser.specs.Copied.{BothCopies};
+    ghost use Rattle.chumsky_primitive.specs.Just.{MeansJust};
     ghost use Rattle.chumsky_primitive.specs.JustLaws.{just-ends, just-agrees};
 
     ghost ready = { λ _. ⊤ };

@@ -1,0 +1,84 @@
+-- A parser given by a closure.
+use Rattle.std.specs.Prelude.{◌≡◌, ℕ, ◌≤◌, Bool, true, false, Option, Some, None, List, [], ◌∷◌, ◌++◌, Result, Ok, Err, option_to_list, ◌⊎◌, ⊤}
+use Rattle.std.specs.Fn.{Shared}
+use denote.Ref.{MutBor}
+use Rattle.chumsky_input.specs.declared.error.Error as error_trait
+use Rattle.chumsky_input.specs.declared.inspector.Inspector as inspector_trait
+use Rattle.chumsky_input.specs.declared.input.Input as input_trait
+use Rattle.chumsky_input.specs.declared.input_ref.InputRef.{InputRef}
+use Rattle.chumsky_input.specs.declared.stop.Fault.{Fault}
+use Rattle.chumsky_input.specs.declared.stop.Failure.{Failure}
+use Rattle.chumsky_input.specs.declared.stop.Failure.TheVariants as failure
+use Rattle.chumsky_input.specs.Held.{Held, held}
+use Rattle.chumsky_input.specs.Aside.{GoesForward}
+use Rattle.chumsky_input.specs.Outcome.{Event, Beginning, Outcome, Yes, No, Halt, Clash, IsAnswer}
+use Rattle.chumsky_parser.specs.Failure.{Refuses, wanting}
+
+module _ {Tok Cx St Er : Type 0} where
+  -- held at a beginning, with nothing kept and nothing emitted
+  abbrev pub begun : Beginning Tok Cx St → Held Tok Cx St Er
+  begun b = record { tokens = b.tokens; place = b.start; context = b.context; state = b.state; kept = None; emitted = [] }
+
+module _ {Tok Cx St Er E V : Type 0} (seen : E → Er) where
+  -- what a call that ended so does: the one event that it kept, and after it a failure's own error, at the start
+  abbrev pub done : Beginning Tok Cx St → Result V (Failure E) → Held Tok Cx St Er → Outcome V Er St
+  done b (Ok v) h = record { verdict = Yes (wanting b.wanted v); end = h.place; state = h.state; events = option_to_list h.kept; emitted = h.emitted }
+  done b (Err (failure.Error e)) h = record { verdict = No; end = h.place; state = h.state; events = option_to_list h.kept ++ record { place = b.start; error = seen e } ∷ []; emitted = h.emitted }
+  done b (Err (failure.Stop s)) h = record { verdict = Halt s; end = h.place; state = h.state; events = []; emitted = [] }
+
+  -- two calls that end alike: in a value both, or in errors that count as one; of a stop nothing is asked
+  abbrev pub EndAlike : Result V (Failure E) → Result V (Failure E) → Held Tok Cx St Er → Held Tok Cx St Er → Type 0
+  EndAlike (Ok v) (Ok w) h k = h ≡ k
+  EndAlike (Ok v) (Err (failure.Error e)) h k = ⊥
+  EndAlike (Ok v) (Err (failure.Stop s)) h k = ⊤
+  EndAlike (Err (failure.Error e)) (Ok w) h k = ⊥
+  EndAlike (Err (failure.Error e)) (Err (failure.Error d)) h k = (seen e ≡ seen d) × (h ≡ k)
+  EndAlike (Err (failure.Error e)) (Err (failure.Stop s)) h k = ⊤
+  EndAlike (Err (failure.Stop s)) r h k = ⊤
+
+module _ {V Er St : Type 0} where
+  -- the merge of one event with an earlier one at its place was refused
+  pub record ClashesAmong (whole o : Outcome V Er St) : Type 0 where
+    pub before : List (Event Er)
+    pub event : Event Er
+    pub after : List (Event Er)
+    pub among : whole.events ≡ before ++ event ∷ after
+    pub verdict : o.verdict ≡ Clash event
+    pub earlier : o.events ≡ before
+    pub state : o.state ≡ whole.state
+
+  -- an outcome; or want of memory to merge its events, or to put its emitted errors after others
+  abbrev pub OrLacksMemory : Outcome V Er St → Outcome V Er St → Type 0
+  OrLacksMemory whole o = (o ≡ whole) ⊎ (ClashesAmong whole o ⊎ Refuses (whole.emitted ≡ [] → ⊥) whole.state o)
+
+module _ {I X Tok Sp Cu Er St Cx Mk V F : Type 0} (source : input_trait.Ghosts I Cu Tok Sp) (errors : error_trait.Ghosts Er I Tok Sp) (states : inspector_trait.Ghosts St I Mk Tok Sp) (g : Shared F (MutBor (InputRef I X Cu Tok Sp Er St Cx Mk) × Unit {0}) (Result V (Failure Er) × (MutBor (InputRef I X Cu Tok Sp Er St Cx Mk) × Unit {0}))) where
+  -- the closure may be called on any input; after a value and after an error it stands where it began or further on, in the same tokens, under the same context; and it keeps the lent state
+  pub record MayRun (f : F) : Type 0 where
+    pub may : (p : MutBor (InputRef I X Cu Tok Sp Er St Cx Mk)) → g.pre f (p, tt)
+    pub keeps : (p left : MutBor (InputRef I X Cu Tok Sp Er St Cx Mk)) (r : Result V (Failure Er)) → g.post f (p, tt) (r, (left, tt)) → GoesForward r (held source errors states p.now) (held source errors states left.now) × (left.now.state.ghost_name ≡ p.now.state.ghost_name)
+
+  -- a call of the closure from a beginning, with nothing kept and nothing emitted
+  pub record Call (f : F) (b : Beginning Tok Cx states.Seen) : Type 0 where
+    pub lent : MutBor (InputRef I X Cu Tok Sp Er St Cx Mk)
+    pub left : MutBor (InputRef I X Cu Tok Sp Er St Cx Mk)
+    pub returned : Result V (Failure Er)
+    pub met : g.post f (lent, tt) (returned, (left, tt))
+    pub begins : held source errors states lent.now ≡ begun b
+
+  -- what a call does, where it does not end before its start
+  pub record MeansCustom (f : F) (b : Beginning Tok Cx states.Seen) (o : Outcome V errors.Seen states.Seen) : Type 0 where
+    pub call : Call f b
+    pub does : OrLacksMemory (done errors.seen b call.returned (held source errors states call.left.now)) o
+    pub later : IsAnswer o.verdict → b.start ≤ o.end
+
+  -- two calls from one beginning end alike
+  pub record IsSteady (f : F) : Type 0 where
+    pub alike : (b : Beginning Tok Cx states.Seen) (x y : Call f b) → EndAlike errors.seen x.returned y.returned (held source errors states x.left.now) (held source errors states y.left.now)
+
+  -- both are values of calls from one beginning
+  pub record SameCalled (f : F) (v w : V) : Type 0 where
+    pub beginning : Beginning Tok Cx states.Seen
+    pub first : Call f beginning
+    pub second : Call f beginning
+    pub of_first : first.returned ≡ Ok v
+    pub of_second : second.returned ≡ Ok w

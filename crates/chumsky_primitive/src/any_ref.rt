@@ -1,0 +1,56 @@
+//! Any token, where it lies.
+use chumsky_input::extra::ParserExtra;
+use chumsky_input::input::BorrowInput;
+use chumsky_input::input_ref::InputRef;
+use chumsky_input::stop::PResult;
+use chumsky_input::util::Plain;
+use chumsky_parser::parser::{IsParser, Parser};
+use std::marker::PhantomData;
+
+/// Takes one token, whichever it is, and gives a reference to it. See `any_ref`.
+#[derive(Drop)]
+#[derive_where(Clone, Copy)]
+pub struct AnyRef<I, E> {
+    pub of: PhantomData<(I, E)>,
+}
+
+impl<'src, I: BorrowInput<'src>, E> IsParser<I, &'src I::Token, E> for AnyRef<I, E> {}
+
+impl<'src, I: BorrowInput<'src>, E: ParserExtra<I>> Parser<'src, I, &'src I::Token, E>
+    for AnyRef<I, E> {
+    ghost use Rattle.std.specs.Prelude.{◌≡◌, ⊤};
+    ghost use Rattle.chumsky_primitive.specs.Any.{MeansAny, PointsTo};
+    ghost use Rattle.chumsky_primitive.specs.AnyLaws.{any-ends, any-agrees, points-same};
+
+    ghost ready = { λ _. ⊤ };
+
+    ghost meaning = { λ _ errors states. MeansAny I.Input PointsTo (λ _. ⊤) errors states };
+
+    ghost steady = { λ _. ⊤ };
+
+    ghost same = { λ _ v w. v.now ≡ w.now };
+
+    ghost ends_after_start = { λ _. any-ends _ _ _ _ _ };
+
+    ghost agrees = { λ _ _. any-agrees _ _ _ _ _ _ points-same };
+
+    #[inline]
+    fn go_emit(&self, inp: &mut InputRef<'src, '_, I, E>) -> PResult<&'src I::Token> {
+        match inp.next_ref() {
+            Some(token) => Ok(token),
+            None => {
+                let here = inp.cursor;
+                Err(inp.expected(&here, &here, Plain::Any, None))
+            }
+        }
+    }
+
+    #[inline]
+    fn go_check(&self, inp: &mut InputRef<'src, '_, I, E>) -> PResult<()> {
+        if inp.advance() {
+            return Ok(());
+        }
+        let here = inp.cursor;
+        Err(inp.expected(&here, &here, Plain::Any, None))
+    }
+}

@@ -1,0 +1,45 @@
+//! Nothing at all.
+use chumsky_input::extra::ParserExtra;
+use chumsky_input::input::Input;
+use chumsky_input::input_ref::InputRef;
+use chumsky_input::stop::PResult;
+use chumsky_parser::parser::{IsParser, Parser};
+use std::marker::PhantomData;
+
+/// Says yes everywhere, and takes nothing. See `empty`.
+#[derive(Drop)]
+#[derive_where(Clone, Copy)]
+pub struct Empty<I, E> {
+    pub of: PhantomData<(I, E)>,
+}
+
+impl<I, E> IsParser<I, (), E> for Empty<I, E> {}
+
+impl<'src, I: Input<'src>, E: ParserExtra<I>> Parser<'src, I, (), E> for Empty<I, E> {
+    ghost use Rattle.std.specs.Prelude.{⊤};
+    ghost use Rattle.chumsky_parser.specs.FailureLaws.{SameUnit};
+    ghost use Rattle.chumsky_primitive.specs.Empty.{MeansEmpty};
+    ghost use Rattle.chumsky_primitive.specs.EmptyLaws.{empty-ends, empty-agrees};
+
+    ghost ready = { λ _. ⊤ };
+
+    ghost meaning = { λ _ errors states. MeansEmpty };
+
+    ghost steady = { λ _. ⊤ };
+
+    ghost same = { λ _. SameUnit };
+
+    ghost ends_after_start = { λ _. empty-ends };
+
+    ghost agrees = { λ _ _. empty-agrees };
+
+    #[inline]
+    fn go_emit(&self, inp: &mut InputRef<'src, '_, I, E>) -> PResult<()> {
+        Ok(())
+    }
+
+    #[inline]
+    fn go_check(&self, inp: &mut InputRef<'src, '_, I, E>) -> PResult<()> {
+        Ok(())
+    }
+}

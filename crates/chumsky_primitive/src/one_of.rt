@@ -1,0 +1,111 @@
+//! A token that is in a sequence.
+ghost use Rattle.std.specs.Prelude.{◌≡◌, map, option_map};
+ghost use Rattle.std.specs.Option.{option_copied};
+ghost use Rattle.chumsky_input.specs.Held.{held};
+ghost use Rattle.chumsky_input.specs.Maybe.{maybe_value};
+ghost use Rattle.chumsky_input.specs.Run.{Fails};
+ghost use Rattle.chumsky_input.specs.Wanted as wanted;
+ghost use Rattle.chumsky_parser.specs.Failure.{expects};
+ghost use Rattle.chumsky_primitive.specs.OneOf.{among, Picks};
+
+use crate::tested::{go_back_from, take};
+use chumsky_input::extra::ParserExtra;
+use chumsky_input::input::{Input, Tokens, ValueInput};
+use chumsky_input::input_ref::InputRef;
+use chumsky_input::stop::{Fault, PResult};
+use chumsky_input::util::MaybeRef;
+use chumsky_parser::container::Seq;
+use chumsky_parser::members::Members;
+use chumsky_parser::parser::{IsParser, Parser};
+use std::marker::PhantomData;
+
+/// Takes one token that is a member of a sequence. See `one_of`.
+#[derive(Drop)]
+#[derive_where(Clone, Copy; S)]
+pub struct OneOf<S, I, E> {
+    pub seq: S,
+    pub of: PhantomData<(I, E)>,
+}
+
+impl<S, I: Tokens, E> IsParser<I, I::Token, E> for OneOf<S, I, E> {}
+
+impl<'src, S: Seq<I::Token>, I: ValueInput<'src>, E: ParserExtra<I>> Parser<'src, I, I::Token, E>
+    for OneOf<S, I, E>
+where
+    I::Token: PartialEq,
+{
+    ghost use Rattle.std.specs.Prelude.{⊤};
+    ghost use Rattle.chumsky_primitive.specs.OneOf.{MeansOneOf};
+    ghost use Rattle.chumsky_primitive.specs.OneOfLaws.{tested-ends, tested-agrees};
+
+    ghost ready = { λ _. ⊤ };
+
+    ghost meaning = { λ p errors states. MeansOneOf I.Input I.seen I.takes_no_memory errors states I.Token.eq (S.members p.seq) };
+
+    ghost steady = { λ _. ⊤ };
+
+    ghost same = { λ _ v w. I.seen v ≡ I.seen w };
+
+    ghost ends_after_start = { λ p. tested-ends _ _ _ _ _ (map wanted.Token (S.members p.seq)) (among I.Token.eq (S.members p.seq)) };
+
+    ghost agrees = { λ p _. tested-agrees _ _ _ _ _ (map wanted.Token (S.members p.seq)) (among I.Token.eq (S.members p.seq)) };
+
+    #[inline]
+    fn go_emit(&self, inp: &mut InputRef<'src, '_, I, E>) -> PResult<I::Token> {
+        let mut past = inp.cursor;
+        let found = I::next_maybe(&mut past);
+        if let Some(token) = member(&self.seq, &found) {
+            let value = I::value_of(token)?;
+            take(token, past, inp);
+            return Ok(value);
+        }
+        go_back_from(&found, inp)?;
+        Err(expect_members(&self.seq, &past, found, inp))
+    }
+
+    #[inline]
+    fn go_check(&self, inp: &mut InputRef<'src, '_, I, E>) -> PResult<()> {
+        let mut past = inp.cursor;
+        let found = I::next_maybe(&mut past);
+        if let Some(token) = member(&self.seq, &found) {
+            take(token, past, inp);
+            return Ok(());
+        }
+        go_back_from(&found, inp)?;
+        Err(expect_members(&self.seq, &past, found, inp))
+    }
+}
+
+/// What was found, if it is a member.
+#[inline]
+fn member<'f, 'src, S: Seq<T>, T: PartialEq>(
+    seq: &S,
+    found: &'f Option<MaybeRef<'src, T>>,
+) -> Option<&'f T>
+    ensures { Picks (among T.eq (S.members seq.now)) (option_map maybe_value found.now) (option_copied result) }
+{
+    let token = found.as_ref()?.get();
+    if seq.contains(token) {
+        Some(token)
+    } else {
+        None
+    }
+}
+
+/// Fails where each member was expected, in order.
+#[inline]
+fn expect_members<'src, S: Seq<I::Token>, I: Input<'src>, E: ParserExtra<I>>(
+    seq: &S,
+    past: &I::Cursor,
+    found: Option<MaybeRef<'src, I::Token>>,
+    inp: &mut InputRef<'src, '_, I, E>,
+) -> Fault
+where
+    I::Token: PartialEq,
+    requires { I.cursor_tokens past.now ≡ (held I.Input E.Error.Error E.State.Inspector inp.old).tokens }
+    ensures fails { Fails E.Error.merged E.Error.takes_no_memory (expects I.Input E.Error.Error (held I.Input E.Error.Error E.State.Inspector inp.old).tokens (map wanted.Token (S.members seq.now)) (option_map maybe_value found.entry) (held I.Input E.Error.Error E.State.Inspector inp.old).place (I.place past.now)) (held I.Input E.Error.Error E.State.Inspector inp.old) (held I.Input E.Error.Error E.State.Inspector inp.new) result }
+    ensures lent { inp.new.state.ghost_name ≡ inp.old.state.ghost_name }
+{
+    let here = inp.cursor;
+    inp.expected_each(&here, past, Members::of(seq), found)
+}

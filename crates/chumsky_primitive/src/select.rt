@@ -1,0 +1,92 @@
+//! A token that a closure picks.
+ghost use Rattle.std.specs.Prelude.{◌≡◌, Bool};
+ghost use Rattle.chumsky_input.specs.Held.{held};
+ghost use Rattle.chumsky_input.specs.Run.{Ran};
+ghost use Rattle.chumsky_input.specs.Extra.{KeepsState};
+ghost use Rattle.chumsky_parser.specs.Failure.{asked};
+ghost use Rattle.chumsky_primitive.specs.Select.{PicksValue, MeansSelect};
+
+use chumsky_input::extra::ParserExtra;
+use chumsky_input::input::{Tokens, ValueInput};
+use chumsky_input::input_ref::InputRef;
+use chumsky_input::map_extra::{MapExtra, call_with_extra};
+use chumsky_input::stop::PResult;
+use chumsky_input::util::Plain;
+use chumsky_parser::parser::{IsParser, Parser};
+use std::marker::PhantomData;
+
+/// Takes one token that a closure answers `Some` to. See `select`.
+#[derive(Drop)]
+#[derive_where(Clone, Copy; F)]
+pub struct Select<F, I, O, E> {
+    pub filter: F,
+    pub of: PhantomData<(I, O, E)>,
+}
+
+impl<I: Tokens, F, O, E> IsParser<I, O, E> for Select<F, I, O, E> {}
+
+impl<'src, I, O, E, F> Parser<'src, I, O, E> for Select<F, I, O, E>
+where
+    I: ValueInput<'src>,
+    O: Drop,
+    E: ParserExtra<I>,
+    F: Fn(I::Token, &mut MapExtra<'src, '_, I, E>) -> Option<O>,
+{
+    ghost use Rattle.chumsky_primitive.specs.Select.{PicksAlike, SamePicked};
+    ghost use Rattle.chumsky_primitive.specs.SelectLaws.{select-ends, select-agrees};
+
+    ghost ready = { λ p. KeepsState I.Input E.State.Inspector F.Fn p.filter };
+
+    ghost meaning = { λ p errors states. MeansSelect I.Input I.takes_no_memory errors states (PicksValue I.Input states I.seen F.Fn p.filter) };
+
+    ghost steady = { λ p. PicksAlike (PicksValue I.Input E.State.Inspector I.seen F.Fn p.filter) };
+
+    ghost same = { λ p. SamePicked (PicksValue I.Input E.State.Inspector I.seen F.Fn p.filter) };
+
+    ghost ends_after_start = { λ p. select-ends _ _ _ _ _ };
+
+    ghost agrees = { λ p s. select-agrees _ _ _ _ _ s };
+
+    #[inline]
+    fn go_emit(&self, inp: &mut InputRef<'src, '_, I, E>) -> PResult<O> {
+        pick(&self.filter, inp)
+    }
+
+    #[inline]
+    fn go_check(&self, inp: &mut InputRef<'src, '_, I, E>) -> PResult<()> {
+        let output = pick(&self.filter, inp)?;
+        drop(output);
+        Ok(())
+    }
+}
+
+/// Takes the next token if the closure answers `Some` to it; else goes back to before it, and fails there.
+#[inline]
+fn pick<'src, I, O, E, F>(filter: &F, inp: &mut InputRef<'src, '_, I, E>) -> PResult<O>
+where
+    I: ValueInput<'src>,
+    E: ParserExtra<I>,
+    F: Fn(I::Token, &mut MapExtra<'src, '_, I, E>) -> Option<O>,
+    requires { KeepsState I.Input E.State.Inspector F.Fn filter.now }
+    ensures ran { (w : Bool) → Ran E.Error.merged E.Error.takes_no_memory (MeansSelect I.Input I.takes_no_memory E.Error.Error E.State.Inspector (PicksValue I.Input E.State.Inspector I.seen F.Fn filter.now)) w (held I.Input E.Error.Error E.State.Inspector inp.old) (held I.Input E.Error.Error E.State.Inspector inp.new) (asked w result) }
+    ensures lent { inp.new.state.ghost_name ≡ inp.old.state.ghost_name }
+{
+    let before = inp.save()?;
+    match inp.next_maybe() {
+        None => {
+            let here = inp.cursor;
+            Err(inp.expected(&here, &here, Plain::SomethingElse, None))
+        }
+        Some(found) => {
+            let token = I::value_of(found.get())?;
+            match call_with_extra(filter, token, &before.cursor, inp) {
+                Some(output) => Ok(output),
+                None => {
+                    let past = inp.cursor;
+                    inp.rewind(&before)?;
+                    Err(inp.expected(&before.cursor, &past, Plain::SomethingElse, Some(found)))
+                }
+            }
+        }
+    }
+}

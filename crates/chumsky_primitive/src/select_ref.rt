@@ -1,0 +1,92 @@
+//! A token that a closure picks, where it lies.
+ghost use Rattle.std.specs.Prelude.{◌≡◌, Bool, ⊤};
+ghost use Rattle.chumsky_input.specs.Held.{held};
+ghost use Rattle.chumsky_input.specs.Run.{Ran};
+ghost use Rattle.chumsky_input.specs.Extra.{KeepsState};
+ghost use Rattle.chumsky_parser.specs.Failure.{asked};
+ghost use Rattle.chumsky_primitive.specs.Select.{PicksRef, MeansSelect};
+
+use chumsky_input::extra::ParserExtra;
+use chumsky_input::input::{BorrowInput, Tokens};
+use chumsky_input::input_ref::InputRef;
+use chumsky_input::map_extra::{MapExtra, call_with_extra};
+use chumsky_input::stop::PResult;
+use chumsky_input::util::{MaybeRef, Plain};
+use chumsky_parser::parser::{IsParser, Parser};
+use std::marker::PhantomData;
+
+/// Takes one token that a closure answers `Some` to, by a reference to it. See `select_ref`.
+#[derive(Drop)]
+#[derive_where(Clone, Copy; F)]
+pub struct SelectRef<F, I, O, E> {
+    pub filter: F,
+    pub of: PhantomData<(I, O, E)>,
+}
+
+impl<I: Tokens, F, O, E> IsParser<I, O, E> for SelectRef<F, I, O, E> {}
+
+impl<'src, I, O, E, F> Parser<'src, I, O, E> for SelectRef<F, I, O, E>
+where
+    I: BorrowInput<'src>,
+    I::Token: 'src,
+    O: Drop,
+    E: ParserExtra<I>,
+    F: Fn(&'src I::Token, &mut MapExtra<'src, '_, I, E>) -> Option<O>,
+{
+    ghost use Rattle.chumsky_primitive.specs.Select.{PicksAlike, SamePicked};
+    ghost use Rattle.chumsky_primitive.specs.SelectLaws.{select-ends, select-agrees};
+
+    ghost ready = { λ p. KeepsState I.Input E.State.Inspector F.Fn p.filter };
+
+    ghost meaning = { λ p errors states. MeansSelect I.Input (λ _. ⊤) errors states (PicksRef I.Input states F.Fn p.filter) };
+
+    ghost steady = { λ p. PicksAlike (PicksRef I.Input E.State.Inspector F.Fn p.filter) };
+
+    ghost same = { λ p. SamePicked (PicksRef I.Input E.State.Inspector F.Fn p.filter) };
+
+    ghost ends_after_start = { λ p. select-ends _ _ _ _ _ };
+
+    ghost agrees = { λ p s. select-agrees _ _ _ _ _ s };
+
+    #[inline]
+    fn go_emit(&self, inp: &mut InputRef<'src, '_, I, E>) -> PResult<O> {
+        pick_ref(&self.filter, inp)
+    }
+
+    #[inline]
+    fn go_check(&self, inp: &mut InputRef<'src, '_, I, E>) -> PResult<()> {
+        let output = pick_ref(&self.filter, inp)?;
+        drop(output);
+        Ok(())
+    }
+}
+
+/// Takes the next token if the closure answers `Some` to it; else goes back to before it, and fails there.
+#[inline]
+fn pick_ref<'src, I, O, E, F>(filter: &F, inp: &mut InputRef<'src, '_, I, E>) -> PResult<O>
+where
+    I: BorrowInput<'src>,
+    I::Token: 'src,
+    E: ParserExtra<I>,
+    F: Fn(&'src I::Token, &mut MapExtra<'src, '_, I, E>) -> Option<O>,
+    requires { KeepsState I.Input E.State.Inspector F.Fn filter.now }
+    ensures ran { (w : Bool) → Ran E.Error.merged E.Error.takes_no_memory (MeansSelect I.Input (λ _. ⊤) E.Error.Error E.State.Inspector (PicksRef I.Input E.State.Inspector F.Fn filter.now)) w (held I.Input E.Error.Error E.State.Inspector inp.old) (held I.Input E.Error.Error E.State.Inspector inp.new) (asked w result) }
+    ensures lent { inp.new.state.ghost_name ≡ inp.old.state.ghost_name }
+{
+    let before = inp.save()?;
+    match inp.next_ref() {
+        None => {
+            let here = inp.cursor;
+            Err(inp.expected(&here, &here, Plain::SomethingElse, None))
+        }
+        Some(token) => match call_with_extra(filter, token, &before.cursor, inp) {
+            Some(output) => Ok(output),
+            None => {
+                let past = inp.cursor;
+                let found = Some(MaybeRef::Ref(token));
+                inp.rewind(&before)?;
+                Err(inp.expected(&before.cursor, &past, Plain::SomethingElse, found))
+            }
+        },
+    }
+}

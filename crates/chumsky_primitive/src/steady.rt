@@ -1,0 +1,92 @@
+//! Which primitives are steady, each the contract of a function that does nothing. Of a steady parser `parse` and `check`
+//! report every answer that its meaning allows.
+ghost use Rattle.chumsky_primitive.specs.Custom.{IsSteady};
+ghost use Rattle.chumsky_primitive.specs.Select.{PicksAlike, PicksRef, PicksValue};
+
+use crate::any::Any;
+use crate::any_ref::AnyRef;
+use crate::custom::Custom;
+use crate::empty::Empty;
+use crate::end::End;
+use crate::just::Just;
+use crate::none_of::NoneOf;
+use crate::one_of::OneOf;
+use crate::select::Select;
+use crate::select_ref::SelectRef;
+use chumsky_input::extra::ParserExtra;
+use chumsky_input::input::{BorrowInput, Input, ValueInput};
+use chumsky_input::input_ref::InputRef;
+use chumsky_input::map_extra::MapExtra;
+use chumsky_input::stop::Failure;
+use chumsky_parser::container::{OrderedSeq, Seq};
+use chumsky_parser::parser::Parser;
+
+/// `end()` and `empty()` are steady.
+pub fn end_is_steady<'src, I: Input<'src>, E: ParserExtra<I>>(end: &End<I, E>, empty: &Empty<I, E>)
+    ensures end { ⟦<End<I, E> as Parser<'src, I, (), E>>⟧.steady end.now }
+    ensures empty { ⟦<Empty<I, E> as Parser<'src, I, (), E>>⟧.steady empty.now }
+{}
+
+/// `any()` is steady.
+pub fn any_is_steady<'src, I: ValueInput<'src>, E: ParserExtra<I>>(parser: &Any<I, E>)
+    ensures { ⟦<Any<I, E> as Parser<'src, I, I::Token, E>>⟧.steady parser.now }
+{}
+
+/// `any_ref()` is steady.
+pub fn any_ref_is_steady<'src, I: BorrowInput<'src>, E: ParserExtra<I>>(parser: &AnyRef<I, E>)
+where
+    I::Token: 'src,
+    ensures { ⟦<AnyRef<I, E> as Parser<'src, I, &'src I::Token, E>>⟧.steady parser.now }
+{}
+
+/// `just(seq)` is steady, whatever the sequence.
+pub fn just_is_steady<'src, T: OrderedSeq<I::Token> + Clone, I: Input<'src>, E: ParserExtra<I>>(
+    parser: &Just<T, I, E>,
+)
+where
+    I::Token: PartialEq,
+    ensures { ⟦<Just<T, I, E> as Parser<'src, I, T, E>>⟧.steady parser.now }
+{}
+
+/// `one_of(seq)` and `none_of(seq)` are steady, whatever the sequence.
+pub fn one_of_is_steady<'src, S: Seq<I::Token>, I: ValueInput<'src>, E: ParserExtra<I>>(
+    one_of: &OneOf<S, I, E>,
+    none_of: &NoneOf<S, I, E>,
+)
+where
+    I::Token: PartialEq,
+    ensures one_of { ⟦<OneOf<S, I, E> as Parser<'src, I, I::Token, E>>⟧.steady one_of.now }
+    ensures none_of { ⟦<NoneOf<S, I, E> as Parser<'src, I, I::Token, E>>⟧.steady none_of.now }
+{}
+
+/// `select` is steady where its closure gives each token and extra one verdict, and leaves one state.
+pub fn select_is_steady<'src, I, O, E, F>(parser: &Select<F, I, O, E>)
+where
+    I: ValueInput<'src>,
+    O: Drop,
+    E: ParserExtra<I>,
+    F: Fn(I::Token, &mut MapExtra<'src, '_, I, E>) -> Option<O>,
+    ensures { PicksAlike (PicksValue I.Input E.State.Inspector I.seen F.Fn parser.now.filter) → ⟦<Select<F, I, O, E> as Parser<'src, I, O, E>>⟧.steady parser.now }
+{}
+
+/// `select_ref` is steady where its closure gives each token and extra one verdict, and leaves one state.
+pub fn select_ref_is_steady<'src, I, O, E, F>(parser: &SelectRef<F, I, O, E>)
+where
+    I: BorrowInput<'src>,
+    I::Token: 'src,
+    O: Drop,
+    E: ParserExtra<I>,
+    F: Fn(&'src I::Token, &mut MapExtra<'src, '_, I, E>) -> Option<O>,
+    ensures { PicksAlike (PicksRef I.Input E.State.Inspector F.Fn parser.now.filter) → ⟦<SelectRef<F, I, O, E> as Parser<'src, I, O, E>>⟧.steady parser.now }
+{}
+
+/// `custom` is steady where any two calls of its closure from one beginning end alike.
+pub fn custom_is_steady<'src, F, I, O, E>(parser: &Custom<F, I, O, E>)
+where
+    I: Input<'src>,
+    I::Token: 'src,
+    O: Drop,
+    E: ParserExtra<I>,
+    F: Fn(&mut InputRef<'src, '_, I, E>) -> Result<O, Failure<E::Error>>,
+    ensures { IsSteady I.Input E.Error.Error E.State.Inspector F.Fn parser.now.closure → ⟦<Custom<F, I, O, E> as Parser<'src, I, O, E>>⟧.steady parser.now }
+{}
