@@ -22,8 +22,8 @@ impl<
     A: Parser<'src, I, O, E>,
     B: Parser<'src, I, O, E>,
 > Parser<'src, I, O, E> for Or<A, B> {
-    ghost use Rattle.chumsky_combinator.specs.Choice.{OrElse, SameEither};
-    ghost use Rattle.chumsky_combinator.specs.ChoiceLaws.{or_else-ends, or_else-agrees};
+    ghost use Rattle.chumsky_parser.specs.Choice.{OrElse, SameEither};
+    ghost use Rattle.chumsky_parser.specs.ChoiceLaws.{or_else-ends, or_else-agrees};
 
     ghost ready = { λ p. A.ready p.first × B.ready p.second };
 

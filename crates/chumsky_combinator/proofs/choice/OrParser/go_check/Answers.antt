@@ -3,7 +3,7 @@ use Rattle.chumsky_input.specs.declared.stop.Fault.TheVariants as fault
 use Rattle.chumsky_input.specs.declared.stop.Stop.TheVariants.{Memory}
 use Rattle.chumsky_input.specs.Held.{held, marks}
 use Rattle.chumsky_parser.proofs.ChainedLemmas.{check_err, check_ok}
-use Rattle.chumsky_combinator.proofs.ChoiceLemmas.{ran-first, ran-second, ran-unmarked, ran-unrestored}
+use Rattle.chumsky_parser.proofs.ChoiceLemmas.{ran-first, ran-second, ran-unmarked, ran-unrestored}
 use Rattle.chumsky_combinator.proofs.choice.OrParser.go_check.Goals as goal
 
 pub returns-in_err-before-clause-ran : goal.returns-in_err-before-clause-ran

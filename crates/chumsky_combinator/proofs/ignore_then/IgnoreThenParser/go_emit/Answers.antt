@@ -1,0 +1,9 @@
+use Rattle.std.proofs.Common.{rules}
+use Rattle.chumsky_parser.proofs.ChainedLemmas.{failed, chained, ran-asked, emit_err, check_err, check_ok}
+use Rattle.chumsky_combinator.proofs.ignore_then.IgnoreThenParser.go_emit.Goals as goal
+
+pub returns-in_err-go_check-clause-ran : goal.returns-in_err-go_check-clause-ran
+returns-in_err-go_check-clause-ran g c = failed (ran-asked c.go_check.ensures.ran) (check_err c.in_err-go_check.was) (emit_err (search rules))
+
+pub returns-clause-ran : goal.returns-clause-ran
+returns-clause-ran g c = chained (ran-asked c.go_check.ensures.ran) (check_ok c.in_ok-go_check.was) c.go_emit.ensures.ran

@@ -1,0 +1,31 @@
+-- Two parsers compared, whose values have two types.
+use Rattle.std.specs.Prelude.{option_map}
+use Rattle.chumsky_input.specs.Outcome.{Meaning, Beginning, Outcome, Verdict, Yes, No, Halt, Clash, IsAnswer, Alike, Agree}
+use Rattle.chumsky_parser.specs.Chained.{retold}
+
+-- the verdict, its value put through a function
+abbrev pub put_through : {V W Er : Type 0} → (V → W) → Verdict V Er → Verdict W Er
+put_through f (Yes v) = Yes (option_map f v)
+put_through f No = No
+put_through f (Halt s) = Halt s
+put_through f (Clash e) = Clash e
+
+-- the outcome, its value put through a function
+abbrev pub shown_as : {V W Er St : Type 0} → (V → W) → Outcome V Er St → Outcome W Er St
+shown_as f o = retold (put_through f o.verdict) o
+
+module _ {Tok Cx St Er V W : Type 0} (f : V → W) where
+  -- each outcome of the one is one of the other, its value put through f
+  abbrev pub ShownAs : Meaning Tok Cx St Er V → Meaning Tok Cx St Er W → Type 0
+  ShownAs m n = (b : Beginning Tok Cx St) (o : Outcome V Er St) → m b o → n b (shown_as f o)
+
+  -- two answers from alike beginnings agree, the value of the first put through f
+  abbrev pub AgreesAs : (W → W → Type 0) → Meaning Tok Cx St Er V → Meaning Tok Cx St Er W → Type 0
+  AgreesAs same m n = (b c : Beginning Tok Cx St) (o : Outcome V Er St) (q : Outcome W Er St) → Alike b c → m b o → n c q → IsAnswer o.verdict → IsAnswer q.verdict → Agree same (shown_as f o) q
+
+-- the same three values, in pairs from the right and from the left
+abbrev pub regroup : {U V W : Type 0} → (U × V) × W → U × (V × W)
+regroup p = (p.0.0, (p.0.1, p.1))
+
+abbrev pub ungroup : {U V W : Type 0} → U × (V × W) → (U × V) × W
+ungroup p = ((p.0, p.1.0), p.1.1)

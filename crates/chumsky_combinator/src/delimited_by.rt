@@ -1,0 +1,65 @@
+//! A parser between an opening and a closing one.
+use chumsky_input::extra::ParserExtra;
+use chumsky_input::input::Input;
+use chumsky_input::input_ref::InputRef;
+use chumsky_input::stop::PResult;
+use chumsky_parser::parser::{IsParser, Parser};
+use std::marker::PhantomData;
+
+/// A parser between an opening and a closing one, for its own output. See `delimited_by`.
+#[derive(Drop)]
+#[derive_where(Clone, Copy; A, B, C)]
+pub struct DelimitedBy<A, B, C, U, V> {
+    pub parser: A,
+    pub opening: B,
+    pub closing: C,
+    pub of: PhantomData<(U, V)>,
+}
+
+impl<I, O, U, V, E, A: IsParser<I, O, E>, B: IsParser<I, U, E>, C: IsParser<I, V, E>> IsParser<
+    I,
+    O,
+    E,
+> for DelimitedBy<A, B, C, U, V> {}
+
+impl<
+    'src,
+    I: Input<'src>,
+    O: Drop,
+    U,
+    V,
+    E: ParserExtra<I>,
+    A: Parser<'src, I, O, E>,
+    B: Parser<'src, I, U, E>,
+    C: Parser<'src, I, V, E>,
+> Parser<'src, I, O, E> for DelimitedBy<A, B, C, U, V> {
+    ghost use Rattle.chumsky_parser.specs.Ignoring.{Between};
+    ghost use Rattle.chumsky_parser.specs.IgnoringLaws.{between-ends, between-agrees};
+
+    ghost ready = { λ p. A.ready p.parser × B.ready p.opening × C.ready p.closing };
+
+    ghost meaning = { λ p errors states. Between (B.meaning p.opening errors states) (A.meaning p.parser errors states) (C.meaning p.closing errors states) };
+
+    ghost steady = { λ p. A.steady p.parser × B.steady p.opening × C.steady p.closing };
+
+    ghost same = { λ p. A.same p.parser };
+
+    ghost ends_after_start = { λ p. between-ends _ _ _ (B.ends_after_start p.opening) (A.ends_after_start p.parser) (C.ends_after_start p.closing) };
+
+    ghost agrees = { λ p s. between-agrees _ _ _ (B.same p.opening) (A.same p.parser) (C.same p.closing) (B.agrees p.opening s.1) (A.agrees p.parser s.0) (C.agrees p.closing s.2) };
+
+    #[inline]
+    fn go_emit(&self, inp: &mut InputRef<'src, '_, I, E>) -> PResult<O> {
+        self.opening.go_check(inp)?;
+        let value = self.parser.go_emit(inp)?;
+        self.closing.go_check(inp)?;
+        Ok(value)
+    }
+
+    #[inline]
+    fn go_check(&self, inp: &mut InputRef<'src, '_, I, E>) -> PResult<()> {
+        self.opening.go_check(inp)?;
+        self.parser.go_check(inp)?;
+        self.closing.go_check(inp)
+    }
+}

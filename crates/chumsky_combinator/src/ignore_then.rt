@@ -1,0 +1,56 @@
+//! Two parsers, for the output of the second.
+use chumsky_input::extra::ParserExtra;
+use chumsky_input::input::Input;
+use chumsky_input::input_ref::InputRef;
+use chumsky_input::stop::PResult;
+use chumsky_parser::parser::{IsParser, Parser};
+use std::marker::PhantomData;
+
+/// Two parsers, one after the other, for the output of the second. See `ignore_then`.
+#[derive(Drop)]
+#[derive_where(Clone, Copy; A, B)]
+pub struct IgnoreThen<A, B, O> {
+    pub first: A,
+    pub second: B,
+    pub of: PhantomData<O>,
+}
+
+impl<I, O, U, E, A: IsParser<I, O, E>, B: IsParser<I, U, E>> IsParser<I, U, E>
+    for IgnoreThen<A, B, O> {}
+
+impl<
+    'src,
+    I: Input<'src>,
+    O,
+    U,
+    E: ParserExtra<I>,
+    A: Parser<'src, I, O, E>,
+    B: Parser<'src, I, U, E>,
+> Parser<'src, I, U, E> for IgnoreThen<A, B, O> {
+    ghost use Rattle.chumsky_parser.specs.Ignoring.{IgnoringFirst};
+    ghost use Rattle.chumsky_parser.specs.IgnoringLaws.{ignoring_first-ends, ignoring_first-agrees};
+
+    ghost ready = { λ p. A.ready p.first × B.ready p.second };
+
+    ghost meaning = { λ p errors states. IgnoringFirst (A.meaning p.first errors states) (B.meaning p.second errors states) };
+
+    ghost steady = { λ p. A.steady p.first × B.steady p.second };
+
+    ghost same = { λ p. B.same p.second };
+
+    ghost ends_after_start = { λ p. ignoring_first-ends _ _ (A.ends_after_start p.first) (B.ends_after_start p.second) };
+
+    ghost agrees = { λ p s. ignoring_first-agrees _ _ (A.same p.first) (B.same p.second) (A.agrees p.first s.0) (B.agrees p.second s.1) };
+
+    #[inline]
+    fn go_emit(&self, inp: &mut InputRef<'src, '_, I, E>) -> PResult<U> {
+        self.first.go_check(inp)?;
+        self.second.go_emit(inp)
+    }
+
+    #[inline]
+    fn go_check(&self, inp: &mut InputRef<'src, '_, I, E>) -> PResult<()> {
+        self.first.go_check(inp)?;
+        self.second.go_check(inp)
+    }
+}

@@ -1,0 +1,46 @@
+//! A parser without its output.
+use chumsky_input::extra::ParserExtra;
+use chumsky_input::input::Input;
+use chumsky_input::input_ref::InputRef;
+use chumsky_input::stop::PResult;
+use chumsky_parser::parser::{IsParser, Parser};
+use std::marker::PhantomData;
+
+/// A parser without its output. See `ignored`.
+#[derive(Drop)]
+#[derive_where(Clone, Copy; A)]
+pub struct Ignored<A, O> {
+    pub parser: A,
+    pub of: PhantomData<O>,
+}
+
+impl<I, O, E, A: IsParser<I, O, E>> IsParser<I, (), E> for Ignored<A, O> {}
+
+impl<'src, I: Input<'src>, O, E: ParserExtra<I>, A: Parser<'src, I, O, E>> Parser<'src, I, (), E>
+    for Ignored<A, O> {
+    ghost use Rattle.chumsky_parser.specs.FailureLaws.{SameUnit};
+    ghost use Rattle.chumsky_parser.specs.Ignoring.{Gives, IgnoringFirst};
+    ghost use Rattle.chumsky_parser.specs.IgnoringLaws.{gives-ends, gives-agrees, ignoring_first-ends, ignoring_first-agrees};
+
+    ghost ready = { λ p. A.ready p.parser };
+
+    ghost meaning = { λ p errors states. IgnoringFirst (A.meaning p.parser errors states) (Gives tt) };
+
+    ghost steady = { λ p. A.steady p.parser };
+
+    ghost same = { λ _. SameUnit };
+
+    ghost ends_after_start = { λ p. ignoring_first-ends _ _ (A.ends_after_start p.parser) (gives-ends tt) };
+
+    ghost agrees = { λ p s. ignoring_first-agrees _ _ (A.same p.parser) SameUnit (A.agrees p.parser s) (gives-agrees tt SameUnit tt) };
+
+    #[inline]
+    fn go_emit(&self, inp: &mut InputRef<'src, '_, I, E>) -> PResult<()> {
+        self.parser.go_check(inp)
+    }
+
+    #[inline]
+    fn go_check(&self, inp: &mut InputRef<'src, '_, I, E>) -> PResult<()> {
+        self.parser.go_check(inp)
+    }
+}

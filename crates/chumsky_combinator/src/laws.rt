@@ -1,0 +1,47 @@
+//! Laws that compare parsers, each the contract of a function that does nothing.
+ghost use Rattle.chumsky_combinator.specs.Compared.{AgreesAs, ShownAs, regroup, ungroup};
+ghost use Rattle.chumsky_combinator.specs.Optional.{NeverSaysNo};
+
+use crate::ignore_then::IgnoreThen;
+use crate::or_not::OrNot;
+use crate::sequence::Then;
+use chumsky_input::extra::ParserExtra;
+use chumsky_input::input::Input;
+use chumsky_parser::parser::Parser;
+
+/// For steady parsers, where both answer, `a.then(b)` agrees with `a.ignore_then(b)`: the same verdict, end, errors and
+/// state, and the second part of the pair is the output.
+pub fn ignore_then_agrees_with_then<
+    'src,
+    I: Input<'src>,
+    O: Drop,
+    U,
+    E: ParserExtra<I>,
+    A: Parser<'src, I, O, E>,
+    B: Parser<'src, I, U, E>,
+>(a: &A, b: &B)
+    ensures { A.steady a.now → B.steady b.now → AgreesAs (λ p. p.1) (B.same b.now) (⟦<Then<A, B, O, U> as Parser<'src, I, (O, U), E>>⟧.meaning (record { first = a.now; second = b.now; of = record {} }) E.Error.Error E.State.Inspector) (⟦<IgnoreThen<A, B, O> as Parser<'src, I, U, E>>⟧.meaning (record { first = a.now; second = b.now; of = record {} }) E.Error.Error E.State.Inspector) }
+{}
+
+/// `a.or_not()` never fails.
+pub fn or_not_never_says_no<'src, I: Input<'src>, O, E: ParserExtra<I>, A: Parser<'src, I, O, E>>(
+    a: &A,
+)
+    ensures { NeverSaysNo (⟦<OrNot<A> as Parser<'src, I, Option<O>, E>>⟧.meaning (record { parser = a.now }) E.Error.Error E.State.Inspector) }
+{}
+
+/// `a.then(b).then(c)` has the outcomes of `a.then(b.then(c))`, up to the grouping of the pairs.
+pub fn then_is_associative<
+    'src,
+    I: Input<'src>,
+    O: Drop,
+    U: Drop,
+    V,
+    E: ParserExtra<I>,
+    A: Parser<'src, I, O, E>,
+    B: Parser<'src, I, U, E>,
+    C: Parser<'src, I, V, E>,
+>(a: &A, b: &B, c: &C)
+    ensures right { ShownAs regroup (⟦<Then<Then<A, B, O, U>, C, (O, U), V> as Parser<'src, I, ((O, U), V), E>>⟧.meaning (record { first = record { first = a.now; second = b.now; of = record {} }; second = c.now; of = record {} }) E.Error.Error E.State.Inspector) (⟦<Then<A, Then<B, C, U, V>, O, (U, V)> as Parser<'src, I, (O, (U, V)), E>>⟧.meaning (record { first = a.now; second = record { first = b.now; second = c.now; of = record {} }; of = record {} }) E.Error.Error E.State.Inspector) }
+    ensures left { ShownAs ungroup (⟦<Then<A, Then<B, C, U, V>, O, (U, V)> as Parser<'src, I, (O, (U, V)), E>>⟧.meaning (record { first = a.now; second = record { first = b.now; second = c.now; of = record {} }; of = record {} }) E.Error.Error E.State.Inspector) (⟦<Then<Then<A, B, O, U>, C, (O, U), V> as Parser<'src, I, ((O, U), V), E>>⟧.meaning (record { first = record { first = a.now; second = b.now; of = record {} }; second = c.now; of = record {} }) E.Error.Error E.State.Inspector) }
+{}
