@@ -1,0 +1,118 @@
+//! Choice among the parsers of a slice.
+ghost use Rattle.std.specs.Prelude.{◌≡◌, ◌≢◌, true, false, None, [], map, length, All};
+ghost use Rattle.chumsky_input.specs.Held.{held};
+ghost use Rattle.chumsky_input.specs.Run.{Ran, Fails, with_value, without_value};
+ghost use Rattle.chumsky_parser.specs.Choice.{FirstOf};
+ghost use Rattle.chumsky_parser.specs.Failure.{expects};
+ghost use Rattle.chumsky_choice.specs.Among.{FirstAmong};
+
+use crate::step::{check_next, emit_next};
+use chumsky_input::extra::ParserExtra;
+use chumsky_input::input::Input;
+use chumsky_input::input_ref::InputRef;
+use chumsky_input::stop::{Fault, PResult};
+use chumsky_input::util::Plain;
+use chumsky_parser::parser::Parser;
+
+/// Runs the first of several parsers that doesn't fail; where there is none, fails with nothing expected.
+pub fn emit_among<'src, I: Input<'src>, O, E: ParserExtra<I>, P: Parser<'src, I, O, E>>(
+    parsers: &[P],
+    inp: &mut InputRef<'src, '_, I, E>,
+) -> PResult<O>
+    requires { All P.ready parsers.now }
+    ensures ran { Ran E.Error.merged E.Error.takes_no_memory (FirstAmong I.Input E.Error.Error E.State.Inspector (map (λ p. P.meaning p E.Error.Error E.State.Inspector) parsers.now)) true (held I.Input E.Error.Error E.State.Inspector inp.old) (held I.Input E.Error.Error E.State.Inspector inp.new) (with_value result) }
+    ensures lent { inp.new.state.ghost_name ≡ inp.old.state.ghost_name }
+{
+    let Some((first, others)) = parsers.split_first() else {
+        return Err(expect_nothing(inp));
+    };
+    if others.is_empty() {
+        return first.go_emit(inp);
+    }
+    emit_several(first, others, inp)
+}
+
+/// The same without outputs.
+pub fn check_among<'src, I: Input<'src>, O, E: ParserExtra<I>, P: Parser<'src, I, O, E>>(
+    parsers: &[P],
+    inp: &mut InputRef<'src, '_, I, E>,
+) -> PResult<()>
+    requires { All P.ready parsers.now }
+    ensures ran { Ran E.Error.merged E.Error.takes_no_memory (FirstAmong I.Input E.Error.Error E.State.Inspector (map (λ p. P.meaning p E.Error.Error E.State.Inspector) parsers.now)) false (held I.Input E.Error.Error E.State.Inspector inp.old) (held I.Input E.Error.Error E.State.Inspector inp.new) (without_value result) }
+    ensures lent { inp.new.state.ghost_name ≡ inp.old.state.ghost_name }
+{
+    let Some((first, others)) = parsers.split_first() else {
+        return Err(expect_nothing(inp));
+    };
+    if others.is_empty() {
+        return first.go_check(inp);
+    }
+    check_several(first, others, inp)
+}
+
+/// Runs the first of two or more parsers that doesn't fail.
+fn emit_several<'src, I: Input<'src>, O, E: ParserExtra<I>, P: Parser<'src, I, O, E>>(
+    first: &P,
+    others: &[P],
+    inp: &mut InputRef<'src, '_, I, E>,
+) -> PResult<O>
+    requires first { P.ready first.now }
+    requires others { All P.ready others.now }
+    requires several { length others.now ≢ 0 }
+    ensures ran { Ran E.Error.merged E.Error.takes_no_memory (FirstOf E.State.mark E.State.back E.State.takes_no_memory (P.meaning first.now E.Error.Error E.State.Inspector) (map (λ p. P.meaning p E.Error.Error E.State.Inspector) others.now)) true (held I.Input E.Error.Error E.State.Inspector inp.old) (held I.Input E.Error.Error E.State.Inspector inp.new) (with_value result) }
+    ensures lent { inp.new.state.ghost_name ≡ inp.old.state.ghost_name }
+{
+    let before = inp.save()?;
+    match first.go_emit(inp) {
+        Ok(value) => return Ok(value),
+        Err(Fault::Stop(stop)) => return Err(Fault::Stop(stop)),
+        Err(Fault::Fail) => {}
+    }
+    for next in others {
+        match emit_next(Err(Fault::Fail), next, inp, &before) {
+            Ok(value) => return Ok(value),
+            Err(Fault::Stop(stop)) => return Err(Fault::Stop(stop)),
+            Err(Fault::Fail) => {}
+        }
+    }
+    Err(Fault::Fail)
+}
+
+/// The same without outputs.
+fn check_several<'src, I: Input<'src>, O, E: ParserExtra<I>, P: Parser<'src, I, O, E>>(
+    first: &P,
+    others: &[P],
+    inp: &mut InputRef<'src, '_, I, E>,
+) -> PResult<()>
+    requires first { P.ready first.now }
+    requires others { All P.ready others.now }
+    requires several { length others.now ≢ 0 }
+    ensures ran { Ran E.Error.merged E.Error.takes_no_memory (FirstOf E.State.mark E.State.back E.State.takes_no_memory (P.meaning first.now E.Error.Error E.State.Inspector) (map (λ p. P.meaning p E.Error.Error E.State.Inspector) others.now)) false (held I.Input E.Error.Error E.State.Inspector inp.old) (held I.Input E.Error.Error E.State.Inspector inp.new) (without_value result) }
+    ensures lent { inp.new.state.ghost_name ≡ inp.old.state.ghost_name }
+{
+    let before = inp.save()?;
+    match first.go_check(inp) {
+        Ok(()) => return Ok(()),
+        Err(Fault::Stop(stop)) => return Err(Fault::Stop(stop)),
+        Err(Fault::Fail) => {}
+    }
+    for next in others {
+        match check_next(Err(Fault::Fail), next, inp, &before) {
+            Ok(()) => return Ok(()),
+            Err(Fault::Stop(stop)) => return Err(Fault::Stop(stop)),
+            Err(Fault::Fail) => {}
+        }
+    }
+    Err(Fault::Fail)
+}
+
+/// Fails where nothing was expected.
+fn expect_nothing<'src, I: Input<'src>, E: ParserExtra<I>>(
+    inp: &mut InputRef<'src, '_, I, E>,
+) -> Fault
+    ensures fails { Fails E.Error.merged E.Error.takes_no_memory (expects I.Input E.Error.Error (held I.Input E.Error.Error E.State.Inspector inp.old).tokens [] None (held I.Input E.Error.Error E.State.Inspector inp.old).place (held I.Input E.Error.Error E.State.Inspector inp.old).place) (held I.Input E.Error.Error E.State.Inspector inp.old) (held I.Input E.Error.Error E.State.Inspector inp.new) result }
+    ensures lent { inp.new.state.ghost_name ≡ inp.old.state.ghost_name }
+{
+    let here = inp.cursor;
+    inp.expected(&here, &here, Plain::Nothing, None)
+}

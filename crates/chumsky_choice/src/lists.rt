@@ -1,0 +1,105 @@
+//! Choice among the parsers of a slice, a `Vec` or an array.
+use crate::among::{check_among, emit_among};
+use crate::choice::Choice;
+use chumsky_input::extra::ParserExtra;
+use chumsky_input::input::Input;
+use chumsky_input::input_ref::InputRef;
+use chumsky_input::stop::PResult;
+use chumsky_parser::parser::{IsParser, Parser};
+
+impl<I, O, E, A: IsParser<I, O, E>> IsParser<I, O, E> for Choice<&[A]> {}
+
+impl<'src, I: Input<'src>, O, E: ParserExtra<I>, A: Parser<'src, I, O, E>> Parser<'src, I, O, E>
+    for Choice<&[A]> {
+    ghost use Rattle.std.specs.Prelude.{map, All};
+    ghost use Rattle.chumsky_choice.specs.Among.{FirstAmong, SameByAny};
+    ghost use Rattle.chumsky_choice.specs.AmongLaws.{first_among-ends, first_among-agrees};
+
+    ghost ready = { λ p. All A.ready p.parsers.now };
+
+    ghost meaning = { λ p errors states. FirstAmong I.Input errors states (map (λ a. A.meaning a errors states) p.parsers.now) };
+
+    ghost steady = { λ p. All A.steady p.parsers.now };
+
+    ghost same = { λ p. SameByAny (map A.same p.parsers.now) };
+
+    ghost ends_after_start = { λ p. first_among-ends _ _ _ _ A.ends_after_start p.parsers.now };
+
+    ghost agrees = { λ p s. first_among-agrees _ _ _ _ A.steady A.same A.agrees p.parsers.now s };
+
+    #[inline]
+    fn go_emit(&self, inp: &mut InputRef<'src, '_, I, E>) -> PResult<O> {
+        emit_among(self.parsers, inp)
+    }
+
+    #[inline]
+    fn go_check(&self, inp: &mut InputRef<'src, '_, I, E>) -> PResult<()> {
+        check_among(self.parsers, inp)
+    }
+}
+
+impl<I, O, E, A: IsParser<I, O, E>> IsParser<I, O, E> for Choice<Vec<A>> {}
+
+impl<'src, I: Input<'src>, O, E: ParserExtra<I>, A: Parser<'src, I, O, E>> Parser<'src, I, O, E>
+    for Choice<Vec<A>> {
+    ghost use Rattle.std.specs.Prelude.{map, All};
+    ghost use Rattle.chumsky_choice.specs.Among.{FirstAmong, SameByAny};
+    ghost use Rattle.chumsky_choice.specs.AmongLaws.{first_among-ends, first_among-agrees};
+
+    ghost ready = { λ p. All A.ready p.parsers.items };
+
+    ghost meaning = { λ p errors states. FirstAmong I.Input errors states (map (λ a. A.meaning a errors states) p.parsers.items) };
+
+    ghost steady = { λ p. All A.steady p.parsers.items };
+
+    ghost same = { λ p. SameByAny (map A.same p.parsers.items) };
+
+    ghost ends_after_start = { λ p. first_among-ends _ _ _ _ A.ends_after_start p.parsers.items };
+
+    ghost agrees = { λ p s. first_among-agrees _ _ _ _ A.steady A.same A.agrees p.parsers.items s };
+
+    #[inline]
+    fn go_emit(&self, inp: &mut InputRef<'src, '_, I, E>) -> PResult<O> {
+        emit_among(self.parsers.as_slice(), inp)
+    }
+
+    #[inline]
+    fn go_check(&self, inp: &mut InputRef<'src, '_, I, E>) -> PResult<()> {
+        check_among(self.parsers.as_slice(), inp)
+    }
+}
+
+impl<I, O, E, A: IsParser<I, O, E>, const N: usize> IsParser<I, O, E> for Choice<[A; N]> {}
+
+impl<'src, I: Input<'src>, O, E: ParserExtra<I>, A: Parser<'src, I, O, E>, const N: usize> Parser<
+    'src,
+    I,
+    O,
+    E,
+> for Choice<[A; N]> {
+    ghost use Rattle.std.specs.Prelude.{map, All};
+    ghost use Rattle.chumsky_choice.specs.Among.{FirstAmong, SameByAny};
+    ghost use Rattle.chumsky_choice.specs.AmongLaws.{first_among-ends, first_among-agrees};
+
+    ghost ready = { λ p. All A.ready p.parsers };
+
+    ghost meaning = { λ p errors states. FirstAmong I.Input errors states (map (λ a. A.meaning a errors states) p.parsers) };
+
+    ghost steady = { λ p. All A.steady p.parsers };
+
+    ghost same = { λ p. SameByAny (map A.same p.parsers) };
+
+    ghost ends_after_start = { λ p. first_among-ends _ _ _ _ A.ends_after_start p.parsers };
+
+    ghost agrees = { λ p s. first_among-agrees _ _ _ _ A.steady A.same A.agrees p.parsers s };
+
+    #[inline]
+    fn go_emit(&self, inp: &mut InputRef<'src, '_, I, E>) -> PResult<O> {
+        emit_among(&self.parsers, inp)
+    }
+
+    #[inline]
+    fn go_check(&self, inp: &mut InputRef<'src, '_, I, E>) -> PResult<()> {
+        check_among(&self.parsers, inp)
+    }
+}

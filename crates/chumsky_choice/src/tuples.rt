@@ -1,0 +1,436 @@
+//! Choice among the parsers of a tuple.
+use crate::choice::Choice;
+use crate::step::{check_next, emit_next};
+use chumsky_input::extra::ParserExtra;
+use chumsky_input::input::Input;
+use chumsky_input::input_ref::InputRef;
+use chumsky_input::stop::PResult;
+use chumsky_parser::parser::{IsParser, Parser};
+
+impl<I, O, E, A: IsParser<I, O, E>> IsParser<I, O, E> for Choice<(A,)> {}
+
+impl<'src, I: Input<'src>, O, E: ParserExtra<I>, A: Parser<'src, I, O, E>> Parser<'src, I, O, E>
+    for Choice<(A,)> {
+    ghost ready = { λ p. A.ready p.parsers.0 };
+
+    ghost meaning = { λ p errors states. A.meaning p.parsers.0 errors states };
+
+    ghost steady = { λ p. A.steady p.parsers.0 };
+
+    ghost same = { λ p. A.same p.parsers.0 };
+
+    ghost ends_after_start = { λ p. A.ends_after_start p.parsers.0 };
+
+    ghost agrees = { λ p s. A.agrees p.parsers.0 s };
+
+    #[inline]
+    fn go_emit(&self, inp: &mut InputRef<'src, '_, I, E>) -> PResult<O> {
+        self.parsers.0.go_emit(inp)
+    }
+
+    #[inline]
+    fn go_check(&self, inp: &mut InputRef<'src, '_, I, E>) -> PResult<()> {
+        self.parsers.0.go_check(inp)
+    }
+}
+
+impl<I, O, E, A: IsParser<I, O, E>, B: IsParser<I, O, E>> IsParser<I, O, E> for Choice<(A, B)> {}
+
+impl<
+    'src,
+    I: Input<'src>,
+    O,
+    E: ParserExtra<I>,
+    A: Parser<'src, I, O, E>,
+    B: Parser<'src, I, O, E>,
+> Parser<'src, I, O, E> for Choice<(A, B)> {
+    ghost use Rattle.std.specs.Prelude.{[], ◌∷◌};
+    ghost use Rattle.chumsky_parser.specs.Choice.{FirstOf, SameByOne};
+    ghost use Rattle.chumsky_parser.specs.ChoiceLaws.{first_of-ends, first_of-agrees, none-end, and-ends, none-agree, and-agrees};
+
+    ghost ready = { λ p. A.ready p.parsers.0 × B.ready p.parsers.1 };
+
+    ghost meaning = { λ p errors states. FirstOf states.mark states.back states.takes_no_memory (A.meaning p.parsers.0 errors states) (B.meaning p.parsers.1 errors states ∷ []) };
+
+    ghost steady = { λ p. A.steady p.parsers.0 × B.steady p.parsers.1 };
+
+    ghost same = { λ p. SameByOne (A.same p.parsers.0) (B.same p.parsers.1 ∷ []) };
+
+    ghost ends_after_start = { λ p. first_of-ends _ _ _ _ _ (and-ends (A.ends_after_start p.parsers.0) (and-ends (B.ends_after_start p.parsers.1) none-end)) };
+
+    ghost agrees = { λ p s. first_of-agrees _ _ _ (A.same p.parsers.0) (B.same p.parsers.1 ∷ []) _ _ (and-agrees (A.agrees p.parsers.0 s.0) (and-agrees (B.agrees p.parsers.1 s.1) none-agree)) };
+
+    #[inline]
+    fn go_emit(&self, inp: &mut InputRef<'src, '_, I, E>) -> PResult<O> {
+        let before = inp.save()?;
+        let tried = self.parsers.0.go_emit(inp);
+        emit_next(tried, &self.parsers.1, inp, &before)
+    }
+
+    #[inline]
+    fn go_check(&self, inp: &mut InputRef<'src, '_, I, E>) -> PResult<()> {
+        let before = inp.save()?;
+        let tried = self.parsers.0.go_check(inp);
+        check_next(tried, &self.parsers.1, inp, &before)
+    }
+}
+
+impl<I, O, E, A: IsParser<I, O, E>, B: IsParser<I, O, E>, C: IsParser<I, O, E>> IsParser<I, O, E>
+    for Choice<(A, B, C)> {}
+
+impl<
+    'src,
+    I: Input<'src>,
+    O,
+    E: ParserExtra<I>,
+    A: Parser<'src, I, O, E>,
+    B: Parser<'src, I, O, E>,
+    C: Parser<'src, I, O, E>,
+> Parser<'src, I, O, E> for Choice<(A, B, C)> {
+    ghost use Rattle.std.specs.Prelude.{[], ◌∷◌};
+    ghost use Rattle.chumsky_parser.specs.Choice.{FirstOf, SameByOne};
+    ghost use Rattle.chumsky_parser.specs.ChoiceLaws.{first_of-ends, first_of-agrees, none-end, and-ends, none-agree, and-agrees};
+
+    ghost ready = { λ p. A.ready p.parsers.0 × B.ready p.parsers.1 × C.ready p.parsers.2 };
+
+    ghost meaning = { λ p errors states. FirstOf states.mark states.back states.takes_no_memory (A.meaning p.parsers.0 errors states) (B.meaning p.parsers.1 errors states ∷ C.meaning p.parsers.2 errors states ∷ []) };
+
+    ghost steady = { λ p. A.steady p.parsers.0 × B.steady p.parsers.1 × C.steady p.parsers.2 };
+
+    ghost same = { λ p. SameByOne (A.same p.parsers.0) (B.same p.parsers.1 ∷ C.same p.parsers.2 ∷ []) };
+
+    ghost ends_after_start = { λ p. first_of-ends _ _ _ _ _ (and-ends (A.ends_after_start p.parsers.0) (and-ends (B.ends_after_start p.parsers.1) (and-ends (C.ends_after_start p.parsers.2) none-end))) };
+
+    ghost agrees = { λ p s. first_of-agrees _ _ _ (A.same p.parsers.0) (B.same p.parsers.1 ∷ C.same p.parsers.2 ∷ []) _ _ (and-agrees (A.agrees p.parsers.0 s.0) (and-agrees (B.agrees p.parsers.1 s.1) (and-agrees (C.agrees p.parsers.2 s.2) none-agree))) };
+
+    #[inline]
+    fn go_emit(&self, inp: &mut InputRef<'src, '_, I, E>) -> PResult<O> {
+        let before = inp.save()?;
+        let tried = self.parsers.0.go_emit(inp);
+        let tried = emit_next(tried, &self.parsers.1, inp, &before);
+        emit_next(tried, &self.parsers.2, inp, &before)
+    }
+
+    #[inline]
+    fn go_check(&self, inp: &mut InputRef<'src, '_, I, E>) -> PResult<()> {
+        let before = inp.save()?;
+        let tried = self.parsers.0.go_check(inp);
+        let tried = check_next(tried, &self.parsers.1, inp, &before);
+        check_next(tried, &self.parsers.2, inp, &before)
+    }
+}
+
+impl<
+    I,
+    O,
+    E,
+    A: IsParser<I, O, E>,
+    B: IsParser<I, O, E>,
+    C: IsParser<I, O, E>,
+    D: IsParser<I, O, E>,
+> IsParser<I, O, E> for Choice<(A, B, C, D)> {}
+
+impl<
+    'src,
+    I: Input<'src>,
+    O,
+    E: ParserExtra<I>,
+    A: Parser<'src, I, O, E>,
+    B: Parser<'src, I, O, E>,
+    C: Parser<'src, I, O, E>,
+    D: Parser<'src, I, O, E>,
+> Parser<'src, I, O, E> for Choice<(A, B, C, D)> {
+    ghost use Rattle.std.specs.Prelude.{[], ◌∷◌};
+    ghost use Rattle.chumsky_parser.specs.Choice.{FirstOf, SameByOne};
+    ghost use Rattle.chumsky_parser.specs.ChoiceLaws.{first_of-ends, first_of-agrees, none-end, and-ends, none-agree, and-agrees};
+
+    ghost ready = { λ p. A.ready p.parsers.0 × B.ready p.parsers.1 × C.ready p.parsers.2 × D.ready p.parsers.3 };
+
+    ghost meaning = { λ p errors states. FirstOf states.mark states.back states.takes_no_memory (A.meaning p.parsers.0 errors states) (B.meaning p.parsers.1 errors states ∷ C.meaning p.parsers.2 errors states ∷ D.meaning p.parsers.3 errors states ∷ []) };
+
+    ghost steady = { λ p. A.steady p.parsers.0 × B.steady p.parsers.1 × C.steady p.parsers.2 × D.steady p.parsers.3 };
+
+    ghost same = { λ p. SameByOne (A.same p.parsers.0) (B.same p.parsers.1 ∷ C.same p.parsers.2 ∷ D.same p.parsers.3 ∷ []) };
+
+    ghost ends_after_start = { λ p. first_of-ends _ _ _ _ _ (and-ends (A.ends_after_start p.parsers.0) (and-ends (B.ends_after_start p.parsers.1) (and-ends (C.ends_after_start p.parsers.2) (and-ends (D.ends_after_start p.parsers.3) none-end)))) };
+
+    ghost agrees = { λ p s. first_of-agrees _ _ _ (A.same p.parsers.0) (B.same p.parsers.1 ∷ C.same p.parsers.2 ∷ D.same p.parsers.3 ∷ []) _ _ (and-agrees (A.agrees p.parsers.0 s.0) (and-agrees (B.agrees p.parsers.1 s.1) (and-agrees (C.agrees p.parsers.2 s.2) (and-agrees (D.agrees p.parsers.3 s.3) none-agree)))) };
+
+    #[inline]
+    fn go_emit(&self, inp: &mut InputRef<'src, '_, I, E>) -> PResult<O> {
+        let before = inp.save()?;
+        let tried = self.parsers.0.go_emit(inp);
+        let tried = emit_next(tried, &self.parsers.1, inp, &before);
+        let tried = emit_next(tried, &self.parsers.2, inp, &before);
+        emit_next(tried, &self.parsers.3, inp, &before)
+    }
+
+    #[inline]
+    fn go_check(&self, inp: &mut InputRef<'src, '_, I, E>) -> PResult<()> {
+        let before = inp.save()?;
+        let tried = self.parsers.0.go_check(inp);
+        let tried = check_next(tried, &self.parsers.1, inp, &before);
+        let tried = check_next(tried, &self.parsers.2, inp, &before);
+        check_next(tried, &self.parsers.3, inp, &before)
+    }
+}
+
+impl<
+    I,
+    O,
+    E,
+    A: IsParser<I, O, E>,
+    B: IsParser<I, O, E>,
+    C: IsParser<I, O, E>,
+    D: IsParser<I, O, E>,
+    F: IsParser<I, O, E>,
+> IsParser<I, O, E> for Choice<(A, B, C, D, F)> {}
+
+impl<
+    'src,
+    I: Input<'src>,
+    O,
+    E: ParserExtra<I>,
+    A: Parser<'src, I, O, E>,
+    B: Parser<'src, I, O, E>,
+    C: Parser<'src, I, O, E>,
+    D: Parser<'src, I, O, E>,
+    F: Parser<'src, I, O, E>,
+> Parser<'src, I, O, E> for Choice<(A, B, C, D, F)> {
+    ghost use Rattle.std.specs.Prelude.{[], ◌∷◌};
+    ghost use Rattle.chumsky_parser.specs.Choice.{FirstOf, SameByOne};
+    ghost use Rattle.chumsky_parser.specs.ChoiceLaws.{first_of-ends, first_of-agrees, none-end, and-ends, none-agree, and-agrees};
+
+    ghost ready = { λ p. A.ready p.parsers.0 × B.ready p.parsers.1 × C.ready p.parsers.2 × D.ready p.parsers.3 × F.ready p.parsers.4 };
+
+    ghost meaning = { λ p errors states. FirstOf states.mark states.back states.takes_no_memory (A.meaning p.parsers.0 errors states) (B.meaning p.parsers.1 errors states ∷ C.meaning p.parsers.2 errors states ∷ D.meaning p.parsers.3 errors states ∷ F.meaning p.parsers.4 errors states ∷ []) };
+
+    ghost steady = { λ p. A.steady p.parsers.0 × B.steady p.parsers.1 × C.steady p.parsers.2 × D.steady p.parsers.3 × F.steady p.parsers.4 };
+
+    ghost same = { λ p. SameByOne (A.same p.parsers.0) (B.same p.parsers.1 ∷ C.same p.parsers.2 ∷ D.same p.parsers.3 ∷ F.same p.parsers.4 ∷ []) };
+
+    ghost ends_after_start = { λ p. first_of-ends _ _ _ _ _ (and-ends (A.ends_after_start p.parsers.0) (and-ends (B.ends_after_start p.parsers.1) (and-ends (C.ends_after_start p.parsers.2) (and-ends (D.ends_after_start p.parsers.3) (and-ends (F.ends_after_start p.parsers.4) none-end))))) };
+
+    ghost agrees = { λ p s. first_of-agrees _ _ _ (A.same p.parsers.0) (B.same p.parsers.1 ∷ C.same p.parsers.2 ∷ D.same p.parsers.3 ∷ F.same p.parsers.4 ∷ []) _ _ (and-agrees (A.agrees p.parsers.0 s.0) (and-agrees (B.agrees p.parsers.1 s.1) (and-agrees (C.agrees p.parsers.2 s.2) (and-agrees (D.agrees p.parsers.3 s.3) (and-agrees (F.agrees p.parsers.4 s.4) none-agree))))) };
+
+    #[inline]
+    fn go_emit(&self, inp: &mut InputRef<'src, '_, I, E>) -> PResult<O> {
+        let before = inp.save()?;
+        let tried = self.parsers.0.go_emit(inp);
+        let tried = emit_next(tried, &self.parsers.1, inp, &before);
+        let tried = emit_next(tried, &self.parsers.2, inp, &before);
+        let tried = emit_next(tried, &self.parsers.3, inp, &before);
+        emit_next(tried, &self.parsers.4, inp, &before)
+    }
+
+    #[inline]
+    fn go_check(&self, inp: &mut InputRef<'src, '_, I, E>) -> PResult<()> {
+        let before = inp.save()?;
+        let tried = self.parsers.0.go_check(inp);
+        let tried = check_next(tried, &self.parsers.1, inp, &before);
+        let tried = check_next(tried, &self.parsers.2, inp, &before);
+        let tried = check_next(tried, &self.parsers.3, inp, &before);
+        check_next(tried, &self.parsers.4, inp, &before)
+    }
+}
+
+impl<
+    I,
+    O,
+    E,
+    A: IsParser<I, O, E>,
+    B: IsParser<I, O, E>,
+    C: IsParser<I, O, E>,
+    D: IsParser<I, O, E>,
+    F: IsParser<I, O, E>,
+    G: IsParser<I, O, E>,
+> IsParser<I, O, E> for Choice<(A, B, C, D, F, G)> {}
+
+impl<
+    'src,
+    I: Input<'src>,
+    O,
+    E: ParserExtra<I>,
+    A: Parser<'src, I, O, E>,
+    B: Parser<'src, I, O, E>,
+    C: Parser<'src, I, O, E>,
+    D: Parser<'src, I, O, E>,
+    F: Parser<'src, I, O, E>,
+    G: Parser<'src, I, O, E>,
+> Parser<'src, I, O, E> for Choice<(A, B, C, D, F, G)> {
+    ghost use Rattle.std.specs.Prelude.{[], ◌∷◌};
+    ghost use Rattle.chumsky_parser.specs.Choice.{FirstOf, SameByOne};
+    ghost use Rattle.chumsky_parser.specs.ChoiceLaws.{first_of-ends, first_of-agrees, none-end, and-ends, none-agree, and-agrees};
+
+    ghost ready = { λ p. A.ready p.parsers.0 × B.ready p.parsers.1 × C.ready p.parsers.2 × D.ready p.parsers.3 × F.ready p.parsers.4 × G.ready p.parsers.5 };
+
+    ghost meaning = { λ p errors states. FirstOf states.mark states.back states.takes_no_memory (A.meaning p.parsers.0 errors states) (B.meaning p.parsers.1 errors states ∷ C.meaning p.parsers.2 errors states ∷ D.meaning p.parsers.3 errors states ∷ F.meaning p.parsers.4 errors states ∷ G.meaning p.parsers.5 errors states ∷ []) };
+
+    ghost steady = { λ p. A.steady p.parsers.0 × B.steady p.parsers.1 × C.steady p.parsers.2 × D.steady p.parsers.3 × F.steady p.parsers.4 × G.steady p.parsers.5 };
+
+    ghost same = { λ p. SameByOne (A.same p.parsers.0) (B.same p.parsers.1 ∷ C.same p.parsers.2 ∷ D.same p.parsers.3 ∷ F.same p.parsers.4 ∷ G.same p.parsers.5 ∷ []) };
+
+    ghost ends_after_start = { λ p. first_of-ends _ _ _ _ _ (and-ends (A.ends_after_start p.parsers.0) (and-ends (B.ends_after_start p.parsers.1) (and-ends (C.ends_after_start p.parsers.2) (and-ends (D.ends_after_start p.parsers.3) (and-ends (F.ends_after_start p.parsers.4) (and-ends (G.ends_after_start p.parsers.5) none-end)))))) };
+
+    ghost agrees = { λ p s. first_of-agrees _ _ _ (A.same p.parsers.0) (B.same p.parsers.1 ∷ C.same p.parsers.2 ∷ D.same p.parsers.3 ∷ F.same p.parsers.4 ∷ G.same p.parsers.5 ∷ []) _ _ (and-agrees (A.agrees p.parsers.0 s.0) (and-agrees (B.agrees p.parsers.1 s.1) (and-agrees (C.agrees p.parsers.2 s.2) (and-agrees (D.agrees p.parsers.3 s.3) (and-agrees (F.agrees p.parsers.4 s.4) (and-agrees (G.agrees p.parsers.5 s.5) none-agree)))))) };
+
+    #[inline]
+    fn go_emit(&self, inp: &mut InputRef<'src, '_, I, E>) -> PResult<O> {
+        let before = inp.save()?;
+        let tried = self.parsers.0.go_emit(inp);
+        let tried = emit_next(tried, &self.parsers.1, inp, &before);
+        let tried = emit_next(tried, &self.parsers.2, inp, &before);
+        let tried = emit_next(tried, &self.parsers.3, inp, &before);
+        let tried = emit_next(tried, &self.parsers.4, inp, &before);
+        emit_next(tried, &self.parsers.5, inp, &before)
+    }
+
+    #[inline]
+    fn go_check(&self, inp: &mut InputRef<'src, '_, I, E>) -> PResult<()> {
+        let before = inp.save()?;
+        let tried = self.parsers.0.go_check(inp);
+        let tried = check_next(tried, &self.parsers.1, inp, &before);
+        let tried = check_next(tried, &self.parsers.2, inp, &before);
+        let tried = check_next(tried, &self.parsers.3, inp, &before);
+        let tried = check_next(tried, &self.parsers.4, inp, &before);
+        check_next(tried, &self.parsers.5, inp, &before)
+    }
+}
+
+impl<
+    I,
+    O,
+    E,
+    A: IsParser<I, O, E>,
+    B: IsParser<I, O, E>,
+    C: IsParser<I, O, E>,
+    D: IsParser<I, O, E>,
+    F: IsParser<I, O, E>,
+    G: IsParser<I, O, E>,
+    H: IsParser<I, O, E>,
+> IsParser<I, O, E> for Choice<(A, B, C, D, F, G, H)> {}
+
+impl<
+    'src,
+    I: Input<'src>,
+    O,
+    E: ParserExtra<I>,
+    A: Parser<'src, I, O, E>,
+    B: Parser<'src, I, O, E>,
+    C: Parser<'src, I, O, E>,
+    D: Parser<'src, I, O, E>,
+    F: Parser<'src, I, O, E>,
+    G: Parser<'src, I, O, E>,
+    H: Parser<'src, I, O, E>,
+> Parser<'src, I, O, E> for Choice<(A, B, C, D, F, G, H)> {
+    ghost use Rattle.std.specs.Prelude.{[], ◌∷◌};
+    ghost use Rattle.chumsky_parser.specs.Choice.{FirstOf, SameByOne};
+    ghost use Rattle.chumsky_parser.specs.ChoiceLaws.{first_of-ends, first_of-agrees, none-end, and-ends, none-agree, and-agrees};
+
+    ghost ready = { λ p. A.ready p.parsers.0 × B.ready p.parsers.1 × C.ready p.parsers.2 × D.ready p.parsers.3 × F.ready p.parsers.4 × G.ready p.parsers.5 × H.ready p.parsers.6 };
+
+    ghost meaning = { λ p errors states. FirstOf states.mark states.back states.takes_no_memory (A.meaning p.parsers.0 errors states) (B.meaning p.parsers.1 errors states ∷ C.meaning p.parsers.2 errors states ∷ D.meaning p.parsers.3 errors states ∷ F.meaning p.parsers.4 errors states ∷ G.meaning p.parsers.5 errors states ∷ H.meaning p.parsers.6 errors states ∷ []) };
+
+    ghost steady = { λ p. A.steady p.parsers.0 × B.steady p.parsers.1 × C.steady p.parsers.2 × D.steady p.parsers.3 × F.steady p.parsers.4 × G.steady p.parsers.5 × H.steady p.parsers.6 };
+
+    ghost same = { λ p. SameByOne (A.same p.parsers.0) (B.same p.parsers.1 ∷ C.same p.parsers.2 ∷ D.same p.parsers.3 ∷ F.same p.parsers.4 ∷ G.same p.parsers.5 ∷ H.same p.parsers.6 ∷ []) };
+
+    ghost ends_after_start = { λ p. first_of-ends _ _ _ _ _ (and-ends (A.ends_after_start p.parsers.0) (and-ends (B.ends_after_start p.parsers.1) (and-ends (C.ends_after_start p.parsers.2) (and-ends (D.ends_after_start p.parsers.3) (and-ends (F.ends_after_start p.parsers.4) (and-ends (G.ends_after_start p.parsers.5) (and-ends (H.ends_after_start p.parsers.6) none-end))))))) };
+
+    ghost agrees = { λ p s. first_of-agrees _ _ _ (A.same p.parsers.0) (B.same p.parsers.1 ∷ C.same p.parsers.2 ∷ D.same p.parsers.3 ∷ F.same p.parsers.4 ∷ G.same p.parsers.5 ∷ H.same p.parsers.6 ∷ []) _ _ (and-agrees (A.agrees p.parsers.0 s.0) (and-agrees (B.agrees p.parsers.1 s.1) (and-agrees (C.agrees p.parsers.2 s.2) (and-agrees (D.agrees p.parsers.3 s.3) (and-agrees (F.agrees p.parsers.4 s.4) (and-agrees (G.agrees p.parsers.5 s.5) (and-agrees (H.agrees p.parsers.6 s.6) none-agree))))))) };
+
+    #[inline]
+    fn go_emit(&self, inp: &mut InputRef<'src, '_, I, E>) -> PResult<O> {
+        let before = inp.save()?;
+        let tried = self.parsers.0.go_emit(inp);
+        let tried = emit_next(tried, &self.parsers.1, inp, &before);
+        let tried = emit_next(tried, &self.parsers.2, inp, &before);
+        let tried = emit_next(tried, &self.parsers.3, inp, &before);
+        let tried = emit_next(tried, &self.parsers.4, inp, &before);
+        let tried = emit_next(tried, &self.parsers.5, inp, &before);
+        emit_next(tried, &self.parsers.6, inp, &before)
+    }
+
+    #[inline]
+    fn go_check(&self, inp: &mut InputRef<'src, '_, I, E>) -> PResult<()> {
+        let before = inp.save()?;
+        let tried = self.parsers.0.go_check(inp);
+        let tried = check_next(tried, &self.parsers.1, inp, &before);
+        let tried = check_next(tried, &self.parsers.2, inp, &before);
+        let tried = check_next(tried, &self.parsers.3, inp, &before);
+        let tried = check_next(tried, &self.parsers.4, inp, &before);
+        let tried = check_next(tried, &self.parsers.5, inp, &before);
+        check_next(tried, &self.parsers.6, inp, &before)
+    }
+}
+
+impl<
+    I,
+    O,
+    E,
+    A: IsParser<I, O, E>,
+    B: IsParser<I, O, E>,
+    C: IsParser<I, O, E>,
+    D: IsParser<I, O, E>,
+    F: IsParser<I, O, E>,
+    G: IsParser<I, O, E>,
+    H: IsParser<I, O, E>,
+    J: IsParser<I, O, E>,
+> IsParser<I, O, E> for Choice<(A, B, C, D, F, G, H, J)> {}
+
+impl<
+    'src,
+    I: Input<'src>,
+    O,
+    E: ParserExtra<I>,
+    A: Parser<'src, I, O, E>,
+    B: Parser<'src, I, O, E>,
+    C: Parser<'src, I, O, E>,
+    D: Parser<'src, I, O, E>,
+    F: Parser<'src, I, O, E>,
+    G: Parser<'src, I, O, E>,
+    H: Parser<'src, I, O, E>,
+    J: Parser<'src, I, O, E>,
+> Parser<'src, I, O, E> for Choice<(A, B, C, D, F, G, H, J)> {
+    ghost use Rattle.std.specs.Prelude.{[], ◌∷◌};
+    ghost use Rattle.chumsky_parser.specs.Choice.{FirstOf, SameByOne};
+    ghost use Rattle.chumsky_parser.specs.ChoiceLaws.{first_of-ends, first_of-agrees, none-end, and-ends, none-agree, and-agrees};
+
+    ghost ready = { λ p. A.ready p.parsers.0 × B.ready p.parsers.1 × C.ready p.parsers.2 × D.ready p.parsers.3 × F.ready p.parsers.4 × G.ready p.parsers.5 × H.ready p.parsers.6 × J.ready p.parsers.7 };
+
+    ghost meaning = { λ p errors states. FirstOf states.mark states.back states.takes_no_memory (A.meaning p.parsers.0 errors states) (B.meaning p.parsers.1 errors states ∷ C.meaning p.parsers.2 errors states ∷ D.meaning p.parsers.3 errors states ∷ F.meaning p.parsers.4 errors states ∷ G.meaning p.parsers.5 errors states ∷ H.meaning p.parsers.6 errors states ∷ J.meaning p.parsers.7 errors states ∷ []) };
+
+    ghost steady = { λ p. A.steady p.parsers.0 × B.steady p.parsers.1 × C.steady p.parsers.2 × D.steady p.parsers.3 × F.steady p.parsers.4 × G.steady p.parsers.5 × H.steady p.parsers.6 × J.steady p.parsers.7 };
+
+    ghost same = { λ p. SameByOne (A.same p.parsers.0) (B.same p.parsers.1 ∷ C.same p.parsers.2 ∷ D.same p.parsers.3 ∷ F.same p.parsers.4 ∷ G.same p.parsers.5 ∷ H.same p.parsers.6 ∷ J.same p.parsers.7 ∷ []) };
+
+    ghost ends_after_start = { λ p. first_of-ends _ _ _ _ _ (and-ends (A.ends_after_start p.parsers.0) (and-ends (B.ends_after_start p.parsers.1) (and-ends (C.ends_after_start p.parsers.2) (and-ends (D.ends_after_start p.parsers.3) (and-ends (F.ends_after_start p.parsers.4) (and-ends (G.ends_after_start p.parsers.5) (and-ends (H.ends_after_start p.parsers.6) (and-ends (J.ends_after_start p.parsers.7) none-end)))))))) };
+
+    ghost agrees = { λ p s. first_of-agrees _ _ _ (A.same p.parsers.0) (B.same p.parsers.1 ∷ C.same p.parsers.2 ∷ D.same p.parsers.3 ∷ F.same p.parsers.4 ∷ G.same p.parsers.5 ∷ H.same p.parsers.6 ∷ J.same p.parsers.7 ∷ []) _ _ (and-agrees (A.agrees p.parsers.0 s.0) (and-agrees (B.agrees p.parsers.1 s.1) (and-agrees (C.agrees p.parsers.2 s.2) (and-agrees (D.agrees p.parsers.3 s.3) (and-agrees (F.agrees p.parsers.4 s.4) (and-agrees (G.agrees p.parsers.5 s.5) (and-agrees (H.agrees p.parsers.6 s.6) (and-agrees (J.agrees p.parsers.7 s.7) none-agree)))))))) };
+
+    #[inline]
+    fn go_emit(&self, inp: &mut InputRef<'src, '_, I, E>) -> PResult<O> {
+        let before = inp.save()?;
+        let tried = self.parsers.0.go_emit(inp);
+        let tried = emit_next(tried, &self.parsers.1, inp, &before);
+        let tried = emit_next(tried, &self.parsers.2, inp, &before);
+        let tried = emit_next(tried, &self.parsers.3, inp, &before);
+        let tried = emit_next(tried, &self.parsers.4, inp, &before);
+        let tried = emit_next(tried, &self.parsers.5, inp, &before);
+        let tried = emit_next(tried, &self.parsers.6, inp, &before);
+        emit_next(tried, &self.parsers.7, inp, &before)
+    }
+
+    #[inline]
+    fn go_check(&self, inp: &mut InputRef<'src, '_, I, E>) -> PResult<()> {
+        let before = inp.save()?;
+        let tried = self.parsers.0.go_check(inp);
+        let tried = check_next(tried, &self.parsers.1, inp, &before);
+        let tried = check_next(tried, &self.parsers.2, inp, &before);
+        let tried = check_next(tried, &self.parsers.3, inp, &before);
+        let tried = check_next(tried, &self.parsers.4, inp, &before);
+        let tried = check_next(tried, &self.parsers.5, inp, &before);
+        let tried = check_next(tried, &self.parsers.6, inp, &before);
+        check_next(tried, &self.parsers.7, inp, &before)
+    }
+}
