@@ -1,0 +1,3 @@
+pub mod NextLemmas
+pub mod InTurnLemmas
+pub mod RegroupedLemmas

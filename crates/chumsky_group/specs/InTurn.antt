@@ -1,0 +1,35 @@
+-- The parts of a list in turn.
+use Rattle.std.specs.Prelude.{Option, Some, None, List, [], ◌∷◌, ⊤}
+use Rattle.arrayvec.specs.ArrayVec.{ArrayVec}
+use Rattle.chumsky_input.specs.Outcome.{Meaning}
+use Rattle.chumsky_parser.specs.Chained.{Chained, Given}
+use Rattle.chumsky_parser.specs.Failure.{wanting}
+
+module _ {V : Type 0} where
+  -- an item before those of a vector, where all are there
+  abbrev pub with_first : Option V → Option (ArrayVec V) → Option (ArrayVec V)
+  with_first (Some v) (Some vs) = Some (record { items = v ∷ vs.items })
+  with_first (Some v) None = None
+  with_first None vs = None
+
+  -- as many items, each by the sameness at its place
+  abbrev pub SameEach : List (V → V → Type 0) → List V → List V → Type 0
+  SameEach [] [] [] = ⊤
+  SameEach [] [] (w ∷ ws) = ⊥
+  SameEach [] (v ∷ vs) ws = ⊥
+  SameEach (s ∷ ss) [] ws = ⊥
+  SameEach (s ∷ ss) (v ∷ vs) [] = ⊥
+  SameEach (s ∷ ss) (v ∷ vs) (w ∷ ws) = s v w × SameEach ss vs ws
+
+  abbrev pub SameItems : List (V → V → Type 0) → ArrayVec V → ArrayVec V → Type 0
+  SameItems ss v w = SameEach ss v.items w.items
+
+module _ {Tok Cx St Er V : Type 0} where
+  -- yes, with no items
+  abbrev pub NoPart : Meaning Tok Cx St Er (ArrayVec V)
+  NoPart b o = Given (wanting b.wanted (record { items = [] })) b o
+
+  -- the first, and then the others, each beginning where the former ended: their values in order
+  abbrev pub InTurn : List (Meaning Tok Cx St Er V) → Meaning Tok Cx St Er (ArrayVec V)
+  InTurn [] = NoPart
+  InTurn (m ∷ ms) = Chained m (λ v. Chained (InTurn ms) (λ vs. Given (with_first v vs)))

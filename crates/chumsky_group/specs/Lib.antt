@@ -1,0 +1,5 @@
+pub mod Regrouped
+pub mod RegroupedLaws
+pub mod Next
+pub mod InTurn
+pub mod InTurnLaws

@@ -1,0 +1,68 @@
+//! Groups that are arrays.
+ghost use Rattle.std.specs.Prelude.{◌≡◌, length};
+
+use crate::group::Group;
+use arrayvec::ArrayVec;
+use chumsky_input::extra::ParserExtra;
+use chumsky_input::input::Input;
+use chumsky_input::input_ref::InputRef;
+use chumsky_input::stop::PResult;
+use chumsky_parser::parser::{IsParser, Parser};
+
+impl<I, O, E, P: IsParser<I, O, E>, const N: usize> IsParser<I, ArrayVec<O, N>, E>
+    for Group<[P; N]> {}
+
+impl<
+    'src,
+    I: Input<'src>,
+    O: Default + Drop,
+    E: ParserExtra<I>,
+    P: Parser<'src, I, O, E>,
+    const N: usize,
+> Parser<'src, I, ArrayVec<O, N>, E> for Group<[P; N]> {
+    ghost use Rattle.std.specs.Prelude.{map};
+    ghost use Rattle.std.specs.List.{All};
+    ghost use Rattle.chumsky_parser.specs.ChoiceLaws.{each-ends, each-agrees};
+    ghost use Rattle.chumsky_group.specs.InTurn.{InTurn, SameItems};
+    ghost use Rattle.chumsky_group.specs.InTurnLaws.{in_turn-ends, in_turn-agrees};
+
+    ghost ready = { λ p. All P.ready p.parsers };
+
+    ghost meaning = { λ p errors states. InTurn (map (λ q. P.meaning q errors states) p.parsers) };
+
+    ghost steady = { λ p. All P.steady p.parsers };
+
+    ghost same = { λ p. SameItems (map P.same p.parsers) };
+
+    ghost ends_after_start = { λ p. in_turn-ends _ (each-ends _ P.ends_after_start p.parsers) };
+
+    ghost agrees = { λ p s. in_turn-agrees _ _ (each-agrees _ P.steady P.same P.agrees p.parsers s) };
+
+    #[inline]
+    fn go_emit(&self, inp: &mut InputRef<'src, '_, I, E>) -> PResult<ArrayVec<O, N>> {
+        let parsers = slice_of(&self.parsers);
+        let mut outputs = ArrayVec::new();
+        for parser in parsers {
+            outputs.push(parser.go_emit(inp)?);
+        }
+        Ok(outputs)
+    }
+
+    #[inline]
+    fn go_check(&self, inp: &mut InputRef<'src, '_, I, E>) -> PResult<()> {
+        let parsers: &[P] = &self.parsers;
+        for parser in parsers {
+            parser.go_check(inp)?;
+        }
+        Ok(())
+    }
+}
+
+/// The parsers of an array, which are `N`.
+#[inline]
+fn slice_of<P, const N: usize>(parsers: &[P; N]) -> &[P]
+    ensures all { result.now ≡ parsers.now }
+    ensures sized { length result.now ≡ N }
+{
+    parsers
+}

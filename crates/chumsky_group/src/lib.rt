@@ -1,0 +1,10 @@
+//! Parsers in turn, given together as a tuple or an array.
+#![tactic(auto)]
+
+pub mod arrays;
+pub mod group;
+pub mod laws;
+pub mod make;
+mod next;
+pub mod steady;
+pub mod tuples;

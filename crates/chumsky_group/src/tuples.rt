@@ -1,0 +1,518 @@
+//! Groups that are tuples.
+use crate::group::Group;
+use crate::next::{check_after, emit_after};
+use chumsky_input::extra::ParserExtra;
+use chumsky_input::input::Input;
+use chumsky_input::input_ref::InputRef;
+use chumsky_input::stop::PResult;
+use chumsky_parser::parser::{IsParser, Parser};
+
+impl<I, OA, E, A: IsParser<I, OA, E>> IsParser<I, (OA,), E> for Group<(A,)> {}
+
+impl<'src, I: Input<'src>, OA, E: ParserExtra<I>, A: Parser<'src, I, OA, E>> Parser<
+    'src,
+    I,
+    (OA,),
+    E,
+> for Group<(A,)> {
+    ghost use Rattle.chumsky_group.specs.Regrouped.{Regrouped};
+    ghost use Rattle.chumsky_group.specs.RegroupedLaws.{first-agrees, regrouped-ends, regrouped-agrees};
+
+    ghost ready = { λ p. A.ready p.parsers.0 };
+
+    ghost meaning = { λ p errors states. Regrouped (λ v. record { 0 = v }) (A.meaning p.parsers.0 errors states) };
+
+    ghost steady = { λ p. A.steady p.parsers.0 };
+
+    ghost same = { λ p v w. A.same p.parsers.0 v.0 w.0 };
+
+    ghost ends_after_start = { λ p. regrouped-ends _ _ (A.ends_after_start p.parsers.0) };
+
+    ghost agrees = { λ p s. regrouped-agrees _ _ _ (λ v w t. t) (first-agrees (A.agrees p.parsers.0 s)) };
+
+    #[inline]
+    fn go_emit(&self, inp: &mut InputRef<'src, '_, I, E>) -> PResult<(OA,)> {
+        let a = self.parsers.0.go_emit(inp)?;
+        Ok((a,))
+    }
+
+    #[inline]
+    fn go_check(&self, inp: &mut InputRef<'src, '_, I, E>) -> PResult<()> {
+        self.parsers.0.go_check(inp)
+    }
+}
+
+impl<I, OA, OB, E, A: IsParser<I, OA, E>, B: IsParser<I, OB, E>> IsParser<I, (OA, OB), E>
+    for Group<(A, B)> {}
+
+impl<
+    'src,
+    I: Input<'src>,
+    OA: Drop,
+    OB,
+    E: ParserExtra<I>,
+    A: Parser<'src, I, OA, E>,
+    B: Parser<'src, I, OB, E>,
+> Parser<'src, I, (OA, OB), E> for Group<(A, B)> {
+    ghost use Rattle.chumsky_parser.specs.Chained.{Sequence, SamePair};
+    ghost use Rattle.chumsky_parser.specs.Laws.{sequence-ends, sequence-agrees};
+
+    ghost ready = { λ p. A.ready p.parsers.0 × B.ready p.parsers.1 };
+
+    ghost meaning = { λ p errors states. Sequence (A.meaning p.parsers.0 errors states) (B.meaning p.parsers.1 errors states) };
+
+    ghost steady = { λ p. A.steady p.parsers.0 × B.steady p.parsers.1 };
+
+    ghost same = { λ p. SamePair (A.same p.parsers.0) (B.same p.parsers.1) };
+
+    ghost ends_after_start = { λ p. sequence-ends _ _ (A.ends_after_start p.parsers.0) (B.ends_after_start p.parsers.1) };
+
+    ghost agrees = { λ p s. sequence-agrees _ _ (A.same p.parsers.0) (B.same p.parsers.1) (A.agrees p.parsers.0 s.0) (B.agrees p.parsers.1 s.1) };
+
+    #[inline]
+    fn go_emit(&self, inp: &mut InputRef<'src, '_, I, E>) -> PResult<(OA, OB)> {
+        let one = self.parsers.0.go_emit(inp);
+        emit_after(one, &self.parsers.1, inp)
+    }
+
+    #[inline]
+    fn go_check(&self, inp: &mut InputRef<'src, '_, I, E>) -> PResult<()> {
+        let one = self.parsers.0.go_check(inp);
+        check_after(one, &self.parsers.1, inp)
+    }
+}
+
+impl<
+    I,
+    OA,
+    OB,
+    OC,
+    E,
+    A: IsParser<I, OA, E>,
+    B: IsParser<I, OB, E>,
+    C: IsParser<I, OC, E>,
+> IsParser<I, (OA, OB, OC), E> for Group<(A, B, C)> {}
+
+impl<
+    'src,
+    I: Input<'src>,
+    OA: Drop,
+    OB: Drop,
+    OC,
+    E: ParserExtra<I>,
+    A: Parser<'src, I, OA, E>,
+    B: Parser<'src, I, OB, E>,
+    C: Parser<'src, I, OC, E>,
+> Parser<'src, I, (OA, OB, OC), E> for Group<(A, B, C)> {
+    ghost use Rattle.chumsky_parser.specs.Chained.{Sequence};
+    ghost use Rattle.chumsky_parser.specs.Laws.{sequence-ends};
+    ghost use Rattle.chumsky_group.specs.Regrouped.{Regrouped};
+    ghost use Rattle.chumsky_group.specs.RegroupedLaws.{first-agrees, and-agrees, regrouped-ends, regrouped-agrees};
+
+    ghost ready = { λ p. A.ready p.parsers.0 × B.ready p.parsers.1 × C.ready p.parsers.2 };
+
+    ghost meaning = { λ p errors states. Regrouped (λ v. (v.0.0, v.0.1, v.1)) (Sequence (Sequence (A.meaning p.parsers.0 errors states) (B.meaning p.parsers.1 errors states)) (C.meaning p.parsers.2 errors states)) };
+
+    ghost steady = { λ p. A.steady p.parsers.0 × B.steady p.parsers.1 × C.steady p.parsers.2 };
+
+    ghost same = { λ p v w. A.same p.parsers.0 v.0 w.0 × B.same p.parsers.1 v.1 w.1 × C.same p.parsers.2 v.2 w.2 };
+
+    ghost ends_after_start = { λ p. regrouped-ends _ _ (sequence-ends _ _ (sequence-ends _ _ (A.ends_after_start p.parsers.0) (B.ends_after_start p.parsers.1)) (C.ends_after_start p.parsers.2)) };
+
+    ghost agrees = { λ p s. regrouped-agrees _ _ _ (λ v w t. (t.0.0, t.0.1, t.1)) (and-agrees (and-agrees (first-agrees (A.agrees p.parsers.0 s.0)) (B.agrees p.parsers.1 s.1)) (C.agrees p.parsers.2 s.2)) };
+
+    #[inline]
+    fn go_emit(&self, inp: &mut InputRef<'src, '_, I, E>) -> PResult<(OA, OB, OC)> {
+        let (a, b, c) = &self.parsers;
+        let one = a.go_emit(inp);
+        let two = emit_after(one, b, inp);
+        let ((a, b), c) = emit_after(two, c, inp)?;
+        Ok((a, b, c))
+    }
+
+    #[inline]
+    fn go_check(&self, inp: &mut InputRef<'src, '_, I, E>) -> PResult<()> {
+        let (a, b, c) = &self.parsers;
+        let one = a.go_check(inp);
+        let two = check_after(one, b, inp);
+        check_after(two, c, inp)
+    }
+}
+
+impl<
+    I,
+    OA,
+    OB,
+    OC,
+    OD,
+    E,
+    A: IsParser<I, OA, E>,
+    B: IsParser<I, OB, E>,
+    C: IsParser<I, OC, E>,
+    D: IsParser<I, OD, E>,
+> IsParser<I, (OA, OB, OC, OD), E> for Group<(A, B, C, D)> {}
+
+impl<
+    'src,
+    I: Input<'src>,
+    OA: Drop,
+    OB: Drop,
+    OC: Drop,
+    OD,
+    E: ParserExtra<I>,
+    A: Parser<'src, I, OA, E>,
+    B: Parser<'src, I, OB, E>,
+    C: Parser<'src, I, OC, E>,
+    D: Parser<'src, I, OD, E>,
+> Parser<'src, I, (OA, OB, OC, OD), E> for Group<(A, B, C, D)> {
+    ghost use Rattle.chumsky_parser.specs.Chained.{Sequence};
+    ghost use Rattle.chumsky_parser.specs.Laws.{sequence-ends};
+    ghost use Rattle.chumsky_group.specs.Regrouped.{Regrouped};
+    ghost use Rattle.chumsky_group.specs.RegroupedLaws.{first-agrees, and-agrees, regrouped-ends, regrouped-agrees};
+
+    ghost ready = { λ p. A.ready p.parsers.0 × B.ready p.parsers.1 × C.ready p.parsers.2 × D.ready p.parsers.3 };
+
+    ghost meaning = { λ p errors states. Regrouped (λ v. (v.0.0.0, v.0.0.1, v.0.1, v.1)) (Sequence (Sequence (Sequence (A.meaning p.parsers.0 errors states) (B.meaning p.parsers.1 errors states)) (C.meaning p.parsers.2 errors states)) (D.meaning p.parsers.3 errors states)) };
+
+    ghost steady = { λ p. A.steady p.parsers.0 × B.steady p.parsers.1 × C.steady p.parsers.2 × D.steady p.parsers.3 };
+
+    ghost same = { λ p v w. A.same p.parsers.0 v.0 w.0 × B.same p.parsers.1 v.1 w.1 × C.same p.parsers.2 v.2 w.2 × D.same p.parsers.3 v.3 w.3 };
+
+    ghost ends_after_start = { λ p. regrouped-ends _ _ (sequence-ends _ _ (sequence-ends _ _ (sequence-ends _ _ (A.ends_after_start p.parsers.0) (B.ends_after_start p.parsers.1)) (C.ends_after_start p.parsers.2)) (D.ends_after_start p.parsers.3)) };
+
+    ghost agrees = { λ p s. regrouped-agrees _ _ _ (λ v w t. (t.0.0.0, t.0.0.1, t.0.1, t.1)) (and-agrees (and-agrees (and-agrees (first-agrees (A.agrees p.parsers.0 s.0)) (B.agrees p.parsers.1 s.1)) (C.agrees p.parsers.2 s.2)) (D.agrees p.parsers.3 s.3)) };
+
+    #[inline]
+    fn go_emit(&self, inp: &mut InputRef<'src, '_, I, E>) -> PResult<(OA, OB, OC, OD)> {
+        let (a, b, c, d) = &self.parsers;
+        let one = a.go_emit(inp);
+        let two = emit_after(one, b, inp);
+        let three = emit_after(two, c, inp);
+        let (((a, b), c), d) = emit_after(three, d, inp)?;
+        Ok((a, b, c, d))
+    }
+
+    #[inline]
+    fn go_check(&self, inp: &mut InputRef<'src, '_, I, E>) -> PResult<()> {
+        let (a, b, c, d) = &self.parsers;
+        let one = a.go_check(inp);
+        let two = check_after(one, b, inp);
+        let three = check_after(two, c, inp);
+        check_after(three, d, inp)
+    }
+}
+
+impl<
+    I,
+    OA,
+    OB,
+    OC,
+    OD,
+    OF,
+    E,
+    A: IsParser<I, OA, E>,
+    B: IsParser<I, OB, E>,
+    C: IsParser<I, OC, E>,
+    D: IsParser<I, OD, E>,
+    F: IsParser<I, OF, E>,
+> IsParser<I, (OA, OB, OC, OD, OF), E> for Group<(A, B, C, D, F)> {}
+
+impl<
+    'src,
+    I: Input<'src>,
+    OA: Drop,
+    OB: Drop,
+    OC: Drop,
+    OD: Drop,
+    OF,
+    E: ParserExtra<I>,
+    A: Parser<'src, I, OA, E>,
+    B: Parser<'src, I, OB, E>,
+    C: Parser<'src, I, OC, E>,
+    D: Parser<'src, I, OD, E>,
+    F: Parser<'src, I, OF, E>,
+> Parser<'src, I, (OA, OB, OC, OD, OF), E> for Group<(A, B, C, D, F)> {
+    ghost use Rattle.chumsky_parser.specs.Chained.{Sequence};
+    ghost use Rattle.chumsky_parser.specs.Laws.{sequence-ends};
+    ghost use Rattle.chumsky_group.specs.Regrouped.{Regrouped};
+    ghost use Rattle.chumsky_group.specs.RegroupedLaws.{first-agrees, and-agrees, regrouped-ends, regrouped-agrees};
+
+    ghost ready = { λ p. A.ready p.parsers.0 × B.ready p.parsers.1 × C.ready p.parsers.2 × D.ready p.parsers.3 × F.ready p.parsers.4 };
+
+    ghost meaning = { λ p errors states. Regrouped (λ v. (v.0.0.0.0, v.0.0.0.1, v.0.0.1, v.0.1, v.1)) (Sequence (Sequence (Sequence (Sequence (A.meaning p.parsers.0 errors states) (B.meaning p.parsers.1 errors states)) (C.meaning p.parsers.2 errors states)) (D.meaning p.parsers.3 errors states)) (F.meaning p.parsers.4 errors states)) };
+
+    ghost steady = { λ p. A.steady p.parsers.0 × B.steady p.parsers.1 × C.steady p.parsers.2 × D.steady p.parsers.3 × F.steady p.parsers.4 };
+
+    ghost same = { λ p v w. A.same p.parsers.0 v.0 w.0 × B.same p.parsers.1 v.1 w.1 × C.same p.parsers.2 v.2 w.2 × D.same p.parsers.3 v.3 w.3 × F.same p.parsers.4 v.4 w.4 };
+
+    ghost ends_after_start = { λ p. regrouped-ends _ _ (sequence-ends _ _ (sequence-ends _ _ (sequence-ends _ _ (sequence-ends _ _ (A.ends_after_start p.parsers.0) (B.ends_after_start p.parsers.1)) (C.ends_after_start p.parsers.2)) (D.ends_after_start p.parsers.3)) (F.ends_after_start p.parsers.4)) };
+
+    ghost agrees = { λ p s. regrouped-agrees _ _ _ (λ v w t. (t.0.0.0.0, t.0.0.0.1, t.0.0.1, t.0.1, t.1)) (and-agrees (and-agrees (and-agrees (and-agrees (first-agrees (A.agrees p.parsers.0 s.0)) (B.agrees p.parsers.1 s.1)) (C.agrees p.parsers.2 s.2)) (D.agrees p.parsers.3 s.3)) (F.agrees p.parsers.4 s.4)) };
+
+    #[inline]
+    fn go_emit(&self, inp: &mut InputRef<'src, '_, I, E>) -> PResult<(OA, OB, OC, OD, OF)> {
+        let (a, b, c, d, f) = &self.parsers;
+        let one = a.go_emit(inp);
+        let two = emit_after(one, b, inp);
+        let three = emit_after(two, c, inp);
+        let four = emit_after(three, d, inp);
+        let ((((a, b), c), d), f) = emit_after(four, f, inp)?;
+        Ok((a, b, c, d, f))
+    }
+
+    #[inline]
+    fn go_check(&self, inp: &mut InputRef<'src, '_, I, E>) -> PResult<()> {
+        let (a, b, c, d, f) = &self.parsers;
+        let one = a.go_check(inp);
+        let two = check_after(one, b, inp);
+        let three = check_after(two, c, inp);
+        let four = check_after(three, d, inp);
+        check_after(four, f, inp)
+    }
+}
+
+impl<
+    I,
+    OA,
+    OB,
+    OC,
+    OD,
+    OF,
+    OG,
+    E,
+    A: IsParser<I, OA, E>,
+    B: IsParser<I, OB, E>,
+    C: IsParser<I, OC, E>,
+    D: IsParser<I, OD, E>,
+    F: IsParser<I, OF, E>,
+    G: IsParser<I, OG, E>,
+> IsParser<I, (OA, OB, OC, OD, OF, OG), E> for Group<(A, B, C, D, F, G)> {}
+
+impl<
+    'src,
+    I: Input<'src>,
+    OA: Drop,
+    OB: Drop,
+    OC: Drop,
+    OD: Drop,
+    OF: Drop,
+    OG,
+    E: ParserExtra<I>,
+    A: Parser<'src, I, OA, E>,
+    B: Parser<'src, I, OB, E>,
+    C: Parser<'src, I, OC, E>,
+    D: Parser<'src, I, OD, E>,
+    F: Parser<'src, I, OF, E>,
+    G: Parser<'src, I, OG, E>,
+> Parser<'src, I, (OA, OB, OC, OD, OF, OG), E> for Group<(A, B, C, D, F, G)> {
+    ghost use Rattle.chumsky_parser.specs.Chained.{Sequence};
+    ghost use Rattle.chumsky_parser.specs.Laws.{sequence-ends};
+    ghost use Rattle.chumsky_group.specs.Regrouped.{Regrouped};
+    ghost use Rattle.chumsky_group.specs.RegroupedLaws.{first-agrees, and-agrees, regrouped-ends, regrouped-agrees};
+
+    ghost ready = { λ p. A.ready p.parsers.0 × B.ready p.parsers.1 × C.ready p.parsers.2 × D.ready p.parsers.3 × F.ready p.parsers.4 × G.ready p.parsers.5 };
+
+    ghost meaning = { λ p errors states. Regrouped (λ v. (v.0.0.0.0.0, v.0.0.0.0.1, v.0.0.0.1, v.0.0.1, v.0.1, v.1)) (Sequence (Sequence (Sequence (Sequence (Sequence (A.meaning p.parsers.0 errors states) (B.meaning p.parsers.1 errors states)) (C.meaning p.parsers.2 errors states)) (D.meaning p.parsers.3 errors states)) (F.meaning p.parsers.4 errors states)) (G.meaning p.parsers.5 errors states)) };
+
+    ghost steady = { λ p. A.steady p.parsers.0 × B.steady p.parsers.1 × C.steady p.parsers.2 × D.steady p.parsers.3 × F.steady p.parsers.4 × G.steady p.parsers.5 };
+
+    ghost same = { λ p v w. A.same p.parsers.0 v.0 w.0 × B.same p.parsers.1 v.1 w.1 × C.same p.parsers.2 v.2 w.2 × D.same p.parsers.3 v.3 w.3 × F.same p.parsers.4 v.4 w.4 × G.same p.parsers.5 v.5 w.5 };
+
+    ghost ends_after_start = { λ p. regrouped-ends _ _ (sequence-ends _ _ (sequence-ends _ _ (sequence-ends _ _ (sequence-ends _ _ (sequence-ends _ _ (A.ends_after_start p.parsers.0) (B.ends_after_start p.parsers.1)) (C.ends_after_start p.parsers.2)) (D.ends_after_start p.parsers.3)) (F.ends_after_start p.parsers.4)) (G.ends_after_start p.parsers.5)) };
+
+    ghost agrees = { λ p s. regrouped-agrees _ _ _ (λ v w t. (t.0.0.0.0.0, t.0.0.0.0.1, t.0.0.0.1, t.0.0.1, t.0.1, t.1)) (and-agrees (and-agrees (and-agrees (and-agrees (and-agrees (first-agrees (A.agrees p.parsers.0 s.0)) (B.agrees p.parsers.1 s.1)) (C.agrees p.parsers.2 s.2)) (D.agrees p.parsers.3 s.3)) (F.agrees p.parsers.4 s.4)) (G.agrees p.parsers.5 s.5)) };
+
+    #[inline]
+    fn go_emit(&self, inp: &mut InputRef<'src, '_, I, E>) -> PResult<(OA, OB, OC, OD, OF, OG)> {
+        let (a, b, c, d, f, g) = &self.parsers;
+        let one = a.go_emit(inp);
+        let two = emit_after(one, b, inp);
+        let three = emit_after(two, c, inp);
+        let four = emit_after(three, d, inp);
+        let five = emit_after(four, f, inp);
+        let (((((a, b), c), d), f), g) = emit_after(five, g, inp)?;
+        Ok((a, b, c, d, f, g))
+    }
+
+    #[inline]
+    fn go_check(&self, inp: &mut InputRef<'src, '_, I, E>) -> PResult<()> {
+        let (a, b, c, d, f, g) = &self.parsers;
+        let one = a.go_check(inp);
+        let two = check_after(one, b, inp);
+        let three = check_after(two, c, inp);
+        let four = check_after(three, d, inp);
+        let five = check_after(four, f, inp);
+        check_after(five, g, inp)
+    }
+}
+
+impl<
+    I,
+    OA,
+    OB,
+    OC,
+    OD,
+    OF,
+    OG,
+    OH,
+    E,
+    A: IsParser<I, OA, E>,
+    B: IsParser<I, OB, E>,
+    C: IsParser<I, OC, E>,
+    D: IsParser<I, OD, E>,
+    F: IsParser<I, OF, E>,
+    G: IsParser<I, OG, E>,
+    H: IsParser<I, OH, E>,
+> IsParser<I, (OA, OB, OC, OD, OF, OG, OH), E> for Group<(A, B, C, D, F, G, H)> {}
+
+impl<
+    'src,
+    I: Input<'src>,
+    OA: Drop,
+    OB: Drop,
+    OC: Drop,
+    OD: Drop,
+    OF: Drop,
+    OG: Drop,
+    OH,
+    E: ParserExtra<I>,
+    A: Parser<'src, I, OA, E>,
+    B: Parser<'src, I, OB, E>,
+    C: Parser<'src, I, OC, E>,
+    D: Parser<'src, I, OD, E>,
+    F: Parser<'src, I, OF, E>,
+    G: Parser<'src, I, OG, E>,
+    H: Parser<'src, I, OH, E>,
+> Parser<'src, I, (OA, OB, OC, OD, OF, OG, OH), E> for Group<(A, B, C, D, F, G, H)> {
+    ghost use Rattle.chumsky_parser.specs.Chained.{Sequence};
+    ghost use Rattle.chumsky_parser.specs.Laws.{sequence-ends};
+    ghost use Rattle.chumsky_group.specs.Regrouped.{Regrouped};
+    ghost use Rattle.chumsky_group.specs.RegroupedLaws.{first-agrees, and-agrees, regrouped-ends, regrouped-agrees};
+
+    ghost ready = { λ p. A.ready p.parsers.0 × B.ready p.parsers.1 × C.ready p.parsers.2 × D.ready p.parsers.3 × F.ready p.parsers.4 × G.ready p.parsers.5 × H.ready p.parsers.6 };
+
+    ghost meaning = { λ p errors states. Regrouped (λ v. (v.0.0.0.0.0.0, v.0.0.0.0.0.1, v.0.0.0.0.1, v.0.0.0.1, v.0.0.1, v.0.1, v.1)) (Sequence (Sequence (Sequence (Sequence (Sequence (Sequence (A.meaning p.parsers.0 errors states) (B.meaning p.parsers.1 errors states)) (C.meaning p.parsers.2 errors states)) (D.meaning p.parsers.3 errors states)) (F.meaning p.parsers.4 errors states)) (G.meaning p.parsers.5 errors states)) (H.meaning p.parsers.6 errors states)) };
+
+    ghost steady = { λ p. A.steady p.parsers.0 × B.steady p.parsers.1 × C.steady p.parsers.2 × D.steady p.parsers.3 × F.steady p.parsers.4 × G.steady p.parsers.5 × H.steady p.parsers.6 };
+
+    ghost same = { λ p v w. A.same p.parsers.0 v.0 w.0 × B.same p.parsers.1 v.1 w.1 × C.same p.parsers.2 v.2 w.2 × D.same p.parsers.3 v.3 w.3 × F.same p.parsers.4 v.4 w.4 × G.same p.parsers.5 v.5 w.5 × H.same p.parsers.6 v.6 w.6 };
+
+    ghost ends_after_start = { λ p. regrouped-ends _ _ (sequence-ends _ _ (sequence-ends _ _ (sequence-ends _ _ (sequence-ends _ _ (sequence-ends _ _ (sequence-ends _ _ (A.ends_after_start p.parsers.0) (B.ends_after_start p.parsers.1)) (C.ends_after_start p.parsers.2)) (D.ends_after_start p.parsers.3)) (F.ends_after_start p.parsers.4)) (G.ends_after_start p.parsers.5)) (H.ends_after_start p.parsers.6)) };
+
+    ghost agrees = { λ p s. regrouped-agrees _ _ _ (λ v w t. (t.0.0.0.0.0.0, t.0.0.0.0.0.1, t.0.0.0.0.1, t.0.0.0.1, t.0.0.1, t.0.1, t.1)) (and-agrees (and-agrees (and-agrees (and-agrees (and-agrees (and-agrees (first-agrees (A.agrees p.parsers.0 s.0)) (B.agrees p.parsers.1 s.1)) (C.agrees p.parsers.2 s.2)) (D.agrees p.parsers.3 s.3)) (F.agrees p.parsers.4 s.4)) (G.agrees p.parsers.5 s.5)) (H.agrees p.parsers.6 s.6)) };
+
+    #[inline]
+    fn go_emit(&self, inp: &mut InputRef<'src, '_, I, E>) -> PResult<(OA, OB, OC, OD, OF, OG, OH)> {
+        let (a, b, c, d, f, g, h) = &self.parsers;
+        let one = a.go_emit(inp);
+        let two = emit_after(one, b, inp);
+        let three = emit_after(two, c, inp);
+        let four = emit_after(three, d, inp);
+        let five = emit_after(four, f, inp);
+        let six = emit_after(five, g, inp);
+        let ((((((a, b), c), d), f), g), h) = emit_after(six, h, inp)?;
+        Ok((a, b, c, d, f, g, h))
+    }
+
+    #[inline]
+    fn go_check(&self, inp: &mut InputRef<'src, '_, I, E>) -> PResult<()> {
+        let (a, b, c, d, f, g, h) = &self.parsers;
+        let one = a.go_check(inp);
+        let two = check_after(one, b, inp);
+        let three = check_after(two, c, inp);
+        let four = check_after(three, d, inp);
+        let five = check_after(four, f, inp);
+        let six = check_after(five, g, inp);
+        check_after(six, h, inp)
+    }
+}
+
+impl<
+    I,
+    OA,
+    OB,
+    OC,
+    OD,
+    OF,
+    OG,
+    OH,
+    OJ,
+    E,
+    A: IsParser<I, OA, E>,
+    B: IsParser<I, OB, E>,
+    C: IsParser<I, OC, E>,
+    D: IsParser<I, OD, E>,
+    F: IsParser<I, OF, E>,
+    G: IsParser<I, OG, E>,
+    H: IsParser<I, OH, E>,
+    J: IsParser<I, OJ, E>,
+> IsParser<I, (OA, OB, OC, OD, OF, OG, OH, OJ), E> for Group<(A, B, C, D, F, G, H, J)> {}
+
+impl<
+    'src,
+    I: Input<'src>,
+    OA: Drop,
+    OB: Drop,
+    OC: Drop,
+    OD: Drop,
+    OF: Drop,
+    OG: Drop,
+    OH: Drop,
+    OJ,
+    E: ParserExtra<I>,
+    A: Parser<'src, I, OA, E>,
+    B: Parser<'src, I, OB, E>,
+    C: Parser<'src, I, OC, E>,
+    D: Parser<'src, I, OD, E>,
+    F: Parser<'src, I, OF, E>,
+    G: Parser<'src, I, OG, E>,
+    H: Parser<'src, I, OH, E>,
+    J: Parser<'src, I, OJ, E>,
+> Parser<'src, I, (OA, OB, OC, OD, OF, OG, OH, OJ), E> for Group<(A, B, C, D, F, G, H, J)> {
+    ghost use Rattle.chumsky_parser.specs.Chained.{Sequence};
+    ghost use Rattle.chumsky_parser.specs.Laws.{sequence-ends};
+    ghost use Rattle.chumsky_group.specs.Regrouped.{Regrouped};
+    ghost use Rattle.chumsky_group.specs.RegroupedLaws.{first-agrees, and-agrees, regrouped-ends, regrouped-agrees};
+
+    ghost ready = { λ p. A.ready p.parsers.0 × B.ready p.parsers.1 × C.ready p.parsers.2 × D.ready p.parsers.3 × F.ready p.parsers.4 × G.ready p.parsers.5 × H.ready p.parsers.6 × J.ready p.parsers.7 };
+
+    ghost meaning = { λ p errors states. Regrouped (λ v. (v.0.0.0.0.0.0.0, v.0.0.0.0.0.0.1, v.0.0.0.0.0.1, v.0.0.0.0.1, v.0.0.0.1, v.0.0.1, v.0.1, v.1)) (Sequence (Sequence (Sequence (Sequence (Sequence (Sequence (Sequence (A.meaning p.parsers.0 errors states) (B.meaning p.parsers.1 errors states)) (C.meaning p.parsers.2 errors states)) (D.meaning p.parsers.3 errors states)) (F.meaning p.parsers.4 errors states)) (G.meaning p.parsers.5 errors states)) (H.meaning p.parsers.6 errors states)) (J.meaning p.parsers.7 errors states)) };
+
+    ghost steady = { λ p. A.steady p.parsers.0 × B.steady p.parsers.1 × C.steady p.parsers.2 × D.steady p.parsers.3 × F.steady p.parsers.4 × G.steady p.parsers.5 × H.steady p.parsers.6 × J.steady p.parsers.7 };
+
+    ghost same = { λ p v w. A.same p.parsers.0 v.0 w.0 × B.same p.parsers.1 v.1 w.1 × C.same p.parsers.2 v.2 w.2 × D.same p.parsers.3 v.3 w.3 × F.same p.parsers.4 v.4 w.4 × G.same p.parsers.5 v.5 w.5 × H.same p.parsers.6 v.6 w.6 × J.same p.parsers.7 v.7 w.7 };
+
+    ghost ends_after_start = { λ p. regrouped-ends _ _ (sequence-ends _ _ (sequence-ends _ _ (sequence-ends _ _ (sequence-ends _ _ (sequence-ends _ _ (sequence-ends _ _ (sequence-ends _ _ (A.ends_after_start p.parsers.0) (B.ends_after_start p.parsers.1)) (C.ends_after_start p.parsers.2)) (D.ends_after_start p.parsers.3)) (F.ends_after_start p.parsers.4)) (G.ends_after_start p.parsers.5)) (H.ends_after_start p.parsers.6)) (J.ends_after_start p.parsers.7)) };
+
+    ghost agrees = { λ p s. regrouped-agrees _ _ _ (λ v w t. (t.0.0.0.0.0.0.0, t.0.0.0.0.0.0.1, t.0.0.0.0.0.1, t.0.0.0.0.1, t.0.0.0.1, t.0.0.1, t.0.1, t.1)) (and-agrees (and-agrees (and-agrees (and-agrees (and-agrees (and-agrees (and-agrees (first-agrees (A.agrees p.parsers.0 s.0)) (B.agrees p.parsers.1 s.1)) (C.agrees p.parsers.2 s.2)) (D.agrees p.parsers.3 s.3)) (F.agrees p.parsers.4 s.4)) (G.agrees p.parsers.5 s.5)) (H.agrees p.parsers.6 s.6)) (J.agrees p.parsers.7 s.7)) };
+
+    #[inline]
+    fn go_emit(
+        &self,
+        inp: &mut InputRef<'src, '_, I, E>,
+    ) -> PResult<(OA, OB, OC, OD, OF, OG, OH, OJ)> {
+        let (a, b, c, d, f, g, h, j) = &self.parsers;
+        let one = a.go_emit(inp);
+        let two = emit_after(one, b, inp);
+        let three = emit_after(two, c, inp);
+        let four = emit_after(three, d, inp);
+        let five = emit_after(four, f, inp);
+        let six = emit_after(five, g, inp);
+        let seven = emit_after(six, h, inp);
+        let (((((((a, b), c), d), f), g), h), j) = emit_after(seven, j, inp)?;
+        Ok((a, b, c, d, f, g, h, j))
+    }
+
+    #[inline]
+    fn go_check(&self, inp: &mut InputRef<'src, '_, I, E>) -> PResult<()> {
+        let (a, b, c, d, f, g, h, j) = &self.parsers;
+        let one = a.go_check(inp);
+        let two = check_after(one, b, inp);
+        let three = check_after(two, c, inp);
+        let four = check_after(three, d, inp);
+        let five = check_after(four, f, inp);
+        let six = check_after(five, g, inp);
+        let seven = check_after(six, h, inp);
+        check_after(seven, j, inp)
+    }
+}
