@@ -1,0 +1,4 @@
+pub mod PartLemmas
+pub mod RoundsLemmas
+pub mod TurnsLemmas
+pub mod ListLemmas

@@ -1,0 +1,104 @@
+-- Parsers in any order: rounds over those that are not taken yet, and then what is left.
+use Rattle.std.specs.Prelude.{◌≡◌, ℕ, zero, suc, ◌<◌, ◌≤◌, ◌+◌, Option, Some, None, option_map, List, [], ◌∷◌, ◌++◌, ◌⊎◌, true}
+use Rattle.chumsky_input.specs.Outcome.{Meaning, Beginning, Outcome, No}
+use Rattle.chumsky_parser.specs.Chained.{Chained, Given, Sequence, both}
+use Rattle.chumsky_parser.specs.Failure.{Refuses, wanting}
+use Rattle.chumsky_parser.specs.Choice.{OrElse}
+
+-- what is taken of a part: nothing yet, or its value, where one is wanted
+abbrev pub Slot : Type 0 → Type 0
+Slot V = Option (Option V)
+
+-- one for a slot with nothing yet
+abbrev pub still : {V : Type 0} → Option V → ℕ
+still (Some v) = 0
+still None = 1
+
+-- what one pass over some parts may do, from what is taken of them to what is taken then; what the last pass may do,
+-- which gives their values; and how many of them are not taken
+pub record Row (Tok Cx St Er T V : Type 0) : Type 1 where
+  pub pass : T → Meaning Tok Cx St Er T
+  pub last : T → Meaning Tok Cx St Er V
+  pub left : T → ℕ
+
+module _ {Tok Cx St Er V : Type 0} where
+  -- no, and nothing done
+  abbrev pub SaysNo : Meaning Tok Cx St Er V
+  SaysNo b o = o ≡ record { verdict = No; end = b.start; state = b.state; events = []; emitted = [] }
+
+module _ {Tok Cx St Er V : Type 0} where
+  -- a value for a slot where the run stands past a place; else no
+  abbrev pub Past : ℕ → Option V → Meaning Tok Cx St Er (Slot V)
+  Past place v b o = ((place < b.start) × Given (Some (Some v)) b o) ⊎ ((b.start ≤ place) × SaysNo b o)
+
+  -- a part whose yes counts only where it has moved
+  pub record Moving (part : Meaning Tok Cx St Er V) (b : Beginning Tok Cx St) (o : Outcome (Slot V) Er St) : Type 0 where
+    pub run : Chained part (Past b.start) b o
+
+  -- a part that is not taken runs, and what is taken stays
+  abbrev pub Missing : Meaning Tok Cx St Er V → Slot V → Meaning Tok Cx St Er V
+  Missing part (Some v) = Given v
+  Missing part None = part
+
+module _ {Tok Cx St Mk Er V : Type 0} (mark : St → Mk) (back : St → Mk → St) (safe : Type 0) where
+  -- a part is taken where it says yes and has moved, and gone back from otherwise; what is taken stays
+  abbrev pub Offered : Meaning Tok Cx St Er V → Slot V → Meaning Tok Cx St Er (Slot V)
+  Offered part (Some v) = Given (Some (Some v))
+  Offered part None = OrElse mark back safe (Moving part) (Given (Some None))
+
+module _ {Tok Cx St Er : Type 0} where
+  -- a row of no parts
+  abbrev pub no_part : Row Tok Cx St Er (Unit {0}) (Unit {0})
+  no_part = record { pass = λ t. Given (Some t); last = λ t. Given (Some t); left = λ t. 0 }
+
+module _ {Tok Cx St Mk Er : Type 0} (mark : St → Mk) (back : St → Mk → St) (safe : Type 0) where
+  -- a part before a row of others
+  abbrev pub part_and : {T V W : Type 0} → Meaning Tok Cx St Er V → Row Tok Cx St Er T W → Row Tok Cx St Er (Slot V × T) (V × W)
+  part_and part others =
+      record {
+        pass = λ t. Sequence (Offered mark back safe part t.0) (others.pass t.1);
+        last = λ t. Sequence (Missing part t.0) (others.last t.1);
+        left = λ t. still t.0 + others.left t.1;
+      }
+
+module _ {Tok Cx St Er T V : Type 0} (row : Row Tok Cx St Er T V) where
+  -- after a round that has taken a part the rounds go on; after one that took none, the last pass
+  abbrev pub AfterRound : (T → Meaning Tok Cx St Er V) → T → Option T → Meaning Tok Cx St Er V
+  AfterRound rounds t None b o = ⊥
+  AfterRound rounds t (Some u) b o = ((row.left u < row.left t) × rounds u b o) ⊎ ((row.left u ≡ row.left t) × row.last u b o)
+
+  -- rounds, at most so many, and the last pass
+  abbrev pub Rounds : ℕ → T → Meaning Tok Cx St Er V
+  Rounds zero t = λ b o. ⊥
+  Rounds (suc n) t = Chained (row.pass t) (AfterRound (Rounds n) t)
+
+  -- some rounds and the last pass
+  pub record AnyOrder (t : T) (b : Beginning Tok Cx St) (o : Outcome V Er St) : Type 0 where
+    pub rounds : ℕ
+    pub run : Rounds rounds t b o
+
+-- one more value after these, where they are there
+abbrev pub one_more : {Y : Type 0} → Option (List Y) → Option Y → Option (List Y)
+one_more acc y = option_map (λ p. p.0 ++ p.1 ∷ []) (both acc y)
+
+-- how many have nothing yet
+abbrev pub all_still : {V : Type 0} → List (Slot V) → ℕ
+all_still [] = 0
+all_still (s ∷ ss) = still s + all_still ss
+
+module _ {X Tok Cx St Er V Y : Type 0} (turn : X → Slot V → Meaning Tok Cx St Er Y) where
+  -- the turns of parts, each with its slot, from left to right, and what they gave after these values
+  abbrev pub Turns : List X → List (Slot V) → Option (List Y) → Meaning Tok Cx St Er (List Y)
+  Turns [] slots values = Given values
+  Turns (part ∷ parts) [] values = Given values
+  Turns (part ∷ parts) (slot ∷ slots) values = Chained (turn part slot) (λ y. Turns parts slots (one_more values y))
+
+module _ {X Tok Cx St Mk Er V : Type 0} (mark : St → Mk) (back : St → Mk → St) (safe : Type 0) (meaning : X → Meaning Tok Cx St Er V) where
+  -- a row of parts of one kind; the list of their values may want memory
+  abbrev pub each_part : List X → Row Tok Cx St Er (List (Slot V)) (List V)
+  each_part parts =
+      record {
+        pass = λ t. Turns (λ x. Offered mark back safe (meaning x)) parts t (Some []);
+        last = λ t b o. Refuses (b.wanted ≡ true) b.state o ⊎ Turns (λ x. Missing (meaning x)) parts t (wanting b.wanted []) b o;
+        left = λ t. all_still t;
+      }

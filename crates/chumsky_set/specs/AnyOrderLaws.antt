@@ -1,0 +1,181 @@
+-- The laws of parsers in any order.
+use Rattle.std.proofs.Common.{◌≡◌, ℕ, zero, suc, ◌<◌, Option, Some, None, [], refl, ap, arith, inl, inr}
+use Rattle.std.specs.Prelude.{⊤}
+use Rattle.chumsky_input.specs.Outcome.{Meaning, Beginning, Outcome, Verdict, Yes, No, Halt, Clash, SameValue, Agree, EndsAfterStart, Agreeing}
+use Rattle.chumsky_parser.specs.Chained.{Given, Follows, Sequence, SamePair, both, from}
+use Rattle.chumsky_parser.specs.Laws.{chained-ends, chained-agrees, given-ends, given-agrees, sequence-ends}
+use Rattle.chumsky_parser.specs.Choice.{SameEither}
+use Rattle.chumsky_parser.specs.ChoiceLaws.{or_else-ends, or_else-agrees, agree-weaker}
+use Rattle.chumsky_set.specs.AnyOrder.{Slot, still, Row, Past, Moving, Missing, Offered, no_part, part_and, AfterRound, Rounds, AnyOrder}
+
+-- both are not taken, or both are, with values that are the same where both are there
+abbrev pub SameSlot : {V : Type 0} → (V → V → Type 0) → Slot V → Slot V → Type 0
+SameSlot same (Some v) (Some w) = SameValue same v w
+SameSlot same (Some v) None = ⊥
+SameSlot same None (Some w) = ⊥
+SameSlot same None None = ⊤
+
+-- there is one value
+abbrev pub SameUnit : Unit {0} → Unit {0} → Type 0
+SameUnit x y = ⊤
+
+module _ {Tok Cx St Er V : Type 0} where
+  past-ends : (place : ℕ) (v : Option V) → EndsAfterStart (Past {Tok = Tok} {Cx = Cx} {St = St} {Er = Er} place v)
+  past-ends place v b o (inl m) a = given-ends (Some (Some v)) b o m.1 a
+  past-ends place v b o (inr m) a = omega (arith, ap (λ (x : Outcome (Slot V) Er St). x.end) m.1)
+
+  past-agrees : (same : V → V → Type 0) (p q : ℕ) (v w : Option V) → p ≡ q → SameValue same v w
+      → Agreeing (SameSlot same) (Past {Tok = Tok} {Cx = Cx} {St = St} {Er = Er} p v) (Past {Tok = Tok} {Cx = Cx} {St = St} {Er = Er} q w)
+  past-agrees same p q v w e s b c o r alike (inl m) (inl n) a z = given-agrees (SameSlot same) (Some (Some v)) (Some (Some w)) s b c o r alike m.1 n.1 a z
+  past-agrees same p q v w e s b c o r alike (inl m) (inr n) a z = absurd (omega (arith, m.0, n.0, e, alike.start))
+  past-agrees same p q v w e s b c o r alike (inr m) (inl n) a z = absurd (omega (arith, m.0, n.0, e, alike.start))
+  past-agrees same p q v w e s b c o r alike (inr m) (inr n) a z =
+      let x : Outcome (Slot V) Er St = record { verdict = No; end = b.start; state = b.state; events = []; emitted = [] } in
+      let y : Outcome (Slot V) Er St = record { verdict = No; end = c.start; state = c.state; events = []; emitted = [] } in
+      let xy : Agree (SameSlot same) x y = record { answer = tt; end = alike.start; state = alike.state; events = refl; emitted = refl } in
+      rw (m.1, n.1) xy
+
+  moving-ends : (part : Meaning Tok Cx St Er V) → EndsAfterStart part → EndsAfterStart (Moving part)
+  moving-ends part h b o m a = chained-ends part (Past b.start) h (past-ends b.start) b o m.run a
+
+  moving-agrees : (part : Meaning Tok Cx St Er V) (same : V → V → Type 0) → Agreeing same part part → Agreeing (SameSlot same) (Moving part) (Moving part)
+  moving-agrees part same h b c o q alike m n a z =
+      chained-agrees part part (Past b.start) (Past c.start) same (SameSlot same) h (λ v w s. past-agrees same b.start c.start v w alike.start s) b c o q alike m.run n.run a z
+
+  pub missing-ends : (part : Meaning Tok Cx St Er V) (s : Slot V) → EndsAfterStart part → EndsAfterStart (Missing part s)
+  missing-ends part (Some v) h = given-ends v
+  missing-ends part None h = h
+
+  pub missing-agrees : (part : Meaning Tok Cx St Er V) (same : V → V → Type 0) (s t : Slot V) → Agreeing same part part → SameSlot same s t → Agreeing same (Missing part s) (Missing part t)
+  missing-agrees part same (Some v) (Some w) h e = given-agrees same v w e
+  missing-agrees part same (Some v) None h e = absurd e
+  missing-agrees part same None (Some w) h e = absurd e
+  missing-agrees part same None None h e = h
+
+module _ {V : Type 0} (same : V → V → Type 0) where
+  pub still-same : (s t : Slot V) → SameSlot same s t → still s ≡ still t
+  still-same (Some v) (Some w) e = refl
+  still-same (Some v) None e = absurd e
+  still-same None (Some w) e = absurd e
+  still-same None None e = refl
+
+  either-slot : (v w : Slot V) → SameEither (SameSlot same) (SameSlot same) v w → SameSlot same v w
+  either-slot v w (inl s) = s
+  either-slot v w (inr s) = s
+
+module _ {Tok Cx St Mk Er V : Type 0} (mark : St → Mk) (back : St → Mk → St) (safe : Type 0) (part : Meaning Tok Cx St Er V) where
+  pub offered-ends : (s : Slot V) → EndsAfterStart part → EndsAfterStart (Offered mark back safe part s)
+  offered-ends (Some v) h = given-ends (Some (Some v))
+  offered-ends None h = or_else-ends mark back safe (Moving part) (Given (Some None)) (moving-ends part h) (given-ends (Some None))
+
+  pub offered-agrees : (same : V → V → Type 0) (s t : Slot V) → Agreeing same part part → SameSlot same s t → Agreeing (SameSlot same) (Offered mark back safe part s) (Offered mark back safe part t)
+  offered-agrees same (Some v) (Some w) h e = given-agrees (SameSlot same) (Some (Some v)) (Some (Some w)) e
+  offered-agrees same (Some v) None h e = absurd e
+  offered-agrees same None (Some w) h e = absurd e
+  offered-agrees same None None h e = λ b c o q alike m n a z.
+      agree-weaker (SameEither (SameSlot same) (SameSlot same)) (SameSlot same) (either-slot same) o q
+      (or_else-agrees mark back safe (Moving part) (Given (Some None)) (SameSlot same) (SameSlot same) (moving-agrees part same h)
+      (given-agrees (SameSlot same) (Some None) (Some None) tt) b c o q alike m n a z)
+
+module _ {Tok Cx St Er V W : Type 0} (part part' : Meaning Tok Cx St Er V) (last last' : Meaning Tok Cx St Er W) (sv : V → V → Type 0) (sw : W → W → Type 0) where
+  pair-same : (v v' : Option V) (w w' : Option W) → SameValue sv v v' → SameValue sw w w' → SameValue (SamePair sv sw) (both v w) (both v' w')
+  pair-same (Some v) (Some v') (Some w) (Some w') e d = (e, d)
+  pair-same (Some v) (Some v') (Some w) None e d = tt
+  pair-same (Some v) (Some v') None w' e d = tt
+  pair-same (Some v) None (Some w) w' e d = tt
+  pair-same (Some v) None None w' e d = tt
+  pair-same None v' w w' e d = tt
+
+  -- two sequences whose parts agree
+  pair-agrees : Agreeing sv part part' → Agreeing sw last last' → Agreeing (SamePair sv sw) (Sequence part last) (Sequence part' last')
+  pair-agrees f s =
+      chained-agrees part part' _ _ sv (SamePair sv sw) f (λ v v' e. chained-agrees last last' _ _ sw (SamePair sv sw) s (λ w w' d. given-agrees (SamePair sv sw) (both v w) (both v' w') (pair-same v v' w w' e d)))
+
+module _ {Tok Cx St Er T V : Type 0} where
+  -- no answer of a pass over a row ends before its start
+  pub record RowEnds (row : Row Tok Cx St Er T V) : Type 0 where
+    pub pass : (t : T) → EndsAfterStart (row.pass t)
+    pub last : (t : T) → EndsAfterStart (row.last t)
+
+  -- passes over a row from what is the same agree
+  pub record RowAgrees (row : Row Tok Cx St Er T V) (same_taken : T → T → Type 0) (same : V → V → Type 0) : Type 0 where
+    pub pass : (t u : T) → same_taken t u → Agreeing same_taken (row.pass t) (row.pass u)
+    pub last : (t u : T) → same_taken t u → Agreeing same (row.last t) (row.last u)
+    pub left : (t u : T) → same_taken t u → row.left t ≡ row.left u
+
+module _ {Tok Cx St Er : Type 0} where
+  pub no_part-ends : RowEnds (no_part {Tok = Tok} {Cx = Cx} {St = St} {Er = Er})
+  no_part-ends = record { pass = λ t. given-ends (Some t); last = λ t. given-ends (Some t) }
+
+  pub no_part-agrees : RowAgrees (no_part {Tok = Tok} {Cx = Cx} {St = St} {Er = Er}) SameUnit SameUnit
+  no_part-agrees = record { pass = λ t u e. given-agrees SameUnit (Some t) (Some u) tt; last = λ t u e. given-agrees SameUnit (Some t) (Some u) tt; left = λ t u e. refl }
+
+module _ {Tok Cx St Mk Er : Type 0} (mark : St → Mk) (back : St → Mk → St) (safe : Type 0) {T V W : Type 0} (part : Meaning Tok Cx St Er V) (others : Row Tok Cx St Er T W) where
+  pub part_and-ends : EndsAfterStart part → RowEnds others → RowEnds (part_and mark back safe part others)
+  part_and-ends h r =
+      record {
+        pass = λ t. sequence-ends (Offered mark back safe part t.0) (others.pass t.1) (offered-ends mark back safe part t.0 h) (r.pass t.1);
+        last = λ t. sequence-ends (Missing part t.0) (others.last t.1) (missing-ends part t.0 h) (r.last t.1);
+      }
+
+  pub part_and-agrees : (same : V → V → Type 0) (same_taken : T → T → Type 0) (same_rest : W → W → Type 0) → Agreeing same part part → RowAgrees others same_taken same_rest
+      → RowAgrees (part_and mark back safe part others) (SamePair (SameSlot same) same_taken) (SamePair same same_rest)
+  part_and-agrees same same_taken same_rest h r =
+      record {
+        pass = λ t u e. pair-agrees (Offered mark back safe part t.0) (Offered mark back safe part u.0) (others.pass t.1) (others.pass u.1) (SameSlot same) same_taken
+            (offered-agrees mark back safe part same t.0 u.0 h e.0) (r.pass t.1 u.1 e.1);
+        last = λ t u e. pair-agrees (Missing part t.0) (Missing part u.0) (others.last t.1) (others.last u.1) same same_rest (missing-agrees part same t.0 u.0 h e.0) (r.last t.1 u.1 e.1);
+        left = λ t u e. let x = still-same same t.0 u.0 e.0 in let y = r.left t.1 u.1 e.1 in cc (x, y);
+      }
+
+module _ {Tok Cx St Er T V : Type 0} (row : Row Tok Cx St Er T V) where
+  after_round-ends : RowEnds row → (rounds : T → Meaning Tok Cx St Er V) → ((t : T) → EndsAfterStart (rounds t)) → (t : T) (v : Option T) → EndsAfterStart (AfterRound row rounds t v)
+  after_round-ends h rounds k t (Some u) b o (inl m) a = k u b o m.1 a
+  after_round-ends h rounds k t (Some u) b o (inr m) a = h.last u b o m.1 a
+  after_round-ends h rounds k t None b o m a = absurd m
+
+  rounds-ends : RowEnds row → (n : ℕ) (t : T) → EndsAfterStart (Rounds row n t)
+  rounds-ends h zero t = λ b o m a. absurd m
+  rounds-ends h (suc n) t = chained-ends (row.pass t) (AfterRound row (Rounds row n) t) (h.pass t) (after_round-ends h (Rounds row n) (rounds-ends h n) t)
+
+  pub any_order-ends : (t : T) → RowEnds row → EndsAfterStart (AnyOrder row t)
+  any_order-ends t h b o m a = rounds-ends h m.rounds t b o m.run a
+
+  module _ (same_taken : T → T → Type 0) (same : V → V → Type 0) (h : RowAgrees row same_taken same) where
+    after_round-agrees : (rounds rounds' : T → Meaning Tok Cx St Er V) → ((t u : T) → same_taken t u → Agreeing same (rounds t) (rounds' u)) → (t u : T) → same_taken t u
+        → (v w : Option T) → SameValue same_taken v w → Agreeing same (AfterRound row rounds t v) (AfterRound row rounds' u w)
+    after_round-agrees rounds rounds' k t u e (Some v) (Some w) s b c o q alike (inl m) (inl n) a z = k v w s b c o q alike m.1 n.1 a z
+    after_round-agrees rounds rounds' k t u e (Some v) (Some w) s b c o q alike (inl m) (inr n) a z = absurd (omega (arith, m.0, n.0, h.left t u e, h.left v w s))
+    after_round-agrees rounds rounds' k t u e (Some v) (Some w) s b c o q alike (inr m) (inl n) a z = absurd (omega (arith, m.0, n.0, h.left t u e, h.left v w s))
+    after_round-agrees rounds rounds' k t u e (Some v) (Some w) s b c o q alike (inr m) (inr n) a z = h.last v w s b c o q alike m.1 n.1 a z
+    after_round-agrees rounds rounds' k t u e (Some v) None s b c o q alike m n a z = absurd n
+    after_round-agrees rounds rounds' k t u e None w s b c o q alike m n a z = absurd m
+
+    rounds-agree : (n m : ℕ) (t u : T) → same_taken t u → Agreeing same (Rounds row n t) (Rounds row m u)
+    rounds-agree zero m t u e = λ b c o q alike x y a z. absurd x
+    rounds-agree (suc n) zero t u e = λ b c o q alike x y a z. absurd y
+    rounds-agree (suc n) (suc m) t u e =
+        chained-agrees (row.pass t) (row.pass u) (AfterRound row (Rounds row n) t) (AfterRound row (Rounds row m) u) same_taken same (h.pass t u e)
+        (after_round-agrees (Rounds row n) (Rounds row m) (rounds-agree n m) t u e)
+
+    pub any_order-agrees : (t : T) → same_taken t t → Agreeing same (AnyOrder row t) (AnyOrder row t)
+    any_order-agrees t e b c o q alike x y a z = rounds-agree x.rounds y.rounds t t e b c o q alike x.run y.run a z
+
+  -- a run of rounds takes no more of them than there are parts to take, and one
+  after_round-fewer : (rounds rounds' : T → Meaning Tok Cx St Er V) (t : T) → ((u : T) → row.left u < row.left t → (b : Beginning Tok Cx St) (o : Outcome V Er St) → rounds u b o → rounds' u b o)
+      → (v : Verdict T Er) (b : Beginning Tok Cx St) (p : Outcome T Er St) (o : Outcome V Er St) → Follows v (AfterRound row rounds t) b p o → Follows v (AfterRound row rounds' t) b p o
+  after_round-fewer rounds rounds' t h (Yes (Some u)) b p o (q, inl m, e) = (q, inl (m.0, h u m.0 (from b p) q m.1), e)
+  after_round-fewer rounds rounds' t h (Yes (Some u)) b p o (q, inr m, e) = (q, inr m, e)
+  after_round-fewer rounds rounds' t h (Yes None) b p o (q, m, e) = absurd m
+  after_round-fewer rounds rounds' t h No b p o m = m
+  after_round-fewer rounds rounds' t h (Halt s) b p o m = m
+  after_round-fewer rounds rounds' t h (Clash x) b p o m = m
+
+  rounds-fewer : (n m : ℕ) (t : T) → row.left t < m → (b : Beginning Tok Cx St) (o : Outcome V Er St) → Rounds row n t b o → Rounds row m t b o
+  rounds-fewer zero m t l b o x = absurd x
+  rounds-fewer (suc n) zero t l b o x = absurd (omega (arith, l))
+  rounds-fewer (suc n) (suc m) t l b o x =
+      record { first = x.first; meant = x.meant; follows = after_round-fewer (Rounds row n) (Rounds row m) t (λ u k c q y. rounds-fewer n m u (omega (arith, l, k)) c q y) x.first.verdict b x.first o x.follows }
+
+  pub any_order-rounds : (t : T) (b : Beginning Tok Cx St) (o : Outcome V Er St) → AnyOrder row t b o → Rounds row (suc (row.left t)) t b o
+  any_order-rounds t b o x = rounds-fewer x.rounds (suc (row.left t)) t (omega arith) b o x.run

@@ -1,0 +1,130 @@
+//! Sets of an array of parsers, whose values stand in an array.
+ghost use Rattle.std.specs.Prelude.{◌≡◌, ◌≤◌, true, false, Some, length, map};
+ghost use Rattle.std.specs.List.{All};
+ghost use Rattle.chumsky_input.specs.Held.{held};
+ghost use Rattle.chumsky_input.specs.Run.{Ran, without_value};
+ghost use Rattle.chumsky_set.specs.Lists.{each_stored};
+ghost use Rattle.chumsky_set.specs.Passes.{shown_by, slot_of};
+
+use crate::each::round_each;
+use crate::mode::ForValue;
+use crate::part::complete;
+use crate::set::Set;
+use arrayvec::ArrayVec;
+use chumsky_input::extra::ParserExtra;
+use chumsky_input::input::Input;
+use chumsky_input::input_ref::InputRef;
+use chumsky_input::stop::PResult;
+use chumsky_parser::parser::{IsParser, Parser};
+
+/// The last pass over some parts, for their values.
+#[inline]
+fn last_stored<
+    'src,
+    I: Input<'src>,
+    O: Default + Drop,
+    E: ParserExtra<I>,
+    P: Parser<'src, I, O, E>,
+    const N: usize,
+>(
+    parts: &[P],
+    slots: &mut [Option<O>],
+    inp: &mut InputRef<'src, '_, I, E>,
+) -> PResult<ArrayVec<O, N>>
+    requires ready { All P.ready parts.now }
+    requires fits { length slots.old ≡ length parts.now }
+    requires room { length parts.now ≤ N }
+    ensures ran { Ran E.Error.merged E.Error.takes_no_memory ((each_stored E.State.mark E.State.back E.State.takes_no_memory (λ p. P.meaning p E.Error.Error E.State.Inspector) parts.now).last (map (slot_of (λ v. Some v)) slots.old)) true (held I.Input E.Error.Error E.State.Inspector inp.old) (held I.Input E.Error.Error E.State.Inspector inp.new) (shown_by (λ v. Some v.items) result) }
+    ensures lent { inp.new.state.ghost_name ≡ inp.old.state.ghost_name }
+{
+    let mut values = ArrayVec::new();
+    for i in 0..parts.len() {
+        let part = &parts[i];
+        let slot = slots[i].take();
+        let value = complete(&ForValue, part, slot, inp)?;
+        values.push(value);
+    }
+    Ok(values)
+}
+
+/// The last pass over some parts, for their values, which are dropped.
+#[inline]
+fn last_dropped<'src, I: Input<'src>, O: Drop, E: ParserExtra<I>, P: Parser<'src, I, O, E>>(
+    parts: &[P],
+    slots: &mut [Option<O>],
+    inp: &mut InputRef<'src, '_, I, E>,
+) -> PResult<()>
+    requires ready { All P.ready parts.now }
+    requires fits { length slots.old ≡ length parts.now }
+    ensures ran { Ran E.Error.merged E.Error.takes_no_memory ((each_stored E.State.mark E.State.back E.State.takes_no_memory (λ p. P.meaning p E.Error.Error E.State.Inspector) parts.now).last (map (slot_of (λ v. Some v)) slots.old)) false (held I.Input E.Error.Error E.State.Inspector inp.old) (held I.Input E.Error.Error E.State.Inspector inp.new) (without_value result) }
+    ensures lent { inp.new.state.ghost_name ≡ inp.old.state.ghost_name }
+{
+    for i in 0..parts.len() {
+        let part = &parts[i];
+        let slot = slots[i].take();
+        complete(&ForValue, part, slot, inp)?;
+    }
+    Ok(())
+}
+
+impl<I, O, E, P: IsParser<I, O, E>, const N: usize> IsParser<I, ArrayVec<O, N>, E>
+    for Set<[P; N]> {}
+
+impl<
+    'src,
+    I: Input<'src>,
+    O: Default + Drop,
+    E: ParserExtra<I>,
+    P: Parser<'src, I, O, E>,
+    const N: usize,
+> Parser<'src, I, ArrayVec<O, N>, E> for Set<[P; N]> {
+    ghost use Rattle.chumsky_set.specs.Lists.{Each, SetStored, SlotsFit};
+    ghost use Rattle.chumsky_set.specs.ListsLaws.{set_stored-ends, set_stored-agrees};
+
+    ghost ready = { λ p. All P.ready p.parsers × SlotsFit O.row N };
+
+    ghost meaning = { λ p errors states. SetStored states.mark states.back states.takes_no_memory (λ x. P.meaning x errors states) (λ v. v.items) p.parsers };
+
+    ghost steady = { λ p. All P.steady p.parsers };
+
+    ghost same = { λ p v w. Each P.same p.parsers v.items w.items };
+
+    ghost ends_after_start = { λ p. set_stored-ends _ _ _ _ _ p.parsers (λ x. P.ends_after_start x) };
+
+    ghost agrees = { λ p s. set_stored-agrees _ _ _ _ _ p.parsers P.steady P.same (λ x k. P.agrees x k) s };
+
+    #[inline]
+    fn go_emit(&self, inp: &mut InputRef<'src, '_, I, E>) -> PResult<ArrayVec<O, N>> {
+        let parts = slice_of(&self.parsers);
+        let mut slots: [Option<O>; N] = Default::default();
+        'rounds: loop {
+            let more = round_each(&ForValue, parts, &mut slots, inp)?;
+            if !more {
+                break 'rounds;
+            }
+        }
+        last_stored(parts, &mut slots, inp)
+    }
+
+    #[inline]
+    fn go_check(&self, inp: &mut InputRef<'src, '_, I, E>) -> PResult<()> {
+        let parts = slice_of(&self.parsers);
+        let mut slots: [Option<O>; N] = Default::default();
+        'rounds: loop {
+            let more = round_each(&ForValue, parts, &mut slots, inp)?;
+            if !more {
+                break 'rounds;
+            }
+        }
+        last_dropped(parts, &mut slots, inp)
+    }
+}
+
+/// The parsers of an array, which are `N`.
+#[inline]
+fn slice_of<P, const N: usize>(parsers: &[P; N]) -> &[P]
+    ensures all { result.now ≡ parsers.now }
+    ensures sized { length result.now ≡ N }
+{
+    parsers
+}

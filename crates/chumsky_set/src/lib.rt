@@ -1,0 +1,14 @@
+//! Parsers in any order.
+#![tactic(auto)]
+
+mod array;
+mod each;
+pub mod laws;
+mod list;
+pub mod make;
+mod mode;
+mod part;
+mod rounds;
+mod row;
+pub mod set;
+pub mod steady;

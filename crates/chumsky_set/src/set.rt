@@ -1,0 +1,303 @@
+//! Parsers in any order.
+use crate::mode::{ForValue, WithoutValue};
+use crate::rounds::in_any_order;
+use crate::row::{NoPart, PartAnd};
+use chumsky_input::extra::ParserExtra;
+use chumsky_input::input::Input;
+use chumsky_input::input_ref::InputRef;
+use chumsky_input::stop::PResult;
+use chumsky_parser::parser::{IsParser, Parser};
+
+/// Some parsers, each of which succeeds once, in whatever order the input has them. See `set`.
+#[derive(Clone, Copy, Drop)]
+pub struct Set<T> {
+    pub parsers: T,
+}
+
+impl<I, O0, E, P0: IsParser<I, O0, E>> IsParser<I, (O0,), E> for Set<(P0,)> {}
+
+impl<'src, I: Input<'src>, O0: Drop, E: ParserExtra<I>, P0: Parser<'src, I, O0, E>> Parser<
+    'src,
+    I,
+    (O0,),
+    E,
+> for Set<(P0,)> {
+    ghost use Rattle.chumsky_set.specs.Tuples.{Set1, Same1};
+    ghost use Rattle.chumsky_set.specs.TuplesLaws.{set_1-ends, set_1-agrees};
+
+    ghost ready = { λ p. P0.ready p.parsers.0 };
+
+    ghost meaning = { λ p errors states. Set1 states.mark states.back states.takes_no_memory (P0.meaning p.parsers.0 errors states) };
+
+    ghost steady = { λ p. P0.steady p.parsers.0 };
+
+    ghost same = { λ p. Same1 (P0.same p.parsers.0) };
+
+    ghost ends_after_start = { λ p. set_1-ends _ _ _ _ (P0.ends_after_start p.parsers.0) };
+
+    ghost agrees = { λ p s. set_1-agrees _ _ _ _ (P0.same p.parsers.0) (P0.agrees p.parsers.0 s) };
+
+    #[inline]
+    fn go_emit(&self, inp: &mut InputRef<'src, '_, I, E>) -> PResult<(O0,)> {
+        let mode = ForValue;
+        let row = PartAnd {
+            mode,
+            part: &self.parsers.0,
+            others: NoPart,
+        };
+        let (a, ()) = in_any_order(&row, (None, ()), inp)?;
+        Ok((a,))
+    }
+
+    #[inline]
+    fn go_check(&self, inp: &mut InputRef<'src, '_, I, E>) -> PResult<()> {
+        let mode = WithoutValue;
+        let row = PartAnd {
+            mode,
+            part: &self.parsers.0,
+            others: NoPart,
+        };
+        let _done = in_any_order(&row, (None, ()), inp)?;
+        Ok(())
+    }
+}
+
+impl<I, O0, O1, E, P0: IsParser<I, O0, E>, P1: IsParser<I, O1, E>> IsParser<I, (O0, O1), E>
+    for Set<(P0, P1)> {}
+
+impl<
+    'src,
+    I: Input<'src>,
+    O0: Drop,
+    O1: Drop,
+    E: ParserExtra<I>,
+    P0: Parser<'src, I, O0, E>,
+    P1: Parser<'src, I, O1, E>,
+> Parser<'src, I, (O0, O1), E> for Set<(P0, P1)> {
+    ghost use Rattle.chumsky_set.specs.Tuples.{Set2, Same2};
+    ghost use Rattle.chumsky_set.specs.TuplesLaws.{set_2-ends, set_2-agrees};
+
+    ghost ready = { λ p. P0.ready p.parsers.0 × P1.ready p.parsers.1 };
+
+    ghost meaning = { λ p errors states. Set2 states.mark states.back states.takes_no_memory (P0.meaning p.parsers.0 errors states) (P1.meaning p.parsers.1 errors states) };
+
+    ghost steady = { λ p. P0.steady p.parsers.0 × P1.steady p.parsers.1 };
+
+    ghost same = { λ p. Same2 (P0.same p.parsers.0) (P1.same p.parsers.1) };
+
+    ghost ends_after_start = { λ p. set_2-ends _ _ _ _ _ (P0.ends_after_start p.parsers.0) (P1.ends_after_start p.parsers.1) };
+
+    ghost agrees = { λ p s. set_2-agrees _ _ _ _ _ (P0.same p.parsers.0) (P1.same p.parsers.1) (P0.agrees p.parsers.0 s.0) (P1.agrees p.parsers.1 s.1) };
+
+    #[inline]
+    fn go_emit(&self, inp: &mut InputRef<'src, '_, I, E>) -> PResult<(O0, O1)> {
+        let mode = ForValue;
+        let row = PartAnd {
+            mode,
+            part: &self.parsers.1,
+            others: NoPart,
+        };
+        let row = PartAnd {
+            mode,
+            part: &self.parsers.0,
+            others: row,
+        };
+        let (a, (b, ())) = in_any_order(&row, (None, (None, ())), inp)?;
+        Ok((a, b))
+    }
+
+    #[inline]
+    fn go_check(&self, inp: &mut InputRef<'src, '_, I, E>) -> PResult<()> {
+        let mode = WithoutValue;
+        let row = PartAnd {
+            mode,
+            part: &self.parsers.1,
+            others: NoPart,
+        };
+        let row = PartAnd {
+            mode,
+            part: &self.parsers.0,
+            others: row,
+        };
+        let _done = in_any_order(&row, (None, (None, ())), inp)?;
+        Ok(())
+    }
+}
+
+impl<
+    I,
+    O0,
+    O1,
+    O2,
+    E,
+    P0: IsParser<I, O0, E>,
+    P1: IsParser<I, O1, E>,
+    P2: IsParser<I, O2, E>,
+> IsParser<I, (O0, O1, O2), E> for Set<(P0, P1, P2)> {}
+
+impl<
+    'src,
+    I: Input<'src>,
+    O0: Drop,
+    O1: Drop,
+    O2: Drop,
+    E: ParserExtra<I>,
+    P0: Parser<'src, I, O0, E>,
+    P1: Parser<'src, I, O1, E>,
+    P2: Parser<'src, I, O2, E>,
+> Parser<'src, I, (O0, O1, O2), E> for Set<(P0, P1, P2)> {
+    ghost use Rattle.chumsky_set.specs.Tuples.{Set3, Same3};
+    ghost use Rattle.chumsky_set.specs.TuplesLaws.{set_3-ends, set_3-agrees};
+
+    ghost ready = { λ p. P0.ready p.parsers.0 × P1.ready p.parsers.1 × P2.ready p.parsers.2 };
+
+    ghost meaning = { λ p errors states. Set3 states.mark states.back states.takes_no_memory (P0.meaning p.parsers.0 errors states) (P1.meaning p.parsers.1 errors states) (P2.meaning p.parsers.2 errors states) };
+
+    ghost steady = { λ p. P0.steady p.parsers.0 × P1.steady p.parsers.1 × P2.steady p.parsers.2 };
+
+    ghost same = { λ p. Same3 (P0.same p.parsers.0) (P1.same p.parsers.1) (P2.same p.parsers.2) };
+
+    ghost ends_after_start = { λ p. set_3-ends _ _ _ _ _ _ (P0.ends_after_start p.parsers.0) (P1.ends_after_start p.parsers.1) (P2.ends_after_start p.parsers.2) };
+
+    ghost agrees = { λ p s. set_3-agrees _ _ _ _ _ _ (P0.same p.parsers.0) (P1.same p.parsers.1) (P2.same p.parsers.2) (P0.agrees p.parsers.0 s.0) (P1.agrees p.parsers.1 s.1) (P2.agrees p.parsers.2 s.2) };
+
+    #[inline]
+    fn go_emit(&self, inp: &mut InputRef<'src, '_, I, E>) -> PResult<(O0, O1, O2)> {
+        let mode = ForValue;
+        let row = PartAnd {
+            mode,
+            part: &self.parsers.2,
+            others: NoPart,
+        };
+        let row = PartAnd {
+            mode,
+            part: &self.parsers.1,
+            others: row,
+        };
+        let row = PartAnd {
+            mode,
+            part: &self.parsers.0,
+            others: row,
+        };
+        let (a, (b, (c, ()))) = in_any_order(&row, (None, (None, (None, ()))), inp)?;
+        Ok((a, b, c))
+    }
+
+    #[inline]
+    fn go_check(&self, inp: &mut InputRef<'src, '_, I, E>) -> PResult<()> {
+        let mode = WithoutValue;
+        let row = PartAnd {
+            mode,
+            part: &self.parsers.2,
+            others: NoPart,
+        };
+        let row = PartAnd {
+            mode,
+            part: &self.parsers.1,
+            others: row,
+        };
+        let row = PartAnd {
+            mode,
+            part: &self.parsers.0,
+            others: row,
+        };
+        let _done = in_any_order(&row, (None, (None, (None, ()))), inp)?;
+        Ok(())
+    }
+}
+
+impl<
+    I,
+    O0,
+    O1,
+    O2,
+    O3,
+    E,
+    P0: IsParser<I, O0, E>,
+    P1: IsParser<I, O1, E>,
+    P2: IsParser<I, O2, E>,
+    P3: IsParser<I, O3, E>,
+> IsParser<I, (O0, O1, O2, O3), E> for Set<(P0, P1, P2, P3)> {}
+
+impl<
+    'src,
+    I: Input<'src>,
+    O0: Drop,
+    O1: Drop,
+    O2: Drop,
+    O3: Drop,
+    E: ParserExtra<I>,
+    P0: Parser<'src, I, O0, E>,
+    P1: Parser<'src, I, O1, E>,
+    P2: Parser<'src, I, O2, E>,
+    P3: Parser<'src, I, O3, E>,
+> Parser<'src, I, (O0, O1, O2, O3), E> for Set<(P0, P1, P2, P3)> {
+    ghost use Rattle.chumsky_set.specs.Tuples.{Set4, Same4};
+    ghost use Rattle.chumsky_set.specs.TuplesLaws.{set_4-ends, set_4-agrees};
+
+    ghost ready = { λ p. P0.ready p.parsers.0 × P1.ready p.parsers.1 × P2.ready p.parsers.2 × P3.ready p.parsers.3 };
+
+    ghost meaning = { λ p errors states. Set4 states.mark states.back states.takes_no_memory (P0.meaning p.parsers.0 errors states) (P1.meaning p.parsers.1 errors states) (P2.meaning p.parsers.2 errors states) (P3.meaning p.parsers.3 errors states) };
+
+    ghost steady = { λ p. P0.steady p.parsers.0 × P1.steady p.parsers.1 × P2.steady p.parsers.2 × P3.steady p.parsers.3 };
+
+    ghost same = { λ p. Same4 (P0.same p.parsers.0) (P1.same p.parsers.1) (P2.same p.parsers.2) (P3.same p.parsers.3) };
+
+    ghost ends_after_start = { λ p. set_4-ends _ _ _ _ _ _ _ (P0.ends_after_start p.parsers.0) (P1.ends_after_start p.parsers.1) (P2.ends_after_start p.parsers.2) (P3.ends_after_start p.parsers.3) };
+
+    ghost agrees = { λ p s. set_4-agrees _ _ _ _ _ _ _ (P0.same p.parsers.0) (P1.same p.parsers.1) (P2.same p.parsers.2) (P3.same p.parsers.3) (P0.agrees p.parsers.0 s.0) (P1.agrees p.parsers.1 s.1) (P2.agrees p.parsers.2 s.2) (P3.agrees p.parsers.3 s.3) };
+
+    #[inline]
+    fn go_emit(&self, inp: &mut InputRef<'src, '_, I, E>) -> PResult<(O0, O1, O2, O3)> {
+        let mode = ForValue;
+        let row = PartAnd {
+            mode,
+            part: &self.parsers.3,
+            others: NoPart,
+        };
+        let row = PartAnd {
+            mode,
+            part: &self.parsers.2,
+            others: row,
+        };
+        let row = PartAnd {
+            mode,
+            part: &self.parsers.1,
+            others: row,
+        };
+        let row = PartAnd {
+            mode,
+            part: &self.parsers.0,
+            others: row,
+        };
+        let (a, (b, (c, (d, ())))) = in_any_order(&row, (None, (None, (None, (None, ())))), inp)?;
+        Ok((a, b, c, d))
+    }
+
+    #[inline]
+    fn go_check(&self, inp: &mut InputRef<'src, '_, I, E>) -> PResult<()> {
+        let mode = WithoutValue;
+        let row = PartAnd {
+            mode,
+            part: &self.parsers.3,
+            others: NoPart,
+        };
+        let row = PartAnd {
+            mode,
+            part: &self.parsers.2,
+            others: row,
+        };
+        let row = PartAnd {
+            mode,
+            part: &self.parsers.1,
+            others: row,
+        };
+        let row = PartAnd {
+            mode,
+            part: &self.parsers.0,
+            others: row,
+        };
+        let _done = in_any_order(&row, (None, (None, (None, (None, ())))), inp)?;
+        Ok(())
+    }
+}
