@@ -11,15 +11,11 @@ use Rattle.chumsky_input.specs.Outcome.{Event, Meaning, Outcome, Verdict, Yes, N
 use Rattle.chumsky_input.specs.Primary.{primary}
 use Rattle.chumsky_input.specs.Run.{Ran, LeavesBy, begin, answer, with_value, without_value, final_error}
 use Rattle.chumsky_parser.specs.declared.result.ParseResult.{ParseResult}
-use Rattle.chumsky.specs.Answer.{Asked, SettlesAs, reported, IsOutput, Reports, Answers, Parses, WholeRun}
+use Rattle.chumsky.specs.Answer.{SettlesAs, reported, IsOutput, Reports, Answers, Parses, WholeRun}
 use Rattle.chumsky_primitive.specs.End.{MeansEnd}
 use Rattle.chumsky_parser.specs.FailureLaws.{SameUnit}
 use Rattle.chumsky_primitive.specs.EndLaws.{end-agrees}
-use Rattle.chumsky_parser.specs.Laws.{chained-agrees, given-agrees}
-
-module _ {Tok Cx St Er V : Type 0} {merged : Er → Er → Er} {safe : Type 0} {part : Meaning Tok Cx St Er V} {asked wanted : Bool} where
-  pub ran-asked : {old new : Held Tok Cx St Er} {r : Result (Option V) Fault} → Ran merged safe part asked old new r → Ran merged safe (Asked asked part) wanted old new r
-  ran-asked h = record { outcome = h.outcome; meant = record { run = h.meant }; answered = h.answered; state = h.state; left = h.left; same = h.same }
+use Rattle.chumsky_parser.specs.Laws.{chained-agrees, given-agrees, asked-agrees}
 
 -- an answer, as a result of the meaning
 abbrev pub told : {V W : Type 0} → (W → Option V) → Result W Fault → Result (Option V) Fault
@@ -146,9 +142,5 @@ module _ {I Tok Sp Cu Er St Mk Cx V W : Type 0} (source : input_trait.Ghosts I C
       }
 
 module _ {I Tok Sp Cu Er St Mk Cx : Type 0} (source : input_trait.Ghosts I Cu Tok Sp) (errors : error_trait.Ghosts Er I Tok Sp) (states : inspector_trait.Ghosts St I Mk Tok Sp) where
-  asked-agrees : Agreeing SameUnit (Asked {Cx = Cx} false (MeansEnd source errors states)) (Asked false (MeansEnd source errors states))
-  asked-agrees b c o q alike m n a z =
-      end-agrees source errors states (record b { wanted = false }) (record c { wanted = false }) o q (record { tokens = alike.tokens; start = alike.start; context = alike.context; state = alike.state }) m.run n.run a z
-
   pub whole-agrees : {V : Type 0} (same : V → V → Type 0) (part : Meaning Tok Cx states.Seen errors.Seen V) → Agreeing same part part → Agreeing same (WholeRun source errors states part) (WholeRun source errors states part)
-  whole-agrees {V} same part h = chained-agrees part part _ _ same same h (λ v w e. chained-agrees _ _ _ _ SameUnit same asked-agrees (λ _ _ _. given-agrees same v w e))
+  whole-agrees {V} same part h = chained-agrees part part _ _ same same h (λ v w e. chained-agrees _ _ _ _ SameUnit same (asked-agrees false _ SameUnit (end-agrees source errors states)) (λ _ _ _. given-agrees same v w e))

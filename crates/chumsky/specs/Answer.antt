@@ -12,14 +12,9 @@ use Rattle.chumsky_input.specs.Wanted.{Wanted}
 use Rattle.chumsky_input.specs.Outcome.{Meaning, Beginning, Outcome, Verdict, Yes, No, Halt, Clash, HasEventAt, IsAnswer, SameValue}
 use Rattle.chumsky_input.specs.Primary.{primary}
 use Rattle.chumsky_input.specs.Run.{final_error, with_last}
-use Rattle.chumsky_parser.specs.Chained.{Chained, Given}
+use Rattle.chumsky_parser.specs.Chained.{Chained, Given, Asked}
 use Rattle.chumsky_primitive.specs.End.{MeansEnd}
 use Rattle.chumsky_parser.specs.declared.result.ParseResult.{ParseResult}
-
-module _ {Tok Cx St Er V : Type 0} where
-  -- the part, run for its value or without one whatever the whole is asked for
-  pub record Asked (wanted : Bool) (part : Meaning Tok Cx St Er V) (b : Beginning Tok Cx St) (o : Outcome V Er St) : Type 0 where
-    pub run : part (record b { wanted = wanted }) o
 
 module _ {I Tok Sp Cu Er St Mk Cx V : Type 0} (source : input_trait.Ghosts I Cu Tok Sp) (errors : error_trait.Ghosts Er I Tok Sp) (states : inspector_trait.Ghosts St I Mk Tok Sp) where
   -- the parser, and then the end of input

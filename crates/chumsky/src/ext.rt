@@ -4,8 +4,15 @@ ghost use Rattle.chumsky.specs.Answer.{WholeRun, Parses};
 
 use crate::run;
 use chumsky_combinator::choice::Or;
+use chumsky_combinator::delimited_by::DelimitedBy;
+use chumsky_combinator::ignore_then::IgnoreThen;
+use chumsky_combinator::ignored::Ignored;
 use chumsky_combinator::mapped::Map;
+use chumsky_combinator::or_not::OrNot;
+use chumsky_combinator::padded_by::PaddedBy;
 use chumsky_combinator::sequence::Then;
+use chumsky_combinator::then_ignore::ThenIgnore;
+use chumsky_combinator::to::To;
 use chumsky_input::extra::ParserExtra;
 use chumsky_input::input::Input;
 use chumsky_input::stop::Stop;
@@ -30,6 +37,66 @@ pub trait ParserExt<'src, I, O, E>: IsParser<I, O, E> + Sized {
         }
     }
 
+    /// This parser, then `other` from where it ended; the output is `other`'s. This one runs without its output.
+    #[inline]
+    final fn ignore_then<U, B: IsParser<I, U, E>>(self, other: B) -> IgnoreThen<Self, B, O>
+        ensures first { result.first ≡ self }
+        ensures second { result.second ≡ other }
+    {
+        IgnoreThen {
+            first: self,
+            second: other,
+            of: PhantomData,
+        }
+    }
+
+    /// This parser, then `other` from where it ended; the output is this one's. `other` runs without its output.
+    #[inline]
+    final fn then_ignore<U, B: IsParser<I, U, E>>(self, other: B) -> ThenIgnore<Self, B, U>
+        ensures first { result.first ≡ self }
+        ensures second { result.second ≡ other }
+    {
+        ThenIgnore {
+            first: self,
+            second: other,
+            of: PhantomData,
+        }
+    }
+
+    /// `opening`, then this parser, then `closing`; the output is this one's. The other two run without their outputs:
+    /// `just('x').delimited_by(just('('), just(')'))` on `(x)` gives `'x'`.
+    #[inline]
+    final fn delimited_by<U, V, B: IsParser<I, U, E>, C: IsParser<I, V, E>>(
+        self,
+        opening: B,
+        closing: C,
+    ) -> DelimitedBy<Self, B, C, U, V>
+        ensures parser { result.parser ≡ self }
+        ensures opening { result.opening ≡ opening }
+        ensures closing { result.closing ≡ closing }
+    {
+        DelimitedBy {
+            parser: self,
+            opening,
+            closing,
+            of: PhantomData,
+        }
+    }
+
+    /// `padding`, then this parser, then `padding` once more; the output is this one's. `padding` runs without its
+    /// output.
+    #[inline]
+    final fn padded_by<U, B: IsParser<I, U, E>>(self, padding: B) -> PaddedBy<Self, B, U>
+        ensures parser { result.parser ≡ self }
+        ensures padding { result.padding ≡ padding }
+    {
+        PaddedBy {
+            parser: self,
+            padding,
+            of: PhantomData,
+        }
+    }
+
     /// This parser, or where it fails `other`, from the same place. The first that succeeds stands, even if the other
     /// would have gone further.
     #[inline]
@@ -43,6 +110,16 @@ pub trait ParserExt<'src, I, O, E>: IsParser<I, O, E> + Sized {
         }
     }
 
+    /// This parser's output, or none where it fails; it then goes back to where it began, so this never fails. An error
+    /// that the failed attempt emitted is dropped; the failure itself still counts among those that a later one is
+    /// compared with.
+    #[inline]
+    final fn or_not(self) -> OrNot<Self>
+        ensures parser { result.parser ≡ self }
+    {
+        OrNot { parser: self }
+    }
+
     /// This parser, its output put through `mapper`, which is not called where no output is wanted.
     #[inline]
     final fn map<U, F: Fn(O) -> U>(self, mapper: F) -> Map<Self, O, F, U>
@@ -52,6 +129,31 @@ pub trait ParserExt<'src, I, O, E>: IsParser<I, O, E> + Sized {
         Map {
             parser: self,
             mapper,
+            of: PhantomData,
+        }
+    }
+
+    /// This parser, run without its output, for `()`.
+    #[inline]
+    final fn ignored(self) -> Ignored<Self, O>
+        ensures parser { result.parser ≡ self }
+    {
+        Ignored {
+            parser: self,
+            of: PhantomData,
+        }
+    }
+
+    /// This parser, run without its output, for a clone of `value`. Nothing is cloned where no output is wanted; a clone
+    /// that memory is wanting for refuses the run.
+    #[inline]
+    final fn to<U: Clone>(self, value: U) -> To<Self, O, U>
+        ensures parser { result.parser ≡ self }
+        ensures value { result.value ≡ value }
+    {
+        To {
+            parser: self,
+            value,
             of: PhantomData,
         }
     }

@@ -1,32 +1,37 @@
-//! Parser combinators: parsers are values, made of smaller ones and run over a text.
+//! Parser combinators: parsers are values, made of smaller ones and run over a text or a slice of tokens.
 //!
 //! The modules are those of the Rust crate `chumsky`. Most programs need `use chumsky::prelude::*;` alone.
 #![tactic(auto)]
 
 mod ext;
+mod macros;
 pub mod prelude;
 mod run;
 
 /// Inputs, and what a parser is lent.
 pub mod input {
-    pub use chumsky_input::input::{Input, Tokens, ValueInput};
+    pub use chumsky_input::emitter::Emitter;
+    pub use chumsky_input::input::{BorrowInput, Input, SliceInput, Tokens, ValueInput};
     pub use chumsky_input::input_ref::{Checkpoint, InputRef};
+    pub use chumsky_input::map_extra::MapExtra;
+    pub use chumsky_parser::input_ref_ext::InputRefExt;
 }
 
 /// Ranges of the input.
 pub mod span {
-    pub use chumsky_input::span::SimpleSpan;
+    pub use chumsky_input::span::{SimpleSpan, Spanned};
 }
 
 /// Small helpers that parsers and errors share.
 pub mod util {
-    pub use chumsky_input::util::MaybeRef;
+    pub use chumsky_input::util::{Expectation, MaybeRef};
 }
 
 /// What errors say.
 pub mod error {
     pub use chumsky_input::error::{EmptyErr, Error};
     pub use chumsky_input::rich::{Rich, RichPattern};
+    pub use chumsky_input::simple::{Cheap, Simple};
 }
 
 /// Sequences of tokens.
@@ -44,23 +49,69 @@ pub mod inspector {
     pub use chumsky_input::inspector::Inspector;
 }
 
-/// Parsers of single tokens and of fixed sequences.
+/// Parsers of single tokens and of fixed sequences, parsers given by closures, and choices, groups and sets of parsers.
 pub mod primitive {
+    pub use chumsky_choice::choice::Choice;
+    pub use chumsky_choice::make::choice;
+    pub use chumsky_group::group::Group;
+    pub use chumsky_group::make::group;
     pub use chumsky_primitive::any::Any;
+    pub use chumsky_primitive::any_ref::AnyRef;
+    pub use chumsky_primitive::custom::Custom;
+    pub use chumsky_primitive::empty::Empty;
     pub use chumsky_primitive::end::End;
     pub use chumsky_primitive::just::Just;
-    pub use chumsky_primitive::make::{any, end, just};
+    pub use chumsky_primitive::make::{
+        any, any_ref, custom, empty, end, just, none_of, one_of, select, select_ref,
+    };
+    pub use chumsky_primitive::none_of::NoneOf;
+    pub use chumsky_primitive::one_of::OneOf;
+    pub use chumsky_primitive::select::Select;
+    pub use chumsky_primitive::select_ref::SelectRef;
+    pub use chumsky_set::make::set;
+    pub use chumsky_set::set::Set;
 }
 
 /// Parsers made of parsers.
 pub mod combinator {
     pub use chumsky_combinator::choice::Or;
+    pub use chumsky_combinator::delimited_by::DelimitedBy;
+    pub use chumsky_combinator::ignore_then::IgnoreThen;
+    pub use chumsky_combinator::ignored::Ignored;
     pub use chumsky_combinator::mapped::Map;
+    pub use chumsky_combinator::or_not::OrNot;
+    pub use chumsky_combinator::padded_by::PaddedBy;
     pub use chumsky_combinator::sequence::Then;
+    pub use chumsky_combinator::then_ignore::ThenIgnore;
+    pub use chumsky_combinator::to::To;
+}
+
+/// Laws of parsers, each the contract of a function that does nothing: which of them mean the same, and which are steady.
+pub mod laws {
+    pub use chumsky_choice::laws::{
+        choice_is_repeated_or, one_alternative_of_a_list_stands, one_alternative_stands,
+    };
+    pub use chumsky_choice::steady::{choice_is_steady, choice_of_a_list_is_steady};
+    pub use chumsky_combinator::laws::{
+        ignore_then_agrees_with_then, or_not_never_says_no, then_is_associative,
+    };
+    pub use chumsky_combinator::steady::{
+        delimited_by_is_steady, map_is_steady, or_is_steady, then_is_steady, to_is_steady,
+    };
+    pub use chumsky_group::laws::{group_of_three_is_then_twice, group_of_two_is_then};
+    pub use chumsky_group::steady::{group_is_steady, group_of_an_array_is_steady};
+    pub use chumsky_primitive::steady::{
+        any_is_steady, any_ref_is_steady, custom_is_steady, end_is_steady, just_is_steady,
+        one_of_is_steady, select_is_steady, select_ref_is_steady,
+    };
+    pub use chumsky_set::laws::{
+        a_list_takes_at_most_one_round_more, four_take_at_most_five_rounds,
+    };
+    pub use chumsky_set::steady::{set_is_steady, set_of_a_list_is_steady};
 }
 
 pub use chumsky_input::same::SameClone;
-pub use chumsky_input::stop::{Fault, PResult, Stop};
+pub use chumsky_input::stop::{Failure, Fault, PResult, Stop};
 pub use chumsky_input::util::DefaultExpected;
 pub use chumsky_parser::parser::{IsParser, Parser};
 pub use chumsky_parser::result::ParseResult;

@@ -1,10 +1,16 @@
 //! What most programs need.
 pub use crate::ext::ParserExt;
+pub use crate::{select, select_ref};
+pub use chumsky_choice::make::choice;
+pub use chumsky_group::make::group;
 pub use chumsky_input::error::{EmptyErr, Error};
 pub use chumsky_input::extra;
 pub use chumsky_input::input::Input;
 pub use chumsky_input::rich::Rich;
+pub use chumsky_input::simple::{Cheap, Simple};
 pub use chumsky_input::span::SimpleSpan;
+pub use chumsky_parser::input_ref_ext::InputRefExt;
 pub use chumsky_parser::parser::{IsParser, Parser};
 pub use chumsky_parser::result::ParseResult;
-pub use chumsky_primitive::make::{any, end, just};
+pub use chumsky_primitive::make::{any, any_ref, custom, empty, end, just, none_of, one_of};
+pub use chumsky_set::make::set;

@@ -1,6 +1,5 @@
 use Rattle.std.proofs.Common.{rules}
-use Rattle.chumsky_parser.proofs.ChainedLemmas.{failed, chained, ran-given, check_err, check_ok}
-use Rattle.chumsky.proofs.AnswerLemmas.{ran-asked}
+use Rattle.chumsky_parser.proofs.ChainedLemmas.{failed, chained, ran-given, ran-asked, check_err, check_ok}
 use Rattle.chumsky.proofs.run.whole_check.Goals as goal
 
 pub returns-in_err-go_check-clause-ran : goal.returns-in_err-go_check-clause-ran

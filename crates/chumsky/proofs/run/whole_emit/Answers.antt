@@ -1,6 +1,5 @@
 use Rattle.std.proofs.Common.{rules}
-use Rattle.chumsky_parser.proofs.ChainedLemmas.{failed, chained, ran-given, emit_err, emit_ok, check_err, check_ok}
-use Rattle.chumsky.proofs.AnswerLemmas.{ran-asked}
+use Rattle.chumsky_parser.proofs.ChainedLemmas.{failed, chained, ran-given, ran-asked, emit_err, emit_ok, check_err, check_ok}
 use Rattle.chumsky.proofs.run.whole_emit.Goals as goal
 
 pub returns-in_err-value-clause-ran : goal.returns-in_err-value-clause-ran
