@@ -7,6 +7,18 @@ use chumsky::input::ValueInput;
 use chumsky::prelude::*;
 use std::alloc::Global;
 
+pub mod by_reference;
+pub mod choices;
+pub mod errors;
+pub mod groups;
+pub mod members;
+pub mod merges;
+pub mod results;
+pub mod select;
+pub mod sequences;
+pub mod sets;
+pub mod sets_of_tokens;
+pub mod slices;
 #[cfg(test)]
 mod tests;
 

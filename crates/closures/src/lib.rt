@@ -1,0 +1,142 @@
+//! Parsers given by closures, that the tests run. The edits of must-fail/ hold closures that the check refuses where
+//! they are run.
+#![tactic(auto)]
+
+use chumsky::prelude::*;
+use chumsky::{Failure, Stop};
+use std::alloc::Global;
+
+#[cfg(test)]
+mod tests;
+
+type Errors = extra::Err<Rich<char>>;
+
+/// What `parse` gives of a closure that takes two tokens and fails with an error of its own, `.or(just('a').then(just('b')))`.
+pub fn parse_error_or_ab(
+    alloc: Global,
+    text: &str,
+) -> Result<ParseResult<(char, char), Rich<char>>, Stop> {
+    custom::<_, &str, (char, char), Errors>(|inp| {
+        inp.next()?;
+        inp.next()?;
+        let span = SimpleSpan { start: 0, end: 2 };
+        Err(Failure::Error(Rich::custom(span, String::new(inp.alloc))))
+    })
+    .or(just('a').then(just('b')))
+    .parse(alloc, text)
+}
+
+/// What `check` gives of it.
+pub fn check_error_or_ab(alloc: Global, text: &str) -> Result<ParseResult<(), Rich<char>>, Stop> {
+    custom::<_, &str, (char, char), Errors>(|inp| {
+        inp.next()?;
+        inp.next()?;
+        let span = SimpleSpan { start: 0, end: 2 };
+        Err(Failure::Error(Rich::custom(span, String::new(inp.alloc))))
+    })
+    .or(just('a').then(just('b')))
+    .check(alloc, text)
+}
+
+/// What `parse` gives of a closure that runs `just("foo")` and goes back where that fails.
+pub fn parse_foo_or_nothing(
+    alloc: Global,
+    text: &str,
+) -> Result<ParseResult<bool, Rich<char>>, Stop> {
+    custom::<_, &str, bool, Errors>(|inp| {
+        let before = inp.save()?;
+        match inp.parse(just("foo")) {
+            Ok(_) => Ok(true),
+            Err(Failure::Error(_)) => {
+                inp.rewind(&before)?;
+                Ok(false)
+            }
+            Err(Failure::Stop(stop)) => Err(Failure::Stop(stop)),
+        }
+    })
+    .parse(alloc, text)
+}
+
+/// What `check` gives of the same with `inp.check`.
+pub fn check_foo_or_nothing(
+    alloc: Global,
+    text: &str,
+) -> Result<ParseResult<(), Rich<char>>, Stop> {
+    custom::<_, &str, bool, Errors>(|inp| {
+        let before = inp.save()?;
+        match inp.check(just("foo")) {
+            Ok(()) => Ok(true),
+            Err(Failure::Error(_)) => {
+                inp.rewind(&before)?;
+                Ok(false)
+            }
+            Err(Failure::Stop(refused)) => Err(Failure::Stop(refused)),
+        }
+    })
+    .check(alloc, text)
+}
+
+/// What `parse` gives of a closure that emits an error and then fails with another, `.or(any())`.
+pub fn parse_emitting_or_any(
+    alloc: Global,
+    text: &str,
+) -> Result<ParseResult<char, Rich<char>>, Stop> {
+    custom::<_, &str, char, Errors>(|inp| {
+        let here = SimpleSpan { start: 0, end: 0 };
+        inp.emit(Rich::custom(here, String::new(inp.alloc)))?;
+        let span = SimpleSpan { start: 0, end: 1 };
+        Err(Failure::Error(Rich::custom(span, String::new(inp.alloc))))
+    })
+    .or(any())
+    .parse(alloc, text)
+}
+
+/// What `check` gives of `just('c')`, or where that fails of the same closure.
+pub fn check_c_or_emitting(alloc: Global, text: &str) -> Result<ParseResult<(), Rich<char>>, Stop> {
+    just('c')
+        .or(custom::<_, &str, char, Errors>(|inp| {
+            let here = SimpleSpan { start: 0, end: 0 };
+            inp.emit(Rich::custom(here, String::new(inp.alloc)))?;
+            let span = SimpleSpan { start: 0, end: 1 };
+            Err(Failure::Error(Rich::custom(span, String::new(inp.alloc))))
+        }))
+        .check(alloc, text)
+}
+
+/// What `parse` gives of a closure that runs `just('a')` and `any` and then refuses, `.or(just('a'))`.
+pub fn parse_stop_or_a(alloc: Global, text: &str) -> Result<ParseResult<char, Rich<char>>, Stop> {
+    custom::<_, &str, char, Errors>(|inp| {
+        inp.check(just('a'))?;
+        inp.check(any())?;
+        Err(Failure::Stop(Stop::TooDeep))
+    })
+    .or(just('a'))
+    .parse(alloc, text)
+}
+
+/// What `parse` gives of `choice((just('a').then(just('b')), s))`, where s takes a token, emits an error and then wants a
+/// `c`.
+pub fn parse_emitting_last(
+    alloc: Global,
+    text: &str,
+) -> Result<ParseResult<(char, char), EmptyErr>, Stop> {
+    let emitting = custom::<_, &str, char, extra::Err<EmptyErr>>(|inp| {
+        let token = inp.parse(any())?;
+        inp.emit(EmptyErr)?;
+        Ok(token)
+    });
+    choice((just('a').then(just('b')), emitting.then(just('c')))).parse(alloc, text)
+}
+
+/// The same with the alternatives the other way round.
+pub fn parse_emitting_first(
+    alloc: Global,
+    text: &str,
+) -> Result<ParseResult<(char, char), EmptyErr>, Stop> {
+    let emitting = custom::<_, &str, char, extra::Err<EmptyErr>>(|inp| {
+        let token = inp.parse(any())?;
+        inp.emit(EmptyErr)?;
+        Ok(token)
+    });
+    choice((emitting.then(just('c')), just('a').then(just('b')))).parse(alloc, text)
+}

@@ -1,0 +1,281 @@
+//! `select!` and `select_ref!`.
+ghost use Rattle.std.specs.Prelude.{◌≡◌, ℕ, ⊤, refl};
+
+use chumsky::Stop;
+use chumsky::extra::ParserExtra;
+use chumsky::input::Tokens;
+use chumsky::inspector::Inspector;
+use chumsky::prelude::*;
+use chumsky::primitive::{Select, SelectRef, select};
+use std::alloc::{AllocError, Global};
+
+type Errors = extra::Err<Rich<char>>;
+
+/// What `parse` gives of an `a` or a `b`.
+pub fn parse_a_or_b(alloc: Global, text: &str) -> Result<ParseResult<u32, Rich<char>>, Stop> {
+    let one_or_two: Select<_, &str, u32, Errors> = select! { 'a' => 1, 'b' => 2 };
+    one_or_two.parse(alloc, text)
+}
+
+/// What `check` gives of it.
+pub fn check_a_or_b(alloc: Global, text: &str) -> Result<ParseResult<(), Rich<char>>, Stop> {
+    let one_or_two: Select<_, &str, u32, Errors> = select! { 'a' => 1, 'b' => 2 };
+    one_or_two.check(alloc, text)
+}
+
+/// What `parse` gives of an `x`, and then the span of a character that is no `a`.
+pub fn parse_span_past_x(
+    alloc: Global,
+    text: &str,
+) -> Result<ParseResult<(char, SimpleSpan), Rich<char>>, Stop> {
+    let span: Select<_, &str, SimpleSpan, Errors> = select! {
+        c = extra if c != 'a' => extra.span(),
+    };
+    just('x').then(span).parse(alloc, text)
+}
+
+/// What `check` gives of it.
+pub fn check_span_past_x(alloc: Global, text: &str) -> Result<ParseResult<(), Rich<char>>, Stop> {
+    let span: Select<_, &str, SimpleSpan, Errors> = select! {
+        c = extra if c != 'a' => extra.span(),
+    };
+    just('x').then(span).check(alloc, text)
+}
+
+/// A number that goes back where the parser does, and takes no notice of tokens.
+#[derive(Clone, Copy, PartialEq, Eq, Default)]
+pub struct Tally {
+    pub count: u32,
+}
+
+impl<I: Tokens> Inspector<I> for Tally {
+    type Mark = u32;
+
+    ghost Seen = { ℕ };
+
+    ghost seen = { λ s. s.count };
+
+    ghost Marked = { ℕ };
+
+    ghost marked = { λ m. m };
+
+    ghost after = { λ s t. s };
+
+    ghost mark = { λ s. s };
+
+    ghost back = { λ s m. m };
+
+    ghost takes_no_memory = { ⊤ };
+
+    ghost goes_back = { λ s. refl };
+
+    fn on_token(&mut self, token: &I::Token) {}
+
+    fn on_save(&self) -> Result<u32, AllocError> {
+        Ok(self.count)
+    }
+
+    fn on_rewind(&mut self, saved: &u32) -> Result<(), AllocError> {
+        self.count = *saved;
+        Ok(())
+    }
+}
+
+/// Errors that say nothing, and a `Tally`.
+pub struct Tallied;
+
+impl<'src> ParserExtra<&'src str> for Tallied {
+    type Error = EmptyErr;
+
+    type State = Tally;
+
+    type Context = ();
+}
+
+/// An `a` is taken, and its arm writes 7 to the state. What `parse` leaves there, and whether there was an output.
+pub fn parse_tally(alloc: Global, text: &str, state: &mut Tally) -> Result<bool, Stop> {
+    let tallies: Select<_, &str, (), Tallied> = select! {
+        'a' = extra => { *extra.state() = Tally { count: 7 }; },
+    };
+    let parsed = tallies.parse_with_state(alloc, text, state)?;
+    Ok(parsed.output().is_some())
+}
+
+/// What `check` leaves there.
+pub fn check_tally(alloc: Global, text: &str, state: &mut Tally) -> Result<bool, Stop> {
+    let tallies: Select<_, &str, (), Tallied> = select! {
+        'a' = extra => { *extra.state() = Tally { count: 7 }; },
+    };
+    let checked = tallies.check_with_state(alloc, text, state)?;
+    Ok(checked.output().is_some())
+}
+
+/// A closure that writes 9 to the state and takes no token. What `parse` leaves there.
+pub fn parse_refused(alloc: Global, text: &str, state: &mut Tally) -> Result<bool, Stop> {
+    let refuses: Select<_, &str, (), Tallied> = select(|c: char, extra| {
+        *extra.state() = Tally { count: 9 };
+        None
+    });
+    let parsed = refuses.parse_with_state(alloc, text, state)?;
+    Ok(parsed.output().is_some())
+}
+
+/// A token that can't be cloned.
+#[derive(Drop)]
+pub enum Word {
+    Number(u32),
+    Comma,
+}
+
+/// A reference to the number of the one word.
+pub fn parse_number<'src>(
+    alloc: Global,
+    words: &'src [Word],
+) -> Result<ParseResult<&'src u32, EmptyErr>, Stop> {
+    let number: SelectRef<_, &'src [Word], &'src u32, extra::Default> = select_ref! {
+        Word::Number(number) => number,
+    };
+    number.parse(alloc, words)
+}
+
+/// Whether `check` finds one.
+pub fn check_number(alloc: Global, words: &[Word]) -> Result<ParseResult<(), EmptyErr>, Stop> {
+    let number: SelectRef<_, &[Word], &u32, extra::Default> = select_ref! {
+        Word::Number(number) => number,
+    };
+    number.check(alloc, words)
+}
+
+#[cfg(test)]
+mod tests {
+    use super::*;
+    use chumsky::error::RichPattern;
+
+    /// Whether the one error of a run is that something else than `found` was expected.
+    fn says(errors: &[Rich<char>], found: Option<char>, start: usize, end: usize) -> bool {
+        let expected = [RichPattern::SomethingElse];
+        match errors {
+            [error] => {
+                error.expected().as_slice() == expected.as_slice()
+                    && error.found().copied() == found
+                    && *error.span() == SimpleSpan { start, end }
+            }
+            _ => false,
+        }
+    }
+
+    #[test]
+    fn the_arm_that_fits_gives_the_output(rt: HostRuntime) {
+        let (output, errors) = parse_a_or_b(rt.alloc(), "b")
+            .ok()
+            .expect(&rt, "the run was refused")
+            .into_output_errors();
+        assert!(rt; output == Some(2));
+        assert!(rt; errors.is_empty());
+        let checked = check_a_or_b(rt.alloc(), "a")
+            .ok()
+            .expect(&rt, "the run was refused");
+        assert!(rt; checked.output().is_some());
+        assert!(rt; checked.errors().len() == 0);
+    }
+
+    #[test]
+    fn a_token_that_no_arm_fits_is_found(rt: HostRuntime) {
+        let (output, errors) = parse_a_or_b(rt.alloc(), "c")
+            .ok()
+            .expect(&rt, "the run was refused")
+            .into_output_errors();
+        assert!(rt; output.is_none());
+        assert!(rt; says(&errors, Some('c'), 0, 1));
+        let (output, errors) = check_a_or_b(rt.alloc(), "c")
+            .ok()
+            .expect(&rt, "the run was refused")
+            .into_output_errors();
+        assert!(rt; output.is_none());
+        assert!(rt; says(&errors, Some('c'), 0, 1));
+    }
+
+    #[test]
+    fn at_the_end_nothing_is_found(rt: HostRuntime) {
+        let (output, errors) = parse_a_or_b(rt.alloc(), "")
+            .ok()
+            .expect(&rt, "the run was refused")
+            .into_output_errors();
+        assert!(rt; output.is_none());
+        assert!(rt; says(&errors, None, 0, 0));
+        let (output, errors) = check_a_or_b(rt.alloc(), "")
+            .ok()
+            .expect(&rt, "the run was refused")
+            .into_output_errors();
+        assert!(rt; output.is_none());
+        assert!(rt; says(&errors, None, 0, 0));
+    }
+
+    #[test]
+    fn the_extra_spans_the_token(rt: HostRuntime) {
+        let (output, errors) = parse_span_past_x(rt.alloc(), "xé")
+            .ok()
+            .expect(&rt, "the run was refused")
+            .into_output_errors();
+        assert!(rt; output == Some(('x', SimpleSpan { start: 1, end: 3 })));
+        assert!(rt; errors.is_empty());
+        let (output, errors) = parse_span_past_x(rt.alloc(), "xa")
+            .ok()
+            .expect(&rt, "the run was refused")
+            .into_output_errors();
+        assert!(rt; output.is_none());
+        assert!(rt; says(&errors, Some('a'), 1, 2));
+        let (output, errors) = check_span_past_x(rt.alloc(), "xa")
+            .ok()
+            .expect(&rt, "the run was refused")
+            .into_output_errors();
+        assert!(rt; output.is_none());
+        assert!(rt; says(&errors, Some('a'), 1, 2));
+    }
+
+    #[test]
+    fn what_is_written_stands_or_is_gone_back_from(rt: HostRuntime) {
+        let mut state = Tally { count: 1 };
+        let taken = parse_tally(rt.alloc(), "a", &mut state)
+            .ok()
+            .expect(&rt, "the run was refused");
+        assert!(rt; taken && state.count == 7);
+        let mut state = Tally { count: 1 };
+        let taken = check_tally(rt.alloc(), "a", &mut state)
+            .ok()
+            .expect(&rt, "the run was refused");
+        assert!(rt; taken && state.count == 7);
+        let mut state = Tally { count: 1 };
+        let taken = check_tally(rt.alloc(), "b", &mut state)
+            .ok()
+            .expect(&rt, "the run was refused");
+        assert!(rt; !taken && state.count == 1);
+        let taken = parse_refused(rt.alloc(), "b", &mut state)
+            .ok()
+            .expect(&rt, "the run was refused");
+        assert!(rt; !taken && state.count == 1);
+    }
+
+    #[test]
+    fn a_reference_into_the_token_is_given(rt: HostRuntime) {
+        let words = [Word::Number(5)];
+        let parsed = parse_number(rt.alloc(), &words)
+            .ok()
+            .expect(&rt, "the run was refused");
+        assert!(rt; parsed.output() == Some(&&5));
+        let commas = [Word::Comma];
+        let parsed = parse_number(rt.alloc(), &commas)
+            .ok()
+            .expect(&rt, "the run was refused");
+        assert!(rt; parsed.output().is_none());
+        assert!(rt; parsed.errors().len() == 1);
+        let checked = check_number(rt.alloc(), &commas)
+            .ok()
+            .expect(&rt, "the run was refused");
+        assert!(rt; checked.errors().len() == 1);
+        let checked = check_number(rt.alloc(), &words)
+            .ok()
+            .expect(&rt, "the run was refused");
+        assert!(rt; checked.errors().len() == 0);
+    }
+}
