@@ -21,7 +21,7 @@ pub fn then_is_steady<
     'src,
     I: Input<'src>,
     O: Drop,
-    U,
+    U: Drop,
     E: ParserExtra<I>,
     A: Parser<'src, I, O, E>,
     B: Parser<'src, I, U, E>,
@@ -51,7 +51,7 @@ pub fn delimited_by_is_steady<
 pub fn or_is_steady<
     'src,
     I: Input<'src>,
-    O,
+    O: Drop,
     E: ParserExtra<I>,
     A: Parser<'src, I, O, E>,
     B: Parser<'src, I, O, E>,
@@ -61,10 +61,14 @@ pub fn or_is_steady<
 {}
 
 /// `a.to(v)` and `a.ignored()`.
-pub fn to_is_steady<'src, I: Input<'src>, O, U: Clone, E: ParserExtra<I>, A: Parser<'src, I, O, E>>(
-    to: &To<A, O, U>,
-    ignored: &Ignored<A, O>,
-)
+pub fn to_is_steady<
+    'src,
+    I: Input<'src>,
+    O: Drop,
+    U: Clone,
+    E: ParserExtra<I>,
+    A: Parser<'src, I, O, E>,
+>(to: &To<A, O, U>, ignored: &Ignored<A, O>)
     ensures to { A.steady to.now.parser → ⟦<To<A, O, U> as Parser<'src, I, U, E>>⟧.steady to.now }
     ensures ignored { A.steady ignored.now.parser → ⟦<Ignored<A, O> as Parser<'src, I, (), E>>⟧.steady ignored.now }
 {}
@@ -73,7 +77,7 @@ pub fn to_is_steady<'src, I: Input<'src>, O, U: Clone, E: ParserExtra<I>, A: Par
 pub fn map_is_steady<
     'src,
     I: Input<'src>,
-    O,
+    O: Drop,
     U,
     E: ParserExtra<I>,
     A: Parser<'src, I, O, E>,
