@@ -1,9 +1,8 @@
 -- A choice among a list, alternative by alternative.
-use Rattle.std.proofs.Common.{◌≡◌, ℕ, ◌+◌, ◌<◌, ◌≤◌, get_or, drop, Bool, Option, None, List, [], ◌∷◌, ◌++◌, map, length, refl, sym, ◌∙◌, ap, subst, append_assoc, Result, Err, arith}
+use Rattle.std.proofs.Common.{◌≡◌, ℕ, ◌+◌, ◌<◌, ◌≤◌, get_or, drop, Bool, Option, None, List, [], ◌∷◌, map, length, refl, sym, ◌∙◌, ap, subst, Result, Err, arith}
 use Rattle.std.proofs.Math.Numerals.{add-one}
 use Rattle.std.proofs.Math.ListN.{drop_of_length-le}
 use Rattle.std.proofs.Math.Seq.{drop-cons}
-use Rattle.std.proofs.lemmas.List.{append-nil}
 use Rattle.std.proofs.lemmas.List.Elements.{All-head, All-tail}
 use Rattle.std.specs.List.{All, IsFirstAndRest}
 use Rattle.chumsky_input.specs.declared.error.Error as error_trait
@@ -15,48 +14,29 @@ use Rattle.chumsky_input.specs.declared.stop.Stop.TheVariants.{Memory}
 use Rattle.chumsky_input.specs.Outcome.{Meaning}
 use Rattle.chumsky_input.specs.Held.{Held, Marks}
 use Rattle.chumsky_input.specs.Run.{Ran, Fails, marked_here}
-use Rattle.chumsky_parser.specs.Choice.{AttemptFrom, FirstFrom, FirstOf}
+use Rattle.chumsky_parser.specs.Choice.{FirstFrom, FirstOf}
 use Rattle.chumsky_parser.specs.Failure.{expects}
 use Rattle.chumsky_parser.proofs.ChainedLemmas.{ran-weaker}
-use Rattle.chumsky_parser.proofs.ChoiceLemmas.{attempt-stands}
 use Rattle.chumsky_parser.proofs.FailureLemmas.{ran-misses}
 use Rattle.chumsky_choice.specs.Among.{FirstAmong}
 use Rattle.chumsky_choice.specs.Next.{TriesNext}
-use Rattle.chumsky_choice.proofs.NextLemmas.{Tried, tried-next, tried-all, first_of-unmarked}
+use Rattle.chumsky_choice.proofs.NextLemmas.{Tried, tried-first, tried-next, tried-stands, first_of-marked, first_of-unmarked}
 
 module _ {Tok Cx St Mk Er V X : Type 0} (merged : Er → Er → Er) (safe : Type 0) (back : St → Mk → St) (quiet : Type 0) (m : Marks Tok Mk) (meaning : X → Meaning Tok Cx St Er V) (first : X) (others rest : List X) (wanted : Bool) (old new : Held Tok Cx St Er) (r : Result (Option V) Fault) where
   -- the first alternative and some of the others, of which these are left
   pub record TriedSome : Type 0 where
-    pub done : List X
-    pub split : others ≡ done ++ rest
-    pub tried : Tried merged safe m (FirstFrom back quiet m.mark (meaning first) (map meaning done)) wanted old new r
-
-module _ {Tok Cx St Mk Er V X : Type 0} {merged : Er → Er → Er} {safe : Type 0} (back : St → Mk → St) (quiet : Type 0) {m : Marks Tok Mk} (meaning : X → Meaning Tok Cx St Er V) {wanted : Bool} {old new : Held Tok Cx St Er} {r : Result (Option V) Fault} where
-  tried_last : (first : Meaning Tok Cx St Er V) (done : List X) (x : X) → Tried merged safe m (AttemptFrom back quiet m.mark (FirstFrom back quiet m.mark first (map meaning done)) (meaning x)) wanted old new r
-      → Tried merged safe m (FirstFrom back quiet m.mark first (map meaning (done ++ x ∷ []))) wanted old new r
-  tried_last first [] x h = h
-  tried_last first (d ∷ ds) x h = tried_last (AttemptFrom back quiet m.mark first (meaning d)) ds x h
-
-  -- an answer that is no failure stands, whatever alternatives are left
-  tried_stands : (first : Meaning Tok Cx St Er V) (done rest : List X) → (r ≡ Err fault.Fail → ⊥) → Tried merged safe m (FirstFrom back quiet m.mark first (map meaning done)) wanted old new r
-      → Tried merged safe m (FirstFrom back quiet m.mark first (map meaning (done ++ rest))) wanted old new r
-  tried_stands first [] [] n h = h
-  tried_stands first [] (x ∷ xs) n h =
-      tried_stands (AttemptFrom back quiet m.mark first (meaning x)) [] xs n (record { at = h.at; ran = attempt-stands merged safe back quiet m.mark first (meaning x) wanted old new r h.ran n })
-  tried_stands first (d ∷ ds) rest n h = tried_stands (AttemptFrom back quiet m.mark first (meaning d)) ds rest n h
+    pub tried : Tried merged safe back quiet m (FirstFrom back quiet m.mark (meaning first) (map meaning others)) wanted old new r (map meaning rest)
 
 module _ {Tok Cx St Mk Er V X : Type 0} {merged : Er → Er → Er} {safe : Type 0} {back : St → Mk → St} {quiet : Type 0} {m : Marks Tok Mk} {meaning : X → Meaning Tok Cx St Er V} {first : X} {others : List X} {wanted : Bool} where
-  pub some-first : {old new : Held Tok Cx St Er} {r : Result (Option V) Fault} → Tried merged safe m (meaning first) wanted old new r → TriedSome merged safe back quiet m meaning first others others wanted old new r
-  some-first h = record { done = []; split = refl; tried = h }
+  pub some-first : (mark : St → Mk) {old new : Held Tok Cx St Er} {r : Result (Option V) Fault} → m ≡ marked_here mark old → Ran merged safe (meaning first) wanted old new r
+      → TriedSome merged safe back quiet m meaning first others others wanted old new r
+  some-first mark e h = record { tried = tried-first mark e h }
 
   pub some-next : {x : X} {left rest : List X} {old mid new : Held Tok Cx St Er} {t r : Result (Option V) Fault} → TriedSome merged safe back quiet m meaning first others left wanted old mid t → left ≡ x ∷ rest
       → TriesNext merged safe back quiet m (meaning x) wanted mid new t r → TriedSome merged safe back quiet m meaning first others rest wanted old new r
-  some-next {x} {left} {rest} h s k =
-      record {
-        done = h.done ++ x ∷ [];
-        split = h.split ∙ ap (λ ys. h.done ++ ys) s ∙ sym (append_assoc h.done (x ∷ []) rest);
-        tried = tried_last back quiet meaning (meaning first) h.done x (tried-next h.tried k);
-      }
+  some-next {x} {left} {rest} {old} {mid} {new} {t} {r} h s k =
+      let left_now : TriedSome merged safe back quiet m meaning first others (x ∷ rest) wanted old mid t = subst (λ xs. TriedSome merged safe back quiet m meaning first others xs wanted old mid t) s h in
+      record { tried = tried-next left_now.tried k }
 
 -- what is left from an index on
 pub left-next : {X : Type 0} (xs : List X) (i : ℕ) (x : X) → i < length xs → x ≡ get_or xs i x → drop i xs ≡ x ∷ drop (i + 1) xs
@@ -107,23 +87,22 @@ module _ {Tok Cx St Mk Er V X : Type 0} {merged : Er → Er → Er} {safe : Type
   several-unmarked [] n e may = absurd (n refl)
   several-unmarked (y ∷ ys) n e may = first_of-unmarked e may
 
-  all_tried : (others : List X) (m : Marks Tok Mk) (new : Held Tok Cx St Er) (r : Result (Option V) Fault) → (length others ≡ 0 → ⊥) → m ≡ marked_here mark old
-      → Tried merged safe m (FirstFrom back quiet m.mark (meaning first) (map meaning others)) wanted old new r
+  by_mark : (others : List X) (m : Marks Tok Mk) (new : Held Tok Cx St Er) (r : Result (Option V) Fault) → (length others ≡ 0 → ⊥) → m ≡ marked_here mark old
+      → Ran merged safe (FirstFrom back quiet m.mark (meaning first) (map meaning others)) wanted old new r
       → Ran merged safe (FirstOf mark back quiet (meaning first) (map meaning others)) wanted old new r
-  all_tried [] m new r n e h = absurd (n refl)
-  all_tried (y ∷ ys) m new r n e h = tried-all e h
+  by_mark [] m new r n e h = absurd (n refl)
+  by_mark (y ∷ ys) m new r n e h = first_of-marked e h
 
   module _ {others rest : List X} {m : Marks Tok Mk} {new : Held Tok Cx St Er} {r : Result (Option V) Fault} (several : length others ≡ 0 → ⊥) (e : m ≡ marked_here mark old) (h : TriedSome merged safe back quiet m meaning first others rest wanted old new r) where
     -- none is left
     pub several-all : length rest ≡ 0 → Ran merged safe (FirstOf mark back quiet (meaning first) (map meaning others)) wanted old new r
-    several-all n = none_left rest n h.split
+    several-all n = by_mark others m new r several e (none_left rest n h.tried)
       where
-        none_left : (left : List X) → length left ≡ 0 → others ≡ h.done ++ left → Ran merged safe (FirstOf mark back quiet (meaning first) (map meaning others)) wanted old new r
-        none_left [] n s = all_tried others m new r several e (subst (λ os. Tried merged safe m (FirstFrom back quiet m.mark (meaning first) (map meaning os)) wanted old new r) (sym (s ∙ append-nil h.done)) h.tried)
-        none_left (x ∷ left) n s = absurd (omega (arith, n))
+        none_left : (left : List X) → length left ≡ 0 → Tried merged safe back quiet m (FirstFrom back quiet m.mark (meaning first) (map meaning others)) wanted old new r (map meaning left)
+            → Ran merged safe (FirstFrom back quiet m.mark (meaning first) (map meaning others)) wanted old new r
+        none_left [] n k = k.completes
+        none_left (x ∷ left) n k = absurd (omega (arith, n))
 
     -- an answer that is no failure stands
     pub several-stands : (r ≡ Err fault.Fail → ⊥) → Ran merged safe (FirstOf mark back quiet (meaning first) (map meaning others)) wanted old new r
-    several-stands n =
-        all_tried others m new r several e
-        (subst (λ os. Tried merged safe m (FirstFrom back quiet m.mark (meaning first) (map meaning os)) wanted old new r) (sym h.split) (tried_stands back quiet meaning (meaning first) h.done rest n h.tried))
+    several-stands n = by_mark others m new r several e (tried-stands (map meaning rest) n h.tried)

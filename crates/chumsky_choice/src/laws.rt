@@ -1,7 +1,7 @@
 //! Laws that compare choices, each the contract of a function that does nothing.
 ghost use Rattle.std.specs.Prelude.{[], ◌∷◌, map};
 ghost use Rattle.chumsky_choice.specs.InOrder.{StandsByOne, StandsByOneIfAny};
-ghost use Rattle.chumsky_choice.specs.OrLaws.{IsWithin};
+ghost use Rattle.chumsky_choice.specs.OrLaws.{IsWithin, IsWithinButMemory};
 
 use crate::choice::Choice;
 use chumsky_combinator::choice::Or;
@@ -9,7 +9,8 @@ use chumsky_input::extra::ParserExtra;
 use chumsky_input::input::Input;
 use chumsky_parser::parser::Parser;
 
-/// `choice((a, b, c))` has the outcomes of `a.or(b).or(c)`, and no other. It takes one mark where that takes two.
+/// `choice((a, b, c))` has the outcomes of `a.or(b).or(c)`, want of memory aside, and no other. It takes one mark where
+/// that takes two.
 pub fn choice_is_repeated_or<
     'src,
     I: Input<'src>,
@@ -20,11 +21,11 @@ pub fn choice_is_repeated_or<
     C: Parser<'src, I, O, E>,
 >(a: &A, b: &B, c: &C)
     ensures in_or { IsWithin (⟦<Choice<(A, B, C)> as Parser<'src, I, O, E>>⟧.meaning (record { parsers = (a.now, b.now, c.now) }) E.Error.Error E.State.Inspector) (⟦<Or<Or<A, B>, C> as Parser<'src, I, O, E>>⟧.meaning (record { first = record { first = a.now; second = b.now }; second = c.now }) E.Error.Error E.State.Inspector) }
-    ensures in_choice { IsWithin (⟦<Or<Or<A, B>, C> as Parser<'src, I, O, E>>⟧.meaning (record { first = record { first = a.now; second = b.now }; second = c.now }) E.Error.Error E.State.Inspector) (⟦<Choice<(A, B, C)> as Parser<'src, I, O, E>>⟧.meaning (record { parsers = (a.now, b.now, c.now) }) E.Error.Error E.State.Inspector) }
+    ensures in_choice { IsWithinButMemory (⟦<Or<Or<A, B>, C> as Parser<'src, I, O, E>>⟧.meaning (record { first = record { first = a.now; second = b.now }; second = c.now }) E.Error.Error E.State.Inspector) (⟦<Choice<(A, B, C)> as Parser<'src, I, O, E>>⟧.meaning (record { parsers = (a.now, b.now, c.now) }) E.Error.Error E.State.Inspector) }
 {}
 
-/// In each answer of `choice((a, b, c))` one alternative stands: those before it say no and are gone back from, each to
-/// the choice's own beginning, and it says yes, or is the last.
+/// In each answer of a choice of two, of three, and so on to eight, one alternative stands: those before it say no and are
+/// gone back from, each to the choice's own beginning, and it says yes, or is the last.
 pub fn one_alternative_stands<
     'src,
     I: Input<'src>,
@@ -33,17 +34,40 @@ pub fn one_alternative_stands<
     A: Parser<'src, I, O, E>,
     B: Parser<'src, I, O, E>,
     C: Parser<'src, I, O, E>,
->(choice: &Choice<(A, B, C)>)
-    ensures { StandsByOne E.State.mark E.State.back (⟦<Choice<(A, B, C)> as Parser<'src, I, O, E>>⟧.meaning choice.now E.Error.Error E.State.Inspector) (A.meaning choice.now.parsers.0 E.Error.Error E.State.Inspector ∷ B.meaning choice.now.parsers.1 E.Error.Error E.State.Inspector ∷ C.meaning choice.now.parsers.2 E.Error.Error E.State.Inspector ∷ []) }
+    D: Parser<'src, I, O, E>,
+    F: Parser<'src, I, O, E>,
+    G: Parser<'src, I, O, E>,
+    H: Parser<'src, I, O, E>,
+    J: Parser<'src, I, O, E>,
+>(
+    two: &Choice<(A, B)>,
+    three: &Choice<(A, B, C)>,
+    four: &Choice<(A, B, C, D)>,
+    five: &Choice<(A, B, C, D, F)>,
+    six: &Choice<(A, B, C, D, F, G)>,
+    seven: &Choice<(A, B, C, D, F, G, H)>,
+    eight: &Choice<(A, B, C, D, F, G, H, J)>,
+)
+    ensures two { StandsByOne E.State.mark E.State.back (⟦<Choice<(A, B)> as Parser<'src, I, O, E>>⟧.meaning two.now E.Error.Error E.State.Inspector) (A.meaning two.now.parsers.0 E.Error.Error E.State.Inspector ∷ B.meaning two.now.parsers.1 E.Error.Error E.State.Inspector ∷ []) }
+    ensures three { StandsByOne E.State.mark E.State.back (⟦<Choice<(A, B, C)> as Parser<'src, I, O, E>>⟧.meaning three.now E.Error.Error E.State.Inspector) (A.meaning three.now.parsers.0 E.Error.Error E.State.Inspector ∷ B.meaning three.now.parsers.1 E.Error.Error E.State.Inspector ∷ C.meaning three.now.parsers.2 E.Error.Error E.State.Inspector ∷ []) }
+    ensures four { StandsByOne E.State.mark E.State.back (⟦<Choice<(A, B, C, D)> as Parser<'src, I, O, E>>⟧.meaning four.now E.Error.Error E.State.Inspector) (A.meaning four.now.parsers.0 E.Error.Error E.State.Inspector ∷ B.meaning four.now.parsers.1 E.Error.Error E.State.Inspector ∷ C.meaning four.now.parsers.2 E.Error.Error E.State.Inspector ∷ D.meaning four.now.parsers.3 E.Error.Error E.State.Inspector ∷ []) }
+    ensures five { StandsByOne E.State.mark E.State.back (⟦<Choice<(A, B, C, D, F)> as Parser<'src, I, O, E>>⟧.meaning five.now E.Error.Error E.State.Inspector) (A.meaning five.now.parsers.0 E.Error.Error E.State.Inspector ∷ B.meaning five.now.parsers.1 E.Error.Error E.State.Inspector ∷ C.meaning five.now.parsers.2 E.Error.Error E.State.Inspector ∷ D.meaning five.now.parsers.3 E.Error.Error E.State.Inspector ∷ F.meaning five.now.parsers.4 E.Error.Error E.State.Inspector ∷ []) }
+    ensures six { StandsByOne E.State.mark E.State.back (⟦<Choice<(A, B, C, D, F, G)> as Parser<'src, I, O, E>>⟧.meaning six.now E.Error.Error E.State.Inspector) (A.meaning six.now.parsers.0 E.Error.Error E.State.Inspector ∷ B.meaning six.now.parsers.1 E.Error.Error E.State.Inspector ∷ C.meaning six.now.parsers.2 E.Error.Error E.State.Inspector ∷ D.meaning six.now.parsers.3 E.Error.Error E.State.Inspector ∷ F.meaning six.now.parsers.4 E.Error.Error E.State.Inspector ∷ G.meaning six.now.parsers.5 E.Error.Error E.State.Inspector ∷ []) }
+    ensures seven { StandsByOne E.State.mark E.State.back (⟦<Choice<(A, B, C, D, F, G, H)> as Parser<'src, I, O, E>>⟧.meaning seven.now E.Error.Error E.State.Inspector) (A.meaning seven.now.parsers.0 E.Error.Error E.State.Inspector ∷ B.meaning seven.now.parsers.1 E.Error.Error E.State.Inspector ∷ C.meaning seven.now.parsers.2 E.Error.Error E.State.Inspector ∷ D.meaning seven.now.parsers.3 E.Error.Error E.State.Inspector ∷ F.meaning seven.now.parsers.4 E.Error.Error E.State.Inspector ∷ G.meaning seven.now.parsers.5 E.Error.Error E.State.Inspector ∷ H.meaning seven.now.parsers.6 E.Error.Error E.State.Inspector ∷ []) }
+    ensures eight { StandsByOne E.State.mark E.State.back (⟦<Choice<(A, B, C, D, F, G, H, J)> as Parser<'src, I, O, E>>⟧.meaning eight.now E.Error.Error E.State.Inspector) (A.meaning eight.now.parsers.0 E.Error.Error E.State.Inspector ∷ B.meaning eight.now.parsers.1 E.Error.Error E.State.Inspector ∷ C.meaning eight.now.parsers.2 E.Error.Error E.State.Inspector ∷ D.meaning eight.now.parsers.3 E.Error.Error E.State.Inspector ∷ F.meaning eight.now.parsers.4 E.Error.Error E.State.Inspector ∷ G.meaning eight.now.parsers.5 E.Error.Error E.State.Inspector ∷ H.meaning eight.now.parsers.6 E.Error.Error E.State.Inspector ∷ J.meaning eight.now.parsers.7 E.Error.Error E.State.Inspector ∷ []) }
 {}
 
-/// The same of a list of any length. Where it is empty the answer is no.
+/// The same of a slice, a `Vec` and an array of any length. Where it is empty the answer is no.
 pub fn one_alternative_of_a_list_stands<
     'src,
+    'p,
     I: Input<'src>,
     O,
     E: ParserExtra<I>,
     A: Parser<'src, I, O, E>,
->(choice: &Choice<Vec<A>>)
-    ensures { StandsByOneIfAny E.State.mark E.State.back (⟦<Choice<Vec<A>> as Parser<'src, I, O, E>>⟧.meaning choice.now E.Error.Error E.State.Inspector) (map (λ p. A.meaning p E.Error.Error E.State.Inspector) choice.now.parsers.items) }
+    const N: usize,
+>(slice: &Choice<&'p [A]>, vec: &Choice<Vec<A>>, array: &Choice<[A; N]>)
+    ensures slice { StandsByOneIfAny E.State.mark E.State.back (⟦<Choice<&'p [A]> as Parser<'src, I, O, E>>⟧.meaning slice.now E.Error.Error E.State.Inspector) (map (λ p. A.meaning p E.Error.Error E.State.Inspector) slice.now.parsers.now) }
+    ensures vec { StandsByOneIfAny E.State.mark E.State.back (⟦<Choice<Vec<A>> as Parser<'src, I, O, E>>⟧.meaning vec.now E.Error.Error E.State.Inspector) (map (λ p. A.meaning p E.Error.Error E.State.Inspector) vec.now.parsers.items) }
+    ensures array { StandsByOneIfAny E.State.mark E.State.back (⟦<Choice<[A; N]> as Parser<'src, I, O, E>>⟧.meaning array.now E.Error.Error E.State.Inspector) (map (λ p. A.meaning p E.Error.Error E.State.Inspector) array.now.parsers) }
 {}

@@ -1,9 +1,9 @@
 -- The laws of ordered choice.
-use Rattle.std.proofs.Common.{◌≡◌, suc, ◌≤◌, List, [], ◌∷◌, ◌++◌, map, Option, Some, None, refl, sym, ap, subst, arith, inl, inr}
+use Rattle.std.proofs.Common.{◌≡◌, ℕ, zero, suc, ◌≤◌, List, [], ◌∷◌, ◌++◌, map, Option, Some, None, refl, sym, ap, subst, arith, inl, inr}
 use Rattle.std.specs.Prelude.{⊤}
 use Rattle.std.specs.List.{All}
 use Rattle.chumsky_input.specs.Outcome.{Meaning, Beginning, Outcome, Verdict, Yes, No, Halt, Clash, SameValue, SameAnswer, Alike, Agree, EndsAfterStart, Agreeing, IsAnswer}
-use Rattle.chumsky_parser.specs.Choice.{ElseFrom, AttemptFrom, FirstFrom, OneOrFirst, FirstOf, OrElse, SameEither, SameByOne}
+use Rattle.chumsky_parser.specs.Choice.{ElseFrom, AttemptFrom, Stands, FirstFrom, OneOrFirst, FirstOf, OrElse, SameEither, SameByOne}
 
 module _ {V : Type 0} (s t : V → V → Type 0) (h : (v w : V) → s v w → t v w) where
   value-weaker : (v w : Option V) → SameValue s v w → SameValue t v w
@@ -128,16 +128,56 @@ module _ {Tok Cx St Er V : Type 0} where
     each-agrees steady same h (x ∷ xs) s = and-agrees (h x (s 0 x (omega arith))) (each-agrees steady same h xs (λ k d l. s (suc k) d (omega (arith, l))))
 
 module _ {Tok Cx St Mk Er V : Type 0} (back : St → Mk → St) (safe : Type 0) (mark : Mk) where
+  -- what is no no stands
+  stays : (second : Meaning Tok Cx St Er V) (b : Beginning Tok Cx St) (o : Outcome V Er St) (v : Verdict V Er) → (v ≡ No → ⊥) → ElseFrom back safe mark v second b o o
+  stays second b o (Yes v) n = refl
+  stays second b o No n = absurd (n refl)
+  stays second b o (Halt s) n = refl
+  stays second b o (Clash e) n = refl
+
+  module _ (first next : Meaning Tok Cx St Er V) (others : List (Meaning Tok Cx St Er V)) (b : Beginning Tok Cx St) where
+    attempted : (k : ℕ) (o : Outcome V Er St) → Stands back safe mark k first (next ∷ others) b o → AttemptFrom back safe mark first (FirstFrom back safe mark next others) b o
+    attempted zero o h = record { attempt = o; meant = h.0; then_else = stays (FirstFrom back safe mark next others) b o o.verdict (λ z. absurd (omega (arith, h.1 z))) }
+    attempted (suc k) o h =
+        record {
+          attempt = h.0;
+          meant = h.1;
+          then_else = subst (λ v. ElseFrom back safe mark v (FirstFrom back safe mark next others) b h.0 o) (sym h.2) (elim h.3 [ inl r ↦ inl r | inr t ↦ inr (t.0, record { k = k; stands = t.1 }, t.2) ]);
+        }
+
+    standing : (p o : Outcome V Er St) (v : Verdict V Er) → p.verdict ≡ v → first b p → ElseFrom back safe mark v (FirstFrom back safe mark next others) b p o → FirstFrom back safe mark first (next ∷ others) b o
+    standing p o (Yes v) pv h e = record { k = 0; stands = (subst (first b) (sym e) h, λ z. (let no : ⊥ = cc in absurd no)) }
+    standing p o No pv h (inl r) = record { k = 1; stands = (p, h, pv, inl r) }
+    standing p o No pv h (inr t) = record { k = suc t.1.k; stands = (p, h, pv, inr (t.0, t.1.stands, t.2)) }
+    standing p o (Halt s) pv h e = record { k = 0; stands = (subst (first b) (sym e) h, λ z. (let no : ⊥ = cc in absurd no)) }
+    standing p o (Clash x) pv h e = record { k = 0; stands = (subst (first b) (sym e) h, λ z. (let no : ⊥ = cc in absurd no)) }
+
+    -- the first of a list is attempted before the others
+    pub first_from-attempts : (o : Outcome V Er St) → FirstFrom back safe mark first (next ∷ others) b o → AttemptFrom back safe mark first (FirstFrom back safe mark next others) b o
+    first_from-attempts o h = attempted h.k o h.stands
+
+    pub attempts-first_from : (o : Outcome V Er St) → AttemptFrom back safe mark first (FirstFrom back safe mark next others) b o → FirstFrom back safe mark first (next ∷ others) b o
+    attempts-first_from o h = standing h.attempt o h.attempt.verdict refl h.meant h.then_else
+
+  only : (first : Meaning Tok Cx St Er V) (b : Beginning Tok Cx St) (o : Outcome V Er St) (k : ℕ) → Stands back safe mark k first [] b o → first b o
+  only first b o zero h = h.0
+  only first b o (suc k) h = absurd h
+
+  -- one alternative by itself stands
+  pub first_from-only : (first : Meaning Tok Cx St Er V) (b : Beginning Tok Cx St) (o : Outcome V Er St) → FirstFrom back safe mark first [] b o → first b o
+  first_from-only first b o h = only first b o h.k h.stands
+
   first_from-ends : (first : Meaning Tok Cx St Er V) (others : List (Meaning Tok Cx St Er V)) → EndsAfterStart first → EachEnds others → EndsAfterStart (FirstFrom back safe mark first others)
-  first_from-ends first [] h hs = h
-  first_from-ends first (next ∷ others) h hs = first_from-ends (AttemptFrom back safe mark first next) others (attempt-ends back safe mark first next h hs.0) hs.1
+  first_from-ends first [] h hs b o m a = h b o (first_from-only first b o m) a
+  first_from-ends first (next ∷ others) h hs b o m a = attempt-ends back safe mark first (FirstFrom back safe mark next others) h (first_from-ends next others hs.0 hs.1) b o (first_from-attempts first next others b o m) a
 
   first_from-agrees : (s : V → V → Type 0) (ss : List (V → V → Type 0)) (first : Meaning Tok Cx St Er V) (others : List (Meaning Tok Cx St Er V)) → Agreeing s first first → EachAgrees ss others
       → Agreeing (SameByOne s ss) (FirstFrom back safe mark first others) (FirstFrom back safe mark first others)
-  first_from-agrees s [] first [] h hs = h
-  first_from-agrees s [] first (next ∷ others) h hs = absurd hs
-  first_from-agrees s (t ∷ ts) first [] h hs = absurd hs
-  first_from-agrees s (t ∷ ts) first (next ∷ others) h hs = first_from-agrees (SameEither s t) ts (AttemptFrom back safe mark first next) others (attempt-agrees back safe mark first next s t h hs.0) hs.1
+  first_from-agrees s [] first [] h hs b c o q alike m n a z = h b c o q alike (first_from-only first b o m) (first_from-only first c q n) a z
+  first_from-agrees s [] first (next ∷ others) h hs b c o q alike m n a z = absurd hs
+  first_from-agrees s (t ∷ ts) first [] h hs b c o q alike m n a z = absurd hs
+  first_from-agrees s (t ∷ ts) first (next ∷ others) h hs b c o q alike m n a z =
+      attempt-agrees back safe mark first (FirstFrom back safe mark next others) s (SameByOne t ts) h (first_from-agrees t ts next others hs.0 hs.1) b c o q alike (first_from-attempts first next others b o m) (first_from-attempts first next others c q n) a z
 
 module _ {Tok Cx St Mk Er V : Type 0} (mark : St → Mk) (back : St → Mk → St) (safe : Type 0) where
   one_or_first-ends : (first : Meaning Tok Cx St Er V) (others : List (Meaning Tok Cx St Er V)) → AllEnd (first ∷ others) → EndsAfterStart (OneOrFirst mark back safe first others)

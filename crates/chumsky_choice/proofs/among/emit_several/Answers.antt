@@ -2,7 +2,6 @@ use Rattle.std.proofs.Common.{rules, ◌≡◌, ◌∙◌, ap, Err, arith}
 use Rattle.chumsky_input.specs.declared.stop.Fault.TheVariants as fault
 use Rattle.chumsky_input.specs.declared.stop.Stop.TheVariants.{Memory}
 use Rattle.chumsky_parser.proofs.ChainedLemmas.{emit_ok, emit_err}
-use Rattle.chumsky_choice.proofs.NextLemmas.{tried-first}
 use Rattle.chumsky_choice.proofs.AmongLemmas.{some-first, some-next, left-next, left-none, several-unmarked, several-all, several-stands}
 use Rattle.chumsky_choice.proofs.among.emit_several.Goals as goal
 
@@ -14,17 +13,17 @@ returns-in_err-before-clause-ran g c =
 pub returns-in-Ok-clause-ran : goal.returns-in-Ok-clause-ran
 returns-in-Ok-clause-ran g c =
     several-stands {quiet = g.E.State.Inspector.takes_no_memory} (λ p. g.P.Parser.meaning p g.E.Error.Error g.E.State.Inspector) c.requires.several c.in_ok-before.ensures
-    (some-first (tried-first g.E.State.Inspector.mark c.in_ok-before.ensures (rw (emit_ok c.in-Ok.is) at c.go_emit.ensures.ran))) (λ q. cc)
+    (some-first g.E.State.Inspector.mark c.in_ok-before.ensures (rw (emit_ok c.in-Ok.is) at c.go_emit.ensures.ran)) (λ q. cc)
 
 pub returns-in-Err-Stop-clause-ran : goal.returns-in-Err-Stop-clause-ran
 returns-in-Err-Stop-clause-ran g c =
     several-stands {quiet = g.E.State.Inspector.takes_no_memory} (λ p. g.P.Parser.meaning p g.E.Error.Error g.E.State.Inspector) c.requires.several c.in_ok-before.ensures
-    (some-first (tried-first g.E.State.Inspector.mark c.in_ok-before.ensures (rw (emit_err (c.in-Err-Stop.is ∙ ap Err c.in-Err-Stop.field-0-is)) at c.go_emit.ensures.ran))) (λ q. cc)
+    (some-first g.E.State.Inspector.mark c.in_ok-before.ensures (rw (emit_err (c.in-Err-Stop.is ∙ ap Err c.in-Err-Stop.field-0-is)) at c.go_emit.ensures.ran)) (λ q. cc)
 
 pub loop-next-init : goal.loop-next-init
 loop-next-init g c =
     record {
-      some = some-first (tried-first g.E.State.Inspector.mark c.in_ok-before.ensures (rw (emit_err (c.in-Err-Fail.is ∙ ap Err c.in-Err-Fail.field-0-is)) at c.go_emit.ensures.ran));
+      some = some-first g.E.State.Inspector.mark c.in_ok-before.ensures (rw (emit_err (c.in-Err-Fail.is ∙ ap Err c.in-Err-Fail.field-0-is)) at c.go_emit.ensures.ran);
       lent = c.go_emit.ensures.lent;
     }
 
