@@ -105,7 +105,7 @@ pub mod laws {
         one_of_is_steady, select_is_steady, select_ref_is_steady,
     };
     pub use chumsky_set::laws::{
-        a_list_takes_at_most_one_round_more, four_take_at_most_five_rounds,
+        a_list_takes_at_most_one_round_more, a_set_takes_at_most_one_round_more,
     };
     pub use chumsky_set::steady::{set_is_steady, set_of_a_list_is_steady};
 }

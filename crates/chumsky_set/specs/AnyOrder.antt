@@ -77,6 +77,10 @@ module _ {Tok Cx St Er T V : Type 0} (row : Row Tok Cx St Er T V) where
     pub rounds : ℕ
     pub run : Rounds rounds t b o
 
+  -- every outcome of a meaning is one of so many rounds at most, the last pass, and then what follows its values
+  abbrev pub WithinRounds : {W : Type 0} → ℕ → T → (Option V → Meaning Tok Cx St Er W) → Meaning Tok Cx St Er W → Type 0
+  WithinRounds {W} n none next meaning = (b : Beginning Tok Cx St) (o : Outcome W Er St) → meaning b o → Chained (Rounds n none) next b o
+
 -- one more value after these, where they are there
 abbrev pub one_more : {Y : Type 0} → Option (List Y) → Option Y → Option (List Y)
 one_more acc y = option_map (λ p. p.0 ++ p.1 ∷ []) (both acc y)

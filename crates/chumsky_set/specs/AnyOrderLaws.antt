@@ -2,11 +2,11 @@
 use Rattle.std.proofs.Common.{◌≡◌, ℕ, zero, suc, ◌<◌, Option, Some, None, [], refl, ap, arith, inl, inr}
 use Rattle.std.specs.Prelude.{⊤}
 use Rattle.chumsky_input.specs.Outcome.{Meaning, Beginning, Outcome, Verdict, Yes, No, Halt, Clash, SameValue, Agree, EndsAfterStart, Agreeing}
-use Rattle.chumsky_parser.specs.Chained.{Given, Follows, Sequence, SamePair, both, from}
+use Rattle.chumsky_parser.specs.Chained.{Chained, Given, Follows, Sequence, SamePair, both, from}
 use Rattle.chumsky_parser.specs.Laws.{chained-ends, chained-agrees, given-ends, given-agrees, sequence-ends}
 use Rattle.chumsky_parser.specs.Choice.{SameEither}
 use Rattle.chumsky_parser.specs.ChoiceLaws.{or_else-ends, or_else-agrees, agree-weaker}
-use Rattle.chumsky_set.specs.AnyOrder.{Slot, still, Row, Past, Moving, Missing, Offered, no_part, part_and, AfterRound, Rounds, AnyOrder}
+use Rattle.chumsky_set.specs.AnyOrder.{Slot, still, Row, Past, Moving, Missing, Offered, no_part, part_and, AfterRound, Rounds, AnyOrder, WithinRounds}
 
 -- both are not taken, or both are, with values that are the same where both are there
 abbrev pub SameSlot : {V : Type 0} → (V → V → Type 0) → Slot V → Slot V → Type 0
@@ -177,5 +177,9 @@ module _ {Tok Cx St Er T V : Type 0} (row : Row Tok Cx St Er T V) where
   rounds-fewer (suc n) (suc m) t l b o x =
       record { first = x.first; meant = x.meant; follows = after_round-fewer (Rounds row n) (Rounds row m) t (λ u k c q y. rounds-fewer n m u (omega (arith, l, k)) c q y) x.first.verdict b x.first o x.follows }
 
-  pub any_order-rounds : (t : T) (b : Beginning Tok Cx St) (o : Outcome V Er St) → AnyOrder row t b o → Rounds row (suc (row.left t)) t b o
+  any_order-rounds : (t : T) (b : Beginning Tok Cx St) (o : Outcome V Er St) → AnyOrder row t b o → Rounds row (suc (row.left t)) t b o
   any_order-rounds t b o x = rounds-fewer x.rounds (suc (row.left t)) t (omega arith) b o x.run
+
+  -- there are no more rounds than parts to take, and one, whatever follows
+  pub any_order-within : {W : Type 0} (t : T) (next : Option V → Meaning Tok Cx St Er W) → WithinRounds row (suc (row.left t)) t next (Chained (AnyOrder row t) next)
+  any_order-within t next b o m = record { first = m.first; meant = any_order-rounds t b m.first m.meant; follows = m.follows }

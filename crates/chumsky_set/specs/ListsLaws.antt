@@ -2,13 +2,13 @@
 use Rattle.std.proofs.Common.{Bool, true, false, ◌≡◌, suc, ◌+◌, ◌++◌, length, Option, Some, None, List, [], ◌∷◌, map, refl, subst, arith, inl, inr, append_assoc}
 use Rattle.std.proofs.lemmas.List.{append-nil}
 use Rattle.std.specs.List.{All}
-use Rattle.chumsky_parser.specs.Chained.{Given, Asked}
+use Rattle.chumsky_parser.specs.Chained.{Chained, Given, Asked}
 use Rattle.chumsky_input.specs.Outcome.{Meaning, SameValue, IsAnswer, EndsAfterStart, Agreeing}
 use Rattle.chumsky_parser.specs.Failure.{wanting}
 use Rattle.chumsky_parser.specs.FailureLaws.{wanting-same}
 use Rattle.chumsky_parser.specs.Laws.{chained-ends, chained-agrees, given-ends, given-agrees, asked-ends}
-use Rattle.chumsky_set.specs.AnyOrder.{all_still, each_part, one_more, Rounds, AnyOrder, Turns, Slot, Missing, Offered}
-use Rattle.chumsky_set.specs.AnyOrderLaws.{SameSlot, RowEnds, RowAgrees, offered-ends, offered-agrees, missing-ends, missing-agrees, still-same, any_order-ends, any_order-agrees, any_order-rounds}
+use Rattle.chumsky_set.specs.AnyOrder.{all_still, each_part, one_more, Rounds, AnyOrder, WithinRounds, Turns, Slot, Missing, Offered}
+use Rattle.chumsky_set.specs.AnyOrderLaws.{SameSlot, RowEnds, RowAgrees, offered-ends, offered-agrees, missing-ends, missing-agrees, still-same, any_order-ends, any_order-agrees, any_order-within}
 use Rattle.chumsky_set.specs.Lists.{Each, FormedAs, SetEach, WithinEach, ForItsValue, SetStored, each_stored, only}
 
 module _ {X Y : Type 0} (same : X → Y → Y → Type 0) where
@@ -130,8 +130,16 @@ module _ {X Tok Cx St Mk Er V W : Type 0} (mark : St → Mk) (back : St → Mk �
       let count : suc (all_still none) ≡ length parts + 1 = omega (arith, left) in
       elim m.cases [
         | inl r ↦ inl r
-        | inr k ↦ inr (record { first = k.first; meant = subst (λ n. Rounds row n none b k.first) count (any_order-rounds row none b k.first k.meant); follows = k.follows })
+        | inr k ↦ inr (subst (λ n. Chained (Rounds row n none) (FormedAs items) b o) count (any_order-within row none (FormedAs items) b o k))
       ]
+
+  pub set_stored-rounds : (parts : List X) → WithinRounds (each_stored mark back safe meaning parts) (length parts + 1) (map (λ _. None) parts) (FormedAs items) (SetStored mark back safe meaning items parts)
+  set_stored-rounds parts =
+      let row = each_stored mark back safe meaning parts in
+      let none : List (Slot V) = map (λ _. None) parts in
+      let left : all_still none ≡ length parts = fresh_left _ parts in
+      let count : suc (all_still none) ≡ length parts + 1 = omega (arith, left) in
+      subst (λ n. WithinRounds row n none (FormedAs items) (SetStored mark back safe meaning items parts)) count (any_order-within row none (FormedAs items))
 
 module _ {V : Type 0} (same : V → V → Type 0) where
   only-same : (x y : Bool) (v w : Option V) → SameValue same v w → SameValue same (only x v) (only y w)

@@ -1,8 +1,8 @@
 -- Sets of a few parsers.
-use Rattle.std.specs.Prelude.{ℕ, None, option_map}
-use Rattle.chumsky_input.specs.Outcome.{Meaning, Beginning, Outcome}
+use Rattle.std.specs.Prelude.{None, option_map}
+use Rattle.chumsky_input.specs.Outcome.{Meaning}
 use Rattle.chumsky_parser.specs.Chained.{Chained, Given}
-use Rattle.chumsky_set.specs.AnyOrder.{Row, no_part, part_and, Rounds, AnyOrder}
+use Rattle.chumsky_set.specs.AnyOrder.{Row, no_part, part_and, AnyOrder}
 
 module _ {Tok Cx St Er T V W : Type 0} where
   -- the parts of a row in any order, of which none is taken, and then their values in the set's own form
@@ -53,8 +53,3 @@ module _ {Tok Cx St Mk Er A B C D : Type 0} (mark : St → Mk) (back : St → Mk
   -- four in any order
   abbrev pub Set4 : Meaning Tok Cx St Er (A × B × C × D)
   Set4 = SetOf (part_and mark back safe a (part_and mark back safe b (part_and mark back safe c (part_and mark back safe d no_part)))) (None, (None, (None, (None, tt)))) four_of
-
-  -- every outcome of a meaning is one of four in any order, in so many rounds at most
-  abbrev pub Within4 : ℕ → Meaning Tok Cx St Er (A × B × C × D) → Type 0
-  Within4 n meaning = (v : Beginning Tok Cx St) (o : Outcome (A × B × C × D) Er St) → meaning v o
-      → Chained (Rounds (part_and mark back safe a (part_and mark back safe b (part_and mark back safe c (part_and mark back safe d no_part)))) n (None, (None, (None, (None, tt))))) (λ r. Given (option_map four_of r)) v o

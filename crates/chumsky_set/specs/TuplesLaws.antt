@@ -1,10 +1,10 @@
 -- The laws of sets of a few parsers.
-use Rattle.std.proofs.Common.{suc, Option, Some, None, option_map}
-use Rattle.chumsky_input.specs.Outcome.{Meaning, Beginning, Outcome, SameValue, EndsAfterStart, Agreeing}
-use Rattle.chumsky_parser.specs.Chained.{Chained, Given, SamePair}
+use Rattle.std.proofs.Common.{Option, Some, None, option_map}
+use Rattle.chumsky_input.specs.Outcome.{Meaning, SameValue, EndsAfterStart, Agreeing}
+use Rattle.chumsky_parser.specs.Chained.{Given, SamePair}
 use Rattle.chumsky_parser.specs.Laws.{chained-ends, chained-agrees, given-ends, given-agrees}
-use Rattle.chumsky_set.specs.AnyOrder.{Rounds, Row, AnyOrder}
-use Rattle.chumsky_set.specs.AnyOrderLaws.{SameSlot, SameUnit, RowEnds, RowAgrees, no_part-ends, no_part-agrees, part_and-ends, part_and-agrees, any_order-ends, any_order-agrees, any_order-rounds}
+use Rattle.chumsky_set.specs.AnyOrder.{Row, AnyOrder}
+use Rattle.chumsky_set.specs.AnyOrderLaws.{SameSlot, SameUnit, RowEnds, RowAgrees, no_part-ends, no_part-agrees, part_and-ends, part_and-agrees, any_order-ends, any_order-agrees}
 use Rattle.chumsky_set.specs.Tuples.{SetOf, one_of, two_of, three_of, four_of, Same1, Same2, Same3, Same4, Set1, Set2, Set3, Set4}
 
 module _ {V W : Type 0} (f : V → W) (sv : V → V → Type 0) (sw : W → W → Type 0) where
@@ -49,8 +49,3 @@ module _ {Tok Cx St Mk Er A B C D : Type 0} (mark : St → Mk) (back : St → Mk
 
   pub set_4-agrees : (sa : A → A → Type 0) (sb : B → B → Type 0) (sc : C → C → Type 0) (sd : D → D → Type 0) → Agreeing sa a a → Agreeing sb b b → Agreeing sc c c → Agreeing sd d d → Agreeing (Same4 sa sb sc sd) (Set4 mark back safe a b c d) (Set4 mark back safe a b c d)
   set_4-agrees sa sb sc sd ha hb hc hd = set_of-agrees _ _ four_of (SamePair (SameSlot sa) (SamePair (SameSlot sb) (SamePair (SameSlot sc) (SamePair (SameSlot sd) SameUnit)))) (SamePair sa (SamePair sb (SamePair sc (SamePair sd SameUnit)))) (Same4 sa sb sc sd) (λ v w e. (e.0, e.1.0, e.1.1.0, e.1.1.1.0)) (tt, (tt, (tt, (tt, tt)))) (part_and-agrees mark back safe a _ sa _ _ ha (part_and-agrees mark back safe b _ sb _ _ hb (part_and-agrees mark back safe c _ sc _ _ hc (part_and-agrees mark back safe d _ sd _ _ hd no_part-agrees))))
-
-module _ {Tok Cx St Er T V W : Type 0} (row : Row Tok Cx St Er T V) (t : T) (f : V → W) where
-  -- a set takes no more rounds than it has parts, and one
-  pub set_of-rounds : (b : Beginning Tok Cx St) (o : Outcome W Er St) → SetOf row t f b o → Chained (Rounds row (suc (row.left t)) t) (λ v. Given (option_map f v)) b o
-  set_of-rounds b o m = record { first = m.first; meant = any_order-rounds row t b m.first m.meant; follows = m.follows }

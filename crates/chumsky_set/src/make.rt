@@ -11,7 +11,8 @@ use crate::set::Set;
 /// fails, or succeeds where it began, is gone back from. After a round that takes none, what is left runs in order, and
 /// its first failure is the whole's. So a parser that may be absent succeeds at last, where it is.
 ///
-/// Over `cab`, `set((just('a'), just('b'), just('c')))` gives `('a', 'b', 'c')`. What moved stays taken:
+/// Over `cab`, `set((just('a'), just('b'), just('c')))` gives `('a', 'b', 'c')`; over `ba`,
+/// `set([just('a'), just('b')])` gives an `ArrayVec` of `'a'` and `'b'`. What moved stays taken:
 /// `set((just('a').or(just('b')), just('a')))` fails on `ab`, since its first parser takes the `a`.
 ///
 /// Of many parsers each round tries all that are left, so their number counts squared.
