@@ -1,15 +1,14 @@
 -- What a part that was run by itself leaves.
-use Rattle.std.proofs.Common.{◌≡◌, ℕ, Bool, Option, Some, None, List, ◌++◌, Result, Ok, Err, option_to_list, refl, sym, ◌∙◌, ap, subst, inl, inr}
+use Rattle.std.proofs.Common.{◌≡◌, ℕ, Bool, Option, None, List, ◌++◌, Ok, Err, option_to_list, refl, sym, ◌∙◌, ap, subst, inl, inr}
 use Rattle.chumsky_input.specs.declared.stop.Stop.{Stop}
 use Rattle.chumsky_input.specs.declared.stop.Stop.TheVariants.{Memory}
-use Rattle.chumsky_input.specs.declared.stop.Fault.{Fault}
 use Rattle.chumsky_input.specs.declared.stop.Fault.TheVariants as fault
 use Rattle.chumsky_input.specs.declared.stop.Failure.{Failure}
 use Rattle.chumsky_input.specs.declared.stop.Failure.TheVariants as failure
-use Rattle.chumsky_input.specs.Outcome.{Event, Meaning, Outcome, Verdict, Yes, No, Halt, Clash, HasEventAt}
+use Rattle.chumsky_input.specs.Outcome.{Event, Meaning, Outcome, Verdict, Yes, No, Halt, Clash}
 use Rattle.chumsky_input.specs.Primary.{primary}
 use Rattle.chumsky_input.specs.Held.{Held}
-use Rattle.chumsky_input.specs.Run.{Ran, Leaves, LeavesBy, SameRun, begin, answer}
+use Rattle.chumsky_input.specs.Run.{Ran, Leaves, LeavesBy, SameRun, answer}
 use Rattle.chumsky_input.specs.Aside.{ClashesWith, HandsOut, kept_after}
 use Rattle.chumsky_parser.specs.Apart.{RanApart, HandsBy, ended}
 

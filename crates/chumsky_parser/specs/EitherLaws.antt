@@ -1,5 +1,4 @@
 -- The laws of a parser of one of two types.
-use Rattle.std.specs.Prelude.{◌≡◌}
 use Rattle.either.specs.declared.Either.{Either}
 use Rattle.either.specs.declared.Either.TheVariants.{Left, Right}
 use Rattle.either.specs.Either.{MatchEither}

@@ -1,6 +1,6 @@
 -- The laws of parts that run without their values, and of what is given in their place.
-use Rattle.std.proofs.Common.{Bool, true, false, Option, Some, None, subst, inl, inr}
-use Rattle.chumsky_input.specs.Outcome.{Meaning, IsAnswer, SameValue, EndsAfterStart, Agreeing}
+use Rattle.std.proofs.Common.{false, subst, inl, inr}
+use Rattle.chumsky_input.specs.Outcome.{Meaning, IsAnswer, EndsAfterStart, Agreeing}
 use Rattle.chumsky_parser.specs.Failure.{wanting}
 use Rattle.chumsky_parser.specs.Laws.{chained-ends, chained-agrees, given-ends, given-agrees, asked-ends, asked-agrees}
 use Rattle.chumsky_parser.specs.FailureLaws.{wanting-same, wanted-same}

@@ -1,9 +1,8 @@
-use Rattle.std.proofs.Common.{rules, ◌≡◌, Err, ap, true}
+use Rattle.std.proofs.Common.{rules, ◌≡◌, Err, true}
 use Rattle.chumsky_input.specs.declared.stop.Failure.TheVariants as failure
 use Rattle.chumsky_input.specs.declared.stop.Stop.TheVariants.{Memory}
 use Rattle.chumsky_input.specs.Held.{held}
 use Rattle.chumsky_input.specs.Run.{final_error}
-use Rattle.chumsky_parser.specs.Apart.{RanApart, handed_value}
 use Rattle.chumsky_parser.proofs.ApartLemmas.{apart_yes, apart_clash, apart_no, apart_stop}
 use Rattle.chumsky_parser.proofs.input_ref_ext.InputRefInputRefExt.parse.Goals as goal
 
