@@ -16,19 +16,31 @@ use chumsky_input::extra::ParserExtra;
 use chumsky_input::input::Input;
 use chumsky_parser::parser::Parser;
 
-/// `a.then(b)`, `a.ignore_then(b)` and `a.then_ignore(b)`.
+/// `a.then(b)` and `a.then_ignore(b)`.
 pub fn then_is_steady<
     'src,
     I: Input<'src>,
     O: Drop,
-    U: Drop,
+    U,
     E: ParserExtra<I>,
     A: Parser<'src, I, O, E>,
     B: Parser<'src, I, U, E>,
->(then: &Then<A, B, O, U>, ignore_then: &IgnoreThen<A, B, O>, then_ignore: &ThenIgnore<A, B, U>)
+>(then: &Then<A, B, O, U>, then_ignore: &ThenIgnore<A, B, U>)
     ensures then { A.steady then.now.first → B.steady then.now.second → ⟦<Then<A, B, O, U> as Parser<'src, I, (O, U), E>>⟧.steady then.now }
-    ensures ignore_then { A.steady ignore_then.now.first → B.steady ignore_then.now.second → ⟦<IgnoreThen<A, B, O> as Parser<'src, I, U, E>>⟧.steady ignore_then.now }
     ensures then_ignore { A.steady then_ignore.now.first → B.steady then_ignore.now.second → ⟦<ThenIgnore<A, B, U> as Parser<'src, I, O, E>>⟧.steady then_ignore.now }
+{}
+
+/// `a.ignore_then(b)`.
+pub fn ignore_then_is_steady<
+    'src,
+    I: Input<'src>,
+    O,
+    U,
+    E: ParserExtra<I>,
+    A: Parser<'src, I, O, E>,
+    B: Parser<'src, I, U, E>,
+>(ignore_then: &IgnoreThen<A, B, O>)
+    ensures { A.steady ignore_then.now.first → B.steady ignore_then.now.second → ⟦<IgnoreThen<A, B, O> as Parser<'src, I, U, E>>⟧.steady ignore_then.now }
 {}
 
 /// `a.delimited_by(b, c)` and `a.padded_by(b)`.
@@ -51,7 +63,7 @@ pub fn delimited_by_is_steady<
 pub fn or_is_steady<
     'src,
     I: Input<'src>,
-    O: Drop,
+    O,
     E: ParserExtra<I>,
     A: Parser<'src, I, O, E>,
     B: Parser<'src, I, O, E>,
@@ -61,14 +73,10 @@ pub fn or_is_steady<
 {}
 
 /// `a.to(v)` and `a.ignored()`.
-pub fn to_is_steady<
-    'src,
-    I: Input<'src>,
-    O: Drop,
-    U: Clone,
-    E: ParserExtra<I>,
-    A: Parser<'src, I, O, E>,
->(to: &To<A, O, U>, ignored: &Ignored<A, O>)
+pub fn to_is_steady<'src, I: Input<'src>, O, U: Clone, E: ParserExtra<I>, A: Parser<'src, I, O, E>>(
+    to: &To<A, O, U>,
+    ignored: &Ignored<A, O>,
+)
     ensures to { A.steady to.now.parser → ⟦<To<A, O, U> as Parser<'src, I, U, E>>⟧.steady to.now }
     ensures ignored { A.steady ignored.now.parser → ⟦<Ignored<A, O> as Parser<'src, I, (), E>>⟧.steady ignored.now }
 {}
@@ -77,7 +85,7 @@ pub fn to_is_steady<
 pub fn map_is_steady<
     'src,
     I: Input<'src>,
-    O: Drop,
+    O,
     U,
     E: ParserExtra<I>,
     A: Parser<'src, I, O, E>,
