@@ -1,5 +1,5 @@
 -- What a parser given by a closure leaves.
-use Rattle.std.proofs.Common.{◌≡◌, ℕ, ◌≤◌, Bool, true, false, Option, Some, None, List, [], ◌∷◌, ◌++◌, Result, Ok, Err, option_to_list, refl, sym, ◌∙◌, ap, subst, inl, inr, append_assoc}
+use Rattle.std.proofs.Common.{◌≡◌, ℕ, Bool, true, Option, Some, List, [], ◌∷◌, ◌++◌, Result, Ok, Err, option_to_list, refl, sym, ◌∙◌, ap, subst, inl, inr, append_assoc}
 use Rattle.std.specs.Prelude.{◌⊎◌}
 use Rattle.std.proofs.lemmas.List.{append-nil}
 use Rattle.std.specs.Fn.{Shared}
@@ -16,11 +16,11 @@ use Rattle.chumsky_input.specs.declared.stop.Failure.{Failure}
 use Rattle.chumsky_input.specs.declared.stop.Failure.TheVariants as failure
 use Rattle.chumsky_input.specs.Held.{Held, held}
 use Rattle.chumsky_input.specs.Primary.{primary}
-use Rattle.chumsky_input.specs.Outcome.{Event, Meaning, Beginning, Outcome, Yes, No, Halt, Clash, HasEventAt}
+use Rattle.chumsky_input.specs.Outcome.{Event, Meaning, Outcome, Halt, Clash, HasEventAt}
 use Rattle.chumsky_input.specs.Run.{Ran, begin, with_value, Adds}
-use Rattle.chumsky_input.specs.Aside.{Forward, GoesForward, without_errors, brought_back, ClashesWith, SameButErrors}
+use Rattle.chumsky_input.specs.Aside.{Forward, without_errors, brought_back, ClashesWith, SameButErrors}
 use Rattle.chumsky_input.proofs.PrimaryLemmas.{primary-append, has_event_at-kept, has_event_at-left}
-use Rattle.chumsky_parser.specs.Failure.{wanting, asked}
+use Rattle.chumsky_parser.specs.Failure.{asked}
 use Rattle.chumsky_primitive.specs.Custom.{done, OrLacksMemory, MayRun, Call, MeansCustom}
 
 module _ {V Er St : Type 0} where

@@ -13,7 +13,7 @@ use Rattle.chumsky_input.specs.Wanted as wanted
 use Rattle.chumsky_input.specs.Outcome.{Outcome}
 use Rattle.chumsky_input.specs.Run.{Ran, with_value, without_value, begin, took, Fails, gone_back, marked_here}
 use Rattle.chumsky_parser.proofs.ChainedLemmas.{ran-moved, ran-chained, ran-chained_err, ran-given}
-use Rattle.chumsky_parser.specs.Failure.{IsWanted, Misses, expects}
+use Rattle.chumsky_parser.specs.Failure.{Misses, expects}
 use Rattle.chumsky_parser.proofs.IgnoringLemmas.{ran-copied, ran-uncopied, ran-lacks_copy}
 use Rattle.chumsky_parser.proofs.FailureLemmas.{ran-yes, ran-halts, ran-misses}
 use Rattle.chumsky_primitive.specs.Just.{past, told, is_member, MeansFound, MeansMember, MeansMembers, MeansJust}

@@ -1,10 +1,10 @@
 -- The laws of any token.
-use Rattle.std.proofs.Common.{◌≡◌, ◌≤◌, ◌+◌, Bool, true, false, Option, Some, None, [], refl, sym, ◌∙◌, ap, subst, arith, inl, inr}
+use Rattle.std.proofs.Common.{◌≡◌, ◌≤◌, ◌+◌, Option, Some, None, [], refl, sym, ◌∙◌, ap, subst, arith, inl, inr}
 use Rattle.std.specs.Borrow.{Bor}
 use Rattle.chumsky_input.specs.declared.error.Error as error_trait
 use Rattle.chumsky_input.specs.declared.inspector.Inspector as inspector_trait
 use Rattle.chumsky_input.specs.declared.input.Input as input_trait
-use Rattle.chumsky_input.specs.Outcome.{Beginning, Outcome, Yes, IsAnswer, SameValue, Alike, Agree, EndsAfterStart, Agreeing}
+use Rattle.chumsky_input.specs.Outcome.{Beginning, Outcome, Yes, IsAnswer, Alike, Agree, EndsAfterStart, Agreeing}
 use Rattle.chumsky_parser.specs.FailureLaws.{misses-agree, misses-ends, wanted-same}
 use Rattle.chumsky_primitive.specs.Any.{MeansAny, MeansAnyAt, CountsAs, PointsTo}
 

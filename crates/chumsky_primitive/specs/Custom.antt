@@ -1,12 +1,11 @@
 -- A parser given by a closure.
-use Rattle.std.specs.Prelude.{◌≡◌, ℕ, ◌≤◌, Bool, true, false, Option, Some, None, List, [], ◌∷◌, ◌++◌, Result, Ok, Err, option_to_list, ◌⊎◌, ⊤}
+use Rattle.std.specs.Prelude.{◌≡◌, ◌≤◌, None, List, [], ◌∷◌, ◌++◌, Result, Ok, Err, option_to_list, ◌⊎◌, ⊤}
 use Rattle.std.specs.Fn.{Shared}
 use denote.Ref.{MutBor}
 use Rattle.chumsky_input.specs.declared.error.Error as error_trait
 use Rattle.chumsky_input.specs.declared.inspector.Inspector as inspector_trait
 use Rattle.chumsky_input.specs.declared.input.Input as input_trait
 use Rattle.chumsky_input.specs.declared.input_ref.InputRef.{InputRef}
-use Rattle.chumsky_input.specs.declared.stop.Fault.{Fault}
 use Rattle.chumsky_input.specs.declared.stop.Failure.{Failure}
 use Rattle.chumsky_input.specs.declared.stop.Failure.TheVariants as failure
 use Rattle.chumsky_input.specs.Held.{Held, held}

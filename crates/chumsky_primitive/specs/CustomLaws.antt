@@ -1,5 +1,5 @@
 -- The laws of parsers given by closures.
-use Rattle.std.proofs.Common.{◌≡◌, ℕ, ◌≤◌, Bool, true, false, Option, Some, None, List, [], ◌∷◌, ◌++◌, Result, Ok, Err, option_to_list, refl, sym, ◌∙◌, ap, subst, inl, inr}
+use Rattle.std.proofs.Common.{◌≡◌, Bool, true, false, Result, Ok, Err, refl, ◌∙◌, subst, inl, inr}
 use Rattle.std.specs.Fn.{Shared}
 use denote.Ref.{MutBor}
 use Rattle.chumsky_input.specs.declared.error.Error as error_trait
@@ -9,9 +9,8 @@ use Rattle.chumsky_input.specs.declared.input_ref.InputRef.{InputRef}
 use Rattle.chumsky_input.specs.declared.stop.Failure.{Failure}
 use Rattle.chumsky_input.specs.declared.stop.Failure.TheVariants as failure
 use Rattle.chumsky_input.specs.Held.{Held, held}
-use Rattle.chumsky_input.specs.Outcome.{Event, Beginning, Outcome, Verdict, Yes, No, Halt, Clash, IsAnswer, SameValue, SameAnswer, Alike, Agree, EndsAfterStart, Agreeing}
+use Rattle.chumsky_input.specs.Outcome.{Beginning, Outcome, IsAnswer, SameValue, Agree, EndsAfterStart, Agreeing}
 use Rattle.chumsky_parser.specs.Failure.{wanting}
-use Rattle.chumsky_parser.specs.FailureLaws.{wanting-same}
 use Rattle.chumsky_primitive.specs.Custom.{done, begun, OrLacksMemory, EndAlike, Call, MeansCustom, IsSteady, SameCalled}
 
 module _ {V Er St : Type 0} where

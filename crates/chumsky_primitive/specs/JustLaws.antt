@@ -3,7 +3,7 @@ use Rattle.std.proofs.Common.{ℕ, ◌≤◌, Bool, true, false, Option, Some, N
 use Rattle.chumsky_input.specs.declared.error.Error as error_trait
 use Rattle.chumsky_input.specs.declared.inspector.Inspector as inspector_trait
 use Rattle.chumsky_input.specs.declared.input.Input as input_trait
-use Rattle.chumsky_input.specs.Outcome.{Beginning, Outcome, Yes, IsAnswer, SameValue, Alike, Agree, EndsAfterStart, Agreeing}
+use Rattle.chumsky_input.specs.Outcome.{Beginning, Outcome, Yes, IsAnswer, Alike, Agree, EndsAfterStart, Agreeing}
 use Rattle.chumsky_parser.specs.Copied.{BothCopies}
 use Rattle.chumsky_parser.specs.IgnoringLaws.{copy-ends, copy-agrees}
 use Rattle.chumsky_parser.specs.Laws.{chained-ends, chained-agrees, given-ends, given-agrees}

@@ -1,12 +1,11 @@
 -- A token that a closure picks.
-use Rattle.std.specs.Prelude.{◌≡◌, ◌+◌, Bool, Option, Some, None, Result, Ok, Err, [], ◌∷◌, ◌⊎◌, is_some, slice_get}
+use Rattle.std.specs.Prelude.{◌≡◌, ◌+◌, Option, Some, None, [], ◌∷◌, ◌⊎◌, is_some, slice_get}
 use Rattle.std.specs.Borrow.{Bor, MutBor}
 use Rattle.std.specs.Fn.{Shared}
 use Rattle.chumsky_input.specs.declared.error.Error as error_trait
 use Rattle.chumsky_input.specs.declared.inspector.Inspector as inspector_trait
 use Rattle.chumsky_input.specs.declared.input.Input as input_trait
 use Rattle.chumsky_input.specs.declared.map_extra.MapExtra.{MapExtra}
-use Rattle.chumsky_input.specs.declared.stop.Fault.{Fault}
 use Rattle.chumsky_input.specs.Extra.{Shown, Answers}
 use Rattle.chumsky_input.specs.Wanted as wanted
 use Rattle.chumsky_input.specs.Outcome.{Meaning, Beginning, Outcome, Yes}

@@ -1,6 +1,4 @@
-use Rattle.std.proofs.Common.{rules, ap, false}
-use Rattle.chumsky_parser.proofs.ChainedLemmas.{check_err}
-use Rattle.chumsky_parser.specs.Failure.{asked}
+use Rattle.std.proofs.Common.{false}
 use Rattle.chumsky_primitive.proofs.custom.CustomParser.go_check.Goals as goal
 
 pub returns-clause-ran : goal.returns-clause-ran
