@@ -96,10 +96,12 @@ pub mod laws {
         ignore_then_agrees_with_then, or_not_never_says_no, then_is_associative,
     };
     pub use chumsky_combinator::steady::{
-        delimited_by_is_steady, map_is_steady, or_is_steady, then_is_steady, to_is_steady,
+        delimited_by_is_steady, ignore_then_is_steady, map_is_steady, or_is_steady, then_is_steady,
+        to_is_steady,
     };
     pub use chumsky_group::laws::{group_of_three_is_then_twice, group_of_two_is_then};
     pub use chumsky_group::steady::{group_is_steady, group_of_an_array_is_steady};
+    pub use chumsky_parser::steady::{by_reference_is_steady, either_is_steady};
     pub use chumsky_primitive::steady::{
         any_is_steady, any_ref_is_steady, custom_is_steady, end_is_steady, just_is_steady,
         one_of_is_steady, select_is_steady, select_ref_is_steady,
