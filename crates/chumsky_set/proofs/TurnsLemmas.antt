@@ -1,39 +1,143 @@
 -- What turns over a list of parts leave.
-use Rattle.std.proofs.Common.{◌≡◌, ℕ, zero, suc, ◌<◌, ◌≤◌, ◌+◌, ◌||◌, Bool, true, false, Option, List, [], ◌∷◌, ◌++◌, refl, sym, ◌∙◌, ap, Result, Ok, Err, arith, inl, inr, map, length, take, drop}
+use Rattle.std.proofs.Common.{◌≡◌, ℕ, zero, suc, ◌<◌, ◌≤◌, ◌+◌, ◌||◌, Bool, true, false, Option, Some, None, option_map, ◌⊎◌, subst, append_assoc, List, [], ◌∷◌, ◌++◌, refl, sym, ◌∙◌, ap, Result, Ok, Err, arith, inl, inr, map, length, take, drop}
 use Rattle.std.proofs.Math.ListN.{get_or, set}
 use Rattle.std.proofs.lemmas.List.{append-nil, drop_all, length-map, take_all, drop_more, drop-set-lt, take_more_set, get_or-map}
 use Rattle.chumsky_input.specs.declared.stop.Fault.{Fault}
 use Rattle.chumsky_input.specs.declared.stop.Fault.TheVariants as fault
 use Rattle.chumsky_input.specs.declared.stop.Stop.TheVariants.{Memory}
-use Rattle.chumsky_input.specs.Outcome.{Meaning}
+use Rattle.chumsky_input.specs.Outcome.{Meaning, Beginning, Outcome, Verdict, Yes, No, Halt, Clash}
 use Rattle.chumsky_input.specs.Held.{Held}
-use Rattle.chumsky_input.specs.Run.{Ran}
+use Rattle.chumsky_input.specs.Run.{Ran, begin, answer}
+use Rattle.chumsky_parser.specs.Chained.{Chained, Follows, Given, both, from}
 use Rattle.chumsky_parser.proofs.ChainedLemmas.{ran-given, ran-weaker, chained, failed}
 use Rattle.chumsky_parser.specs.Failure.{wanting}
 use Rattle.chumsky_parser.proofs.FailureLemmas.{ran-halts}
-use Rattle.chumsky_set.specs.AnyOrder.{Slot, Missing, still, all_still, one_more, each_part, Turns}
+use Rattle.chumsky_set.specs.AnyOrder.{Slot, Missing, still, all_still, with_first, each_part, Turns}
 use Rattle.chumsky_set.specs.Passes.{Lessens}
 
-module _ {X Tok Cx St Er V Y : Type 0} (merged : Er → Er → Er) (safe : Type 0) (turn : X → Slot V → Meaning Tok Cx St Er Y) (wanted : Bool) where
-  -- what is a run of these turns from here is one of the whole
-  pub record GoOn (all : List X) (first : List (Slot V)) (given : Option (List Y)) (old : Held Tok Cx St Er) (parts : List X) (slots : List (Slot V)) (values : Option (List Y)) (mid : Held Tok Cx St Er) : Type 0 where
-    pub on : (new : Held Tok Cx St Er) (r : Result (Option (List Y)) Fault) → Ran merged safe (Turns turn parts slots values) wanted mid new r → Ran merged safe (Turns turn all first given) wanted old new r
+-- the values so far, and those that follow
+abbrev joined : {Y : Type 0} → Option (List Y) → Option (List Y) → Option (List Y)
+joined ys zs = option_map (λ p. p.0 ++ p.1) (both ys zs)
 
-module _ {X Tok Cx St Er V Y : Type 0} {merged : Er → Er → Er} {safe : Type 0} {turn : X → Slot V → Meaning Tok Cx St Er Y} {wanted : Bool} {all : List X} {first : List (Slot V)} {given : Option (List Y)} {old : Held Tok Cx St Er}
+-- one more value after these
+abbrev one_more : {Y : Type 0} → Option (List Y) → Option Y → Option (List Y)
+one_more ys y = option_map (λ p. p.0 ++ p.1 ∷ []) (both ys y)
+
+-- an answer of what follows, with the values so far before its own, and with a value before its own
+abbrev onto : {Y : Type 0} → Option (List Y) → Result (Option (List Y)) Fault → Result (Option (List Y)) Fault
+onto ys (Ok zs) = Ok (joined ys zs)
+onto ys (Err f) = Err f
+
+abbrev after_first : {Y : Type 0} → Option Y → Result (Option (List Y)) Fault → Result (Option (List Y)) Fault
+after_first y (Ok ys) = Ok (with_first y ys)
+after_first y (Err f) = Err f
+
+-- no part gives no value, or none are wanted
+abbrev Nothing : {Y : Type 0} → Option (List Y) → Option (List Y) → Type 0
+Nothing none values = (none ≡ Some []) ⊎ ((none ≡ None) × (values ≡ None))
+
+module _ {Y : Type 0} where
+  more_joined : (ys : Option (List Y)) (y : Option Y) (zs : Option (List Y)) → joined ys (with_first y zs) ≡ joined (one_more ys y) zs
+  more_joined (Some ys) (Some y) (Some zs) = ap Some (sym (append_assoc ys (y ∷ []) zs))
+  more_joined (Some ys) (Some y) None = refl
+  more_joined (Some ys) None zs = refl
+  more_joined None y zs = refl
+
+  more_onto : (ys : Option (List Y)) (y : Option Y) (r : Result (Option (List Y)) Fault) → onto ys (after_first y r) ≡ onto (one_more ys y) r
+  more_onto ys y (Ok zs) = ap Ok (more_joined ys y zs)
+  more_onto ys y (Err f) = refl
+
+  more_nothing : (none ys : Option (List Y)) (y : Option Y) → Nothing none ys → Nothing none (one_more ys y)
+  more_nothing none ys y (inl e) = inl e
+  more_nothing none (Some ys) y (inr e) = let no : ⊥ = cc e.1 in absurd no
+  more_nothing none None y (inr e) = inr (e.0, refl)
+
+  end_joined : (none ys : Option (List Y)) → Nothing none ys → joined ys none ≡ ys
+  end_joined none (Some ys) (inl e) = rw e (ap Some (append-nil ys))
+  end_joined none None (inl e) = refl
+  end_joined none (Some ys) (inr e) = let no : ⊥ = cc e.1 in absurd no
+  end_joined none None (inr e) = refl
+
+  begin_onto : (r : Result (Option (List Y)) Fault) → onto (Some []) r ≡ r
+  begin_onto (Ok (Some ys)) = refl
+  begin_onto (Ok None) = refl
+  begin_onto (Err f) = refl
+
+module _ {X Tok Cx St Er V Y : Type 0} (turn : X → Slot V → Meaning Tok Cx St Er Y) where
+  follows_none : (y : Option Y) (v : Verdict (List Y) Er) (b : Beginning Tok Cx St) (p o : Outcome (List Y) Er St) (w : Option (List Y)) → ((u : Option (List Y)) → v ≡ Yes u → u ≡ None)
+      → Follows v (λ ys. Given (with_first y ys)) b p o → o.verdict ≡ Yes w → w ≡ None
+  follows_none y (Yes ys) b p o w h f e = let told : o.verdict ≡ Yes (with_first y ys) = cc (f.1, f.2) in without y ys w o.verdict (h ys refl) told e
+    where
+      without : (y : Option Y) (ys w : Option (List Y)) (v : Verdict (List Y) Er) → ys ≡ None → v ≡ Yes (with_first y ys) → v ≡ Yes w → w ≡ None
+      without (Some y) ys w v n k l = let told : v ≡ Yes None = rw n at k in cc (told, l)
+      without None ys w v n k l = cc (k, l)
+  follows_none y No b p o w h f e = let no : ⊥ = cc (f, e) in absurd no
+  follows_none y (Halt s) b p o w h f e = let no : ⊥ = cc (f, e) in absurd no
+  follows_none y (Clash x) b p o w h f e = let no : ⊥ = cc (f, e) in absurd no
+
+  follows_part : (part : Meaning Tok Cx St Er (List Y)) (v : Verdict Y Er) (b : Beginning Tok Cx St) (p : Outcome Y Er St) (o : Outcome (List Y) Er St) (w : Option (List Y))
+      → ((c : Beginning Tok Cx St) (q : Outcome (List Y) Er St) (u : Option (List Y)) → part c q → q.verdict ≡ Yes u → u ≡ None)
+      → Follows v (λ y. Chained part (λ ys. Given (with_first y ys))) b p o → o.verdict ≡ Yes w → w ≡ None
+  follows_part part (Yes y) b p o w h f e =
+      let k : f.0.verdict ≡ Yes w = cc (f.2, e) in
+      follows_none y f.1.first.verdict (from b p) f.1.first f.0 w (λ u d. h (from b p) f.1.first u f.1.meant d) f.1.follows k
+  follows_part part No b p o w h f e = let no : ⊥ = cc (f, e) in absurd no
+  follows_part part (Halt s) b p o w h f e = let no : ⊥ = cc (f, e) in absurd no
+  follows_part part (Clash x) b p o w h f e = let no : ⊥ = cc (f, e) in absurd no
+
+  -- where none are wanted, none are given
+  none_given : (parts : List X) (slots : List (Slot V)) (b : Beginning Tok Cx St) (o : Outcome (List Y) Er St) (w : Option (List Y)) → Turns turn parts slots None b o → o.verdict ≡ Yes w → w ≡ None
+  none_given [] slots b o w m e = cc (m, e)
+  none_given (x ∷ xs) [] b o w m e = absurd m
+  none_given (x ∷ xs) (s ∷ ss) b o w m e = follows_part (Turns turn xs ss None) m.first.verdict b m.first o w (λ c q u k d. none_given xs ss c q u k d) m.follows e
+
+  begin_none : (parts : List X) (slots : List (Slot V)) (b : Beginning Tok Cx St) (o : Outcome (List Y) Er St) (r : Result (Option (List Y)) Fault) → Turns turn parts slots None b o → r ≡ answer o.verdict → onto None r ≡ r
+  begin_none parts slots b o (Ok w) m e = ap Ok (sym (none_given parts slots b o w m (by_answer o.verdict w (sym e))))
+    where
+      by_answer : (v : Verdict (List Y) Er) (w : Option (List Y)) → answer v ≡ Ok w → v ≡ Yes w
+      by_answer (Yes u) w e = cc e
+      by_answer No w e = let no : ⊥ = cc e in absurd no
+      by_answer (Halt s) w e = let no : ⊥ = cc e in absurd no
+      by_answer (Clash x) w e = let no : ⊥ = cc e in absurd no
+  begin_none parts slots b o (Err f) m e = refl
+
+module _ {X Tok Cx St Er V Y : Type 0} (merged : Er → Er → Er) (safe : Type 0) (turn : X → Slot V → Meaning Tok Cx St Er Y) (wanted : Bool) where
+  -- what a run of these turns from here gives comes after these values, in a run of the whole
+  pub record GoOn (all : List X) (first : List (Slot V)) (none : Option (List Y)) (old : Held Tok Cx St Er) (parts : List X) (slots : List (Slot V)) (values : Option (List Y)) (mid : Held Tok Cx St Er) : Type 0 where
+    pub nothing : Nothing none values
+    pub on : (new : Held Tok Cx St Er) (r : Result (Option (List Y)) Fault) → Ran merged safe (Turns turn parts slots none) wanted mid new r → Ran merged safe (Turns turn all first none) wanted old new (onto values r)
+
+module _ {X Tok Cx St Er V Y : Type 0} (merged : Er → Er → Er) (safe : Type 0) (turn : X → Slot V → Meaning Tok Cx St Er Y) (wanted : Bool) (parts : List X) (slots : List (Slot V)) (none : Option (List Y)) (y : Option Y) where
+  put_first : (old new : Held Tok Cx St Er) (r : Result (Option (List Y)) Fault) → Ran merged safe (Turns turn parts slots none) wanted old new r
+      → Ran merged safe (Chained (Turns turn parts slots none) (λ ys. Given (with_first y ys))) wanted old new (after_first y r)
+  put_first old new (Ok ys) h = chained h refl ran-given
+  put_first old new (Err f) h = failed h refl refl
+
+module _ {X Tok Cx St Er V Y : Type 0} {merged : Er → Er → Er} {safe : Type 0} {turn : X → Slot V → Meaning Tok Cx St Er Y} {wanted : Bool} {all : List X} {first : List (Slot V)} {none : Option (List Y)} {old : Held Tok Cx St Er}
+    {others : List X} {rest : List (Slot V)} {values : Option (List Y)} {mid next : Held Tok Cx St Er} {part : X} {slot : Slot V} {x : Result (Option Y) Fault} where
+  one_on : {y : Option Y} → GoOn merged safe turn wanted all first none old (part ∷ others) (slot ∷ rest) values mid → Ran merged safe (turn part slot) wanted mid next x → x ≡ Ok y
+      → GoOn merged safe turn wanted all first none old others rest (one_more values y) next
+  one_on {y} k h e =
+      record {
+        nothing = more_nothing none values y k.nothing;
+        on = λ new r m. subst (λ z. Ran merged safe (Turns turn all first none) wanted old new z) (more_onto values y r) (k.on new (after_first y r) (chained h e (put_first merged safe turn wanted others rest none y next new r m)));
+      }
+
+module _ {X Tok Cx St Er V Y : Type 0} {merged : Er → Er → Er} {safe : Type 0} {turn : X → Slot V → Meaning Tok Cx St Er Y} {wanted : Bool} {all : List X} {first : List (Slot V)} {none : Option (List Y)} {old : Held Tok Cx St Er}
     {parts others : List X} {slots rest : List (Slot V)} {values : Option (List Y)} {mid next : Held Tok Cx St Er} {part : X} {slot : Slot V} {x : Result (Option Y) Fault} where
   -- one more turn, and one that was refused
-  pub turns_on : {y : Option Y} → GoOn merged safe turn wanted all first given old parts slots values mid → parts ≡ part ∷ others → slots ≡ slot ∷ rest → Ran merged safe (turn part slot) wanted mid next x → x ≡ Ok y
-      → GoOn merged safe turn wanted all first given old others rest (one_more values y) next
-  turns_on {y} k p s h e = record { on = λ new r m. k.on new r (rw (p, s) (chained h e m)) }
+  pub turns_on : {y : Option Y} → GoOn merged safe turn wanted all first none old parts slots values mid → parts ≡ part ∷ others → slots ≡ slot ∷ rest → Ran merged safe (turn part slot) wanted mid next x → x ≡ Ok y
+      → GoOn merged safe turn wanted all first none old others rest (one_more values y) next
+  turns_on {y} k p s h e = one_on (rw (p, s) at k) h e
 
-  pub turns_failed : {f : Fault} {y : Result (Option (List Y)) Fault} → GoOn merged safe turn wanted all first given old parts slots values mid → parts ≡ part ∷ others → slots ≡ slot ∷ rest → Ran merged safe (turn part slot) wanted mid next x → x ≡ Err f → y ≡ Err f
-      → Ran merged safe (Turns turn all first given) wanted old next y
-  turns_failed {f} {y} k p s h e d = k.on next y (rw (p, s) (failed h e d))
+  pub turns_failed : {f : Fault} {y : Result (Option (List Y)) Fault} → GoOn merged safe turn wanted all first none old parts slots values mid → parts ≡ part ∷ others → slots ≡ slot ∷ rest → Ran merged safe (turn part slot) wanted mid next x → x ≡ Err f → y ≡ Err f
+      → Ran merged safe (Turns turn all first none) wanted old next y
+  turns_failed {f} {y} k p s h e d = rw d (k.on next (Err f) (rw (p, s) (failed h e refl)))
 
-module _ {X Tok Cx St Er V Y : Type 0} {merged : Er → Er → Er} {safe : Type 0} {turn : X → Slot V → Meaning Tok Cx St Er Y} {wanted : Bool} {all : List X} {first : List (Slot V)} {given : Option (List Y)} {old : Held Tok Cx St Er}
+module _ {X Tok Cx St Er V Y : Type 0} {merged : Er → Er → Er} {safe : Type 0} {turn : X → Slot V → Meaning Tok Cx St Er Y} {wanted : Bool} {all : List X} {first : List (Slot V)} {none : Option (List Y)} {old : Held Tok Cx St Er}
     {parts : List X} {slots : List (Slot V)} {values : Option (List Y)} {mid : Held Tok Cx St Er} where
-  pub turns_end : GoOn merged safe turn wanted all first given old parts slots values mid → parts ≡ [] → Ran merged safe (Turns turn all first given) wanted old mid (Ok values)
-  turns_end k p = k.on mid (Ok values) (rw p ran-given)
+  pub turns_end : GoOn merged safe turn wanted all first none old parts slots values mid → parts ≡ [] → Ran merged safe (Turns turn all first none) wanted old mid (Ok values)
+  turns_end k p = subst (λ z. Ran merged safe (Turns turn all first none) wanted old mid (Ok z)) (end_joined none values k.nothing) (k.on mid (Ok none) (rw p ran-given))
 
 -- the i-th of a list, and those after it
 pub drop_at : {X : Type 0} (xs : List X) (i : ℕ) (x : X) → i < length xs → x ≡ get_or xs i x → drop i xs ≡ x ∷ drop (i + 1) xs
@@ -85,8 +189,17 @@ module _ {A V : Type 0} (h : A → Slot V) where
       (ap (λ zs. all_still zs + still (h (get_or ss i d))) (map_set h ss i t) ∙ ap (λ z. all_still (set (map h ss) i (h t)) + still z) (sym at) ∙ k)
 
 module _ {X Tok Cx St Er V Y : Type 0} {merged : Er → Er → Er} {safe : Type 0} {turn : X → Slot V → Meaning Tok Cx St Er Y} {wanted : Bool} {old : Held Tok Cx St Er} where
-  pub turns_begin : (all parts : List X) (first slots : List (Slot V)) (given values : Option (List Y)) → all ≡ parts → first ≡ slots → given ≡ values → GoOn merged safe turn wanted all first given old parts slots values old
-  turns_begin all parts first slots given values p s v = record { on = λ new r m. rw (p, s, v) m }
+  -- at the beginning, with no value yet, and where none are wanted
+  pub turns_begin : (all parts : List X) (first slots : List (Slot V)) (values : Option (List Y)) → all ≡ parts → first ≡ slots → values ≡ Some [] → GoOn merged safe turn wanted all first (Some []) old parts slots values old
+  turns_begin all parts first slots values p s v =
+      record { nothing = inl refl; on = λ new r m. rw v (subst (λ z. Ran merged safe (Turns turn all first (Some [])) wanted old new z) (sym (begin_onto r)) (rw (p, s) m)) }
+
+  pub turns_begin_bare : (all parts : List X) (first slots : List (Slot V)) → all ≡ parts → first ≡ slots → GoOn merged safe turn wanted all first None old parts slots None old
+  turns_begin_bare all parts first slots p s =
+      record {
+        nothing = inr (refl, refl);
+        on = λ new r m. subst (λ z. Ran merged safe (Turns turn all first None) wanted old new z) (sym (begin_none turn parts slots (begin wanted old) m.outcome r m.meant m.answered)) (rw (p, s) m);
+      }
 
 module _ {X Tok Cx St Mk Er V : Type 0} {merged : Er → Er → Er} {safe : Type 0} (mark : St → Mk) (back : St → Mk → St) (quiet : Type 0) (meaning : X → Meaning Tok Cx St Er V) (parts : List X) (slots : List (Slot V)) {wanted : Bool} {old new : Held Tok Cx St Er} where
   -- the last pass, with memory for its values and without
@@ -94,8 +207,8 @@ module _ {X Tok Cx St Mk Er V : Type 0} {merged : Er → Er → Er} {safe : Type
   ran_last {r} h = ran-weaker merged safe (Turns (λ x. Missing (meaning x)) parts slots (wanting wanted [])) ((each_part mark back quiet meaning parts).last slots) wanted old new r (λ o k. inr k) h
 
 module _ {X Tok Cx St Mk Er V : Type 0} {merged : Er → Er → Er} {safe : Type 0} (mark : St → Mk) (back : St → Mk → St) (quiet : Type 0) (meaning : X → Meaning Tok Cx St Er V) (parts : List X) (slots : List (Slot V)) {old : Held Tok Cx St Er} where
-  pub ran_last_short : {r : Result (Option (List V)) Fault} → r ≡ Err (fault.Stop Memory) → Ran merged safe ((each_part mark back quiet meaning parts).last slots) true old old r
-  ran_last_short {r} e = rw e (ran-halts merged safe ((each_part mark back quiet meaning parts).last slots) true old old (record { tokens = refl; context = refl }) (λ o v s. inl (refl, v, s)))
+  pub ran_last_short : {r : Result (Option (List V)) Fault} → (length parts ≡ 0 → ⊥) → r ≡ Err (fault.Stop Memory) → Ran merged safe ((each_part mark back quiet meaning parts).last slots) true old old r
+  ran_last_short {r} n e = rw e (ran-halts merged safe ((each_part mark back quiet meaning parts).last slots) true old old (record { tokens = refl; context = refl }) (λ o v s. inl ((refl, n), v, s)))
 
 -- a list that is written whole
 pub written_whole : {X : Type 0} (xs ys : List X) (n : ℕ) → length ys ≡ length xs → n ≡ length xs → take n (ys ++ drop (length ys) xs) ≡ ys

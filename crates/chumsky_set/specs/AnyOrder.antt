@@ -1,5 +1,5 @@
 -- Parsers in any order: rounds over those that are not taken yet, and then what is left.
-use Rattle.std.specs.Prelude.{◌≡◌, ℕ, zero, suc, ◌<◌, ◌≤◌, ◌+◌, Option, Some, None, option_map, List, [], ◌∷◌, ◌++◌, ◌⊎◌, true}
+use Rattle.std.specs.Prelude.{◌≡◌, ℕ, zero, suc, ◌<◌, ◌≤◌, ◌+◌, Option, Some, None, option_map, List, [], ◌∷◌, ◌⊎◌, true, length}
 use Rattle.chumsky_input.specs.Outcome.{Meaning, Beginning, Outcome, No}
 use Rattle.chumsky_parser.specs.Chained.{Chained, Given, Sequence, both}
 use Rattle.chumsky_parser.specs.Failure.{Refuses, wanting}
@@ -81,9 +81,9 @@ module _ {Tok Cx St Er T V : Type 0} (row : Row Tok Cx St Er T V) where
   abbrev pub WithinRounds : {W : Type 0} → ℕ → T → (Option V → Meaning Tok Cx St Er W) → Meaning Tok Cx St Er W → Type 0
   WithinRounds {W} n none next meaning = (b : Beginning Tok Cx St) (o : Outcome W Er St) → meaning b o → Chained (Rounds n none) next b o
 
--- one more value after these, where they are there
-abbrev pub one_more : {Y : Type 0} → Option (List Y) → Option Y → Option (List Y)
-one_more acc y = option_map (λ p. p.0 ++ p.1 ∷ []) (both acc y)
+-- a value before others, where all are there
+abbrev pub with_first : {Y : Type 0} → Option Y → Option (List Y) → Option (List Y)
+with_first y ys = option_map (λ p. p.0 ∷ p.1) (both y ys)
 
 -- how many have nothing yet
 abbrev pub all_still : {V : Type 0} → List (Slot V) → ℕ
@@ -91,11 +91,11 @@ all_still [] = 0
 all_still (s ∷ ss) = still s + all_still ss
 
 module _ {X Tok Cx St Er V Y : Type 0} (turn : X → Slot V → Meaning Tok Cx St Er Y) where
-  -- the turns of parts, each with its slot, from left to right, and what they gave after these values
+  -- the turns of parts, each with its slot, each beginning where the former ended: what they give in order, and this of no part
   abbrev pub Turns : List X → List (Slot V) → Option (List Y) → Meaning Tok Cx St Er (List Y)
-  Turns [] slots values = Given values
-  Turns (part ∷ parts) [] values = Given values
-  Turns (part ∷ parts) (slot ∷ slots) values = Chained (turn part slot) (λ y. Turns parts slots (one_more values y))
+  Turns [] slots none b o = Given none b o
+  Turns (part ∷ parts) [] none b o = ⊥
+  Turns (part ∷ parts) (slot ∷ slots) none b o = Chained (turn part slot) (λ y. Chained (Turns parts slots none) (λ ys. Given (with_first y ys))) b o
 
 module _ {X Tok Cx St Mk Er V : Type 0} (mark : St → Mk) (back : St → Mk → St) (safe : Type 0) (meaning : X → Meaning Tok Cx St Er V) where
   -- a row of parts of one kind; the list of their values may want memory
@@ -103,6 +103,6 @@ module _ {X Tok Cx St Mk Er V : Type 0} (mark : St → Mk) (back : St → Mk →
   each_part parts =
       record {
         pass = λ t. Turns (λ x. Offered mark back safe (meaning x)) parts t (Some []);
-        last = λ t b o. Refuses (b.wanted ≡ true) b.state o ⊎ Turns (λ x. Missing (meaning x)) parts t (wanting b.wanted []) b o;
+        last = λ t b o. Refuses ((b.wanted ≡ true) × (length parts ≡ 0 → ⊥)) b.state o ⊎ Turns (λ x. Missing (meaning x)) parts t (wanting b.wanted []) b o;
         left = λ t. all_still t;
       }

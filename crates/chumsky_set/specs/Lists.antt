@@ -1,6 +1,6 @@
 -- Sets of a list of parsers.
 use Rattle.std.specs.contracts.option.Option as option
-use Rattle.std.specs.Prelude.{◌≡◌, ℕ, ◌<◌, ◌^◌, Bool, true, false, Option, Some, None, List, [], ◌∷◌, ◌⊎◌, ⊤, map}
+use Rattle.std.specs.Prelude.{◌≡◌, ℕ, ◌<◌, ◌^◌, Bool, true, false, Option, Some, None, List, [], ◌∷◌, ◌⊎◌, ⊤, length, map}
 use Rattle.std.specs.Borrow.{RattleType}
 use Rattle.std.specs.Ptr.{array_size}
 use Rattle.chumsky_input.specs.Outcome.{Meaning, Beginning, Outcome}
@@ -26,12 +26,12 @@ module _ {Tok Cx St Er V W : Type 0} (items : W → List V) where
 module _ {X Tok Cx St Mk Er V W : Type 0} (mark : St → Mk) (back : St → Mk → St) (safe : Type 0) (meaning : X → Meaning Tok Cx St Er V) (items : W → List V) where
   -- want of memory for the slots, or the parts in any order, of which none is taken, and then their values
   pub record SetEach (parts : List X) (b : Beginning Tok Cx St) (o : Outcome W Er St) : Type 0 where
-    pub cases : Refuses ⊤ b.state o ⊎ Chained (AnyOrder (each_part mark back safe meaning parts) (map (λ _. None) parts)) (FormedAs items) b o
+    pub cases : Refuses (length parts ≡ 0 → ⊥) b.state o ⊎ Chained (AnyOrder (each_part mark back safe meaning parts) (map (λ _. None) parts)) (FormedAs items) b o
 
   -- every outcome of a meaning is want of memory for the slots, or the parts in any order, in so many rounds at most
   abbrev pub WithinEach : List X → ℕ → Meaning Tok Cx St Er W → Type 0
   WithinEach parts n m = (b : Beginning Tok Cx St) (o : Outcome W Er St) → m b o
-      → Refuses ⊤ b.state o ⊎ Chained (Rounds (each_part mark back safe meaning parts) n (map (λ _. None) parts)) (FormedAs items) b o
+      → Refuses (length parts ≡ 0 → ⊥) b.state o ⊎ Chained (Rounds (each_part mark back safe meaning parts) n (map (λ _. None) parts)) (FormedAs items) b o
 
 -- so many slots of a type of values fit in memory
 abbrev pub SlotsFit : RattleType → ℕ → Type 0

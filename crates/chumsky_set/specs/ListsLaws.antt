@@ -1,49 +1,45 @@
 -- The laws of rows of parts of one kind.
-use Rattle.std.proofs.Common.{Bool, true, false, ◌≡◌, suc, ◌+◌, ◌++◌, length, Option, Some, None, List, [], ◌∷◌, map, refl, subst, arith, inl, inr, append_assoc}
-use Rattle.std.proofs.lemmas.List.{append-nil}
+use Rattle.std.proofs.Common.{Bool, true, false, ◌≡◌, suc, ◌+◌, length, Option, Some, None, List, [], ◌∷◌, map, refl, subst, arith, inl, inr}
 use Rattle.std.specs.List.{All}
 use Rattle.chumsky_parser.specs.Chained.{Chained, Given, Asked}
 use Rattle.chumsky_input.specs.Outcome.{Meaning, SameValue, IsAnswer, EndsAfterStart, Agreeing}
 use Rattle.chumsky_parser.specs.Failure.{wanting}
 use Rattle.chumsky_parser.specs.FailureLaws.{wanting-same}
 use Rattle.chumsky_parser.specs.Laws.{chained-ends, chained-agrees, given-ends, given-agrees, asked-ends}
-use Rattle.chumsky_set.specs.AnyOrder.{all_still, each_part, one_more, Rounds, AnyOrder, WithinRounds, Turns, Slot, Missing, Offered}
+use Rattle.chumsky_set.specs.AnyOrder.{all_still, each_part, with_first, Rounds, AnyOrder, WithinRounds, Turns, Slot, Missing, Offered}
 use Rattle.chumsky_set.specs.AnyOrderLaws.{SameSlot, RowEnds, RowAgrees, offered-ends, offered-agrees, missing-ends, missing-agrees, still-same, any_order-ends, any_order-agrees, any_order-within}
 use Rattle.chumsky_set.specs.Lists.{Each, FormedAs, SetEach, WithinEach, ForItsValue, SetStored, each_stored, only}
 
 module _ {X Y : Type 0} (same : X → Y → Y → Type 0) where
-  each-more : (xs : List X) (ys zs : List Y) (x : X) (y z : Y) → Each same xs ys zs → same x y z → Each same (xs ++ x ∷ []) (ys ++ y ∷ []) (zs ++ z ∷ [])
-  each-more [] [] [] x y z e d = (d, tt)
-  each-more [] [] (w ∷ ws) x y z e d = absurd e
-  each-more [] (v ∷ vs) ws x y z e d = absurd e
-  each-more (u ∷ us) [] ws x y z e d = absurd e
-  each-more (u ∷ us) (v ∷ vs) [] x y z e d = absurd e
-  each-more (u ∷ us) (v ∷ vs) (w ∷ ws) x y z e d = (e.0, each-more us vs ws x y z e.1 d)
-
-  one_more-same : (xs : List X) (x : X) (v w : Option (List Y)) (y z : Option Y) → SameValue (Each same xs) v w → SameValue (same x) y z → SameValue (Each same (xs ++ x ∷ [])) (one_more v y) (one_more w z)
-  one_more-same xs x (Some v) (Some w) (Some y) (Some z) e d = each-more xs v w x y z e d
-  one_more-same xs x (Some v) (Some w) (Some y) None e d = tt
-  one_more-same xs x (Some v) (Some w) None z e d = tt
-  one_more-same xs x (Some v) None (Some y) z e d = tt
-  one_more-same xs x (Some v) None None z e d = tt
-  one_more-same xs x None w y z e d = tt
+  with_first-same : (x : X) (xs : List X) (y z : Option Y) (v w : Option (List Y)) → SameValue (same x) y z → SameValue (Each same xs) v w → SameValue (Each same (x ∷ xs)) (with_first y v) (with_first z w)
+  with_first-same x xs (Some y) (Some z) (Some v) (Some w) e d = (e, d)
+  with_first-same x xs (Some y) (Some z) (Some v) None e d = tt
+  with_first-same x xs (Some y) (Some z) None w e d = tt
+  with_first-same x xs (Some y) None (Some v) w e d = tt
+  with_first-same x xs (Some y) None None w e d = tt
+  with_first-same x xs None z v w e d = tt
 
 module _ {X Tok Cx St Er V Y : Type 0} (turn : X → Slot V → Meaning Tok Cx St Er Y) where
-  turns-ends : ((x : X) (s : Slot V) → EndsAfterStart (turn x s)) → (parts : List X) (slots : List (Slot V)) (values : Option (List Y)) → EndsAfterStart (Turns turn parts slots values)
-  turns-ends h [] slots values = given-ends values
-  turns-ends h (x ∷ xs) [] values = given-ends values
-  turns-ends h (x ∷ xs) (s ∷ ss) values = chained-ends (turn x s) (λ y. Turns turn xs ss (one_more values y)) (h x s) (λ y. turns-ends h xs ss (one_more values y))
+  turns-ends : ((x : X) (s : Slot V) → EndsAfterStart (turn x s)) → (parts : List X) (slots : List (Slot V)) (none : Option (List Y)) → EndsAfterStart (Turns turn parts slots none)
+  turns-ends h [] slots none b o m a = given-ends none b o m a
+  turns-ends h (x ∷ xs) [] none b o m a = absurd m
+  turns-ends h (x ∷ xs) (s ∷ ss) none b o m a =
+      chained-ends (turn x s) (λ y. Chained (Turns turn xs ss none) (λ ys. Given (with_first y ys))) (h x s)
+      (λ y. chained-ends (Turns turn xs ss none) (λ ys. Given (with_first y ys)) (turns-ends h xs ss none) (λ ys. given-ends (with_first y ys)))
+      b o m a
 
   module _ (steady : X → Type 0) (sv : X → V → V → Type 0) (sy : X → Y → Y → Type 0) (h : (x : X) (s t : Slot V) → steady x → SameSlot (sv x) s t → Agreeing (sy x) (turn x s) (turn x t)) where
-    turns-agree : (done parts : List X) (ss ts : List (Slot V)) (v w : Option (List Y)) → All steady parts → Each (λ x. SameSlot (sv x)) parts ss ts → SameValue (Each sy done) v w
-        → Agreeing (Each sy (done ++ parts)) (Turns turn parts ss v) (Turns turn parts ts w)
-    turns-agree done [] ss ts v w all e d = rw (append-nil done) (given-agrees (Each sy done) v w d)
-    turns-agree done (x ∷ xs) [] ts v w all e d = absurd e
-    turns-agree done (x ∷ xs) (s ∷ ss) [] v w all e d = absurd e
-    turns-agree done (x ∷ xs) (s ∷ ss) (t ∷ ts) v w all e d =
-        rw⁻¹ (append_assoc done (x ∷ []) xs)
-        (chained-agrees (turn x s) (turn x t) (λ y. Turns turn xs ss (one_more v y)) (λ y. Turns turn xs ts (one_more w y)) (sy x) (Each sy ((done ++ x ∷ []) ++ xs)) (h x s t (all 0 x (omega arith)) e.0)
-        (λ y z k. turns-agree (done ++ x ∷ []) xs ss ts (one_more v y) (one_more w z) (λ n c l. all (suc n) c (omega (arith, l))) e.1 (one_more-same sy done x v w y z d k)))
+    turns-agree : (parts : List X) (ss ts : List (Slot V)) (v w : Option (List Y)) → All steady parts → Each (λ x. SameSlot (sv x)) parts ss ts → SameValue (Each sy []) v w
+        → Agreeing (Each sy parts) (Turns turn parts ss v) (Turns turn parts ts w)
+    turns-agree [] ss ts v w all e d b c o q alike m n a z = given-agrees (Each sy []) v w d b c o q alike m n a z
+    turns-agree (x ∷ xs) [] ts v w all e d b c o q alike m n a z = absurd m
+    turns-agree (x ∷ xs) (s ∷ ss) [] v w all e d b c o q alike m n a z = absurd n
+    turns-agree (x ∷ xs) (s ∷ ss) (t ∷ ts) v w all e d b c o q alike m n a z =
+        chained-agrees (turn x s) (turn x t) (λ y. Chained (Turns turn xs ss v) (λ ys. Given (with_first y ys))) (λ y. Chained (Turns turn xs ts w) (λ ys. Given (with_first y ys))) (sy x) (Each sy (x ∷ xs)) (h x s t (all 0 x (omega arith)) e.0)
+        (λ y k f. chained-agrees (Turns turn xs ss v) (Turns turn xs ts w) (λ ys. Given (with_first y ys)) (λ ys. Given (with_first k ys)) (Each sy xs) (Each sy (x ∷ xs))
+        (turns-agree xs ss ts v w (λ i u l. all (suc i) u (omega (arith, l))) e.1 d)
+        (λ ys zs g. given-agrees (Each sy (x ∷ xs)) (with_first y ys) (with_first k zs) (with_first-same sy x xs y k ys zs f g)))
+        b c o q alike m n a z
 
 module _ {X V : Type 0} (sv : X → V → V → Type 0) where
   all_still-same : (xs : List X) (ss ts : List (Slot V)) → Each (λ x. SameSlot (sv x)) xs ss ts → all_still ss ≡ all_still ts
@@ -70,12 +66,12 @@ module _ {X Tok Cx St Mk Er V : Type 0} (mark : St → Mk) (back : St → Mk →
       → RowAgrees (each_part mark back safe meaning parts) (Each (λ x. SameSlot (same x)) parts) (Each same parts)
   each_part-agrees steady same h parts all =
       record {
-        pass = λ t u e. turns-agree (λ x. Offered mark back safe (meaning x)) steady same (λ x. SameSlot (same x)) (λ x s t k e. offered-agrees mark back safe (meaning x) (same x) s t (h x k) e) [] parts t u (Some []) (Some []) all e tt;
+        pass = λ t u e. turns-agree (λ x. Offered mark back safe (meaning x)) steady same (λ x. SameSlot (same x)) (λ x s t k e. offered-agrees mark back safe (meaning x) (same x) s t (h x k) e) parts t u (Some []) (Some []) all e tt;
         last = λ t u e b c o q alike m n a z. elim m [
           | inl r ↦ absurd (subst IsAnswer r.1 a)
           | inr k ↦ elim n [
             | inl r ↦ absurd (subst IsAnswer r.1 z)
-            | inr l ↦ turns-agree (λ x. Missing (meaning x)) steady same same (λ x s t k e. missing-agrees (meaning x) (same x) s t (h x k) e) [] parts t u (wanting b.wanted []) (wanting c.wanted []) all e (wanting-same (Each same []) b.wanted c.wanted [] tt) b c o q alike k l a z
+            | inr l ↦ turns-agree (λ x. Missing (meaning x)) steady same same (λ x s t k e. missing-agrees (meaning x) (same x) s t (h x k) e) parts t u (wanting b.wanted []) (wanting c.wanted []) all e (wanting-same (Each same []) b.wanted c.wanted [] tt) b c o q alike k l a z
           ]
         ];
         left = λ t u e. all_still-same same parts t u e;
@@ -176,7 +172,7 @@ module _ {X Tok Cx St Mk Er V : Type 0} (mark : St → Mk) (back : St → Mk →
       let r = each_part-agrees mark back safe meaning steady same h parts all in
       record {
         pass = λ t u e. asked-agree _ _ (Each (λ x. SameSlot (same x)) parts) (r.pass t u e);
-        last = λ t u e. for_its_value-agree _ _ (Each same parts) (turns-agree (λ x. Missing (meaning x)) steady same same (λ x s t k e. missing-agrees (meaning x) (same x) s t (h x k) e) [] parts t u (Some []) (Some []) all e tt);
+        last = λ t u e. for_its_value-agree _ _ (Each same parts) (turns-agree (λ x. Missing (meaning x)) steady same same (λ x s t k e. missing-agrees (meaning x) (same x) s t (h x k) e) parts t u (Some []) (Some []) all e tt);
         left = λ t u e. r.left t u e;
       }
 

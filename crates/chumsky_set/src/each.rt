@@ -1,5 +1,5 @@
 //! Parts of one type, in a list.
-ghost use Rattle.std.specs.Prelude.{◌≡◌, true, false, IfOk, List, Option, Some, None, length, map, replicate, []};
+ghost use Rattle.std.specs.Prelude.{◌≡◌, true, false, IfOk, IsOk, List, Option, Some, None, length, map, replicate, []};
 ghost use Rattle.std.specs.List.{All};
 ghost use Rattle.chumsky_input.specs.Held.{held};
 ghost use Rattle.chumsky_input.specs.Run.{Ran};
@@ -18,7 +18,8 @@ use std::alloc::{AllocError, Global};
 
 /// Slots with nothing yet.
 pub fn no_slots<A: Drop>(alloc: Global, count: usize) -> Result<Vec<Option<A>>, AllocError>
-    ensures { IfOk result (λ v. v.items ≡ replicate count None) }
+    ensures items { IfOk result (λ v. v.items ≡ replicate count None) }
+    ensures none { count ≡ 0 → IsOk result }
 {
     let mut slots = Vec::with_capacity(alloc, count)?;
     for _ in 0..count {

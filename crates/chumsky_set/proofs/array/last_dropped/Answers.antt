@@ -8,7 +8,7 @@ use Rattle.chumsky_set.proofs.TurnsLemmas.{turns_begin, turns_on, turns_failed, 
 use Rattle.chumsky_set.proofs.array.last_dropped.Goals as goal
 
 pub loop-i-init : goal.loop-i-init
-loop-i-init g c = record { resumes = ([], turns_begin _ _ _ _ _ _ refl refl refl); fits = search rules; lent = refl }
+loop-i-init g c = record { resumes = ([], turns_begin _ _ _ _ _ refl refl refl); fits = search rules; lent = refl }
 
 pub returns-in_err-complete-clause-ran : goal.returns-in_err-complete-clause-ran
 returns-in_err-complete-clause-ran g c =

@@ -3,7 +3,7 @@ use Rattle.std.proofs.lemmas.List.{drop_all}
 use Rattle.chumsky_set.specs.Passes.{slot_of}
 use Rattle.chumsky_set.proofs.ListLemmas.{gave_value, gave_none}
 use Rattle.chumsky_set.proofs.PartLemmas.{shown_ok, shown_err}
-use Rattle.chumsky_set.proofs.TurnsLemmas.{turns_on, turns_failed, turns_end, drop_at, drop_map, drop_past_set}
+use Rattle.chumsky_set.proofs.TurnsLemmas.{turns_begin, turns_on, turns_failed, turns_end, drop_at, drop_map, drop_past_set}
 use Rattle.chumsky_set.proofs.array.last_stored.Goals as goal
 
 pub returns-in_err-value-clause-ran : goal.returns-in_err-value-clause-ran
@@ -11,6 +11,9 @@ returns-in_err-value-clause-ran g c =
     gave_none (turns_failed c.loop-i.invariant.resumes (drop_at c.args.parts.now c.loop-i.i c.index-parts-i.result (search rules) c.index-parts-i.is)
     (drop_map (slot_of (λ v. Some v)) c.loop-i.slots c.loop-i.i c.index-slots-i.result (search rules))
     (rw c.take-slot.ensures.value at c.complete.ensures.ran) (shown_err _ c.in_err-value.was) refl) refl (shown_err _ (search rules))
+
+pub loop-i-init : goal.loop-i-init
+loop-i-init g c = record { resumes = turns_begin _ _ _ _ _ refl refl (search rules); filled = search rules; fits = search rules; lent = refl }
 
 pub loop-i-preserved : goal.loop-i-preserved
 loop-i-preserved g c =

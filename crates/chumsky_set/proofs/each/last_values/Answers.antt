@@ -1,12 +1,14 @@
-use Rattle.std.proofs.Common.{rules, ◌≡◌, ◌∙◌, ◌≤◌, Some, [], ◌∷◌, ◌++◌, map, length}
+use Rattle.std.proofs.Common.{rules, refl, ◌≡◌, ◌∙◌, ◌≤◌, Some, [], ◌∷◌, ◌++◌, map, length}
 use Rattle.std.proofs.lemmas.List.{drop_all}
 use Rattle.chumsky_set.specs.Passes.{slot_of}
 use Rattle.chumsky_set.proofs.PartLemmas.{shown_ok, shown_err}
-use Rattle.chumsky_set.proofs.TurnsLemmas.{turns_on, turns_failed, turns_end, drop_at, drop_map, drop_past_set, ran_last, ran_last_short}
+use Rattle.chumsky_set.proofs.TurnsLemmas.{turns_begin, turns_on, turns_failed, turns_end, drop_at, drop_map, drop_past_set, ran_last, ran_last_short}
 use Rattle.chumsky_set.proofs.each.last_values.Goals as goal
 
 pub returns-in_err-values-clause-ran : goal.returns-in_err-values-clause-ran
-returns-in_err-values-clause-ran g c = ran_last_short g.E.State.Inspector.mark g.E.State.Inspector.back g.E.State.Inspector.takes_no_memory (λ p. g.P.Parser.meaning p g.E.Error.Error g.E.State.Inspector) c.args.parts.now (map (slot_of (λ v. Some v)) c.args.slots.now) (shown_err _ (search rules))
+returns-in_err-values-clause-ran g c =
+    let some : length c.args.parts.now ≡ 0 → ⊥ = search rules in
+    ran_last_short g.E.State.Inspector.mark g.E.State.Inspector.back g.E.State.Inspector.takes_no_memory (λ p. g.P.Parser.meaning p g.E.Error.Error g.E.State.Inspector) c.args.parts.now (map (slot_of (λ v. Some v)) c.args.slots.now) some (shown_err _ (search rules))
 
 pub returns-in_err-value-clause-ran : goal.returns-in_err-value-clause-ran
 returns-in_err-value-clause-ran g c =
@@ -20,6 +22,9 @@ returns-then-is_err-clause-ran g c =
     let ok = c.push.ensures.succeeds (search rules) in
     let no : ⊥ = search rules in
     absurd no
+
+pub loop-i-init : goal.loop-i-init
+loop-i-init g c = record { resumes = turns_begin _ _ _ _ _ refl refl (search rules); filled = search rules; room = search rules; fits = search rules; lent = refl }
 
 pub loop-i-preserved : goal.loop-i-preserved
 loop-i-preserved g c =

@@ -1,8 +1,8 @@
-use Rattle.std.proofs.Common.{rules, ◌∙◌, ◌<◌, ◌≤◌, length, arith}
+use Rattle.std.proofs.Common.{rules, refl, ◌∙◌, ◌<◌, ◌≤◌, length, arith}
 use Rattle.std.proofs.lemmas.List.{drop_all}
 use Rattle.chumsky_set.specs.Passes.{slot_of}
 use Rattle.chumsky_set.proofs.PartLemmas.{taken_ok, taken_err}
-use Rattle.chumsky_set.proofs.TurnsLemmas.{turns_on, turns_failed, turns_end, drop_at, drop_map, drop_past_set, take_past_set, take_end, lessens_by_one}
+use Rattle.chumsky_set.proofs.TurnsLemmas.{turns_begin, turns_on, turns_failed, turns_end, drop_at, drop_map, drop_past_set, take_past_set, take_end, lessens_by_one}
 use Rattle.chumsky_set.proofs.each.round_each.Goals as goal
 
 pub returns-in_err-taken-clause-ran : goal.returns-in_err-taken-clause-ran
@@ -10,6 +10,9 @@ returns-in_err-taken-clause-ran g c =
     turns_failed c.loop-i.invariant.resumes (drop_at c.args.parts.now c.loop-i.i c.index-parts-i.result (search rules) c.index-parts-i.is)
     (drop_map (slot_of g.D.Runs.shown) c.loop-i.slots c.loop-i.i c.index-slots-i.result (search rules))
     c.offer.ensures.ran (taken_err _ c.in_err-taken.was) (taken_err _ (search rules))
+
+pub loop-i-init : goal.loop-i-init
+loop-i-init g c = record { resumes = turns_begin _ _ _ _ _ refl refl refl; lessens = refl; fits = search rules; lent = refl }
 
 pub loop-i-preserved : goal.loop-i-preserved
 loop-i-preserved g c =
