@@ -2,7 +2,7 @@
 use crate::run::run;
 use std::alloc::{AllocError, Global};
 use std::io;
-use std::io::{Read, Write};
+use std::io::{ErrorKind, Read, Write};
 use std::test::Fail;
 
 /// What a run left behind.
@@ -46,6 +46,16 @@ impl Read for Torn {
             }
             _ => Err(io::Error::other("torn")),
         }
+    }
+}
+
+/// Fails for want of memory.
+#[derive(Drop)]
+struct Starved;
+
+impl Read for Starved {
+    fn read(&mut self, buf: &mut [u8]) -> io::Result<usize> {
+        Err(io::Error::from(ErrorKind::OutOfMemory))
     }
 }
 
@@ -163,9 +173,42 @@ fn a_read_that_fails_is_told(rt: HostRuntime) -> Result<(), Fail> {
     Ok(())
 }
 
-/// How many writes a text takes, where a failure of any of them leaves status 2, no message and the text so far.
-fn writes_needed(alloc: Global, text: &str, line: &str) -> Result<Option<usize>, AllocError> {
+#[test]
+fn want_of_memory_is_a_refusal(rt: HostRuntime) -> Result<(), Fail> {
+    let alloc = rt.alloc();
+    for command in ["parse", "check"] {
+        let words = owned(alloc, &[command, "ab"])?;
+        let mut out = Vec::new(alloc);
+        let mut err = Vec::new(alloc);
+        let status = run(alloc, words.as_slice(), &mut Starved, &mut out, &mut err);
+        assert_eq!(rt; status, 3);
+        assert_eq!(rt; out.as_slice(), b"refused Memory\n".as_slice());
+        assert_eq!(rt; err.len(), 0);
+    }
+    Ok(())
+}
+
+#[test]
+fn a_refusal_that_cannot_be_written_is_a_failure(rt: HostRuntime) -> Result<(), Fail> {
+    let alloc = rt.alloc();
     let words = owned(alloc, &["parse", "ab"])?;
+    let kept = Vec::new(alloc);
+    let mut out = Brittle { writes: 0, kept };
+    let mut err = Vec::new(alloc);
+    let status = run(alloc, words.as_slice(), &mut Starved, &mut out, &mut err);
+    assert_eq!(rt; status, 2);
+    assert_eq!(rt; err.len(), 0);
+    Ok(())
+}
+
+/// How many writes a text takes, where a failure of any of them leaves status 2, no message and the text so far.
+fn writes_needed(
+    alloc: Global,
+    command: &str,
+    text: &str,
+    line: &str,
+) -> Result<Option<usize>, AllocError> {
+    let words = owned(alloc, &[command, "ab"])?;
     for writes in 0..30 {
         let mut left = text.as_bytes();
         let kept = Vec::new(alloc);
@@ -186,10 +229,13 @@ fn writes_needed(alloc: Global, text: &str, line: &str) -> Result<Option<usize>,
 #[test]
 fn a_write_that_fails_says_nothing_more(rt: HostRuntime) -> Result<(), Fail> {
     let alloc = rt.alloc();
-    let of_output = writes_needed(alloc, "ab", "ok ab\n")?;
-    let of_error = writes_needed(alloc, "ac", "error 1..2 expected 'b' found 'c'\n")?;
-    assert!(rt; of_output.is_some_and(|writes| writes > 0));
-    assert!(rt; of_error.is_some_and(|writes| writes > 0));
+    for (command, line) in [("parse", "ok ab\n"), ("check", "ok\n")] {
+        let of_output = writes_needed(alloc, command, "ab", line)?;
+        let error = "error 1..2 expected 'b' found 'c'\n";
+        let of_error = writes_needed(alloc, command, "ac", error)?;
+        assert!(rt; of_output.is_some_and(|writes| writes > 0));
+        assert!(rt; of_error.is_some_and(|writes| writes > 0));
+    }
     Ok(())
 }
 

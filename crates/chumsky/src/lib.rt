@@ -14,6 +14,7 @@ pub mod input {
     pub use chumsky_input::input::{BorrowInput, Input, SliceInput, Tokens, ValueInput};
     pub use chumsky_input::input_ref::{Checkpoint, InputRef};
     pub use chumsky_input::map_extra::MapExtra;
+    pub use chumsky_input::stop::Failure;
     pub use chumsky_parser::input_ref_ext::InputRefExt;
 }
 
@@ -24,7 +25,8 @@ pub mod span {
 
 /// Small helpers that parsers and errors share.
 pub mod util {
-    pub use chumsky_input::util::{Expectation, MaybeRef};
+    pub use chumsky_input::same::SameClone;
+    pub use chumsky_input::util::{Expectation, MaybeRef, Plain};
 }
 
 /// What errors say.
@@ -32,6 +34,7 @@ pub mod error {
     pub use chumsky_input::error::{EmptyErr, Error};
     pub use chumsky_input::rich::{Rich, RichPattern};
     pub use chumsky_input::simple::{Cheap, Simple};
+    pub use chumsky_input::util::DefaultExpected;
 }
 
 /// Sequences of tokens.

@@ -8,7 +8,7 @@ pub use chumsky_input::extra;
 pub use chumsky_input::input::Input;
 pub use chumsky_input::rich::Rich;
 pub use chumsky_input::simple::{Cheap, Simple};
-pub use chumsky_input::span::SimpleSpan;
+pub use chumsky_input::span::{SimpleSpan, Spanned};
 pub use chumsky_parser::input_ref_ext::InputRefExt;
 pub use chumsky_parser::parser::{IsParser, Parser};
 pub use chumsky_parser::result::ParseResult;

@@ -38,6 +38,86 @@ pub fn check_error_or_ab(alloc: Global, text: &str) -> Result<ParseResult<(), Ri
     .check(alloc, text)
 }
 
+/// What `parse` gives of a closure that fails with the message `first`, `.or` one that fails with `second`.
+pub fn parse_either_message(
+    alloc: Global,
+    text: &str,
+) -> Result<ParseResult<char, Rich<char>>, Stop> {
+    custom::<_, &str, char, Errors>(|inp| {
+        let message = String::from_str(inp.alloc, "first")?;
+        let span = SimpleSpan { start: 0, end: 0 };
+        Err(Failure::Error(Rich::custom(span, message)))
+    })
+    .or(custom::<_, &str, char, Errors>(|inp| {
+        let message = String::from_str(inp.alloc, "second")?;
+        let span = SimpleSpan { start: 0, end: 1 };
+        Err(Failure::Error(Rich::custom(span, message)))
+    }))
+    .parse(alloc, text)
+}
+
+/// What `check` gives of it.
+pub fn check_either_message(
+    alloc: Global,
+    text: &str,
+) -> Result<ParseResult<(), Rich<char>>, Stop> {
+    custom::<_, &str, char, Errors>(|inp| {
+        let message = String::from_str(inp.alloc, "first")?;
+        let span = SimpleSpan { start: 0, end: 0 };
+        Err(Failure::Error(Rich::custom(span, message)))
+    })
+    .or(custom::<_, &str, char, Errors>(|inp| {
+        let message = String::from_str(inp.alloc, "second")?;
+        let span = SimpleSpan { start: 0, end: 1 };
+        Err(Failure::Error(Rich::custom(span, message)))
+    }))
+    .check(alloc, text)
+}
+
+/// What `parse` gives of a closure that runs `just('a').or_not()` and then `just('c')`.
+pub fn parse_perhaps_a_then_c(
+    alloc: Global,
+    text: &str,
+) -> Result<ParseResult<char, Rich<char>>, Stop> {
+    custom::<_, &str, char, Errors>(|inp| {
+        inp.parse(just('a').or_not())?;
+        inp.parse(just('c'))
+    })
+    .parse(alloc, text)
+}
+
+/// What `check` gives of it.
+pub fn check_perhaps_a_then_c(
+    alloc: Global,
+    text: &str,
+) -> Result<ParseResult<(), Rich<char>>, Stop> {
+    custom::<_, &str, char, Errors>(|inp| {
+        inp.parse(just('a').or_not())?;
+        inp.parse(just('c'))
+    })
+    .check(alloc, text)
+}
+
+type ByteErrors = extra::Err<Rich<u8>>;
+
+/// What `parse` gives of a closure that takes a byte twice.
+pub fn parse_twin(alloc: Global, bytes: &[u8]) -> Result<ParseResult<u8, Rich<u8>>, Stop> {
+    custom::<_, &[u8], u8, ByteErrors>(|inp| {
+        let first = inp.parse(any())?;
+        inp.parse(just(first))
+    })
+    .parse(alloc, bytes)
+}
+
+/// What `check` gives of it.
+pub fn check_twin(alloc: Global, bytes: &[u8]) -> Result<ParseResult<(), Rich<u8>>, Stop> {
+    custom::<_, &[u8], u8, ByteErrors>(|inp| {
+        let first = inp.parse(any())?;
+        inp.parse(just(first))
+    })
+    .check(alloc, bytes)
+}
+
 /// What `parse` gives of a closure that runs `just("foo")` and goes back where that fails.
 pub fn parse_foo_or_nothing(
     alloc: Global,
@@ -91,7 +171,37 @@ pub fn parse_emitting_or_any(
     .parse(alloc, text)
 }
 
-/// What `check` gives of `just('c')`, or where that fails of the same closure.
+/// What `check` gives of it.
+pub fn check_emitting_or_any(
+    alloc: Global,
+    text: &str,
+) -> Result<ParseResult<(), Rich<char>>, Stop> {
+    custom::<_, &str, char, Errors>(|inp| {
+        let here = SimpleSpan { start: 0, end: 0 };
+        inp.emit(Rich::custom(here, String::new(inp.alloc)))?;
+        let span = SimpleSpan { start: 0, end: 1 };
+        Err(Failure::Error(Rich::custom(span, String::new(inp.alloc))))
+    })
+    .or(any())
+    .check(alloc, text)
+}
+
+/// What `parse` gives of `just('c')`, or where that fails of the same closure.
+pub fn parse_c_or_emitting(
+    alloc: Global,
+    text: &str,
+) -> Result<ParseResult<char, Rich<char>>, Stop> {
+    just('c')
+        .or(custom::<_, &str, char, Errors>(|inp| {
+            let here = SimpleSpan { start: 0, end: 0 };
+            inp.emit(Rich::custom(here, String::new(inp.alloc)))?;
+            let span = SimpleSpan { start: 0, end: 1 };
+            Err(Failure::Error(Rich::custom(span, String::new(inp.alloc))))
+        }))
+        .parse(alloc, text)
+}
+
+/// What `check` gives of it.
 pub fn check_c_or_emitting(alloc: Global, text: &str) -> Result<ParseResult<(), Rich<char>>, Stop> {
     just('c')
         .or(custom::<_, &str, char, Errors>(|inp| {

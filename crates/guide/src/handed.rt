@@ -1,0 +1,29 @@
+//! A parser that is handed in.
+use chumsky::Stop;
+use chumsky::extra::ParserExtra;
+use chumsky::prelude::*;
+use std::alloc::Global;
+
+/// What `parse` and `check` give.
+pub fn each<
+    'src,
+    I: Input<'src> + Drop,
+    O: Drop,
+    E: ParserExtra<I>,
+    P: IsParser<I, O, E> + Parser<'src, I, O, E>,
+>(
+    parser: &P,
+    alloc: Global,
+    one: I,
+    two: I,
+) -> Result<(ParseResult<O, E::Error>, ParseResult<(), E::Error>), Stop>
+where
+    I::Token: 'src,
+    E::State: Default + Drop,
+    E::Context: Default + Drop,
+    requires { P.ready parser.now }
+{
+    let parsed = parser.parse(alloc, one)?;
+    let checked = parser.check(alloc, two)?;
+    Ok((parsed, checked))
+}

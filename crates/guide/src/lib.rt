@@ -1,0 +1,12 @@
+//! The items that docs/GUIDE.md shows, as they stand there.
+#![tactic(auto)]
+
+pub mod closure;
+pub mod conclusion;
+pub mod extras;
+pub mod handed;
+pub mod own_type;
+pub mod picking;
+pub mod running;
+#[cfg(test)]
+mod tests;
