@@ -16,11 +16,28 @@ pub fn parse_a_or_b_simple(
         .parse(alloc, text)
 }
 
-/// The same with errors that show where.
+/// What `check` gives of it.
+pub fn check_a_or_b_simple(
+    alloc: Global,
+    text: &str,
+) -> Result<ParseResult<(), Simple<char>>, Stop> {
+    just::<_, _, extra::Err<Simple<char>>>('a')
+        .or(just('b'))
+        .check(alloc, text)
+}
+
+/// What `parse` gives of the same parser with errors that show where.
 pub fn parse_a_or_b_cheap(alloc: Global, text: &str) -> Result<ParseResult<char, Cheap>, Stop> {
     just::<_, _, extra::Err<Cheap>>('a')
         .or(just('b'))
         .parse(alloc, text)
+}
+
+/// What `check` gives of it.
+pub fn check_a_or_b_cheap(alloc: Global, text: &str) -> Result<ParseResult<(), Cheap>, Stop> {
+    just::<_, _, extra::Err<Cheap>>('a')
+        .or(just('b'))
+        .check(alloc, text)
 }
 
 /// What `parse_with_state` gives of `any`, with a state type alone.

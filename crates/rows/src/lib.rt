@@ -9,11 +9,13 @@ use std::alloc::Global;
 
 pub mod by_reference;
 pub mod choices;
+pub mod copies;
 pub mod errors;
 pub mod groups;
 pub mod members;
 pub mod merges;
 pub mod results;
+pub mod rounds;
 pub mod select;
 pub mod sequences;
 pub mod sets;

@@ -25,6 +25,21 @@ pub fn parse_one_or_two(alloc: Global, bytes: &[u8]) -> Result<ParseResult<u8, R
     one_of::<_, _, ByteErrors>([1u8, 2]).parse(alloc, bytes)
 }
 
+/// What `check` gives of it.
+pub fn check_one_or_two(alloc: Global, bytes: &[u8]) -> Result<ParseResult<(), Rich<u8>>, Stop> {
+    one_of::<_, _, ByteErrors>([1u8, 2]).check(alloc, bytes)
+}
+
+/// What `parse` gives of `none_of` over an array of bytes.
+pub fn parse_no_one_or_two(alloc: Global, bytes: &[u8]) -> Result<ParseResult<u8, Rich<u8>>, Stop> {
+    none_of::<_, _, ByteErrors>([1u8, 2]).parse(alloc, bytes)
+}
+
+/// What `check` gives of it.
+pub fn check_no_one_or_two(alloc: Global, bytes: &[u8]) -> Result<ParseResult<(), Rich<u8>>, Stop> {
+    none_of::<_, _, ByteErrors>([1u8, 2]).check(alloc, bytes)
+}
+
 /// What `parse` gives of `one_of` over a `Vec`.
 pub fn parse_member(
     alloc: Global,
@@ -34,13 +49,67 @@ pub fn parse_member(
     one_of::<_, _, ByteErrors>(members).parse(alloc, bytes)
 }
 
-/// What `check` gives of `none_of` over a `String`.
+/// What `check` gives of it.
+pub fn check_member(
+    alloc: Global,
+    members: Vec<u8>,
+    bytes: &[u8],
+) -> Result<ParseResult<(), Rich<u8>>, Stop> {
+    one_of::<_, _, ByteErrors>(members).check(alloc, bytes)
+}
+
+/// What `parse` gives of `none_of` over a `Vec`.
+pub fn parse_no_member(
+    alloc: Global,
+    members: Vec<u8>,
+    bytes: &[u8],
+) -> Result<ParseResult<u8, Rich<u8>>, Stop> {
+    none_of::<_, _, ByteErrors>(members).parse(alloc, bytes)
+}
+
+/// What `check` gives of it.
 pub fn check_no_member(
     alloc: Global,
-    members: String,
+    members: Vec<u8>,
+    bytes: &[u8],
+) -> Result<ParseResult<(), Rich<u8>>, Stop> {
+    none_of::<_, _, ByteErrors>(members).check(alloc, bytes)
+}
+
+/// What `parse` gives of `one_of` over a `String`.
+pub fn parse_letter(
+    alloc: Global,
+    letters: String,
+    text: &str,
+) -> Result<ParseResult<char, Rich<char>>, Stop> {
+    one_of::<_, _, Errors>(letters).parse(alloc, text)
+}
+
+/// What `check` gives of it.
+pub fn check_letter(
+    alloc: Global,
+    letters: String,
     text: &str,
 ) -> Result<ParseResult<(), Rich<char>>, Stop> {
-    none_of::<_, _, Errors>(members).check(alloc, text)
+    one_of::<_, _, Errors>(letters).check(alloc, text)
+}
+
+/// What `parse` gives of `none_of` over a `String`.
+pub fn parse_no_letter(
+    alloc: Global,
+    letters: String,
+    text: &str,
+) -> Result<ParseResult<char, Rich<char>>, Stop> {
+    none_of::<_, _, Errors>(letters).parse(alloc, text)
+}
+
+/// What `check` gives of it.
+pub fn check_no_letter(
+    alloc: Global,
+    letters: String,
+    text: &str,
+) -> Result<ParseResult<(), Rich<char>>, Stop> {
+    none_of::<_, _, Errors>(letters).check(alloc, text)
 }
 
 /// What `parse` gives of `just([1, 2])`.
@@ -49,4 +118,9 @@ pub fn parse_one_and_two(
     bytes: &[u8],
 ) -> Result<ParseResult<[u8; 2], Rich<u8>>, Stop> {
     just::<_, _, ByteErrors>([1u8, 2]).parse(alloc, bytes)
+}
+
+/// What `check` gives of it.
+pub fn check_one_and_two(alloc: Global, bytes: &[u8]) -> Result<ParseResult<(), Rich<u8>>, Stop> {
+    just::<_, _, ByteErrors>([1u8, 2]).check(alloc, bytes)
 }

@@ -42,6 +42,92 @@ pub fn check_span_past_x(alloc: Global, text: &str) -> Result<ParseResult<(), Ri
     just('x').then(span).check(alloc, text)
 }
 
+/// The bytes of a text.
+fn length_of(text: &str) -> usize {
+    text.len()
+}
+
+/// What `parse` gives of an `x`, and then the length of the text of a character that is no `a`.
+pub fn parse_length_past_x(
+    alloc: Global,
+    text: &str,
+) -> Result<ParseResult<(char, usize), Rich<char>>, Stop> {
+    let length: Select<_, &str, usize, Errors> = select! {
+        c = extra if c != 'a' => length_of(extra.slice()),
+    };
+    just('x').then(length).parse(alloc, text)
+}
+
+/// What `check` gives of it.
+pub fn check_length_past_x(alloc: Global, text: &str) -> Result<ParseResult<(), Rich<char>>, Stop> {
+    let length: Select<_, &str, usize, Errors> = select! {
+        c = extra if c != 'a' => length_of(extra.slice()),
+    };
+    just('x').then(length).check(alloc, text)
+}
+
+/// A letter, by default `k`.
+#[derive(Clone, Copy)]
+pub struct Key {
+    letter: char,
+}
+
+impl Default for Key {
+    ghost is_default = { λ k. k.letter ≡ 107 };
+
+    fn default() -> Key {
+        Key { letter: 'k' }
+    }
+}
+
+/// Whether a character is the letter of a key.
+fn is_key(key: &Key, c: char) -> bool {
+    key.letter == c
+}
+
+type Keyed = extra::Full<Rich<char>, (), Key>;
+
+/// What `parse` gives of a character that is the letter of the context.
+pub fn parse_key(alloc: Global, text: &str) -> Result<ParseResult<char, Rich<char>>, Stop> {
+    let key: Select<_, &str, char, Keyed> = select! {
+        c = extra if is_key(extra.ctx(), c) => c,
+    };
+    key.parse(alloc, text)
+}
+
+/// What `check` gives of it.
+pub fn check_key(alloc: Global, text: &str) -> Result<ParseResult<(), Rich<char>>, Stop> {
+    let key: Select<_, &str, char, Keyed> = select! {
+        c = extra if is_key(extra.ctx(), c) => c,
+    };
+    key.check(alloc, text)
+}
+
+/// What `parse` gives of a character that is no `a`, put into a box.
+pub fn parse_to_box(
+    alloc: Global,
+    text: &str,
+) -> Result<ParseResult<Option<Box<char>>, Rich<char>>, Stop> {
+    let boxed: Select<_, &str, Option<Box<char>>, Errors> = select! {
+        c = extra if c != 'a' => Box::new(extra.alloc(), c).ok(),
+    };
+    boxed.parse(alloc, text)
+}
+
+type ByteErrors = extra::Err<Simple<u8>>;
+
+/// What `parse` gives of a 1 or a 2 among bytes.
+pub fn parse_byte(alloc: Global, bytes: &[u8]) -> Result<ParseResult<char, Simple<u8>>, Stop> {
+    let digit: Select<_, &[u8], char, ByteErrors> = select! { 1 => '1', 2 => '2' };
+    digit.parse(alloc, bytes)
+}
+
+/// What `check` gives of it.
+pub fn check_byte(alloc: Global, bytes: &[u8]) -> Result<ParseResult<(), Simple<u8>>, Stop> {
+    let digit: Select<_, &[u8], char, ByteErrors> = select! { 1 => '1', 2 => '2' };
+    digit.check(alloc, bytes)
+}
+
 /// A number that goes back where the parser does, and takes no notice of tokens.
 #[derive(Clone, Copy, PartialEq, Eq, Default)]
 pub struct Tally {
@@ -131,19 +217,31 @@ pub enum Word {
 pub fn parse_number<'src>(
     alloc: Global,
     words: &'src [Word],
-) -> Result<ParseResult<&'src u32, EmptyErr>, Stop> {
-    let number: SelectRef<_, &'src [Word], &'src u32, extra::Default> = select_ref! {
+) -> Result<ParseResult<&'src u32, Cheap>, Stop> {
+    let number: SelectRef<_, &'src [Word], &'src u32, extra::Err<Cheap>> = select_ref! {
         Word::Number(number) => number,
     };
     number.parse(alloc, words)
 }
 
 /// Whether `check` finds one.
-pub fn check_number(alloc: Global, words: &[Word]) -> Result<ParseResult<(), EmptyErr>, Stop> {
-    let number: SelectRef<_, &[Word], &u32, extra::Default> = select_ref! {
+pub fn check_number(alloc: Global, words: &[Word]) -> Result<ParseResult<(), Cheap>, Stop> {
+    let number: SelectRef<_, &[Word], &u32, extra::Err<Cheap>> = select_ref! {
         Word::Number(number) => number,
     };
     number.check(alloc, words)
+}
+
+/// What `parse` gives of a comma, by an arm without a value.
+pub fn parse_comma(alloc: Global, words: &[Word]) -> Result<ParseResult<(), Cheap>, Stop> {
+    let comma: SelectRef<_, &[Word], (), extra::Err<Cheap>> = select_ref! { Word::Comma };
+    comma.parse(alloc, words)
+}
+
+/// What `check` gives of it.
+pub fn check_comma(alloc: Global, words: &[Word]) -> Result<ParseResult<(), Cheap>, Stop> {
+    let comma: SelectRef<_, &[Word], (), extra::Err<Cheap>> = select_ref! { Word::Comma };
+    comma.check(alloc, words)
 }
 
 #[cfg(test)]
@@ -164,6 +262,14 @@ mod tests {
         }
     }
 
+    /// Whether the one error of a run stands at the first token.
+    fn stands_at_the_first(errors: &[Cheap]) -> bool {
+        match errors {
+            [error] => *error.span() == SimpleSpan { start: 0, end: 1 },
+            _ => false,
+        }
+    }
+
     #[test]
     fn the_arm_that_fits_gives_the_output(rt: HostRuntime) {
         let (output, errors) = parse_a_or_b(rt.alloc(), "b")
@@ -172,11 +278,13 @@ mod tests {
             .into_output_errors();
         assert!(rt; output == Some(2));
         assert!(rt; errors.is_empty());
-        let checked = check_a_or_b(rt.alloc(), "a")
-            .ok()
-            .expect(&rt, "the run was refused");
-        assert!(rt; checked.output().is_some());
-        assert!(rt; checked.errors().len() == 0);
+        for text in ["a", "b"] {
+            let checked = check_a_or_b(rt.alloc(), text)
+                .ok()
+                .expect(&rt, "the run was refused");
+            assert!(rt; checked.output().is_some());
+            assert!(rt; checked.errors().len() == 0);
+        }
     }
 
     #[test]
@@ -234,6 +342,95 @@ mod tests {
     }
 
     #[test]
+    fn the_extra_shows_the_text_of_the_token(rt: HostRuntime) {
+        let (output, errors) = parse_length_past_x(rt.alloc(), "xé")
+            .ok()
+            .expect(&rt, "the run was refused")
+            .into_output_errors();
+        assert!(rt; output == Some(('x', 2)));
+        assert!(rt; errors.is_empty());
+        let checked = check_length_past_x(rt.alloc(), "xé")
+            .ok()
+            .expect(&rt, "the run was refused");
+        assert!(rt; checked.output() == Some(&()));
+        assert!(rt; checked.errors().len() == 0);
+        let (output, errors) = parse_length_past_x(rt.alloc(), "x")
+            .ok()
+            .expect(&rt, "the run was refused")
+            .into_output_errors();
+        assert!(rt; output.is_none());
+        assert!(rt; says(&errors, None, 1, 1));
+        let (output, errors) = check_length_past_x(rt.alloc(), "x")
+            .ok()
+            .expect(&rt, "the run was refused")
+            .into_output_errors();
+        assert!(rt; output.is_none());
+        assert!(rt; says(&errors, None, 1, 1));
+    }
+
+    #[test]
+    fn the_extra_shows_the_context(rt: HostRuntime) {
+        let (output, errors) = parse_key(rt.alloc(), "k")
+            .ok()
+            .expect(&rt, "the run was refused")
+            .into_output_errors();
+        assert!(rt; output == Some('k'));
+        assert!(rt; errors.is_empty());
+        let checked = check_key(rt.alloc(), "k")
+            .ok()
+            .expect(&rt, "the run was refused");
+        assert!(rt; checked.output() == Some(&()));
+        assert!(rt; checked.errors().len() == 0);
+        let (output, errors) = parse_key(rt.alloc(), "l")
+            .ok()
+            .expect(&rt, "the run was refused")
+            .into_output_errors();
+        assert!(rt; output.is_none());
+        assert!(rt; says(&errors, Some('l'), 0, 1));
+        let (output, errors) = check_key(rt.alloc(), "l")
+            .ok()
+            .expect(&rt, "the run was refused")
+            .into_output_errors();
+        assert!(rt; output.is_none());
+        assert!(rt; says(&errors, Some('l'), 0, 1));
+    }
+
+    #[test]
+    fn an_arm_may_ask_for_memory(rt: HostRuntime) {
+        let (output, errors) = parse_to_box(rt.alloc(), "é")
+            .ok()
+            .expect(&rt, "the run was refused")
+            .into_output_errors();
+        let boxed = output
+            .expect(&rt, "there was no output")
+            .expect(&rt, "no memory for a character");
+        assert!(rt; *boxed == 'é');
+        assert!(rt; errors.is_empty());
+    }
+
+    #[test]
+    fn bytes_have_arms(rt: HostRuntime) {
+        let (output, errors) = parse_byte(rt.alloc(), &[2])
+            .ok()
+            .expect(&rt, "the run was refused")
+            .into_output_errors();
+        assert!(rt; output == Some('2'));
+        assert!(rt; errors.is_empty());
+        let (output, errors) = check_byte(rt.alloc(), &[3])
+            .ok()
+            .expect(&rt, "the run was refused")
+            .into_output_errors();
+        assert!(rt; output.is_none());
+        match errors.as_slice() {
+            [error] => {
+                assert!(rt; error.found() == Some(&3));
+                assert!(rt; *error.span() == SimpleSpan { start: 0, end: 1 });
+            }
+            _ => assert!(rt; false),
+        }
+    }
+
+    #[test]
     fn what_is_written_stands_or_is_gone_back_from(rt: HostRuntime) {
         let mut state = Tally { count: 1 };
         let taken = parse_tally(rt.alloc(), "a", &mut state)
@@ -264,18 +461,42 @@ mod tests {
             .expect(&rt, "the run was refused");
         assert!(rt; parsed.output() == Some(&&5));
         let commas = [Word::Comma];
-        let parsed = parse_number(rt.alloc(), &commas)
+        let (output, errors) = parse_number(rt.alloc(), &commas)
             .ok()
-            .expect(&rt, "the run was refused");
-        assert!(rt; parsed.output().is_none());
-        assert!(rt; parsed.errors().len() == 1);
-        let checked = check_number(rt.alloc(), &commas)
+            .expect(&rt, "the run was refused")
+            .into_output_errors();
+        assert!(rt; output.is_none());
+        assert!(rt; stands_at_the_first(&errors));
+        let (output, errors) = check_number(rt.alloc(), &commas)
             .ok()
-            .expect(&rt, "the run was refused");
-        assert!(rt; checked.errors().len() == 1);
+            .expect(&rt, "the run was refused")
+            .into_output_errors();
+        assert!(rt; output.is_none());
+        assert!(rt; stands_at_the_first(&errors));
         let checked = check_number(rt.alloc(), &words)
             .ok()
             .expect(&rt, "the run was refused");
+        assert!(rt; checked.output() == Some(&()));
+        assert!(rt; checked.errors().len() == 0);
+    }
+
+    #[test]
+    fn an_arm_without_a_value_gives_nothing(rt: HostRuntime) {
+        let parsed = parse_comma(rt.alloc(), &[Word::Comma])
+            .ok()
+            .expect(&rt, "the run was refused");
+        assert!(rt; parsed.output() == Some(&()));
+        assert!(rt; parsed.errors().len() == 0);
+        let (output, errors) = parse_comma(rt.alloc(), &[Word::Number(1)])
+            .ok()
+            .expect(&rt, "the run was refused")
+            .into_output_errors();
+        assert!(rt; output.is_none());
+        assert!(rt; stands_at_the_first(&errors));
+        let checked = check_comma(rt.alloc(), &[Word::Comma])
+            .ok()
+            .expect(&rt, "the run was refused");
+        assert!(rt; checked.output() == Some(&()));
         assert!(rt; checked.errors().len() == 0);
     }
 }

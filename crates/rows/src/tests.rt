@@ -62,6 +62,11 @@ fn an_empty_sequence_takes_nothing(rt: HostRuntime) {
         .expect(&rt, "the run was refused");
     assert!(rt; parsed.output() == Some(&""));
     assert!(rt; parsed.errors().len() == 0);
+    let checked = check_nothing(rt.alloc(), "")
+        .ok()
+        .expect(&rt, "the run was refused");
+    assert!(rt; checked.output() == Some(&()));
+    assert!(rt; checked.errors().len() == 0);
     let expected = [RichPattern::EndOfInput];
     let (output, errors) = parse_nothing(rt.alloc(), "x")
         .ok()
@@ -126,4 +131,9 @@ fn a_generic_caller_runs_its_parser(rt: HostRuntime) {
         .ok()
         .expect(&rt, "the run was refused");
     assert!(rt; checked.errors().len() == 1);
+}
+
+#[test]
+fn a_range_is_a_span(rt: HostRuntime) {
+    assert!(rt; SimpleSpan::from(1..3) == SimpleSpan { start: 1, end: 3 });
 }

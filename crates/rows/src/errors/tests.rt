@@ -1,6 +1,6 @@
 use crate::errors::{
-    check_any_with_context, parse_a_or_b_cheap, parse_a_or_b_simple, parse_any_with_state,
-    parse_array,
+    check_a_or_b_cheap, check_a_or_b_simple, check_any_with_context, parse_a_or_b_cheap,
+    parse_a_or_b_simple, parse_any_with_state, parse_array,
 };
 use chumsky::prelude::*;
 
@@ -9,6 +9,18 @@ const FIRST: SimpleSpan = SimpleSpan { start: 0, end: 1 };
 #[test]
 fn a_simple_error_shows_where_and_what(rt: HostRuntime) {
     let (output, errors) = parse_a_or_b_simple(rt.alloc(), "c")
+        .ok()
+        .expect(&rt, "the run was refused")
+        .into_output_errors();
+    assert!(rt; output.is_none());
+    match errors.as_slice() {
+        [error] => {
+            assert!(rt; error.found() == Some(&'c'));
+            assert!(rt; *error.span() == FIRST);
+        }
+        _ => assert!(rt; false),
+    }
+    let (output, errors) = check_a_or_b_simple(rt.alloc(), "c")
         .ok()
         .expect(&rt, "the run was refused")
         .into_output_errors();
@@ -31,6 +43,15 @@ fn a_simple_error_shows_where_and_what(rt: HostRuntime) {
 #[test]
 fn a_cheap_error_shows_where(rt: HostRuntime) {
     let (output, errors) = parse_a_or_b_cheap(rt.alloc(), "c")
+        .ok()
+        .expect(&rt, "the run was refused")
+        .into_output_errors();
+    assert!(rt; output.is_none());
+    match errors.as_slice() {
+        [error] => assert!(rt; *error.span() == FIRST),
+        _ => assert!(rt; false),
+    }
+    let (output, errors) = check_a_or_b_cheap(rt.alloc(), "c")
         .ok()
         .expect(&rt, "the run was refused")
         .into_output_errors();

@@ -1,9 +1,14 @@
 use super::{
-    check_a_to_c, check_no_member, parse_a_to_c, parse_member, parse_one_and_two, parse_one_or_two,
+    check_a_to_c, check_letter, check_member, check_no_letter, check_no_member,
+    check_no_one_or_two, check_one_and_two, check_one_or_two, parse_a_to_c, parse_letter,
+    parse_member, parse_no_letter, parse_no_member, parse_no_one_or_two, parse_one_and_two,
+    parse_one_or_two,
 };
 use crate::tests::says;
 use chumsky::error::RichPattern;
 use chumsky::prelude::*;
+use std::alloc::Global;
+use std::process::Abort;
 
 /// Whether the one error of a run over bytes says just this.
 fn says_of_bytes(
@@ -50,51 +55,113 @@ fn a_range_expects_each_of_its_characters(rt: HostRuntime) {
     assert!(rt; errors.is_empty());
 }
 
+/// The bytes 7 and 5.
+fn seven_and_five(alloc: Global, rt: &impl Abort) -> Vec<u8> {
+    let mut members = Vec::new(alloc);
+    members.push(7).ok().expect(rt, "no memory");
+    members.push(5).ok().expect(rt, "no memory");
+    members
+}
+
+/// A quote and an `é`.
+fn quote_and_accent(alloc: Global, rt: &impl Abort) -> String {
+    String::from_str(alloc, "\"é").ok().expect(rt, "no memory")
+}
+
 #[test]
-fn an_array_and_a_vec_have_members(rt: HostRuntime) {
+fn an_array_has_members(rt: HostRuntime) {
     let (output, errors) = parse_one_or_two(rt.alloc(), &[2])
         .ok()
         .expect(&rt, "the run was refused")
         .into_output_errors();
     assert!(rt; output == Some(2));
     assert!(rt; errors.is_empty());
-    let mut members: Vec<u8> = Vec::new(rt.alloc());
-    members.push(7).ok().expect(&rt, "no memory");
-    members.push(5).ok().expect(&rt, "no memory");
+    let expected = [RichPattern::Token(1), RichPattern::Token(2)];
+    let (output, errors) = check_one_or_two(rt.alloc(), &[3])
+        .ok()
+        .expect(&rt, "the run was refused")
+        .into_output_errors();
+    assert!(rt; output.is_none());
+    assert!(rt; says_of_bytes(errors.as_slice(), &expected, Some(3), 0, 1));
+    let checked = check_no_one_or_two(rt.alloc(), &[3])
+        .ok()
+        .expect(&rt, "the run was refused");
+    assert!(rt; checked.output() == Some(&()));
+    assert!(rt; checked.errors().len() == 0);
+    let expected = [RichPattern::SomethingElse];
+    let (output, errors) = parse_no_one_or_two(rt.alloc(), &[1])
+        .ok()
+        .expect(&rt, "the run was refused")
+        .into_output_errors();
+    assert!(rt; output.is_none());
+    assert!(rt; says_of_bytes(errors.as_slice(), &expected, Some(1), 0, 1));
+}
+
+#[test]
+fn a_vec_has_members(rt: HostRuntime) {
+    let expected = [RichPattern::Token(7), RichPattern::Token(5)];
+    let members = seven_and_five(rt.alloc(), &rt);
     let (output, errors) = parse_member(rt.alloc(), members, &[6])
         .ok()
         .expect(&rt, "the run was refused")
         .into_output_errors();
     assert!(rt; output.is_none());
-    assert!(rt;
-        says_of_bytes(
-            errors.as_slice(),
-            &[RichPattern::Token(7), RichPattern::Token(5)],
-            Some(6),
-            0,
-            1
-        )
-    );
-}
-
-#[test]
-fn a_string_has_members(rt: HostRuntime) {
-    let mut quotes = String::new(rt.alloc());
-    quotes.push_str("\"é").ok().expect(&rt, "no memory");
-    let (output, errors) = check_no_member(rt.alloc(), quotes, "é")
+    assert!(rt; says_of_bytes(errors.as_slice(), &expected, Some(6), 0, 1));
+    let members = seven_and_five(rt.alloc(), &rt);
+    let checked = check_member(rt.alloc(), members, &[5])
+        .ok()
+        .expect(&rt, "the run was refused");
+    assert!(rt; checked.output() == Some(&()));
+    assert!(rt; checked.errors().len() == 0);
+    let members = seven_and_five(rt.alloc(), &rt);
+    let (output, errors) = parse_no_member(rt.alloc(), members, &[6])
+        .ok()
+        .expect(&rt, "the run was refused")
+        .into_output_errors();
+    assert!(rt; output == Some(6));
+    assert!(rt; errors.is_empty());
+    let expected = [RichPattern::SomethingElse];
+    let members = seven_and_five(rt.alloc(), &rt);
+    let (output, errors) = check_no_member(rt.alloc(), members, &[5])
         .ok()
         .expect(&rt, "the run was refused")
         .into_output_errors();
     assert!(rt; output.is_none());
-    assert!(rt;
-        says(
-            errors.as_slice(),
-            &[RichPattern::SomethingElse],
-            Some('é'),
-            0,
-            2
-        )
-    );
+    assert!(rt; says_of_bytes(errors.as_slice(), &expected, Some(5), 0, 1));
+}
+
+#[test]
+fn a_string_has_members(rt: HostRuntime) {
+    let letters = quote_and_accent(rt.alloc(), &rt);
+    let (output, errors) = parse_letter(rt.alloc(), letters, "é")
+        .ok()
+        .expect(&rt, "the run was refused")
+        .into_output_errors();
+    assert!(rt; output == Some('é'));
+    assert!(rt; errors.is_empty());
+    let expected = [RichPattern::Token('"'), RichPattern::Token('é')];
+    let letters = quote_and_accent(rt.alloc(), &rt);
+    let (output, errors) = check_letter(rt.alloc(), letters, "e")
+        .ok()
+        .expect(&rt, "the run was refused")
+        .into_output_errors();
+    assert!(rt; output.is_none());
+    assert!(rt; says(errors.as_slice(), &expected, Some('e'), 0, 1));
+    let letters = quote_and_accent(rt.alloc(), &rt);
+    let (output, errors) = parse_no_letter(rt.alloc(), letters, "e")
+        .ok()
+        .expect(&rt, "the run was refused")
+        .into_output_errors();
+    assert!(rt; output == Some('e'));
+    assert!(rt; errors.is_empty());
+    let expected = [RichPattern::SomethingElse];
+    let letters = quote_and_accent(rt.alloc(), &rt);
+    let (output, errors) = check_no_letter(rt.alloc(), letters, "é")
+        .ok()
+        .expect(&rt, "the run was refused")
+        .into_output_errors();
+    assert!(rt; output.is_none());
+    assert!(rt; says(errors.as_slice(), &expected, Some('é'), 0, 2));
 }
 
 #[test]
@@ -119,6 +186,20 @@ fn the_error_stands_at_the_member_that_is_not_there(rt: HostRuntime) {
                 end
             )
         );
+        let (output, errors) = check_one_and_two(rt.alloc(), bytes)
+            .ok()
+            .expect(&rt, "the run was refused")
+            .into_output_errors();
+        assert!(rt; output.is_none());
+        assert!(rt;
+            says_of_bytes(
+                errors.as_slice(),
+                &[RichPattern::Token(expected)],
+                found,
+                start,
+                end
+            )
+        );
     }
     let (output, errors) = parse_one_and_two(rt.alloc(), &[1, 2])
         .ok()
@@ -126,4 +207,9 @@ fn the_error_stands_at_the_member_that_is_not_there(rt: HostRuntime) {
         .into_output_errors();
     assert!(rt; output == Some([1, 2]));
     assert!(rt; errors.is_empty());
+    let checked = check_one_and_two(rt.alloc(), &[1, 2])
+        .ok()
+        .expect(&rt, "the run was refused");
+    assert!(rt; checked.output() == Some(&()));
+    assert!(rt; checked.errors().len() == 0);
 }

@@ -1,6 +1,8 @@
 use crate::results::output_alone;
 use chumsky::prelude::*;
 use std::alloc::Global;
+use std::cmp::Ordering;
+use std::hash::{DefaultHasher, Hash, Hasher};
 use std::process::Abort;
 
 /// A result with these errors.
@@ -70,6 +72,34 @@ fn an_output_alone_is_unwrapped(rt: HostRuntime) {
     assert!(rt; output_alone(with_errors(rt.alloc(), &rt, Some('a'), &[])) == Some('a'));
     assert!(rt; output_alone(with_errors(rt.alloc(), &rt, Some('a'), &[1])).is_none());
     assert!(rt; output_alone(with_errors(rt.alloc(), &rt, None, &[1])).is_none());
+}
+
+/// What a hasher answers that is fed a result.
+fn hash_of(parsed: &ParseResult<char, u8>) -> u64 {
+    let mut hasher = DefaultHasher::new();
+    parsed.hash(&mut hasher);
+    hasher.finish()
+}
+
+#[test]
+fn equal_results_have_one_hash(rt: HostRuntime) {
+    let one = with_errors(rt.alloc(), &rt, Some('a'), &[2]);
+    let copy = one.clone().ok().expect(&rt, "no memory for a clone");
+    assert!(rt; hash_of(&one) == hash_of(&copy));
+    let other = with_errors(rt.alloc(), &rt, Some('b'), &[2]);
+    let longer = with_errors(rt.alloc(), &rt, Some('a'), &[2, 0]);
+    assert!(rt; hash_of(&one) != hash_of(&other));
+    assert!(rt; hash_of(&one) != hash_of(&longer));
+}
+
+#[test]
+fn results_are_in_order(rt: HostRuntime) {
+    let one = with_errors(rt.alloc(), &rt, Some('a'), &[2]);
+    let copy = one.clone().ok().expect(&rt, "no memory for a clone");
+    let other = with_errors(rt.alloc(), &rt, Some('b'), &[1]);
+    assert!(rt; one.cmp(&copy) == Ordering::Equal);
+    assert!(rt; one.cmp(&other) == Ordering::Less);
+    assert!(rt; other.cmp(&one) == Ordering::Greater);
 }
 
 #[test]

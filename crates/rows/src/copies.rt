@@ -1,0 +1,97 @@
+//! Parsers that are copied: a copy is a parser of its own, and runs as the first does.
+use crate::Errors;
+use chumsky::Stop;
+use chumsky::extra::ParserExtra;
+use chumsky::prelude::*;
+use chumsky::primitive::Select;
+use std::alloc::Global;
+
+/// What two runs gave.
+type Twice<O> = (ParseResult<O, Rich<char>>, ParseResult<O, Rich<char>>);
+
+/// What `parse` gives of a copy of a parser, and of the parser itself.
+fn parse_copy_and_first<
+    'src,
+    I: Input<'src> + Drop,
+    O: Drop,
+    E: ParserExtra<I>,
+    P: IsParser<I, O, E> + Parser<'src, I, O, E> + Copy,
+>(
+    parser: P,
+    alloc: Global,
+    one: I,
+    two: I,
+) -> Result<(ParseResult<O, E::Error>, ParseResult<O, E::Error>), Stop>
+where
+    I::Token: 'src,
+    E::State: Default + Drop,
+    E::Context: Default + Drop,
+    requires { P.ready parser }
+{
+    let copy = parser;
+    let copied = copy.parse(alloc, one)?;
+    let first = parser.parse(alloc, two)?;
+    Ok((copied, first))
+}
+
+/// What they give of `just('a').then(any())`, mapped.
+pub fn parse_mapped_twice(alloc: Global, text: &str) -> Result<Twice<char>, Stop> {
+    let second = just::<_, _, Errors>('a').then(any()).map(|(_, c)| c);
+    parse_copy_and_first(second, alloc, text, text)
+}
+
+/// What they give of `choice((one_of(['b', 'c']).or(just('d')), select! { 'e' => 'e' }))`.
+pub fn parse_choice_twice(alloc: Global, text: &str) -> Result<Twice<char>, Stop> {
+    let last: Select<_, &str, char, Errors> = select! { 'e' => 'e' };
+    let letter = choice((one_of(['b', 'c']).or(just('d')), last));
+    parse_copy_and_first(letter, alloc, text, text)
+}
+
+#[cfg(test)]
+mod tests {
+    use super::*;
+    use crate::tests::says;
+    use chumsky::error::RichPattern;
+
+    #[test]
+    fn a_mapped_parser_is_copied(rt: HostRuntime) {
+        let (copied, first) = parse_mapped_twice(rt.alloc(), "aé")
+            .ok()
+            .expect(&rt, "the run was refused");
+        assert!(rt; copied.output() == Some(&'é'));
+        assert!(rt; copied.errors().len() == 0);
+        assert!(rt; copied == first);
+        let (copied, first) = parse_mapped_twice(rt.alloc(), "b")
+            .ok()
+            .expect(&rt, "the run was refused");
+        assert!(rt; copied == first);
+        let (output, errors) = copied.into_output_errors();
+        assert!(rt; output.is_none());
+        assert!(rt; says(&errors, &[RichPattern::Token('a')], Some('b'), 0, 1));
+    }
+
+    #[test]
+    fn a_choice_is_copied(rt: HostRuntime) {
+        for (text, letter) in [("c", 'c'), ("d", 'd'), ("e", 'e')] {
+            let (copied, first) = parse_choice_twice(rt.alloc(), text)
+                .ok()
+                .expect(&rt, "the run was refused");
+            assert!(rt; copied.output() == Some(&letter));
+            assert!(rt; copied.errors().len() == 0);
+            assert!(rt; copied == first);
+        }
+        let expected = [
+            RichPattern::Token('b'),
+            RichPattern::Token('c'),
+            RichPattern::Token('d'),
+            RichPattern::SomethingElse,
+        ];
+        let (copied, first) = parse_choice_twice(rt.alloc(), "f")
+            .ok()
+            .expect(&rt, "the run was refused");
+        assert!(rt; copied == first);
+        let (output, errors) = copied.into_output_errors();
+        assert!(rt; output.is_none());
+        assert!(rt; says(&errors, &expected, Some('f'), 0, 1));
+    }
+}
