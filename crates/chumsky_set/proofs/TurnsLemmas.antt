@@ -32,9 +32,9 @@ abbrev after_first : {Y : Type 0} → Option Y → Result (Option (List Y)) Faul
 after_first y (Ok ys) = Ok (with_first y ys)
 after_first y (Err f) = Err f
 
--- no part gives no value, or none are wanted
+-- no part gives no value, or none is wanted
 abbrev Nothing : {Y : Type 0} → Option (List Y) → Option (List Y) → Type 0
-Nothing none values = (none ≡ Some []) ⊎ ((none ≡ None) × (values ≡ None))
+Nothing empty values = (empty ≡ Some []) ⊎ ((empty ≡ None) × (values ≡ None))
 
 module _ {Y : Type 0} where
   more_joined : (ys : Option (List Y)) (y : Option Y) (zs : Option (List Y)) → joined ys (with_first y zs) ≡ joined (one_more ys y) zs
@@ -47,16 +47,16 @@ module _ {Y : Type 0} where
   more_onto ys y (Ok zs) = ap Ok (more_joined ys y zs)
   more_onto ys y (Err f) = refl
 
-  more_nothing : (none ys : Option (List Y)) (y : Option Y) → Nothing none ys → Nothing none (one_more ys y)
-  more_nothing none ys y (inl e) = inl e
-  more_nothing none (Some ys) y (inr e) = let no : ⊥ = cc e.1 in absurd no
-  more_nothing none None y (inr e) = inr (e.0, refl)
+  more_nothing : (empty ys : Option (List Y)) (y : Option Y) → Nothing empty ys → Nothing empty (one_more ys y)
+  more_nothing empty ys y (inl e) = inl e
+  more_nothing empty (Some ys) y (inr e) = let no : ⊥ = cc e.1 in absurd no
+  more_nothing empty None y (inr e) = inr (e.0, refl)
 
-  end_joined : (none ys : Option (List Y)) → Nothing none ys → joined ys none ≡ ys
-  end_joined none (Some ys) (inl e) = rw e (ap Some (append-nil ys))
-  end_joined none None (inl e) = refl
-  end_joined none (Some ys) (inr e) = let no : ⊥ = cc e.1 in absurd no
-  end_joined none None (inr e) = refl
+  end_joined : (empty ys : Option (List Y)) → Nothing empty ys → joined ys empty ≡ ys
+  end_joined empty (Some ys) (inl e) = rw e (ap Some (append-nil ys))
+  end_joined empty None (inl e) = refl
+  end_joined empty (Some ys) (inr e) = let no : ⊥ = cc e.1 in absurd no
+  end_joined empty None (inr e) = refl
 
   begin_onto : (r : Result (Option (List Y)) Fault) → onto (Some []) r ≡ r
   begin_onto (Ok (Some ys)) = refl
@@ -85,7 +85,7 @@ module _ {X Tok Cx St Er V Y : Type 0} (turn : X → Slot V → Meaning Tok Cx S
   follows_part part (Halt s) b p o w h f e = let no : ⊥ = cc (f, e) in absurd no
   follows_part part (Clash x) b p o w h f e = let no : ⊥ = cc (f, e) in absurd no
 
-  -- where none are wanted, none are given
+  -- where no value is wanted, none is given
   none_given : (parts : List X) (slots : List (Slot V)) (b : Beginning Tok Cx St) (o : Outcome (List Y) Er St) (w : Option (List Y)) → Turns turn parts slots None b o → o.verdict ≡ Yes w → w ≡ None
   none_given [] slots b o w m e = cc (m, e)
   none_given (x ∷ xs) [] b o w m e = absurd m
@@ -103,41 +103,41 @@ module _ {X Tok Cx St Er V Y : Type 0} (turn : X → Slot V → Meaning Tok Cx S
 
 module _ {X Tok Cx St Er V Y : Type 0} (merged : Er → Er → Er) (safe : Type 0) (turn : X → Slot V → Meaning Tok Cx St Er Y) (wanted : Bool) where
   -- what a run of these turns from here gives comes after these values, in a run of the whole
-  pub record GoOn (all : List X) (first : List (Slot V)) (none : Option (List Y)) (old : Held Tok Cx St Er) (parts : List X) (slots : List (Slot V)) (values : Option (List Y)) (mid : Held Tok Cx St Er) : Type 0 where
-    pub nothing : Nothing none values
-    pub on : (new : Held Tok Cx St Er) (r : Result (Option (List Y)) Fault) → Ran merged safe (Turns turn parts slots none) wanted mid new r → Ran merged safe (Turns turn all first none) wanted old new (onto values r)
+  pub record GoOn (all : List X) (first : List (Slot V)) (empty : Option (List Y)) (old : Held Tok Cx St Er) (parts : List X) (slots : List (Slot V)) (values : Option (List Y)) (mid : Held Tok Cx St Er) : Type 0 where
+    pub nothing : Nothing empty values
+    pub on : (new : Held Tok Cx St Er) (r : Result (Option (List Y)) Fault) → Ran merged safe (Turns turn parts slots empty) wanted mid new r → Ran merged safe (Turns turn all first empty) wanted old new (onto values r)
 
-module _ {X Tok Cx St Er V Y : Type 0} (merged : Er → Er → Er) (safe : Type 0) (turn : X → Slot V → Meaning Tok Cx St Er Y) (wanted : Bool) (parts : List X) (slots : List (Slot V)) (none : Option (List Y)) (y : Option Y) where
-  put_first : (old new : Held Tok Cx St Er) (r : Result (Option (List Y)) Fault) → Ran merged safe (Turns turn parts slots none) wanted old new r
-      → Ran merged safe (Chained (Turns turn parts slots none) (λ ys. Given (with_first y ys))) wanted old new (after_first y r)
+module _ {X Tok Cx St Er V Y : Type 0} (merged : Er → Er → Er) (safe : Type 0) (turn : X → Slot V → Meaning Tok Cx St Er Y) (wanted : Bool) (parts : List X) (slots : List (Slot V)) (empty : Option (List Y)) (y : Option Y) where
+  put_first : (old new : Held Tok Cx St Er) (r : Result (Option (List Y)) Fault) → Ran merged safe (Turns turn parts slots empty) wanted old new r
+      → Ran merged safe (Chained (Turns turn parts slots empty) (λ ys. Given (with_first y ys))) wanted old new (after_first y r)
   put_first old new (Ok ys) h = chained h refl ran-given
   put_first old new (Err f) h = failed h refl refl
 
-module _ {X Tok Cx St Er V Y : Type 0} {merged : Er → Er → Er} {safe : Type 0} {turn : X → Slot V → Meaning Tok Cx St Er Y} {wanted : Bool} {all : List X} {first : List (Slot V)} {none : Option (List Y)} {old : Held Tok Cx St Er}
+module _ {X Tok Cx St Er V Y : Type 0} {merged : Er → Er → Er} {safe : Type 0} {turn : X → Slot V → Meaning Tok Cx St Er Y} {wanted : Bool} {all : List X} {first : List (Slot V)} {empty : Option (List Y)} {old : Held Tok Cx St Er}
     {others : List X} {rest : List (Slot V)} {values : Option (List Y)} {mid next : Held Tok Cx St Er} {part : X} {slot : Slot V} {x : Result (Option Y) Fault} where
-  one_on : {y : Option Y} → GoOn merged safe turn wanted all first none old (part ∷ others) (slot ∷ rest) values mid → Ran merged safe (turn part slot) wanted mid next x → x ≡ Ok y
-      → GoOn merged safe turn wanted all first none old others rest (one_more values y) next
+  one_on : {y : Option Y} → GoOn merged safe turn wanted all first empty old (part ∷ others) (slot ∷ rest) values mid → Ran merged safe (turn part slot) wanted mid next x → x ≡ Ok y
+      → GoOn merged safe turn wanted all first empty old others rest (one_more values y) next
   one_on {y} k h e =
       record {
-        nothing = more_nothing none values y k.nothing;
-        on = λ new r m. subst (λ z. Ran merged safe (Turns turn all first none) wanted old new z) (more_onto values y r) (k.on new (after_first y r) (chained h e (put_first merged safe turn wanted others rest none y next new r m)));
+        nothing = more_nothing empty values y k.nothing;
+        on = λ new r m. subst (λ z. Ran merged safe (Turns turn all first empty) wanted old new z) (more_onto values y r) (k.on new (after_first y r) (chained h e (put_first merged safe turn wanted others rest empty y next new r m)));
       }
 
-module _ {X Tok Cx St Er V Y : Type 0} {merged : Er → Er → Er} {safe : Type 0} {turn : X → Slot V → Meaning Tok Cx St Er Y} {wanted : Bool} {all : List X} {first : List (Slot V)} {none : Option (List Y)} {old : Held Tok Cx St Er}
+module _ {X Tok Cx St Er V Y : Type 0} {merged : Er → Er → Er} {safe : Type 0} {turn : X → Slot V → Meaning Tok Cx St Er Y} {wanted : Bool} {all : List X} {first : List (Slot V)} {empty : Option (List Y)} {old : Held Tok Cx St Er}
     {parts others : List X} {slots rest : List (Slot V)} {values : Option (List Y)} {mid next : Held Tok Cx St Er} {part : X} {slot : Slot V} {x : Result (Option Y) Fault} where
   -- one more turn, and one that was refused
-  pub turns_on : {y : Option Y} → GoOn merged safe turn wanted all first none old parts slots values mid → parts ≡ part ∷ others → slots ≡ slot ∷ rest → Ran merged safe (turn part slot) wanted mid next x → x ≡ Ok y
-      → GoOn merged safe turn wanted all first none old others rest (one_more values y) next
+  pub turns_on : {y : Option Y} → GoOn merged safe turn wanted all first empty old parts slots values mid → parts ≡ part ∷ others → slots ≡ slot ∷ rest → Ran merged safe (turn part slot) wanted mid next x → x ≡ Ok y
+      → GoOn merged safe turn wanted all first empty old others rest (one_more values y) next
   turns_on {y} k p s h e = one_on (rw (p, s) at k) h e
 
-  pub turns_failed : {f : Fault} {y : Result (Option (List Y)) Fault} → GoOn merged safe turn wanted all first none old parts slots values mid → parts ≡ part ∷ others → slots ≡ slot ∷ rest → Ran merged safe (turn part slot) wanted mid next x → x ≡ Err f → y ≡ Err f
-      → Ran merged safe (Turns turn all first none) wanted old next y
+  pub turns_failed : {f : Fault} {y : Result (Option (List Y)) Fault} → GoOn merged safe turn wanted all first empty old parts slots values mid → parts ≡ part ∷ others → slots ≡ slot ∷ rest → Ran merged safe (turn part slot) wanted mid next x → x ≡ Err f → y ≡ Err f
+      → Ran merged safe (Turns turn all first empty) wanted old next y
   turns_failed {f} {y} k p s h e d = rw d (k.on next (Err f) (rw (p, s) (failed h e refl)))
 
-module _ {X Tok Cx St Er V Y : Type 0} {merged : Er → Er → Er} {safe : Type 0} {turn : X → Slot V → Meaning Tok Cx St Er Y} {wanted : Bool} {all : List X} {first : List (Slot V)} {none : Option (List Y)} {old : Held Tok Cx St Er}
+module _ {X Tok Cx St Er V Y : Type 0} {merged : Er → Er → Er} {safe : Type 0} {turn : X → Slot V → Meaning Tok Cx St Er Y} {wanted : Bool} {all : List X} {first : List (Slot V)} {empty : Option (List Y)} {old : Held Tok Cx St Er}
     {parts : List X} {slots : List (Slot V)} {values : Option (List Y)} {mid : Held Tok Cx St Er} where
-  pub turns_end : GoOn merged safe turn wanted all first none old parts slots values mid → parts ≡ [] → Ran merged safe (Turns turn all first none) wanted old mid (Ok values)
-  turns_end k p = subst (λ z. Ran merged safe (Turns turn all first none) wanted old mid (Ok z)) (end_joined none values k.nothing) (k.on mid (Ok none) (rw p ran-given))
+  pub turns_end : GoOn merged safe turn wanted all first empty old parts slots values mid → parts ≡ [] → Ran merged safe (Turns turn all first empty) wanted old mid (Ok values)
+  turns_end k p = subst (λ z. Ran merged safe (Turns turn all first empty) wanted old mid (Ok z)) (end_joined empty values k.nothing) (k.on mid (Ok empty) (rw p ran-given))
 
 -- the i-th of a list, and those after it
 pub drop_at : {X : Type 0} (xs : List X) (i : ℕ) (x : X) → i < length xs → x ≡ get_or xs i x → drop i xs ≡ x ∷ drop (i + 1) xs
@@ -189,7 +189,7 @@ module _ {A V : Type 0} (h : A → Slot V) where
       (ap (λ zs. all_still zs + still (h (get_or ss i d))) (map_set h ss i t) ∙ ap (λ z. all_still (set (map h ss) i (h t)) + still z) (sym at) ∙ k)
 
 module _ {X Tok Cx St Er V Y : Type 0} {merged : Er → Er → Er} {safe : Type 0} {turn : X → Slot V → Meaning Tok Cx St Er Y} {wanted : Bool} {old : Held Tok Cx St Er} where
-  -- at the beginning, with no value yet, and where none are wanted
+  -- at the beginning, with no value yet, and where none is wanted
   pub turns_begin : (all parts : List X) (first slots : List (Slot V)) (values : Option (List Y)) → all ≡ parts → first ≡ slots → values ≡ Some [] → GoOn merged safe turn wanted all first (Some []) old parts slots values old
   turns_begin all parts first slots values p s v =
       record { nothing = inl refl; on = λ new r m. rw v (subst (λ z. Ran merged safe (Turns turn all first (Some [])) wanted old new z) (sym (begin_onto r)) (rw (p, s) m)) }

@@ -93,9 +93,9 @@ all_still (s ∷ ss) = still s + all_still ss
 module _ {X Tok Cx St Er V Y : Type 0} (turn : X → Slot V → Meaning Tok Cx St Er Y) where
   -- the turns of parts, each with its slot, each beginning where the former ended: what they give in order, and this of no part
   abbrev pub Turns : List X → List (Slot V) → Option (List Y) → Meaning Tok Cx St Er (List Y)
-  Turns [] slots none b o = Given none b o
-  Turns (part ∷ parts) [] none b o = ⊥
-  Turns (part ∷ parts) (slot ∷ slots) none b o = Chained (turn part slot) (λ y. Chained (Turns parts slots none) (λ ys. Given (with_first y ys))) b o
+  Turns [] slots empty b o = Given empty b o
+  Turns (part ∷ parts) [] empty b o = ⊥
+  Turns (part ∷ parts) (slot ∷ slots) empty b o = Chained (turn part slot) (λ y. Chained (Turns parts slots empty) (λ ys. Given (with_first y ys))) b o
 
 module _ {X Tok Cx St Mk Er V : Type 0} (mark : St → Mk) (back : St → Mk → St) (safe : Type 0) (meaning : X → Meaning Tok Cx St Er V) where
   -- a row of parts of one kind; the list of their values may want memory

@@ -20,12 +20,12 @@ module _ {X Y : Type 0} (same : X → Y → Y → Type 0) where
   with_first-same x xs None z v w e d = tt
 
 module _ {X Tok Cx St Er V Y : Type 0} (turn : X → Slot V → Meaning Tok Cx St Er Y) where
-  turns-ends : ((x : X) (s : Slot V) → EndsAfterStart (turn x s)) → (parts : List X) (slots : List (Slot V)) (none : Option (List Y)) → EndsAfterStart (Turns turn parts slots none)
-  turns-ends h [] slots none b o m a = given-ends none b o m a
-  turns-ends h (x ∷ xs) [] none b o m a = absurd m
-  turns-ends h (x ∷ xs) (s ∷ ss) none b o m a =
-      chained-ends (turn x s) (λ y. Chained (Turns turn xs ss none) (λ ys. Given (with_first y ys))) (h x s)
-      (λ y. chained-ends (Turns turn xs ss none) (λ ys. Given (with_first y ys)) (turns-ends h xs ss none) (λ ys. given-ends (with_first y ys)))
+  turns-ends : ((x : X) (s : Slot V) → EndsAfterStart (turn x s)) → (parts : List X) (slots : List (Slot V)) (empty : Option (List Y)) → EndsAfterStart (Turns turn parts slots empty)
+  turns-ends h [] slots empty b o m a = given-ends empty b o m a
+  turns-ends h (x ∷ xs) [] empty b o m a = absurd m
+  turns-ends h (x ∷ xs) (s ∷ ss) empty b o m a =
+      chained-ends (turn x s) (λ y. Chained (Turns turn xs ss empty) (λ ys. Given (with_first y ys))) (h x s)
+      (λ y. chained-ends (Turns turn xs ss empty) (λ ys. Given (with_first y ys)) (turns-ends h xs ss empty) (λ ys. given-ends (with_first y ys)))
       b o m a
 
   module _ (steady : X → Type 0) (sv : X → V → V → Type 0) (sy : X → Y → Y → Type 0) (h : (x : X) (s t : Slot V) → steady x → SameSlot (sv x) s t → Agreeing (sy x) (turn x s) (turn x t)) where
