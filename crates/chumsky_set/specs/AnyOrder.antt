@@ -1,5 +1,5 @@
 -- Parsers in any order: rounds over those that are not taken yet, and then what is left.
-use Rattle.std.specs.Prelude.{◌≡◌, ℕ, zero, suc, ◌<◌, ◌≤◌, ◌+◌, Option, Some, None, option_map, List, [], ◌∷◌, ◌⊎◌, true, length}
+use Rattle.std.specs.Prelude.{◌≡◌, ℕ, ◌<◌, ◌≤◌, ◌+◌, Option, Some, None, option_map, List, [], ◌∷◌, ◌⊎◌, true, length}
 use Rattle.chumsky_input.specs.Outcome.{Meaning, Beginning, Outcome, No}
 use Rattle.chumsky_parser.specs.Chained.{Chained, Given, Sequence, both}
 use Rattle.chumsky_parser.specs.Failure.{Refuses, wanting}
@@ -62,24 +62,31 @@ module _ {Tok Cx St Mk Er : Type 0} (mark : St → Mk) (back : St → Mk → St)
       }
 
 module _ {Tok Cx St Er T V : Type 0} (row : Row Tok Cx St Er T V) where
-  -- after a round that has taken a part the rounds go on; after one that took none, the last pass
-  abbrev pub AfterRound : (T → Meaning Tok Cx St Er V) → T → Option T → Meaning Tok Cx St Er V
-  AfterRound rounds t None b o = ⊥
-  AfterRound rounds t (Some u) b o = ((row.left u < row.left t) × rounds u b o) ⊎ ((row.left u ≡ row.left t) × row.last u b o)
+  -- after a round that took no part, the last pass
+  abbrev pub TookNone : T → Option T → Meaning Tok Cx St Er V
+  TookNone t None b o = ⊥
+  TookNone t (Some u) b o = (row.left u ≡ row.left t) × row.last u b o
 
-  -- rounds, at most so many, and the last pass
-  abbrev pub Rounds : ℕ → T → Meaning Tok Cx St Er V
-  Rounds zero t = λ b o. ⊥
-  Rounds (suc n) t = Chained (row.pass t) (AfterRound (Rounds n) t)
+  -- after a round that took a part, so that this is taken then, what follows
+  abbrev pub TookSome : T → T → Meaning Tok Cx St Er V → Option T → Meaning Tok Cx St Er V
+  TookSome t u next None b o = ⊥
+  TookSome t u next (Some v) b o = (v ≡ u) × (row.left v < row.left t) × next b o
 
-  -- some rounds and the last pass
+  -- rounds, and the last pass: each round takes a part, so that this is taken after it, and the one after them takes none
+  abbrev pub Rounds : List T → T → Meaning Tok Cx St Er V
+  Rounds [] t = Chained (row.pass t) (TookNone t)
+  Rounds (u ∷ us) t = Chained (row.pass t) (TookSome t u (Rounds us u))
+
+  -- some rounds, and the last pass
   pub record AnyOrder (t : T) (b : Beginning Tok Cx St) (o : Outcome V Er St) : Type 0 where
-    pub rounds : ℕ
+    pub rounds : List T
     pub run : Rounds rounds t b o
 
-  -- every outcome of a meaning is one of so many rounds at most, the last pass, and then what follows its values
+  -- every outcome of a meaning is one of so many rounds at most, the one that takes none among them, the last pass, and
+  -- then what follows its values
   abbrev pub WithinRounds : {W : Type 0} → ℕ → T → (Option V → Meaning Tok Cx St Er W) → Meaning Tok Cx St Er W → Type 0
-  WithinRounds {W} n none next meaning = (b : Beginning Tok Cx St) (o : Outcome W Er St) → meaning b o → Chained (Rounds n none) next b o
+  WithinRounds {W} n none next meaning = (b : Beginning Tok Cx St) (o : Outcome W Er St) → meaning b o
+      → (rounds : List T) × (length rounds < n) × Chained (Rounds rounds none) next b o
 
 -- a value before others, where all are there
 abbrev pub with_first : {Y : Type 0} → Option Y → Option (List Y) → Option (List Y)

@@ -1,12 +1,12 @@
 -- The laws of parsers in any order.
-use Rattle.std.proofs.Common.{◌≡◌, ℕ, zero, suc, ◌<◌, Option, Some, None, [], refl, ap, arith, inl, inr}
+use Rattle.std.proofs.Common.{◌≡◌, ℕ, zero, suc, ◌<◌, ◌≤◌, Option, Some, None, List, [], ◌∷◌, length, refl, ap, subst, arith, inl, inr}
 use Rattle.std.specs.Prelude.{⊤}
 use Rattle.chumsky_input.specs.Outcome.{Meaning, Beginning, Outcome, Verdict, Yes, No, Halt, Clash, SameValue, Agree, EndsAfterStart, Agreeing}
 use Rattle.chumsky_parser.specs.Chained.{Chained, Given, Follows, Sequence, SamePair, both, from}
 use Rattle.chumsky_parser.specs.Laws.{chained-ends, chained-agrees, given-ends, given-agrees, sequence-ends}
 use Rattle.chumsky_parser.specs.Choice.{SameEither}
 use Rattle.chumsky_parser.specs.ChoiceLaws.{or_else-ends, or_else-agrees, agree-weaker}
-use Rattle.chumsky_set.specs.AnyOrder.{Slot, still, Row, Past, Moving, Missing, Offered, no_part, part_and, AfterRound, Rounds, AnyOrder, WithinRounds}
+use Rattle.chumsky_set.specs.AnyOrder.{Slot, still, Row, Past, Moving, Missing, Offered, no_part, part_and, TookNone, TookSome, Rounds, AnyOrder, WithinRounds}
 
 -- both are not taken, or both are, with values that are the same where both are there
 abbrev pub SameSlot : {V : Type 0} → (V → V → Type 0) → Slot V → Slot V → Type 0
@@ -129,57 +129,94 @@ module _ {Tok Cx St Mk Er : Type 0} (mark : St → Mk) (back : St → Mk → St)
       }
 
 module _ {Tok Cx St Er T V : Type 0} (row : Row Tok Cx St Er T V) where
-  after_round-ends : RowEnds row → (rounds : T → Meaning Tok Cx St Er V) → ((t : T) → EndsAfterStart (rounds t)) → (t : T) (v : Option T) → EndsAfterStart (AfterRound row rounds t v)
-  after_round-ends h rounds k t (Some u) b o (inl m) a = k u b o m.1 a
-  after_round-ends h rounds k t (Some u) b o (inr m) a = h.last u b o m.1 a
-  after_round-ends h rounds k t None b o m a = absurd m
+  took_none-ends : RowEnds row → (t : T) (v : Option T) → EndsAfterStart (TookNone row t v)
+  took_none-ends h t (Some u) b o m a = h.last u b o m.1 a
+  took_none-ends h t None b o m a = absurd m
 
-  rounds-ends : RowEnds row → (n : ℕ) (t : T) → EndsAfterStart (Rounds row n t)
-  rounds-ends h zero t = λ b o m a. absurd m
-  rounds-ends h (suc n) t = chained-ends (row.pass t) (AfterRound row (Rounds row n) t) (h.pass t) (after_round-ends h (Rounds row n) (rounds-ends h n) t)
+  took_some-ends : (t u : T) (next : Meaning Tok Cx St Er V) → EndsAfterStart next → (v : Option T) → EndsAfterStart (TookSome row t u next v)
+  took_some-ends t u next h (Some v) b o m a = h b o m.2 a
+  took_some-ends t u next h None b o m a = absurd m
+
+  rounds-ends : RowEnds row → (us : List T) (t : T) → EndsAfterStart (Rounds row us t)
+  rounds-ends h [] t = chained-ends (row.pass t) (TookNone row t) (h.pass t) (took_none-ends h t)
+  rounds-ends h (u ∷ us) t = chained-ends (row.pass t) (TookSome row t u (Rounds row us u)) (h.pass t) (took_some-ends t u (Rounds row us u) (rounds-ends h us u))
 
   pub any_order-ends : (t : T) → RowEnds row → EndsAfterStart (AnyOrder row t)
   any_order-ends t h b o m a = rounds-ends h m.rounds t b o m.run a
 
   module _ (same_taken : T → T → Type 0) (same : V → V → Type 0) (h : RowAgrees row same_taken same) where
-    after_round-agrees : (rounds rounds' : T → Meaning Tok Cx St Er V) → ((t u : T) → same_taken t u → Agreeing same (rounds t) (rounds' u)) → (t u : T) → same_taken t u
-        → (v w : Option T) → SameValue same_taken v w → Agreeing same (AfterRound row rounds t v) (AfterRound row rounds' u w)
-    after_round-agrees rounds rounds' k t u e (Some v) (Some w) s b c o q alike (inl m) (inl n) a z = k v w s b c o q alike m.1 n.1 a z
-    after_round-agrees rounds rounds' k t u e (Some v) (Some w) s b c o q alike (inl m) (inr n) a z = absurd (omega (arith, m.0, n.0, h.left t u e, h.left v w s))
-    after_round-agrees rounds rounds' k t u e (Some v) (Some w) s b c o q alike (inr m) (inl n) a z = absurd (omega (arith, m.0, n.0, h.left t u e, h.left v w s))
-    after_round-agrees rounds rounds' k t u e (Some v) (Some w) s b c o q alike (inr m) (inr n) a z = h.last v w s b c o q alike m.1 n.1 a z
-    after_round-agrees rounds rounds' k t u e (Some v) None s b c o q alike m n a z = absurd n
-    after_round-agrees rounds rounds' k t u e None w s b c o q alike m n a z = absurd m
+    none-agrees : (t u : T) (v w : Option T) → SameValue same_taken v w → Agreeing same (TookNone row t v) (TookNone row u w)
+    none-agrees t u (Some v) (Some w) s b c o q alike m n a z = h.last v w s b c o q alike m.1 n.1 a z
+    none-agrees t u (Some v) None s b c o q alike m n a z = absurd n
+    none-agrees t u None w s b c o q alike m n a z = absurd m
 
-    rounds-agree : (n m : ℕ) (t u : T) → same_taken t u → Agreeing same (Rounds row n t) (Rounds row m u)
-    rounds-agree zero m t u e = λ b c o q alike x y a z. absurd x
-    rounds-agree (suc n) zero t u e = λ b c o q alike x y a z. absurd y
-    rounds-agree (suc n) (suc m) t u e =
-        chained-agrees (row.pass t) (row.pass u) (AfterRound row (Rounds row n) t) (AfterRound row (Rounds row m) u) same_taken same (h.pass t u e)
-        (after_round-agrees (Rounds row n) (Rounds row m) (rounds-agree n m) t u e)
+    some-agrees : (t u x y : T) (next next' : Meaning Tok Cx St Er V) → (same_taken x y → Agreeing same next next')
+        → (v w : Option T) → SameValue same_taken v w → Agreeing same (TookSome row t x next v) (TookSome row u y next' w)
+    some-agrees t u x y next next' k (Some v) (Some w) s b c o q alike m n a z =
+        k (subst (λ p. same_taken p y) m.0 (subst (λ p. same_taken v p) n.0 s)) b c o q alike m.2 n.2 a z
+    some-agrees t u x y next next' k (Some v) None s b c o q alike m n a z = absurd n
+    some-agrees t u x y next next' k None w s b c o q alike m n a z = absurd m
+
+    -- of two rounds from what is the same, either both take a part or none does
+    none-not-some : (t u y : T) → same_taken t u → (next : Meaning Tok Cx St Er V) → (v w : Option T) → SameValue same_taken v w
+        → Agreeing same (TookNone row t v) (TookSome row u y next w)
+    none-not-some t u y e next (Some v) (Some w) s b c o q alike m n a z = absurd (omega (arith, m.0, n.1, h.left t u e, h.left v w s))
+    none-not-some t u y e next (Some v) None s b c o q alike m n a z = absurd n
+    none-not-some t u y e next None w s b c o q alike m n a z = absurd m
+
+    some-not-none : (t u x : T) → same_taken t u → (next : Meaning Tok Cx St Er V) → (v w : Option T) → SameValue same_taken v w
+        → Agreeing same (TookSome row t x next v) (TookNone row u w)
+    some-not-none t u x e next (Some v) (Some w) s b c o q alike m n a z = absurd (omega (arith, m.1, n.0, h.left t u e, h.left v w s))
+    some-not-none t u x e next (Some v) None s b c o q alike m n a z = absurd n
+    some-not-none t u x e next None w s b c o q alike m n a z = absurd m
+
+    rounds-agree : (us vs : List T) (t u : T) → same_taken t u → Agreeing same (Rounds row us t) (Rounds row vs u)
+    rounds-agree [] [] t u e = chained-agrees (row.pass t) (row.pass u) (TookNone row t) (TookNone row u) same_taken same (h.pass t u e) (none-agrees t u)
+    rounds-agree [] (y ∷ ys) t u e =
+        chained-agrees (row.pass t) (row.pass u) (TookNone row t) (TookSome row u y (Rounds row ys y)) same_taken same (h.pass t u e) (none-not-some t u y e (Rounds row ys y))
+    rounds-agree (x ∷ xs) [] t u e =
+        chained-agrees (row.pass t) (row.pass u) (TookSome row t x (Rounds row xs x)) (TookNone row u) same_taken same (h.pass t u e) (some-not-none t u x e (Rounds row xs x))
+    rounds-agree (x ∷ xs) (y ∷ ys) t u e =
+        chained-agrees (row.pass t) (row.pass u) (TookSome row t x (Rounds row xs x)) (TookSome row u y (Rounds row ys y)) same_taken same (h.pass t u e)
+        (some-agrees t u x y (Rounds row xs x) (Rounds row ys y) (rounds-agree xs ys x y))
 
     pub any_order-agrees : (t : T) → same_taken t t → Agreeing same (AnyOrder row t) (AnyOrder row t)
     any_order-agrees t e b c o q alike x y a z = rounds-agree x.rounds y.rounds t t e b c o q alike x.run y.run a z
 
-  -- a run of rounds takes no more of them than there are parts to take, and one
-  after_round-fewer : (rounds rounds' : T → Meaning Tok Cx St Er V) (t : T) → ((u : T) → row.left u < row.left t → (b : Beginning Tok Cx St) (o : Outcome V Er St) → rounds u b o → rounds' u b o)
-      → (v : Verdict T Er) (b : Beginning Tok Cx St) (p : Outcome T Er St) (o : Outcome V Er St) → Follows v (AfterRound row rounds t) b p o → Follows v (AfterRound row rounds' t) b p o
-  after_round-fewer rounds rounds' t h (Yes (Some u)) b p o (q, inl m, e) = (q, inl (m.0, h u m.0 (from b p) q m.1), e)
-  after_round-fewer rounds rounds' t h (Yes (Some u)) b p o (q, inr m, e) = (q, inr m, e)
-  after_round-fewer rounds rounds' t h (Yes None) b p o (q, m, e) = absurd m
-  after_round-fewer rounds rounds' t h No b p o m = m
-  after_round-fewer rounds rounds' t h (Halt s) b p o m = m
-  after_round-fewer rounds rounds' t h (Clash x) b p o m = m
+  -- a run has no more rounds that take a part than there are parts to take
+  abbrev Fewer : ℕ → T → Meaning Tok Cx St Er V
+  Fewer n t b o = (rounds : List T) × (length rounds ≤ n) × Rounds row rounds t b o
 
-  rounds-fewer : (n m : ℕ) (t : T) → row.left t < m → (b : Beginning Tok Cx St) (o : Outcome V Er St) → Rounds row n t b o → Rounds row m t b o
-  rounds-fewer zero m t l b o x = absurd x
-  rounds-fewer (suc n) zero t l b o x = absurd (omega (arith, l))
-  rounds-fewer (suc n) (suc m) t l b o x =
-      record { first = x.first; meant = x.meant; follows = after_round-fewer (Rounds row n) (Rounds row m) t (λ u k c q y. rounds-fewer n m u (omega (arith, l, k)) c q y) x.first.verdict b x.first o x.follows }
+  -- what follows the first of some rounds
+  abbrev AfterFirst : T → List T → Option T → Meaning Tok Cx St Er V
+  AfterFirst t [] v b o = TookNone row t v b o
+  AfterFirst t (u ∷ us) v b o = TookSome row t u (Rounds row us u) v b o
 
-  any_order-rounds : (t : T) (b : Beginning Tok Cx St) (o : Outcome V Er St) → AnyOrder row t b o → Rounds row (suc (row.left t)) t b o
-  any_order-rounds t b o x = rounds-fewer x.rounds (suc (row.left t)) t (omega arith) b o x.run
+  from_first : (us : List T) (t : T) (b : Beginning Tok Cx St) (p : Outcome T Er St) (o : Outcome V Er St) → row.pass t b p → Follows p.verdict (AfterFirst t us) b p o → Rounds row us t b o
+  from_first [] t b p o m f = record { first = p; meant = m; follows = f }
+  from_first (u ∷ us) t b p o m f = record { first = p; meant = m; follows = f }
+
+  first-fewer : (u : T) (us : List T) (n : ℕ) (t : T) → row.left t ≤ n → ((k : ℕ) → row.left u ≤ k → (b : Beginning Tok Cx St) (o : Outcome V Er St) → Rounds row us u b o → Fewer k u b o)
+      → (v : Verdict T Er) (b : Beginning Tok Cx St) (p : Outcome T Er St) (o : Outcome V Er St) → Follows v (TookSome row t u (Rounds row us u)) b p o
+      → (rounds : List T) × (length rounds ≤ n) × Follows v (AfterFirst t rounds) b p o
+  first-fewer u us zero t l h (Yes (Some w)) b p o (q, m, e) = absurd (omega (arith, l, m.1))
+  first-fewer u us (suc n) t l h (Yes (Some w)) b p o (q, m, e) =
+      let k = ap (λ (x : T). row.left x) m.0 in
+      let f = h n (omega (arith, l, m.1, k)) (from b p) q m.2 in
+      (u ∷ f.0, omega (arith, f.1), (q, (m.0, m.1, f.2), e))
+  first-fewer u us n t l h (Yes None) b p o (q, m, e) = absurd m
+  first-fewer u us n t l h No b p o m = ([], omega arith, m)
+  first-fewer u us n t l h (Halt s) b p o m = ([], omega arith, m)
+  first-fewer u us n t l h (Clash x) b p o m = ([], omega arith, m)
+
+  rounds-fewer : (us : List T) (n : ℕ) (t : T) → row.left t ≤ n → (b : Beginning Tok Cx St) (o : Outcome V Er St) → Rounds row us t b o → Fewer n t b o
+  rounds-fewer [] n t l b o x = ([], omega arith, x)
+  rounds-fewer (u ∷ us) n t l b o x =
+      let f = first-fewer u us n t l (λ k j c q y. rounds-fewer us k u j c q y) x.first.verdict b x.first o x.follows in
+      (f.0, f.1, from_first f.0 t b x.first o x.meant f.2)
 
   -- there are no more rounds than parts to take, and one, whatever follows
   pub any_order-within : {W : Type 0} (t : T) (next : Option V → Meaning Tok Cx St Er W) → WithinRounds row (suc (row.left t)) t next (Chained (AnyOrder row t) next)
-  any_order-within t next b o m = record { first = m.first; meant = any_order-rounds t b m.first m.meant; follows = m.follows }
+  any_order-within t next b o m =
+      let f = rounds-fewer m.meant.rounds (row.left t) t (omega arith) b m.first m.meant.run in
+      (f.0, omega (arith, f.1), record { first = m.first; meant = f.2; follows = m.follows })

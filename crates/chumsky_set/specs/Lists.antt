@@ -31,7 +31,7 @@ module _ {X Tok Cx St Mk Er V W : Type 0} (mark : St → Mk) (back : St → Mk �
   -- every outcome of a meaning is want of memory for the slots, or the parts in any order, in so many rounds at most
   abbrev pub WithinEach : List X → ℕ → Meaning Tok Cx St Er W → Type 0
   WithinEach parts n m = (b : Beginning Tok Cx St) (o : Outcome W Er St) → m b o
-      → Refuses (length parts ≡ 0 → ⊥) b.state o ⊎ Chained (Rounds (each_part mark back safe meaning parts) n (map (λ _. None) parts)) (FormedAs items) b o
+      → Refuses (length parts ≡ 0 → ⊥) b.state o ⊎ (rounds : List (List (Slot V))) × (length rounds < n) × Chained (Rounds (each_part mark back safe meaning parts) rounds (map (λ _. None) parts)) (FormedAs items) b o
 
 -- so many slots of a type of values fit in memory
 abbrev pub SlotsFit : RattleType → ℕ → Type 0

@@ -1,5 +1,5 @@
 -- The laws of rows of parts of one kind.
-use Rattle.std.proofs.Common.{Bool, true, false, ◌≡◌, suc, ◌+◌, length, Option, Some, None, List, [], ◌∷◌, map, refl, subst, arith, inl, inr}
+use Rattle.std.proofs.Common.{Bool, true, false, ◌≡◌, ◌<◌, suc, ◌+◌, length, Option, Some, None, List, [], ◌∷◌, map, refl, subst, arith, inl, inr}
 use Rattle.std.specs.List.{All}
 use Rattle.chumsky_parser.specs.Chained.{Chained, Given, Asked}
 use Rattle.chumsky_input.specs.Outcome.{Meaning, SameValue, IsAnswer, EndsAfterStart, Agreeing}
@@ -126,7 +126,7 @@ module _ {X Tok Cx St Mk Er V W : Type 0} (mark : St → Mk) (back : St → Mk �
       let count : suc (all_still none) ≡ length parts + 1 = omega (arith, left) in
       elim m.cases [
         | inl r ↦ inl r
-        | inr k ↦ inr (subst (λ n. Chained (Rounds row n none) (FormedAs items) b o) count (any_order-within row none (FormedAs items) b o k))
+        | inr k ↦ inr (subst (λ n. (rounds : List (List (Slot V))) × (length rounds < n) × Chained (Rounds row rounds none) (FormedAs items) b o) count (any_order-within row none (FormedAs items) b o k))
       ]
 
   pub set_stored-rounds : (parts : List X) → WithinRounds (each_stored mark back safe meaning parts) (length parts + 1) (map (λ _. None) parts) (FormedAs items) (SetStored mark back safe meaning items parts)

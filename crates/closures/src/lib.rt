@@ -11,30 +11,32 @@ mod tests;
 
 type Errors = extra::Err<Rich<char>>;
 
-/// What `parse` gives of a closure that takes two tokens and fails with an error of its own, `.or(just('a').then(just('b')))`.
+/// What `parse` gives of a closure that takes two tokens and fails with an error of its own, `.or(just("ab"))`.
 pub fn parse_error_or_ab(
     alloc: Global,
     text: &str,
-) -> Result<ParseResult<(char, char), Rich<char>>, Stop> {
-    custom::<_, &str, (char, char), Errors>(|inp| {
+) -> Result<ParseResult<&'static str, Rich<char>>, Stop> {
+    custom::<_, &str, (), Errors>(|inp| {
         inp.next()?;
         inp.next()?;
         let span = SimpleSpan { start: 0, end: 2 };
         Err(Failure::Error(Rich::custom(span, String::new(inp.alloc))))
     })
-    .or(just('a').then(just('b')))
+    .to("")
+    .or(just("ab"))
     .parse(alloc, text)
 }
 
 /// What `check` gives of it.
 pub fn check_error_or_ab(alloc: Global, text: &str) -> Result<ParseResult<(), Rich<char>>, Stop> {
-    custom::<_, &str, (char, char), Errors>(|inp| {
+    custom::<_, &str, (), Errors>(|inp| {
         inp.next()?;
         inp.next()?;
         let span = SimpleSpan { start: 0, end: 2 };
         Err(Failure::Error(Rich::custom(span, String::new(inp.alloc))))
     })
-    .or(just('a').then(just('b')))
+    .to("")
+    .or(just("ab"))
     .check(alloc, text)
 }
 

@@ -70,7 +70,7 @@ fn an_error_of_a_closure_stands_at_its_start(rt: HostRuntime) {
     let parsed = parse_error_or_ab(rt.alloc(), "ab")
         .ok()
         .expect(&rt, "the run was refused");
-    assert!(rt; parsed.output() == Some(&('a', 'b')));
+    assert!(rt; parsed.output() == Some(&"ab"));
     assert!(rt; parsed.errors().len() == 0);
     let checked = check_error_or_ab(rt.alloc(), "ab")
         .ok()
