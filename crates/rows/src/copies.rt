@@ -47,6 +47,16 @@ pub fn parse_choice_twice(alloc: Global, text: &str) -> Result<Twice<char>, Stop
     parse_copy_and_first(letter, alloc, text, text)
 }
 
+/// What `parse` gives of a clone of `just('a').then(one_of("bc").or_not())`.
+pub fn parse_clone(
+    alloc: Global,
+    text: &str,
+) -> Result<ParseResult<(char, Option<char>), Rich<char>>, Stop> {
+    let first = just::<_, _, Errors>('a').then(one_of("bc").or_not());
+    let cloned = first.clone()?;
+    cloned.parse(alloc, text)
+}
+
 #[cfg(test)]
 mod tests {
     use super::*;
@@ -68,6 +78,21 @@ mod tests {
         let (output, errors) = copied.into_output_errors();
         assert!(rt; output.is_none());
         assert!(rt; says(&errors, &[RichPattern::Token('a')], Some('b'), 0, 1));
+    }
+
+    #[test]
+    fn a_clone_runs_as_the_first_would(rt: HostRuntime) {
+        let parsed = parse_clone(rt.alloc(), "ac")
+            .ok()
+            .expect(&rt, "the run was refused");
+        assert!(rt; parsed.output() == Some(&('a', Some('c'))));
+        assert!(rt; parsed.errors().len() == 0);
+        let (output, errors) = parse_clone(rt.alloc(), "x")
+            .ok()
+            .expect(&rt, "the run was refused")
+            .into_output_errors();
+        assert!(rt; output.is_none());
+        assert!(rt; says(&errors, &[RichPattern::Token('a')], Some('x'), 0, 1));
     }
 
     #[test]
