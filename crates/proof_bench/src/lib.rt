@@ -126,6 +126,21 @@ pub fn choice_16(alloc: Global, text: &str) -> bool {
         .is_ok()
 }
 
+/// The same, with an extra of their own.
+pub fn choice_16_own(alloc: Global, text: &str) -> bool {
+    let first = any::<_, Own>()
+        .then(any())
+        .then(any())
+        .then(any())
+        .map(|_| 'a');
+    let second = any().then(any()).then(any()).then(any()).map(|_| 'b');
+    let third = any().then(any()).then(any()).then(any()).map(|_| 'c');
+    let fourth = any().then(any()).then(any()).then(any()).map(|_| 'd');
+    choice((first, second, third, fourth))
+        .check(alloc, text)
+        .is_ok()
+}
+
 /// Sixteen: four groups of four in a choice.
 pub fn choice_of_groups_16(alloc: Global, text: &str) -> bool {
     let first = group((any::<_, extra::Err<EmptyErr>>(), any(), any(), any())).map(|_| 'a');
