@@ -37,10 +37,8 @@ module _ {I X Tok Sp Cu Er St Cx Mk V F : Type 0} (source : input_trait.Ghosts I
   abbrev calls : (w : Bool) (r : Result V (Failure Er)) → g.post f (p, tt) (r, (left, tt)) → held source errors states p.now ≡ without_errors old → Call source errors states g f (begin w old)
   calls w r met e = record { lent = p; left = left; returned = r; met = met; begins = e }
 
-  forward : Forward (held source errors states p.now) seen_left → held source errors states p.now ≡ without_errors old → Forward old seen_left
-  forward h e =
-      let t : Forward (without_errors old) seen_left = subst (λ z. Forward z seen_left) e h in
-      record { tokens = t.tokens; context = t.context; place = t.place }
+  forward : Forward (held source errors states p.now) seen_left → held source errors states p.now ≡ without_errors old → Forward (without_errors old) seen_left
+  forward h e = subst (λ z. Forward z seen_left) e h
 
   pub custom_yes : {v : V} {new : Held Tok Cx states.Seen errors.Seen} → MayRun source errors states g f → g.post f (p, tt) (Ok v, (left, tt)) → held source errors states p.now ≡ without_errors old
       → new ≡ brought_back errors.merged old.kept old.emitted seen_left → (w : Bool) → Ran errors.merged errors.takes_no_memory (MeansCustom source errors states g f) w old new (asked w (Ok v))
@@ -109,7 +107,7 @@ module _ {I X Tok Sp Cu Er St Cx Mk V F : Type 0} (source : input_trait.Ghosts I
   custom_fails {k = k} may met e n a w = adds may met e n k a w
 
   -- older errors could not be brought back
-  refuses : (r : Result V (Failure Er)) (tail : List (Event errors.Seen)) {new : Held Tok Cx states.Seen errors.Seen} (w : Bool) → g.post f (p, tt) (r, (left, tt)) → held source errors states p.now ≡ without_errors old → Forward old seen_left
+  refuses : (r : Result V (Failure Er)) (tail : List (Event errors.Seen)) {new : Held Tok Cx states.Seen errors.Seen} (w : Bool) → g.post f (p, tt) (r, (left, tt)) → held source errors states p.now ≡ without_errors old → Forward (without_errors old) seen_left
       → (let whole = done errors.seen (begin w old) r seen_left in (whole.events ≡ option_to_list seen_left.kept ++ tail) × (whole.emitted ≡ seen_left.emitted) × (whole.state ≡ seen_left.state))
       → ClashesWith errors.takes_no_memory old.kept seen_left.kept ⊎ ¬ (seen_left.emitted ≡ []) → SameButErrors seen_left new
       → Ran errors.merged errors.takes_no_memory (MeansCustom source errors states g f) w old new (Err (fault.Stop Memory))
