@@ -16,7 +16,7 @@ module _ {I Tok Sp Cu Er St Mk Cx V : Type 0} (source : input_trait.Ghosts I Cu 
   pub record FirstAmong (alternatives : List (Meaning Tok Cx states.Seen errors.Seen V)) (b : Beginning Tok Cx states.Seen) (o : Outcome V errors.Seen states.Seen) : Type 0 where
     pub cases : NoneOrFirst alternatives b o
 
--- a value of one of a list, if there is one
+-- two values that one of a list calls the same, if there is one
 abbrev pub SameByAny : {V : Type 0} → List (V → V → Type 0) → V → V → Type 0
 SameByAny [] v w = ⊥
 SameByAny (s ∷ ss) v w = SameByOne s ss v w

@@ -22,7 +22,8 @@ module _ {Tok Cx St Mk Er V : Type 0} (back : St → Mk → St) (safe : Type 0) 
     pub meant : first b attempt
     pub then_else : ElseFrom attempt.verdict second b attempt o
 
-  -- the k-th alternative stands: it says no only where it is the last, and each before it says no and is gone back from
+  -- the k-th alternative stands: it says no only where it is the last, and each before it says no and is gone back from,
+  -- unless memory is wanting to go back
   abbrev pub Stands : ℕ → Meaning Tok Cx St Er V → List (Meaning Tok Cx St Er V) → Meaning Tok Cx St Er V
   Stands zero first others b o = first b o × (o.verdict ≡ No → length others ≡ 0)
   Stands (suc k) first [] b o = ⊥
@@ -57,11 +58,11 @@ pub record StandsAt {Tok Cx St Mk Er : Type 0} (m : Marks Tok Mk) (h : Held Tok 
   pub place : m.place ≡ h.place
   pub emitted : m.emitted ≡ length h.emitted
 
--- a value of either
+-- two values that one of the two calls the same
 abbrev pub SameEither : {V : Type 0} → (V → V → Type 0) → (V → V → Type 0) → V → V → Type 0
 SameEither f s v w = f v w ⊎ s v w
 
--- a value of one of a list
+-- two values that one of a list calls the same
 abbrev pub SameByOne : {V : Type 0} → (V → V → Type 0) → List (V → V → Type 0) → V → V → Type 0
 SameByOne s [] = s
 SameByOne s (t ∷ ts) = SameEither s (SameByOne t ts)

@@ -67,12 +67,13 @@ module _ {Tok Cx St Er T V : Type 0} (row : Row Tok Cx St Er T V) where
   TookNone t None b o = ⊥
   TookNone t (Some u) b o = (row.left u ≡ row.left t) × row.last u b o
 
-  -- after a round that took a part, so that this is taken then, what follows
+  -- after a round that took a part and left u taken, what follows
   abbrev pub TookSome : T → T → Meaning Tok Cx St Er V → Option T → Meaning Tok Cx St Er V
   TookSome t u next None b o = ⊥
   TookSome t u next (Some v) b o = (v ≡ u) × (row.left v < row.left t) × next b o
 
-  -- rounds, and the last pass: each round takes a part, so that this is taken after it, and the one after them takes none
+  -- rounds, of each of which the list says what it leaves taken, each taking a part; then a round that takes none, and
+  -- the last pass
   abbrev pub Rounds : List T → T → Meaning Tok Cx St Er V
   Rounds [] t = Chained (row.pass t) (TookNone t)
   Rounds (u ∷ us) t = Chained (row.pass t) (TookSome t u (Rounds us u))
@@ -98,7 +99,8 @@ all_still [] = 0
 all_still (s ∷ ss) = still s + all_still ss
 
 module _ {X Tok Cx St Er V Y : Type 0} (turn : X → Slot V → Meaning Tok Cx St Er Y) where
-  -- the turns of parts, each with its slot, each beginning where the former ended: what they give in order, and this of no part
+  -- the turns of parts, each with its slot, each beginning where the former ended: what they give in order, and of no
+  -- part what is given as empty
   abbrev pub Turns : List X → List (Slot V) → Option (List Y) → Meaning Tok Cx St Er (List Y)
   Turns [] slots empty b o = Given empty b o
   Turns (part ∷ parts) [] empty b o = ⊥
