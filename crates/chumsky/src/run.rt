@@ -15,6 +15,7 @@ use std::alloc::Global;
 use std::marker::PhantomData;
 
 /// The parser, and then the end of input.
+#[inline]
 fn whole_emit<'src, I: Input<'src>, O: Drop, E: ParserExtra<I>, P: Parser<'src, I, O, E>>(
     parser: &P,
     inp: &mut InputRef<'src, '_, I, E>,
@@ -30,6 +31,7 @@ fn whole_emit<'src, I: Input<'src>, O: Drop, E: ParserExtra<I>, P: Parser<'src, 
 }
 
 /// The same without the output.
+#[inline]
 fn whole_check<'src, I: Input<'src>, O, E: ParserExtra<I>, P: Parser<'src, I, O, E>>(
     parser: &P,
     inp: &mut InputRef<'src, '_, I, E>,
@@ -45,6 +47,7 @@ fn whole_check<'src, I: Input<'src>, O, E: ParserExtra<I>, P: Parser<'src, I, O,
 }
 
 /// The output of an answer. A failure adds its last error to those that were emitted.
+#[inline]
 fn settle<'src, I: Input<'src>, O, E: ParserExtra<I>>(
     inp: &mut InputRef<'src, '_, I, E>,
     answer: PResult<O>,

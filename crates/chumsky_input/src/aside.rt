@@ -32,6 +32,7 @@ impl<'src, 'p, I: Input<'src>, E: ParserExtra<I>> InputRef<'src, 'p, I, E> {
 
     /// Puts an older error before the one that is kept: they count as two events, in this order. A refused merge keeps
     /// neither.
+    #[inline]
     pub fn keep_before(&mut self, older: Option<Located<E::Error>>) -> Result<(), AllocError>
         ensures keeps { MatchResult result (λ _. held I.Input E.Error.Error E.State.Inspector self.new ≡ kept_after E.Error.merged (option_map (located E.Error.seen) older) (held I.Input E.Error.Error E.State.Inspector self.old)) (λ _. ClashesWith E.Error.takes_no_memory (option_map (located E.Error.seen) older) (held I.Input E.Error.Error E.State.Inspector self.old).kept × (held I.Input E.Error.Error E.State.Inspector self.new ≡ record (held I.Input E.Error.Error E.State.Inspector self.old) { kept = None })) }
         ensures lent { self.new.state.ghost_name ≡ self.old.state.ghost_name }
@@ -53,6 +54,7 @@ impl<'src, 'p, I: Input<'src>, E: ParserExtra<I>> InputRef<'src, 'p, I, E> {
 
     /// Takes out the last error of a failure: the one that is kept, or where there is none that of an empty expectation.
     /// An older one is kept in its place. A refusal changes nothing, and the older one is lost.
+    #[inline]
     pub fn hand_out(&mut self, older: Option<Located<E::Error>>) -> Failure<E::Error>
         ensures hands { HandsOut E.Error.takes_no_memory (final_error E.Error.expectation I.span_between) (option_map (located E.Error.seen) older) (held I.Input E.Error.Error E.State.Inspector self.old) (held I.Input E.Error.Error E.State.Inspector self.new) (failure_seen E.Error.seen result) }
         ensures lent { self.new.state.ghost_name ≡ self.old.state.ghost_name }
@@ -95,6 +97,7 @@ impl<'src, 'p, I: Input<'src>, E: ParserExtra<I>> InputRef<'src, 'p, I, E> {
     }
 
     /// Brings back what was set aside, before what is held now. A refusal changes nothing but what is kept and emitted.
+    #[inline]
     pub fn bring_back(&mut self, older: Aside<E::Error>) -> Result<(), AllocError>
         ensures back { MatchResult result (λ _. held I.Input E.Error.Error E.State.Inspector self.new ≡ brought_back E.Error.merged (option_map (located E.Error.seen) older.kept) (map E.Error.seen older.emitted.items) (held I.Input E.Error.Error E.State.Inspector self.old)) (λ _. (ClashesWith E.Error.takes_no_memory (option_map (located E.Error.seen) older.kept) (held I.Input E.Error.Error E.State.Inspector self.old).kept ⊎ (¬ ((held I.Input E.Error.Error E.State.Inspector self.old).emitted ≡ []))) × SameButErrors (held I.Input E.Error.Error E.State.Inspector self.old) (held I.Input E.Error.Error E.State.Inspector self.new)) }
         ensures lent { self.new.state.ghost_name ≡ self.old.state.ghost_name }

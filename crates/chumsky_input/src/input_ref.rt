@@ -57,6 +57,7 @@ impl<'s, T: Drop> Iterator for One<'s, T> {
 
     ghost remaining = { item_count (λ s. option_to_list (option_map wanted s.left)) };
 
+    #[inline]
     fn next(&mut self) -> Option<DefaultExpected<'s, T>> {
         self.left.take()
     }
@@ -150,6 +151,7 @@ impl<'src, 'p, I: Input<'src>, E: ParserExtra<I>> InputRef<'src, 'p, I, E> {
     }
 
     /// Emits an error, which stands whatever the parser answers, unless the run goes back past it.
+    #[inline]
     pub fn emit(&mut self, error: E::Error) -> Result<(), AllocError>
         ensures emits { MatchResult result (λ _. held I.Input E.Error.Error E.State.Inspector self.new ≡ with_emitted (held I.Input E.Error.Error E.State.Inspector self.old) (E.Error.seen error)) (λ _. held I.Input E.Error.Error E.State.Inspector self.new ≡ held I.Input E.Error.Error E.State.Inspector self.old) }
         ensures lent { self.new.state.ghost_name ≡ self.old.state.ghost_name }
@@ -273,6 +275,7 @@ impl<'src, 'p, I: Input<'src>, E: ParserExtra<I>> InputRef<'src, 'p, I, E> {
     }
 
     /// The last error of a failure: the one that is kept, or where there is none that of an empty expectation.
+    #[inline]
     pub fn last_error(&mut self) -> Result<E::Error, AllocError>
         ensures error { IfOk result (λ e. E.Error.seen e ≡ final_error E.Error.expectation I.span_between (held I.Input E.Error.Error E.State.Inspector self.old).kept (held I.Input E.Error.Error E.State.Inspector self.old).tokens (held I.Input E.Error.Error E.State.Inspector self.old).place) }
         ensures memory { OnErr result ((E.Error.takes_no_memory → ⊥) × ((held I.Input E.Error.Error E.State.Inspector self.old).kept ≡ None)) }
@@ -289,6 +292,7 @@ impl<'src, 'p, I: Input<'src>, E: ParserExtra<I>> InputRef<'src, 'p, I, E> {
     }
 
     /// Emits the last error of a failure. A refusal loses the error that is kept, and changes nothing else.
+    #[inline]
     pub fn add_last(&mut self) -> Result<(), AllocError>
         ensures last { MatchResult result (λ _. held I.Input E.Error.Error E.State.Inspector self.new ≡ with_last E.Error.expectation I.span_between (held I.Input E.Error.Error E.State.Inspector self.old)) (λ _. held I.Input E.Error.Error E.State.Inspector self.new ≡ record (held I.Input E.Error.Error E.State.Inspector self.old) { kept = None }) }
         ensures lent { self.new.state.ghost_name ≡ self.old.state.ghost_name }
@@ -346,6 +350,7 @@ impl<'src, 'p, I: Input<'src>, E: ParserExtra<I>> InputRef<'src, 'p, I, E> {
     }
 
     /// Whether the error that is kept lies past a place.
+    #[inline]
     pub fn keeps_past(&self, place: usize) -> bool
         ensures past { IsTrue result → KeepsPast place (held I.Input E.Error.Error E.State.Inspector self.now).kept }
         ensures converse { KeepsPast place (held I.Input E.Error.Error E.State.Inspector self.now).kept → IsTrue result }

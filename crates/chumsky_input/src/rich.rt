@@ -31,6 +31,7 @@ impl<T: PartialEq> PartialEq for RichPattern<T> {
 
     ghost laws = { pattern_same_laws T.eq T.laws };
 
+    #[inline]
     fn eq(&self, other: &Self) -> bool {
         match (self, other) {
             (RichPattern::Token(one), RichPattern::Token(two)) => *one == *two,
@@ -184,6 +185,7 @@ impl<T: SameClone + Drop, I: Tokens<Token = T, Span = SimpleSpan>> Error<I> for 
 }
 
 /// The pattern that shows an expectation, as it counts.
+#[inline]
 fn pattern_of<T: SameClone, X: Expectation<T>>(
     expected: &X,
 ) -> Result<Option<RichPattern<T>>, AllocError>
@@ -229,6 +231,7 @@ fn append_new<P: PartialEq + Drop>(items: &mut Vec<P>, others: Vec<P>) -> Result
 }
 
 /// Appends an item that `items` lacks.
+#[inline]
 fn push_new<P: PartialEq + Drop>(items: &mut Vec<P>, item: P) -> Result<(), AllocError>
     ensures { OnOk result (items.new.items ≡ add_new P.eq items.old.items (item ∷ [])) }
 {

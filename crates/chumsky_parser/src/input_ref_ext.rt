@@ -35,6 +35,7 @@ where
     E: ParserExtra<I>,
     P: Parser<'src, I, O, E> + Drop,
 {
+    #[inline]
     fn parse(&mut self, parser: P) -> Result<O, Failure<E::Error>>
         requires { P.ready parser }
         ensures ran { RanApart E.Error.merged E.Error.takes_no_memory (final_error E.Error.expectation I.span_between) (P.meaning parser E.Error.Error E.State.Inspector) true (held I.Input E.Error.Error E.State.Inspector self.old) (held I.Input E.Error.Error E.State.Inspector self.new) (handed_value E.Error.seen result) }
@@ -52,6 +53,7 @@ where
         }
     }
 
+    #[inline]
     fn check(&mut self, parser: P) -> Result<(), Failure<E::Error>>
         requires { P.ready parser }
         ensures ran { RanApart E.Error.merged E.Error.takes_no_memory (final_error E.Error.expectation I.span_between) (P.meaning parser E.Error.Error E.State.Inspector) false (held I.Input E.Error.Error E.State.Inspector self.old) (held I.Input E.Error.Error E.State.Inspector self.new) (handed_check E.Error.seen result) }
