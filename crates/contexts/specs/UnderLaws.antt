@@ -1,9 +1,9 @@
 -- The laws of runs under another context.
-use Rattle.std.proofs.Common.{◌≡◌, ◌≤◌, true, Option, Some, None}
+use Rattle.std.proofs.Common.{◌≤◌, true, Option, Some, None}
 use Rattle.chumsky_input.specs.Outcome.{Meaning, Beginning, Outcome, IsAnswer, SameValue, Alike, Agree, EndsAfterStart, Agreeing}
 use Rattle.chumsky_parser.specs.Chained.{Asked}
 use Rattle.chumsky_parser.specs.Laws.{chained-ends, chained-agrees, asked-ends, asked-agrees}
-use Rattle.contexts.specs.Under.{begun_under, RunsUnder, UnderValue, MeansUnderOutput, SameAreEqual}
+use Rattle.contexts.specs.Under.{begun_under, RunsUnder, MeansUnderOutput, SameAreEqual}
 
 module _ {Tok Cx St Er V W : Type 0} (part : Meaning Tok V St Er W) where
   under-ends : EndsAfterStart part → (v : Option V) (b : Beginning Tok Cx St) (o : Outcome W Er St) → RunsUnder part v b o → IsAnswer o.verdict → b.start ≤ o.end

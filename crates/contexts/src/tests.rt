@@ -15,7 +15,12 @@ fn is_context(context: &char, c: char) -> bool {
 
 #[test]
 fn the_output_of_the_first_is_the_context_of_the_second(rt: HostRuntime) {
-    let rows = [("aa", Some('a'), 0), ("éé", Some('é'), 0), ("ab", None, 1), ("a", None, 1)];
+    let rows = [
+        ("aa", Some('a'), 0),
+        ("éé", Some('é'), 0),
+        ("ab", None, 1),
+        ("a", None, 1),
+    ];
     for (text, second_of, errors) in rows {
         let first: Any<&str, Quiet> = any();
         let second: Select<_, &str, char, UnderChar> = select! {

@@ -1,5 +1,5 @@
 //! One part under the output of another.
-use crate::under::{Left, check_under, emit_under};
+use crate::under::{check_under, emit_under};
 use chumsky::extra::{Full, ParserExtra};
 use chumsky::input::{Input, InputRef};
 use chumsky::{IsParser, PResult, Parser};
@@ -43,45 +43,11 @@ where
 
     fn go_emit(&self, inp: &mut InputRef<'src, '_, I, E>) -> PResult<U> {
         let value = self.first.go_emit(inp)?;
-        let errors = inp.set_aside();
-        let left = emit_under::<I, U, Full<E::Error, E::State, O>, B>(
-            &self.second,
-            inp.cursor,
-            errors,
-            &mut *inp.state,
-            &value,
-            inp.alloc,
-        );
-        let Left {
-            answer,
-            cursor,
-            errors,
-        } = left;
-        inp.cursor = cursor;
-        inp.kept = errors.kept;
-        inp.emitted = errors.emitted;
-        answer
+        emit_under(&self.second, &value, inp)
     }
 
     fn go_check(&self, inp: &mut InputRef<'src, '_, I, E>) -> PResult<()> {
         let value = self.first.go_emit(inp)?;
-        let errors = inp.set_aside();
-        let left = check_under::<I, U, Full<E::Error, E::State, O>, B>(
-            &self.second,
-            inp.cursor,
-            errors,
-            &mut *inp.state,
-            &value,
-            inp.alloc,
-        );
-        let Left {
-            answer,
-            cursor,
-            errors,
-        } = left;
-        inp.cursor = cursor;
-        inp.kept = errors.kept;
-        inp.emitted = errors.emitted;
-        answer
+        check_under(&self.second, &value, inp)
     }
 }

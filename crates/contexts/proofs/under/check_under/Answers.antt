@@ -1,6 +1,6 @@
-use Rattle.std.proofs.Common.{rules}
-use Rattle.contexts.proofs.UnderLemmas.{ran-kept_context}
+use Rattle.std.proofs.Common.{refl}
+use Rattle.contexts.proofs.UnderLemmas.{ran-under}
 use Rattle.contexts.proofs.under.check_under.Goals as goal
 
-pub returns : goal.returns
-returns g c = ran-kept_context c.go_check-answer.ensures.ran (search rules)
+pub returns-clause-ran : goal.returns-clause-ran
+returns-clause-ran g c = ran-under c.set_aside-errors.ensures.leaves c.set_aside-errors.ensures.kept c.set_aside-errors.ensures.emitted refl c.check_parts-answer.ensures
