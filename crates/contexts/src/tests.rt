@@ -1,5 +1,6 @@
-//! A character twice, the second compared with the first by the context.
+//! A character and then the same again: the second is compared with its context, the first.
 use crate::under_output::UnderOutput;
+use chumsky::error::RichPattern;
 use chumsky::prelude::*;
 use chumsky::primitive::{Any, Select};
 use std::marker::PhantomData;
@@ -42,5 +43,34 @@ fn the_output_of_the_first_is_the_context_of_the_second(rt: HostRuntime) {
             .ok()
             .expect(&rt, "the run was refused");
         assert!(rt; checked.errors().len() == errors);
+    }
+}
+
+#[test]
+fn an_error_from_before_the_second_stays(rt: HostRuntime) {
+    let first = any::<&str, extra::Err<Rich<char>>>().then_ignore(just('b').or_not());
+    let second: Select<_, &str, char, extra::Full<Rich<char>, (), char>> = select! {
+        c = extra if is_context(extra.ctx(), c) => c,
+    };
+    let twice = UnderOutput {
+        first,
+        second,
+        of: PhantomData,
+    };
+    let (output, errors) = twice
+        .parse(rt.alloc(), "ac")
+        .ok()
+        .expect(&rt, "the run was refused")
+        .into_output_errors();
+    assert!(rt; output.is_none());
+    match errors.as_slice() {
+        [error] => {
+            assert!(rt;
+                error.expected().as_slice()
+                    == [RichPattern::Token('b'), RichPattern::SomethingElse].as_slice()
+            );
+            assert!(rt; error.found().copied() == Some('c'));
+        }
+        _ => assert!(rt; false),
     }
 }
