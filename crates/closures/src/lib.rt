@@ -139,8 +139,27 @@ pub fn parse_foo_or_nothing(
     .parse(alloc, text)
 }
 
-/// What `check` gives of the same with `inp.check`.
+/// What `check` gives of it.
 pub fn check_foo_or_nothing(
+    alloc: Global,
+    text: &str,
+) -> Result<ParseResult<(), Rich<char>>, Stop> {
+    custom::<_, &str, bool, Errors>(|inp| {
+        let before = inp.save()?;
+        match inp.parse(just("foo")) {
+            Ok(_word) => Ok(true),
+            Err(Failure::Error(_)) => {
+                inp.rewind(&before)?;
+                Ok(false)
+            }
+            Err(Failure::Stop(why)) => Err(Failure::Stop(why)),
+        }
+    })
+    .check(alloc, text)
+}
+
+/// What `check` gives of the same with `inp.check`.
+pub fn check_foo_or_nothing_by_check(
     alloc: Global,
     text: &str,
 ) -> Result<ParseResult<(), Rich<char>>, Stop> {
@@ -156,6 +175,25 @@ pub fn check_foo_or_nothing(
         }
     })
     .check(alloc, text)
+}
+
+/// What `parse` gives of it.
+pub fn parse_foo_or_nothing_by_check(
+    alloc: Global,
+    text: &str,
+) -> Result<ParseResult<bool, Rich<char>>, Stop> {
+    custom::<_, &str, bool, Errors>(|inp| {
+        let before = inp.save()?;
+        match inp.check(just("foo")) {
+            Ok(()) => Ok(true),
+            Err(Failure::Error(_)) => {
+                inp.rewind(&before)?;
+                Ok(false)
+            }
+            Err(Failure::Stop(why)) => Err(Failure::Stop(why)),
+        }
+    })
+    .parse(alloc, text)
 }
 
 /// What `parse` gives of a closure that emits an error and then fails with another, `.or(any())`.
@@ -240,7 +278,17 @@ pub fn parse_emitting_last(
     choice((just('a').then(just('b')), emitting.then(just('c')))).parse(alloc, text)
 }
 
-/// The same with the alternatives the other way round.
+/// What `check` gives of it.
+pub fn check_emitting_last(alloc: Global, text: &str) -> Result<ParseResult<(), EmptyErr>, Stop> {
+    let emitting = custom::<_, &str, char, extra::Err<EmptyErr>>(|inp| {
+        let token = inp.parse(any())?;
+        inp.emit(EmptyErr)?;
+        Ok(token)
+    });
+    choice((just('a').then(just('b')), emitting.then(just('c')))).check(alloc, text)
+}
+
+/// The same with the alternatives the other way round, by `parse`.
 pub fn parse_emitting_first(
     alloc: Global,
     text: &str,
@@ -251,4 +299,14 @@ pub fn parse_emitting_first(
         Ok(token)
     });
     choice((emitting.then(just('c')), just('a').then(just('b')))).parse(alloc, text)
+}
+
+/// What `check` gives of it.
+pub fn check_emitting_first(alloc: Global, text: &str) -> Result<ParseResult<(), EmptyErr>, Stop> {
+    let emitting = custom::<_, &str, char, extra::Err<EmptyErr>>(|inp| {
+        let token = inp.parse(any())?;
+        inp.emit(EmptyErr)?;
+        Ok(token)
+    });
+    choice((emitting.then(just('c')), just('a').then(just('b')))).check(alloc, text)
 }

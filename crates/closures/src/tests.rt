@@ -1,8 +1,10 @@
 use crate::{
-    check_c_or_emitting, check_either_message, check_emitting_or_any, check_error_or_ab,
-    check_foo_or_nothing, check_perhaps_a_then_c, check_twin, parse_c_or_emitting,
-    parse_either_message, parse_emitting_first, parse_emitting_last, parse_emitting_or_any,
-    parse_error_or_ab, parse_foo_or_nothing, parse_perhaps_a_then_c, parse_stop_or_a, parse_twin,
+    check_c_or_emitting, check_either_message, check_emitting_first, check_emitting_last,
+    check_emitting_or_any, check_error_or_ab, check_foo_or_nothing, check_foo_or_nothing_by_check,
+    check_perhaps_a_then_c, check_twin, parse_c_or_emitting, parse_either_message,
+    parse_emitting_first, parse_emitting_last, parse_emitting_or_any, parse_error_or_ab,
+    parse_foo_or_nothing, parse_foo_or_nothing_by_check, parse_perhaps_a_then_c, parse_stop_or_a,
+    parse_twin,
 };
 use chumsky::Stop;
 use chumsky::error::RichPattern;
@@ -148,33 +150,41 @@ fn a_closure_runs_over_bytes(rt: HostRuntime) {
 #[test]
 fn a_failure_within_a_closure_is_handed_out(rt: HostRuntime) {
     let expected = [RichPattern::EndOfInput];
-    let (output, errors) = parse_foo_or_nothing(rt.alloc(), "not foo")
-        .ok()
-        .expect(&rt, "the run was refused")
-        .into_output_errors();
-    assert!(rt; output.is_none());
-    assert!(rt; says(&errors, &expected, Some('n'), 0, 1));
-    let (output, errors) = check_foo_or_nothing(rt.alloc(), "not foo")
-        .ok()
-        .expect(&rt, "the run was refused")
-        .into_output_errors();
-    assert!(rt; output.is_none());
-    assert!(rt; says(&errors, &expected, Some('n'), 0, 1));
-    let (output, errors) = check_foo_or_nothing(rt.alloc(), "fox")
-        .ok()
-        .expect(&rt, "the run was refused")
-        .into_output_errors();
-    assert!(rt; output.is_none());
-    assert!(rt; says(&errors, &expected, Some('f'), 0, 1));
-    let parsed = parse_foo_or_nothing(rt.alloc(), "foo")
-        .ok()
-        .expect(&rt, "the run was refused");
-    assert!(rt; parsed.output() == Some(&true));
-    let parsed = parse_foo_or_nothing(rt.alloc(), "")
-        .ok()
-        .expect(&rt, "the run was refused");
-    assert!(rt; parsed.output() == Some(&false));
-    assert!(rt; parsed.errors().len() == 0);
+    for (text, found) in [("not foo", 'n'), ("fox", 'f')] {
+        for parsed in [
+            parse_foo_or_nothing(rt.alloc(), text),
+            parse_foo_or_nothing_by_check(rt.alloc(), text),
+        ] {
+            let (output, errors) = parsed
+                .ok()
+                .expect(&rt, "the run was refused")
+                .into_output_errors();
+            assert!(rt; output.is_none());
+            assert!(rt; says(&errors, &expected, Some(found), 0, 1));
+        }
+        for checked in [
+            check_foo_or_nothing(rt.alloc(), text),
+            check_foo_or_nothing_by_check(rt.alloc(), text),
+        ] {
+            let (output, errors) = checked
+                .ok()
+                .expect(&rt, "the run was refused")
+                .into_output_errors();
+            assert!(rt; output.is_none());
+            assert!(rt; says(&errors, &expected, Some(found), 0, 1));
+        }
+    }
+    for (text, is_foo) in [("foo", true), ("", false)] {
+        let parsed = parse_foo_or_nothing(rt.alloc(), text)
+            .ok()
+            .expect(&rt, "the run was refused");
+        assert!(rt; parsed.output() == Some(&is_foo));
+        assert!(rt; parsed.errors().len() == 0);
+        let parsed = parse_foo_or_nothing_by_check(rt.alloc(), text)
+            .ok()
+            .expect(&rt, "the run was refused");
+        assert!(rt; parsed.output() == Some(&is_foo));
+    }
 }
 
 /// Whether a run has the error that a closure emits, and then the one that it fails with.
@@ -249,7 +259,19 @@ fn what_an_abandoned_alternative_emits_goes(rt: HostRuntime) {
         .into_output_errors();
     assert!(rt; output.is_none());
     assert!(rt; errors.len() == 2);
+    let (output, errors) = check_emitting_last(rt.alloc(), "aa")
+        .ok()
+        .expect(&rt, "the run was refused")
+        .into_output_errors();
+    assert!(rt; output.is_none());
+    assert!(rt; errors.len() == 2);
     let (output, errors) = parse_emitting_first(rt.alloc(), "aa")
+        .ok()
+        .expect(&rt, "the run was refused")
+        .into_output_errors();
+    assert!(rt; output.is_none());
+    assert!(rt; errors.len() == 1);
+    let (output, errors) = check_emitting_first(rt.alloc(), "aa")
         .ok()
         .expect(&rt, "the run was refused")
         .into_output_errors();
