@@ -75,6 +75,16 @@ pub fn parse_optional(
     .parse(alloc, text)
 }
 
+/// What `check` gives of it.
+pub fn check_optional(alloc: Global, text: &str) -> Result<ParseResult<(), Rich<char>>, Stop> {
+    set((
+        just::<_, _, Errors>("abc").or_not(),
+        just("def").or_not(),
+        just("ijk").or_not(),
+    ))
+    .check(alloc, text)
+}
+
 /// What `parse` gives of a set of one.
 pub fn parse_one(alloc: Global, text: &str) -> Result<ParseResult<(char,), Rich<char>>, Stop> {
     set((just::<_, _, Errors>('a'),)).parse(alloc, text)

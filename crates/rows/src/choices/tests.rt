@@ -123,10 +123,12 @@ fn a_choice_of_none_expects_nothing(rt: HostRuntime) {
         .into_output_errors();
     assert!(rt; output.is_none());
     assert!(rt; says(&errors, &[], None, 0, 0));
-    let (output, errors) = check_of_slice(rt.alloc(), &[], "x")
-        .ok()
-        .expect(&rt, "the run was refused")
-        .into_output_errors();
-    assert!(rt; output.is_none());
-    assert!(rt; says(&errors, &[], None, 0, 0));
+    for text in ["", "x"] {
+        let (output, errors) = check_of_slice(rt.alloc(), &[], text)
+            .ok()
+            .expect(&rt, "the run was refused")
+            .into_output_errors();
+        assert!(rt; output.is_none());
+        assert!(rt; says(&errors, &[], None, 0, 0));
+    }
 }

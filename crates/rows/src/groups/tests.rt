@@ -13,6 +13,10 @@ fn an_array_gives_its_outputs_in_order(rt: HostRuntime) {
         .expect(&rt, "the run was refused");
     let output = parsed.into_output().expect(&rt, "no output");
     assert!(rt; output.as_slice() == ['a', 'b', 'c'].as_slice());
+    let checked = check_of_array(rt.alloc(), [just('a'), just('b'), just('c')], "abc")
+        .ok()
+        .expect(&rt, "the run was refused");
+    assert!(rt; checked.output() == Some(&()));
     let expected = [RichPattern::Token('c')];
     let (output, errors) = parse_of_array(rt.alloc(), [just('a'), just('b'), just('c')], "abd")
         .ok()

@@ -1,10 +1,13 @@
 use super::{
-    check_either_and_abc, check_of_array, check_of_vec, check_three, parse_either_and_abc,
-    parse_four, parse_of_array, parse_of_vec, parse_one, parse_optional, parse_three,
+    Word, check_either_and_abc, check_of_array, check_of_vec, check_optional, check_three,
+    parse_either_and_abc, parse_four, parse_of_array, parse_of_vec, parse_one, parse_optional,
+    parse_three,
 };
 use crate::tests::says;
 use chumsky::error::RichPattern;
 use chumsky::prelude::*;
+use std::alloc::Global;
+use std::process::Abort;
 
 #[test]
 fn parts_come_in_any_order(rt: HostRuntime) {
@@ -47,6 +50,10 @@ fn a_part_that_moved_is_kept(rt: HostRuntime) {
         .ok()
         .expect(&rt, "the run was refused");
     assert!(rt; parsed.output() == Some(&("def", "abc")));
+    let checked = check_either_and_abc(rt.alloc(), "defabc")
+        .ok()
+        .expect(&rt, "the run was refused");
+    assert!(rt; checked.output() == Some(&()));
 }
 
 #[test]
@@ -59,6 +66,13 @@ fn parts_that_may_be_absent_are_none(rt: HostRuntime) {
         .ok()
         .expect(&rt, "the run was refused");
     assert!(rt; parsed.output() == Some(&(None, None, None)));
+    for text in ["ijkabc", ""] {
+        let checked = check_optional(rt.alloc(), text)
+            .ok()
+            .expect(&rt, "the run was refused");
+        assert!(rt; checked.output() == Some(&()));
+        assert!(rt; checked.errors().len() == 0);
+    }
 }
 
 #[test]
@@ -73,21 +87,25 @@ fn each_width_of_a_set_gives_its_outputs_in_order(rt: HostRuntime) {
     assert!(rt; four.output() == Some(&('a', 'b', 'c', 'd')));
 }
 
+/// The words of `parse_three`.
+fn three_words<'src>(alloc: Global, rt: &impl Abort) -> Vec<Word<'src>> {
+    let mut words = Vec::new(alloc);
+    words.push(just("abc")).ok().expect(rt, "want of memory");
+    words.push(just("def")).ok().expect(rt, "want of memory");
+    words.push(just("ijk")).ok().expect(rt, "want of memory");
+    words
+}
+
 #[test]
 fn a_list_of_parts_comes_in_any_order(rt: HostRuntime) {
-    let mut words = Vec::new(rt.alloc());
-    words.push(just("abc")).ok().expect(&rt, "want of memory");
-    words.push(just("def")).ok().expect(&rt, "want of memory");
-    words.push(just("ijk")).ok().expect(&rt, "want of memory");
+    let words = three_words(rt.alloc(), &rt);
     let parsed = parse_of_vec(rt.alloc(), words, "ijkdefabc")
         .ok()
         .expect(&rt, "the run was refused");
     let output = parsed.into_output().expect(&rt, "no output");
     assert!(rt; output.as_slice() == ["abc", "def", "ijk"].as_slice());
-    let mut words = Vec::new(rt.alloc());
-    words.push(just("abc")).ok().expect(&rt, "want of memory");
-    words.push(just("def")).ok().expect(&rt, "want of memory");
-    let checked = check_of_vec(rt.alloc(), words, "defabc")
+    let words = three_words(rt.alloc(), &rt);
+    let checked = check_of_vec(rt.alloc(), words, "ijkdefabc")
         .ok()
         .expect(&rt, "the run was refused");
     assert!(rt; checked.output() == Some(&()));
@@ -96,6 +114,10 @@ fn a_list_of_parts_comes_in_any_order(rt: HostRuntime) {
         .expect(&rt, "the run was refused");
     let output = parsed.into_output().expect(&rt, "no output");
     assert!(rt; output.as_slice() == ['a', 'b'].as_slice());
+    let checked = check_of_array(rt.alloc(), [just('a'), just('b')], "ba")
+        .ok()
+        .expect(&rt, "the run was refused");
+    assert!(rt; checked.output() == Some(&()));
     let expected = [RichPattern::Token('a')];
     let (output, errors) = check_of_array(rt.alloc(), [just('a'), just('b')], "bb")
         .ok()
