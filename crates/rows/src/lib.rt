@@ -52,8 +52,21 @@ pub fn check_nothing(alloc: Global, text: &str) -> Result<ParseResult<(), Rich<c
     just::<_, _, Errors>("").check(alloc, text)
 }
 
-/// What `parse_with_state` gives of `just('é').then(just('x'))`.
+/// What `parse` gives of `just('é').then(just('x'))`.
 pub fn parse_accent_then_x(
+    alloc: Global,
+    text: &str,
+) -> Result<ParseResult<(char, char), Rich<char>>, Stop> {
+    just::<_, _, Errors>('é').then(just('x')).parse(alloc, text)
+}
+
+/// What `check` gives of it.
+pub fn check_accent_then_x(alloc: Global, text: &str) -> Result<ParseResult<(), Rich<char>>, Stop> {
+    just::<_, _, Errors>('é').then(just('x')).check(alloc, text)
+}
+
+/// What `parse_with_state` gives of it.
+pub fn parse_accent_then_x_with_state(
     alloc: Global,
     text: &str,
 ) -> Result<ParseResult<(char, char), Rich<char>>, Stop> {
@@ -64,7 +77,10 @@ pub fn parse_accent_then_x(
 }
 
 /// What `check_with_state` gives of it.
-pub fn check_accent_then_x(alloc: Global, text: &str) -> Result<ParseResult<(), Rich<char>>, Stop> {
+pub fn check_accent_then_x_with_state(
+    alloc: Global,
+    text: &str,
+) -> Result<ParseResult<(), Rich<char>>, Stop> {
     let mut state = ();
     just::<_, _, Errors>('é')
         .then(just('x'))

@@ -124,3 +124,75 @@ pub fn parse_one_and_two(
 pub fn check_one_and_two(alloc: Global, bytes: &[u8]) -> Result<ParseResult<(), Rich<u8>>, Stop> {
     just::<_, _, ByteErrors>([1u8, 2]).check(alloc, bytes)
 }
+
+/// What `parse` gives of `just` over a `Vec`.
+pub fn parse_all_members(
+    alloc: Global,
+    members: Vec<u8>,
+    bytes: &[u8],
+) -> Result<ParseResult<Vec<u8>, Rich<u8>>, Stop> {
+    just::<_, _, ByteErrors>(members).parse(alloc, bytes)
+}
+
+/// What `check` gives of it.
+pub fn check_all_members(
+    alloc: Global,
+    members: Vec<u8>,
+    bytes: &[u8],
+) -> Result<ParseResult<(), Rich<u8>>, Stop> {
+    just::<_, _, ByteErrors>(members).check(alloc, bytes)
+}
+
+/// What `parse` gives of `just` over a slice.
+pub fn parse_slice<'a>(
+    alloc: Global,
+    members: &'a [u8],
+    bytes: &[u8],
+) -> Result<ParseResult<&'a [u8], Rich<u8>>, Stop> {
+    just::<_, _, ByteErrors>(members).parse(alloc, bytes)
+}
+
+/// What `check` gives of it.
+pub fn check_slice(
+    alloc: Global,
+    members: &[u8],
+    bytes: &[u8],
+) -> Result<ParseResult<(), Rich<u8>>, Stop> {
+    just::<_, _, ByteErrors>(members).check(alloc, bytes)
+}
+
+/// What `parse` gives of `one_of` over a slice.
+pub fn parse_one_of_slice(
+    alloc: Global,
+    members: &[u8],
+    bytes: &[u8],
+) -> Result<ParseResult<u8, Rich<u8>>, Stop> {
+    one_of::<_, _, ByteErrors>(members).parse(alloc, bytes)
+}
+
+/// What `check` gives of it.
+pub fn check_one_of_slice(
+    alloc: Global,
+    members: &[u8],
+    bytes: &[u8],
+) -> Result<ParseResult<(), Rich<u8>>, Stop> {
+    one_of::<_, _, ByteErrors>(members).check(alloc, bytes)
+}
+
+/// What `parse` gives of `just` over a `String`.
+pub fn parse_all_letters(
+    alloc: Global,
+    letters: String,
+    text: &str,
+) -> Result<ParseResult<String, Rich<char>>, Stop> {
+    just::<_, _, Errors>(letters).parse(alloc, text)
+}
+
+/// What `check` gives of it.
+pub fn check_all_letters(
+    alloc: Global,
+    letters: String,
+    text: &str,
+) -> Result<ParseResult<(), Rich<char>>, Stop> {
+    just::<_, _, Errors>(letters).check(alloc, text)
+}

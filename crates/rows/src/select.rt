@@ -23,6 +23,18 @@ pub fn check_a_or_b(alloc: Global, text: &str) -> Result<ParseResult<(), Rich<ch
     one_or_two.check(alloc, text)
 }
 
+/// What `parse` gives of an `a`, which both arms fit, or of a `b`.
+pub fn parse_a_or_below_c(alloc: Global, text: &str) -> Result<ParseResult<u32, Rich<char>>, Stop> {
+    let one_or_two: Select<_, &str, u32, Errors> = select! { 'a' => 1, c if c < 'c' => 2 };
+    one_or_two.parse(alloc, text)
+}
+
+/// What `check` gives of it.
+pub fn check_a_or_below_c(alloc: Global, text: &str) -> Result<ParseResult<(), Rich<char>>, Stop> {
+    let one_or_two: Select<_, &str, u32, Errors> = select! { 'a' => 1, c if c < 'c' => 2 };
+    one_or_two.check(alloc, text)
+}
+
 /// What `parse` gives of an `x`, and then the span of a character that is no `a`.
 pub fn parse_span_past_x(
     alloc: Global,
@@ -284,6 +296,20 @@ mod tests {
                 .expect(&rt, "the run was refused");
             assert!(rt; checked.output().is_some());
             assert!(rt; checked.errors().len() == 0);
+        }
+    }
+
+    #[test]
+    fn of_two_arms_that_fit_the_first_stands(rt: HostRuntime) {
+        for (text, number) in [("a", 1), ("b", 2)] {
+            let parsed = parse_a_or_below_c(rt.alloc(), text)
+                .ok()
+                .expect(&rt, "the run was refused");
+            assert!(rt; parsed.output() == Some(&number));
+            let checked = check_a_or_below_c(rt.alloc(), text)
+                .ok()
+                .expect(&rt, "the run was refused");
+            assert!(rt; checked.output() == Some(&()));
         }
     }
 

@@ -1,6 +1,7 @@
 use crate::{
-    check_ab_or_ac, check_accent_then_x, check_any_mapped, check_nothing, check_two_tokens,
-    parse_ab_or_ac, parse_accent_then_x, parse_any_mapped, parse_nothing,
+    check_ab_or_ac, check_accent_then_x, check_accent_then_x_with_state, check_any_mapped,
+    check_nothing, check_two_tokens, parse_ab_or_ac, parse_accent_then_x,
+    parse_accent_then_x_with_state, parse_any_mapped, parse_nothing,
 };
 use chumsky::error::RichPattern;
 use chumsky::prelude::*;
@@ -85,19 +86,31 @@ fn an_empty_sequence_takes_nothing(rt: HostRuntime) {
 #[test]
 fn offsets_count_bytes(rt: HostRuntime) {
     let expected = [RichPattern::Token('x')];
-    let (output, errors) = parse_accent_then_x(rt.alloc(), "éy")
-        .ok()
-        .expect(&rt, "the run was refused")
-        .into_output_errors();
-    assert!(rt; output.is_none());
-    assert!(rt; says(&errors, &expected, Some('y'), 2, 3));
-    let (output, errors) = check_accent_then_x(rt.alloc(), "éy")
-        .ok()
-        .expect(&rt, "the run was refused")
-        .into_output_errors();
-    assert!(rt; output.is_none());
-    assert!(rt; says(&errors, &expected, Some('y'), 2, 3));
-    let (output, errors) = parse_accent_then_x(rt.alloc(), "éx")
+    for with_state in [false, true] {
+        let parsed = if with_state {
+            parse_accent_then_x_with_state(rt.alloc(), "éy")
+        } else {
+            parse_accent_then_x(rt.alloc(), "éy")
+        };
+        let (output, errors) = parsed
+            .ok()
+            .expect(&rt, "the run was refused")
+            .into_output_errors();
+        assert!(rt; output.is_none());
+        assert!(rt; says(&errors, &expected, Some('y'), 2, 3));
+        let checked = if with_state {
+            check_accent_then_x_with_state(rt.alloc(), "éy")
+        } else {
+            check_accent_then_x(rt.alloc(), "éy")
+        };
+        let (output, errors) = checked
+            .ok()
+            .expect(&rt, "the run was refused")
+            .into_output_errors();
+        assert!(rt; output.is_none());
+        assert!(rt; says(&errors, &expected, Some('y'), 2, 3));
+    }
+    let (output, errors) = parse_accent_then_x_with_state(rt.alloc(), "éx")
         .ok()
         .expect(&rt, "the run was refused")
         .into_output_errors();
