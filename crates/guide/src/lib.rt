@@ -1,4 +1,4 @@
-//! The items that docs/GUIDE.md shows, as they stand there.
+//! The items that docs/GUIDE.md shows, and the parser that README.md begins with, as they stand there.
 #![tactic(auto)]
 
 pub mod closure;
@@ -7,6 +7,7 @@ pub mod extras;
 pub mod handed;
 pub mod own_type;
 pub mod picking;
+pub mod readme;
 pub mod running;
 #[cfg(test)]
 mod tests;
