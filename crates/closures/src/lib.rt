@@ -6,6 +6,7 @@ use chumsky::prelude::*;
 use chumsky::{Failure, Stop};
 use std::alloc::Global;
 
+pub mod calls;
 #[cfg(test)]
 mod tests;
 

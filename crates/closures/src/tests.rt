@@ -11,7 +11,7 @@ use chumsky::error::RichPattern;
 use chumsky::prelude::*;
 
 /// Whether the one error of a run says just this.
-fn says(
+pub(crate) fn says(
     errors: &[Rich<char>],
     expected: &[RichPattern<char>],
     found: Option<char>,
