@@ -5,6 +5,7 @@ pub mod closure;
 pub mod conclusion;
 pub mod extras;
 pub mod handed;
+pub mod laws;
 pub mod own_type;
 pub mod picking;
 pub mod readme;

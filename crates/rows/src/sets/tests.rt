@@ -1,13 +1,11 @@
 use super::{
-    Word, check_either_and_abc, check_of_array, check_of_vec, check_optional, check_three,
+    check_either_and_abc, check_of_array, check_of_vec, check_optional, check_three,
     parse_either_and_abc, parse_four, parse_of_array, parse_of_vec, parse_one, parse_optional,
     parse_three,
 };
 use crate::tests::says;
 use chumsky::error::RichPattern;
 use chumsky::prelude::*;
-use std::alloc::Global;
-use std::process::Abort;
 
 #[test]
 fn parts_come_in_any_order(rt: HostRuntime) {
@@ -87,24 +85,21 @@ fn each_width_of_a_set_gives_its_outputs_in_order(rt: HostRuntime) {
     assert!(rt; four.output() == Some(&('a', 'b', 'c', 'd')));
 }
 
-/// The words of `parse_three`.
-fn three_words<'src>(alloc: Global, rt: &impl Abort) -> Vec<Word<'src>> {
-    let mut words = Vec::new(alloc);
-    words.push(just("abc")).ok().expect(rt, "want of memory");
-    words.push(just("def")).ok().expect(rt, "want of memory");
-    words.push(just("ijk")).ok().expect(rt, "want of memory");
-    words
-}
-
 #[test]
 fn a_list_of_parts_comes_in_any_order(rt: HostRuntime) {
-    let words = three_words(rt.alloc(), &rt);
+    let mut words = Vec::new(rt.alloc());
+    words.push(just("abc")).ok().expect(&rt, "want of memory");
+    words.push(just("def")).ok().expect(&rt, "want of memory");
+    words.push(just("ijk")).ok().expect(&rt, "want of memory");
     let parsed = parse_of_vec(rt.alloc(), words, "ijkdefabc")
         .ok()
         .expect(&rt, "the run was refused");
     let output = parsed.into_output().expect(&rt, "no output");
     assert!(rt; output.as_slice() == ["abc", "def", "ijk"].as_slice());
-    let words = three_words(rt.alloc(), &rt);
+    let mut words = Vec::new(rt.alloc());
+    words.push(just("abc")).ok().expect(&rt, "want of memory");
+    words.push(just("def")).ok().expect(&rt, "want of memory");
+    words.push(just("ijk")).ok().expect(&rt, "want of memory");
     let checked = check_of_vec(rt.alloc(), words, "ijkdefabc")
         .ok()
         .expect(&rt, "the run was refused");
