@@ -1,20 +1,23 @@
-//! A law called at a parser.
-use chumsky::combinator::IgnoreThen;
+//! A law called at parsers.
+ghost use Rattle.chumsky_combinator.specs.Compared.{AgreesAs};
+
+use chumsky::combinator::{IgnoreThen, Then};
 use chumsky::extra::ParserExtra;
 use chumsky::input::ValueInput;
-use chumsky::laws::{any_is_steady, ignore_then_is_steady};
+use chumsky::laws::{any_is_steady, ignore_then_agrees_with_then};
 use chumsky::prelude::*;
 use chumsky::primitive::Any;
 
-/// A token, and then another parser. It is steady where the other is: `any` always is, and `ignore_then` where both of
-/// its parts are.
-pub fn past_any<'src, I: ValueInput<'src>, O, E: ParserExtra<I>, A: Parser<'src, I, O, E>>(
-    parser: &IgnoreThen<Any<I, E>, A, I::Token>,
+/// A token past what a steady parser takes. Where both answer, `then` gives a pair and `ignore_then` the token, the second
+/// of it, and they agree in all else. That is their law at a parser and `any`, which is steady too.
+pub fn token_past<'src, I: ValueInput<'src>, O: Drop, E: ParserExtra<I>, A: Parser<'src, I, O, E>>(
+    first: &A,
+    second: &Any<I, E>,
 )
-    ensures { A.steady parser.now.second → ⟦<IgnoreThen<Any<I, E>, A, I::Token> as Parser<'src, I, O, E>>⟧.steady parser.now }
+    ensures { A.steady first.now → AgreesAs (λ p. p.1) (⟦<Any<I, E> as Parser<'src, I, I::Token, E>>⟧.same second.now) (⟦<Then<A, Any<I, E>, O, I::Token> as Parser<'src, I, (O, I::Token), E>>⟧.meaning (record { first = first.now; second = second.now; of = record {} }) E.Error.Error E.State.Inspector) (⟦<IgnoreThen<A, Any<I, E>, O> as Parser<'src, I, I::Token, E>>⟧.meaning (record { first = first.now; second = second.now; of = record {} }) E.Error.Error E.State.Inspector) }
 {
-    any_is_steady(&parser.first);
-    ignore_then_is_steady(parser);
+    any_is_steady(second);
+    ignore_then_agrees_with_then(first, second);
 }
 
 #[cfg(test)]
@@ -27,7 +30,7 @@ mod tests {
     fn laws_are_called_at_parsers(rt: HostRuntime) {
         let parser = any::<&str, extra::Err<EmptyErr>>().ignore_then(just('é'));
         just_is_steady(&parser.second);
-        past_any(&parser);
+        token_past(&parser, &any());
         or_not_never_says_no(&parser);
         then_is_associative(&parser, &any(), &parser);
         end_is_steady::<&str, extra::Err<EmptyErr>>(&end(), &empty());
