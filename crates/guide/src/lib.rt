@@ -1,4 +1,5 @@
-//! The items that docs/GUIDE.md shows, and the parser that README.md begins with, as they stand there.
+//! The items that docs/GUIDE.md shows, and the parser that README.md begins with, as they stand there; and a law called at
+//! parsers.
 #![tactic(auto)]
 
 pub mod closure;
