@@ -27,6 +27,7 @@ module _ {Tok Cx V St : Type 0} where
   begun_under v b = record { wanted = b.wanted; tokens = b.tokens; start = b.start; context = v; state = b.state }
 
 module _ {Tok Cx St Er V W : Type 0} where
+  -- the part with the value as its context, where there is one
   abbrev pub RunsUnder : Meaning Tok V St Er W → Option V → Meaning Tok Cx St Er W
   RunsUnder part (Some v) b o = part (begun_under v b) o
   RunsUnder part None b o = ⊥
