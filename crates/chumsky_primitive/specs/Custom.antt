@@ -51,7 +51,7 @@ module _ {V Er St : Type 0} where
   OrLacksMemory whole o = (o ≡ whole) ⊎ (ClashesAmong whole o ⊎ Refuses (whole.emitted ≡ [] → ⊥) whole.state o)
 
 module _ {I X Tok Sp Cu Er St Cx Mk V F : Type 0} (source : input_trait.Ghosts I Cu Tok Sp) (errors : error_trait.Ghosts Er I Tok Sp) (states : inspector_trait.Ghosts St I Mk Tok Sp) (g : Shared F (MutBor (InputRef I X Cu Tok Sp Er St Cx Mk) × Unit {0}) (Result V (Failure Er) × (MutBor (InputRef I X Cu Tok Sp Er St Cx Mk) × Unit {0}))) where
-  -- the closure may be called on any input; after a value and after an error it stands where it began or further on, in the same tokens, under the same context, with no fewer emitted errors; and it keeps the lent state
+  -- the closure may be called on any input; after a value and after an error it stands where it began or further on, in the same tokens, under the same context, with the older emitted errors before any new ones; and it keeps the lent state
   pub record MayRun (f : F) : Type 0 where
     pub may : (p : MutBor (InputRef I X Cu Tok Sp Er St Cx Mk)) → g.pre f (p, tt)
     pub keeps : (p left : MutBor (InputRef I X Cu Tok Sp Er St Cx Mk)) (r : Result V (Failure Er)) → g.post f (p, tt) (r, (left, tt)) → GoesForward r (held source errors states p.now) (held source errors states left.now) × (left.now.state.ghost_name ≡ p.now.state.ghost_name)
