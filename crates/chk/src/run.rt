@@ -1,7 +1,8 @@
 //! One run of the program, over any input and any outputs.
-ghost use Rattle.std.specs.Prelude.{◌≡◌, ◌⊎◌, [], ◌∷◌, ◌++◌, codes, OnOk, IfSome, IfOk};
+ghost use Rattle.std.specs.Prelude.{◌≡◌, ◌⊎◌, [], ◌∷◌, ◌++◌, codes, OnOk, IfSome, IfOk, IfErr};
 ghost use Rattle.std.specs.Io.KnownBytes.{Appends};
 ghost use Rattle.chk.specs.Show.{stop_text};
+ghost use Rattle.chk.specs.declared.run.Failure.TheVariants.{Refused, Unwritable};
 
 use crate::ab::{check_ab, parse_ab};
 use crate::show::{ErrorLine, stop_name};
@@ -43,6 +44,8 @@ enum Failure {
 }
 
 impl From<Stop> for Failure {
+    ghost from_gives = { λ stop failure. failure ≡ Refused stop };
+
     fn from(stop: Stop) -> Failure {
         Failure::Refused(stop)
     }
@@ -178,6 +181,7 @@ fn report<'a, O, W: Write>(
 fn accept<D: Display + Drop, W: Write>(out: &mut W, line: D) -> Result<u8, Failure>
     ensures status { IfOk result (λ status. status ≡ ACCEPTED) }
     ensures printed { OnOk result (IfSome (D.output line) (λ text. Appends (W.contents out.old) (W.contents out.new) (text ++ 10 ∷ []))) }
+    ensures unwritten { IfErr result (λ why. why ≡ Unwritable) }
 {
     print(out, line)?;
     Ok(ACCEPTED)
@@ -185,7 +189,8 @@ fn accept<D: Display + Drop, W: Write>(out: &mut W, line: D) -> Result<u8, Failu
 
 /// Prints a line.
 fn print<D: Display + Drop, W: Write>(out: &mut W, line: D) -> Result<(), Failure>
-    ensures { OnOk result (IfSome (D.output line) (λ text. Appends (W.contents out.old) (W.contents out.new) (text ++ 10 ∷ []))) }
+    ensures printed { OnOk result (IfSome (D.output line) (λ text. Appends (W.contents out.old) (W.contents out.new) (text ++ 10 ∷ []))) }
+    ensures unwritten { IfErr result (λ why. why ≡ Unwritable) }
 {
     writeln!(out, "{line}").map_err(|_| Failure::Unwritable)
 }

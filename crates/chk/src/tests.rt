@@ -113,6 +113,8 @@ fn checks(rt: HostRuntime) -> Result<(), Fail> {
         ("ab", 0, "ok\n"),
         ("ac", 1, "error 1..2 expected 'b' found 'c'\n"),
         ("", 1, "error 0..0 expected 'a', 'b' found end\n"),
+        ("abc", 1, "error 2..3 expected end of input found 'c'\n"),
+        ("b", 1, "error 1..1 expected any found end\n"),
     ];
     for (text, status, line) in rows {
         let got = run_on(rt.alloc(), &["check", "ab"], text.as_bytes())?;
@@ -252,5 +254,34 @@ fn a_message_that_cannot_be_written_changes_nothing(rt: HostRuntime) -> Result<(
         assert_eq!(rt; status, 2);
         assert_eq!(rt; out.len(), 0);
     }
+    Ok(())
+}
+
+/// Whether a run whose message is cut short after its first write answers as if it were whole.
+fn stands_cut_short<R: Read>(
+    alloc: Global,
+    name: &str,
+    input: &mut R,
+    message: &str,
+) -> Result<bool, AllocError> {
+    let words = owned(alloc, &["parse", name])?;
+    let mut out = Vec::new(alloc);
+    let kept = Vec::new(alloc);
+    let mut err = Brittle { writes: 1, kept };
+    let status = run(alloc, words.as_slice(), input, &mut out, &mut err);
+    let kept = err.kept.as_slice();
+    let cut_short = !kept.is_empty() && kept.len() < message.len();
+    Ok(status == 2 && out.is_empty() && cut_short && message.as_bytes().starts_with(kept))
+}
+
+#[test]
+fn a_message_that_is_cut_short_changes_nothing(rt: HostRuntime) -> Result<(), Fail> {
+    let alloc = rt.alloc();
+    let usage = "usage: chk parse|check NAME\n";
+    assert!(rt; stands_cut_short(alloc, "no", &mut b"ab".as_slice(), usage)?);
+    let wrong = "input is not UTF-8\n";
+    assert!(rt; stands_cut_short(alloc, "ab", &mut b"\xff".as_slice(), wrong)?);
+    let mut torn = Torn { given: false };
+    assert!(rt; stands_cut_short(alloc, "ab", &mut torn, "cannot read input\n")?);
     Ok(())
 }
