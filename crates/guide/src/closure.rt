@@ -18,3 +18,18 @@ pub fn foo_or_nothing(alloc: Global, text: &str) -> Result<ParseResult<bool, Ric
     })
     .parse(alloc, text)
 }
+
+/// A day of the week, by its number from 1 to 7.
+pub fn day(alloc: Global, text: &str) -> Result<ParseResult<char, Rich<char>>, Stop> {
+    custom::<_, &str, char, extra::Err<Rich<char>>>(|inp| {
+        let before = inp.cursor();
+        match inp.next()? {
+            Some(number) if matches!(number, '1'..='7') => Ok(number),
+            _ => {
+                let message = String::from_str(inp.alloc(), "no such day")?;
+                Err(Failure::Error(Rich::custom(inp.span_since(&before), message)))
+            }
+        }
+    })
+    .parse(alloc, text)
+}

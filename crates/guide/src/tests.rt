@@ -1,5 +1,5 @@
 //! The items run as docs/GUIDE.md says.
-use crate::closure::foo_or_nothing;
+use crate::closure::{day, foo_or_nothing};
 use crate::conclusion::two;
 use crate::extras::Plain;
 use crate::handed::each;
@@ -85,4 +85,27 @@ fn a_parser_is_handed_in(rt: HostRuntime) {
     assert!(rt; parsed.errors().len() == 0);
     assert!(rt; checked.output().is_none());
     assert!(rt; checked.errors().len() == 1);
+}
+
+#[test]
+fn an_error_has_a_message_of_its_own(rt: HostRuntime) {
+    let parsed = day(rt.alloc(), "7").ok().expect(&rt, "the run was refused");
+    assert!(rt; parsed.output() == Some(&'7'));
+    assert!(rt; parsed.errors().len() == 0);
+    for (text, end) in [("8", 1), ("é", 2), ("", 0)] {
+        let (output, errors) = day(rt.alloc(), text)
+            .ok()
+            .expect(&rt, "the run was refused")
+            .into_output_errors();
+        assert!(rt; output.is_none());
+        match errors.as_slice() {
+            [error] => {
+                assert!(rt; error.reason() == Some("no such day"));
+                assert!(rt; *error.span() == SimpleSpan { start: 0, end });
+                assert!(rt; error.found().is_none());
+                assert!(rt; error.expected().as_slice().is_empty());
+            }
+            _ => assert!(rt; false),
+        }
+    }
 }
