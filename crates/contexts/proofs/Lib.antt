@@ -1,1 +1,2 @@
 pub mod UnderLemmas
+pub mod WithinLemmas

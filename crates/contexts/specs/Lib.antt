@@ -1,2 +1,4 @@
 pub mod Under
 pub mod UnderLaws
+pub mod Within
+pub mod WithinLaws

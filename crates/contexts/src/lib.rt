@@ -1,4 +1,4 @@
-//! A parser type of one's own that runs one part under the output of another as its context.
+//! Parser types of one's own: one runs one part under the output of another as its context, one over it as its input.
 #![tactic(auto)]
 
 pub mod steady;
@@ -6,3 +6,5 @@ pub mod steady;
 mod tests;
 pub mod under;
 pub mod under_output;
+pub mod within;
+pub mod within_output;

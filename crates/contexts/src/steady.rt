@@ -1,12 +1,18 @@
-//! That a part under the output of another is steady, each the contract of a function that does nothing.
+//! That a part under the output of another is steady, and one within it, each the contract of a function that does
+//! nothing.
 ghost use Rattle.contexts.specs.Under.{SameAreEqual};
+ghost use Rattle.contexts.specs.Within.{SameCount};
 
 use crate::under_output::UnderOutput;
+use crate::within_output::WithinOutput;
 use chumsky::Parser;
-use chumsky::error::EmptyErr;
+use chumsky::error::{Cheap, EmptyErr, Error};
 use chumsky::extra::{Err, Full, ParserExtra};
 use chumsky::input::Input;
+use chumsky::inspector::Inspector;
 use chumsky::primitive::Any;
+use chumsky::span::SimpleSpan;
+use chumsky_input::input::TextCursor;
 
 /// It is steady where both parts are, and outputs of the first that are the same are equal.
 pub fn under_output_is_steady<'src, I, O, U, E, A, B>(parser: &UnderOutput<A, B, O>)
@@ -29,4 +35,41 @@ pub fn any_under_any_is_steady<'src>(
     >,
 )
     ensures { ⟦<UnderOutput<Any<&'src str, Err<EmptyErr>>, Any<&'src str, Full<EmptyErr, (), char>>, char> as Parser<'src, &'src str, char, Err<EmptyErr>>>⟧.steady parser.now }
+{}
+
+/// A parser within the output of another is steady where both are, errors and states that count as the same over one
+/// of the inputs do over the other, and outputs of the outer parser that are the same have the same tokens.
+pub fn within_output_is_steady<'src, I, J, U, E, A, B, C, T, S, M>(
+    parser: &WithinOutput<A, B, J, C, T, S, M>,
+)
+where
+    I: Input<'src>,
+    I::Token: 'src,
+    J: Input<'src, Cursor = C, Token = T, Span = S>,
+    C: Copy,
+    T: Drop + 'src,
+    S: Drop,
+    U: Drop,
+    E: ParserExtra<I>,
+    E::Error: Error<J>,
+    E::State: Inspector<J, Mark = M>,
+    M: Drop,
+    A: Parser<'src, J, U, Full<E::Error, E::State, E::Context>>,
+    B: Parser<'src, I, J, E>,
+    ensures { A.steady parser.now.inner → B.steady parser.now.outer → SameCount J.Input ⟦<E::Error as Error<J>>⟧ ⟦<E::State as Inspector<J>>⟧ ⟦<E::Error as Error<I>>⟧ ⟦<E::State as Inspector<I>>⟧ (B.same parser.now.outer) → ⟦<WithinOutput<A, B, J, C, T, S, M> as Parser<'src, I, U, E>>⟧.steady parser.now }
+{}
+
+/// Texts that are tokens are such outputs of `any()`, with an error that says where it stands.
+pub fn any_within_any_is_steady<'src>(
+    parser: &WithinOutput<
+        Any<&'src str, Err<Cheap>>,
+        Any<&'src [&'src str], Err<Cheap>>,
+        &'src str,
+        TextCursor<'src>,
+        char,
+        SimpleSpan,
+        (),
+    >,
+)
+    ensures { ⟦<WithinOutput<Any<&'src str, Err<Cheap>>, Any<&'src [&'src str], Err<Cheap>>, &'src str, TextCursor<'src>, char, SimpleSpan, ()> as Parser<'src, &'src [&'src str], char, Err<Cheap>>>⟧.steady parser.now }
 {}
