@@ -71,6 +71,7 @@ pub mod primitive {
     pub use chumsky_primitive::one_of::OneOf;
     pub use chumsky_primitive::select::Select;
     pub use chumsky_primitive::select_ref::SelectRef;
+    pub use chumsky_set::array::Slots;
     pub use chumsky_set::make::set;
     pub use chumsky_set::set::Set;
 }

@@ -1,8 +1,7 @@
 -- Sets of a list of parsers.
 use Rattle.std.specs.contracts.option.Option as option
-use Rattle.std.specs.Prelude.{◌≡◌, ℕ, ◌<◌, ◌^◌, Bool, true, false, Option, Some, None, List, [], ◌∷◌, ◌⊎◌, ⊤, length, map}
-use Rattle.std.specs.Borrow.{RattleType}
-use Rattle.std.specs.Ptr.{array_size}
+use Rattle.std.specs.Prelude.{◌≡◌, ℕ, ◌<◌, Bool, true, false, Option, Some, None, List, [], ◌∷◌, ◌⊎◌, ⊤, length, map}
+use Rattle.std.specs.Borrow.{RattleType, Array}
 use Rattle.chumsky_input.specs.Outcome.{Meaning, Beginning, Outcome}
 use Rattle.chumsky_parser.specs.Chained.{Chained, Given, Asked}
 use Rattle.chumsky_parser.specs.Failure.{Refuses}
@@ -34,9 +33,9 @@ module _ {X Tok Cx St Mk Er V W : Type 0} (mark : St → Mk) (back : St → Mk �
   WithinEach parts n m = (b : Beginning Tok Cx St) (o : Outcome W Er St) → m b o
       → Refuses (length parts ≡ 0 → ⊥) b.state o ⊎ (rounds : List (List (Slot V))) × (length rounds < n) × Chained (Rounds (each_part mark back safe meaning parts) rounds (map (λ _. None) parts)) (FormedAs items) b o
 
--- so many slots of a type of values fit in memory
-abbrev pub SlotsFit : RattleType → ℕ → Type 0
-SlotsFit R n = array_size (option.the_row R) n < 2 ^ 63
+-- the type of so many slots for values of a type
+abbrev pub slots_row : RattleType → ℕ → RattleType
+slots_row R n = Array (option.the_row R) n
 
 -- the value, where one is wanted
 abbrev pub only : {V : Type 0} → Bool → Option V → Option V

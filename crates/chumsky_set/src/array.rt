@@ -1,9 +1,10 @@
 //! Sets of an array of parsers, whose values stand in an array.
 ghost use Rattle.std.specs.Prelude.{◌≡◌, ◌≤◌, true, false, Some, length, map};
 ghost use Rattle.std.specs.List.{All};
+ghost use Rattle.std.specs.Mem.{FitsInMemory};
 ghost use Rattle.chumsky_input.specs.Held.{held};
 ghost use Rattle.chumsky_input.specs.Run.{Ran, without_value};
-ghost use Rattle.chumsky_set.specs.Lists.{each_stored};
+ghost use Rattle.chumsky_set.specs.Lists.{each_stored, slots_row};
 ghost use Rattle.chumsky_set.specs.Passes.{shown_by, slot_of};
 
 use crate::each::round_each;
@@ -16,6 +17,24 @@ use chumsky_input::input::Input;
 use chumsky_input::input_ref::InputRef;
 use chumsky_input::stop::PResult;
 use chumsky_parser::parser::{IsParser, Parser};
+use std::marker::PhantomData;
+
+/// The slots of a set over an array, one optional output for each of its parsers, fit in memory.
+///
+/// This holds for every array whose size is known, and is then found by the check. A function that runs such a set and is
+/// generic in `N` or `O` can't know the size, and names `[Option<O>; N]: Slots` as a bound.
+pub trait Slots: Sized {
+    /// They fit in memory: they take less than 2 to the 63 bytes. At run time it does nothing.
+    fn fit(slots: PhantomData<Self>)
+        ensures { FitsInMemory Self.row };
+}
+
+impl<O, const N: usize> Slots for [Option<O>; N] {
+    #[inline]
+    fn fit(_slots: PhantomData<[Option<O>; N]>)
+        ensures { FitsInMemory (slots_row O.row N) }
+    {}
+}
 
 /// The last pass over some parts, for their values.
 #[inline]
@@ -77,11 +96,14 @@ impl<
     E: ParserExtra<I>,
     P: Parser<'src, I, O, E>,
     const N: usize,
-> Parser<'src, I, ArrayVec<O, N>, E> for Set<[P; N]> {
-    ghost use Rattle.chumsky_set.specs.Lists.{Each, SetStored, SlotsFit};
+> Parser<'src, I, ArrayVec<O, N>, E> for Set<[P; N]>
+where
+    [Option<O>; N]: Slots,
+{
+    ghost use Rattle.chumsky_set.specs.Lists.{Each, SetStored};
     ghost use Rattle.chumsky_set.specs.ListsLaws.{set_stored-ends, set_stored-agrees};
 
-    ghost ready = { λ p. All P.ready p.parsers × SlotsFit O.row N };
+    ghost ready = { λ p. All P.ready p.parsers };
 
     ghost meaning = { λ p errors states. SetStored states.mark states.back states.takes_no_memory (λ x. P.meaning x errors states) (λ v. v.items) p.parsers };
 
@@ -95,6 +117,7 @@ impl<
 
     #[inline]
     fn go_emit(&self, inp: &mut InputRef<'src, '_, I, E>) -> PResult<ArrayVec<O, N>> {
+        <[Option<O>; N] as Slots>::fit(PhantomData);
         let parts = slice_of(&self.parsers);
         let mut slots: [Option<O>; N] = Default::default();
         'rounds: loop {
@@ -108,6 +131,7 @@ impl<
 
     #[inline]
     fn go_check(&self, inp: &mut InputRef<'src, '_, I, E>) -> PResult<()> {
+        <[Option<O>; N] as Slots>::fit(PhantomData);
         let parts = slice_of(&self.parsers);
         let mut slots: [Option<O>; N] = Default::default();
         'rounds: loop {

@@ -1,7 +1,7 @@
 //! Parsers in any order.
 #![tactic(auto)]
 
-mod array;
+pub mod array;
 mod each;
 pub mod laws;
 mod list;

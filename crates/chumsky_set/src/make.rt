@@ -19,9 +19,9 @@ use crate::set::Set;
 ///
 /// What is taken stands in slots. A `Vec` asks for memory for them; an array doesn't, since its slots are an
 /// `[Option<O>; N]` of the call's own. Its parsers run for their outputs in `check` too, which drops them. A set of an
-/// array is ready where its parsers are and such an array takes less than 2 to the 63 bytes, as it does in each
-/// program that compiles: where `O` and `N` are known the check finds it by itself, and a function that is generic in
-/// them asks for it, as `requires { SlotsFit O.row N }`.
+/// array has the bound `[Option<O>; N]: Slots`: such an array fits in memory, as it does in each program that compiles.
+/// Where `O` and `N` are known the check finds it by itself; a function that runs the set and is generic in one of them
+/// names it as a bound.
 #[inline]
 pub fn set<T>(parsers: T) -> Set<T>
     ensures { result.parsers ≡ parsers }
