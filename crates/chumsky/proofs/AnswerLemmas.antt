@@ -119,7 +119,7 @@ module _ {I Tok Sp Cu Er St V W : Type 0} (source : input_trait.Ghosts I Cu Tok 
 
 module _ {I Tok Sp Cu Er St Mk Cx V W : Type 0} (source : input_trait.Ghosts I Cu Tok Sp) (errors : error_trait.Ghosts Er I Tok Sp) (states : inspector_trait.Ghosts St I Mk Tok Sp) (gives : W → Option V) (ts : List Tok) (before mid after : Held Tok Cx states.Seen errors.Seen) where
   pub parses : {is_default : Cx → Type 0} {steady : Type 0} {same : V → V → Type 0} {meaning : Meaning Tok Cx states.Seen errors.Seen V} {wanted : Bool} {context : Cx} {old new : states.Seen} (a : Result W Fault) {x : Result (Option V) Fault} (s : Result (Option W) Stop) {r : Result (ParseResult W Er) Stop}
-      → before ≡ record { tokens = ts; place = 0; context = context; state = old; kept = None; emitted = [] } → is_default context
+      → before ≡ record { tokens = ts; place = 0; context = context; state = old; kept = None; emitted = []; stopped = false } → is_default context
       → Ran errors.merged errors.takes_no_memory meaning wanted before mid x → x ≡ told gives a → SettlesAs errors.expectation source.span_between a mid after s → new ≡ after.state
       → Replies source errors states gives ts before mid after s r → (steady → Agreeing same meaning meaning)
       → Parses source errors states is_default steady same gives meaning wanted ts old new r

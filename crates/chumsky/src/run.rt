@@ -89,13 +89,9 @@ where
     let answer = whole_emit(parser, &mut inp);
     let output = settle(&mut inp, answer);
     let InputRef {
-        cursor: _,
         state: last,
-        context: _,
-        kept: _,
         emitted,
-        alloc: _,
-        source: _,
+        ..
     } = inp;
     let _last = &*last;
     match output {
@@ -131,13 +127,9 @@ where
     let answer = whole_check(parser, &mut inp);
     let output = settle(&mut inp, answer);
     let InputRef {
-        cursor: _,
         state: last,
-        context: _,
-        kept: _,
         emitted,
-        alloc: _,
-        source: _,
+        ..
     } = inp;
     let _last = &*last;
     match output {

@@ -1,5 +1,5 @@
 -- What a run sets aside and brings back, and where a closure that is lent one may leave it.
-use Rattle.std.specs.Prelude.{◌≡◌, ℕ, ◌≤◌, ◌++◌, length, take, [], None, Some, Option, List, Result, Ok, Err, option_to_list, ⊤}
+use Rattle.std.specs.Prelude.{◌≡◌, ℕ, true, ◌≤◌, ◌++◌, length, take, [], None, Some, Option, List, Result, Ok, Err, option_to_list, ⊤}
 use Rattle.chumsky_input.specs.declared.stop.Stop.TheVariants.{Memory}
 use Rattle.chumsky_input.specs.declared.stop.Failure.{Failure}
 use Rattle.chumsky_input.specs.declared.stop.Failure.TheVariants as failure
@@ -13,12 +13,13 @@ failure_seen seen (failure.Error e) = failure.Error (seen e)
 failure_seen seen (failure.Stop s) = failure.Stop s
 
 module _ {Tok Cx St Er : Type 0} where
-  -- the same tokens, the same context, a place not before, and the emitted errors before any new ones
+  -- the same tokens, the same context, a place not before, the emitted errors before any new ones, and nothing has stopped in between
   pub record Forward (old new : Held Tok Cx St Er) : Type 0 where
     pub tokens : new.tokens ≡ old.tokens
     pub context : new.context ≡ old.context
     pub place : old.place ≤ new.place
     pub emitted : take (length old.emitted) new.emitted ≡ old.emitted
+    pub stopped : new.stopped ≡ old.stopped
 
   -- so after a value and after an error; of a stop nothing is said
   abbrev pub GoesForward : {V E : Type 0} → Result V (Failure E) → Held Tok Cx St Er → Held Tok Cx St Er → Type 0
@@ -52,4 +53,4 @@ module _ {Tok Cx St Er : Type 0} (safe : Type 0) (final : Option (Event Er) → 
   -- the last error of a failure is handed out and an older event kept in its place; or there is no memory to build one
   abbrev pub HandsOut : Option (Event Er) → Held Tok Cx St Er → Held Tok Cx St Er → Failure Er → Type 0
   HandsOut older old new (failure.Error e) = (e ≡ final old.kept old.tokens old.place) × (new ≡ record old { kept = older })
-  HandsOut older old new (failure.Stop s) = (s ≡ Memory) × (safe → ⊥) × (old.kept ≡ None) × (new ≡ old)
+  HandsOut older old new (failure.Stop s) = (s ≡ Memory) × (safe → ⊥) × (old.kept ≡ None) × (new ≡ record old { stopped = true })

@@ -1,5 +1,5 @@
 -- What counts of what a run holds.
-use Rattle.std.specs.Prelude.{ℕ, Option, List, map, option_map}
+use Rattle.std.specs.Prelude.{ℕ, Bool, Option, List, map, option_map}
 use Rattle.chumsky_input.specs.declared.error.Error as error_trait
 use Rattle.chumsky_input.specs.declared.inspector.Inspector as inspector_trait
 use Rattle.chumsky_input.specs.declared.input.Input as input_trait
@@ -8,7 +8,7 @@ use Rattle.chumsky_input.specs.declared.input_ref.Located.{Located}
 use Rattle.chumsky_input.specs.declared.input_ref.Checkpoint.{Checkpoint}
 use Rattle.chumsky_input.specs.Outcome.{Event}
 
--- the tokens, the place, the context, the state, the error that is kept and those that were emitted
+-- the tokens, the place, the context, the state, the error that is kept, those that were emitted, and whether a parser that a closure ran has stopped
 pub record Held (Tok Cx St Er : Type 0) : Type 0 where
   pub tokens : List Tok
   pub place : ℕ
@@ -16,6 +16,7 @@ pub record Held (Tok Cx St Er : Type 0) : Type 0 where
   pub state : St
   pub kept : Option (Event Er)
   pub emitted : List Er
+  pub stopped : Bool
 
 -- an event, of an error and its place
 abbrev pub located : {E S : Type 0} → (E → S) → Located E → Event S
@@ -31,6 +32,7 @@ module _ {I X Tok Sp Cu Er St Cx Mk : Type 0} (source : input_trait.Ghosts I Cu 
         state = states.seen inp.state.now;
         kept = option_map (located errors.seen) inp.kept;
         emitted = map errors.seen inp.emitted.items;
+        stopped = inp.stopped;
       }
 
 -- what a checkpoint holds

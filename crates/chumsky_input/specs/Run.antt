@@ -77,11 +77,12 @@ module _ {Tok Cx St Er : Type 0} (merged : Er → Er → Er) (safe : Type 0) whe
   Fails e old new f = Adds e old new f ⊎ ((f ≡ fault.Stop Memory) × (safe → ⊥) × (new ≡ old))
 
 module _ {Tok Cx St Er V : Type 0} (merged : Er → Er → Er) (safe : Type 0) where
-  -- where the cursor, the kept error and the emitted errors stand after an answer
+  -- where the cursor, the kept error and the emitted errors stand after an answer; and nothing has stopped
   pub record Leaves (o : Outcome V Er St) (old new : Held Tok Cx St Er) : Type 0 where
     pub end : new.place ≡ o.end
     pub kept : new.kept ≡ primary merged (option_to_list old.kept ++ o.events)
     pub emitted : new.emitted ≡ old.emitted ++ o.emitted
+    pub stopped : new.stopped ≡ old.stopped
 
   abbrev pub LeavesBy : Verdict V Er → Outcome V Er St → Held Tok Cx St Er → Held Tok Cx St Er → Type 0
   LeavesBy (Yes _) o old new = Leaves o old new

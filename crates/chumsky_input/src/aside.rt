@@ -53,7 +53,7 @@ impl<'src, 'p, I: Input<'src>, E: ParserExtra<I>> InputRef<'src, 'p, I, E> {
     }
 
     /// Takes out the last error of a failure: the one that is kept, or where there is none that of an empty expectation.
-    /// An older one is kept in its place. A refusal changes nothing, and the older one is lost.
+    /// An older one is kept in its place. A refusal is a stop of the run, and the older one is lost.
     #[inline]
     pub fn hand_out(&mut self, older: Option<Located<E::Error>>) -> Failure<E::Error>
         ensures hands { HandsOut E.Error.takes_no_memory (final_error E.Error.expectation I.span_between) (option_map (located E.Error.seen) older) (held I.Input E.Error.Error E.State.Inspector self.old) (held I.Input E.Error.Error E.State.Inspector self.new) (failure_seen E.Error.seen result) }
@@ -64,7 +64,7 @@ impl<'src, 'p, I: Input<'src>, E: ParserExtra<I>> InputRef<'src, 'p, I, E> {
                 self.kept = older;
                 Failure::Error(error)
             }
-            Err(_) => Failure::Stop(Stop::Memory),
+            Err(_) => self.stop(Stop::Memory),
         }
     }
 

@@ -1,5 +1,6 @@
 //! What a parser is lent: where its run stands, and what it holds.
-ghost use Rattle.std.specs.Prelude.{◌≡◌, ◌∷◌, [], option_map, option_to_list, slice_get, slice_range, MatchResult, Option, Some, None, ℕ, ◌≤◌, IsTrue, is_some, IfOk, List, OnErr};
+ghost use Rattle.std.specs.Prelude.{◌≡◌, ◌∷◌, [], option_map, option_to_list, slice_get, slice_range, MatchResult, Option, Some, None, ℕ, ◌≤◌, IsTrue, is_some, IfOk, List, OnErr, true, false};
+ghost use Rattle.chumsky_input.specs.declared.stop.Failure.TheVariants as failure;
 ghost use Rattle.std.specs.Borrow.{sem};
 ghost use Rattle.std.specs.Iterator.{YieldsFirstBy, item_count, IsFinite};
 ghost use Rattle.chumsky_input.specs.Held.{Held, held, marks, located};
@@ -12,7 +13,7 @@ use crate::error::Error;
 use crate::extra::ParserExtra;
 use crate::input::{BorrowInput, Input, SliceInput, ValueInput};
 use crate::inspector::Inspector;
-use crate::stop::{Fault, Stop};
+use crate::stop::{Failure, Fault, Stop};
 use crate::util::{DefaultExpected, Expectation, MaybeRef, Plain};
 use std::alloc::{AllocError, Global};
 use std::marker::PhantomData;
@@ -33,7 +34,7 @@ pub struct Checkpoint<C, M> {
 }
 
 /// What a parser is lent by a run: a cursor into the input, the state, the context, the error of the furthest failure
-/// so far and the errors that were emitted.
+/// so far and the errors that were emitted; and, for itself, whether a parser that a closure ran on it has stopped.
 pub struct InputRef<'src, 'p, I: Input<'src>, E: ParserExtra<I>> {
     pub cursor: I::Cursor,
     pub state: &'p mut E::State,
@@ -42,6 +43,7 @@ pub struct InputRef<'src, 'p, I: Input<'src>, E: ParserExtra<I>> {
     pub emitted: Vec<E::Error>,
     pub alloc: Global,
     pub source: PhantomData<(&'src I::Token, I)>,
+    stopped: bool,
 }
 
 /// One expectation, or none.
@@ -327,6 +329,29 @@ impl<'src, 'p, I: Input<'src>, E: ParserExtra<I>> InputRef<'src, 'p, I, E> {
         self.alloc
     }
 
+    /// A run that goes on from a cursor, with nothing kept and nothing emitted.
+    #[inline]
+    pub fn resume(
+        alloc: Global,
+        cursor: I::Cursor,
+        state: &'p mut E::State,
+        context: &'p E::Context,
+    ) -> InputRef<'src, 'p, I, E>
+        ensures begins { held I.Input E.Error.Error E.State.Inspector result ≡ record { tokens = I.cursor_tokens cursor; place = I.place cursor; context = context.now; state = E.State.seen state.entry.now; kept = None; emitted = []; stopped = false } }
+        ensures lent { result.state.ghost_name ≡ state.entry.ghost_name }
+    {
+        InputRef {
+            cursor,
+            state,
+            context,
+            kept: None,
+            emitted: Vec::new(alloc),
+            alloc,
+            source: PhantomData,
+            stopped: false,
+        }
+    }
+
     /// A run at the start of an input.
     #[inline]
     pub fn new(
@@ -335,7 +360,7 @@ impl<'src, 'p, I: Input<'src>, E: ParserExtra<I>> InputRef<'src, 'p, I, E> {
         state: &'p mut E::State,
         context: &'p E::Context,
     ) -> InputRef<'src, 'p, I, E>
-        ensures begins { held I.Input E.Error.Error E.State.Inspector result ≡ record { tokens = I.tokens input; place = 0; context = context.now; state = E.State.seen state.entry.now; kept = None; emitted = [] } }
+        ensures begins { held I.Input E.Error.Error E.State.Inspector result ≡ record { tokens = I.tokens input; place = 0; context = context.now; state = E.State.seen state.entry.now; kept = None; emitted = []; stopped = false } }
         ensures lent { result.state.ghost_name ≡ state.entry.ghost_name }
     {
         InputRef {
@@ -346,7 +371,19 @@ impl<'src, 'p, I: Input<'src>, E: ParserExtra<I>> InputRef<'src, 'p, I, E> {
             emitted: Vec::new(alloc),
             alloc,
             source: PhantomData,
+            stopped: false,
         }
+    }
+
+    /// A stop of a parser that a closure ran, which the run remembers: the closure is to pass it on.
+    #[inline]
+    pub fn stop(&mut self, stop: Stop) -> Failure<E::Error>
+        ensures is { result ≡ failure.Stop stop }
+        ensures stops { held I.Input E.Error.Error E.State.Inspector self.new ≡ record (held I.Input E.Error.Error E.State.Inspector self.old) { stopped = true } }
+        ensures lent { self.new.state.ghost_name ≡ self.old.state.ghost_name }
+    {
+        self.stopped = true;
+        Failure::Stop(stop)
     }
 
     /// Whether the error that is kept lies past a place.

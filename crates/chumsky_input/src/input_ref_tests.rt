@@ -54,15 +54,7 @@ type Told = Full<EmptyErr, Last, char>;
 
 /// Takes a run apart.
 fn end<'src>(inp: InputRef<'src, '_, &'src [u8], Told>) {
-    let InputRef {
-        cursor: _,
-        state: _,
-        context: _,
-        kept: _,
-        emitted: _,
-        alloc: _,
-        source: _,
-    } = inp;
+    let InputRef { .. } = inp;
 }
 
 /// Writes the state, and leaves all else.
@@ -157,13 +149,5 @@ fn a_part_of_a_text_begins_and_ends_at_characters(rt: HostRuntime) {
     let before = inp.cursor();
     inp.skip();
     assert!(rt; inp.slice_since(&before) == "é");
-    let InputRef {
-        cursor: _,
-        state: _,
-        context: _,
-        kept: _,
-        emitted: _,
-        alloc: _,
-        source: _,
-    } = inp;
+    let InputRef { .. } = inp;
 }

@@ -1,5 +1,5 @@
 -- What a part that was run by itself leaves.
-use Rattle.std.proofs.Common.{◌≡◌, ℕ, Bool, Option, None, List, ◌++◌, Ok, Err, option_to_list, refl, sym, ◌∙◌, ap, subst, inl, inr}
+use Rattle.std.proofs.Common.{◌≡◌, ℕ, Bool, true, Option, None, List, ◌++◌, Ok, Err, option_to_list, refl, sym, ◌∙◌, ap, subst, inl, inr}
 use Rattle.chumsky_input.specs.declared.stop.Stop.{Stop}
 use Rattle.chumsky_input.specs.declared.stop.Stop.TheVariants.{Memory}
 use Rattle.chumsky_input.specs.declared.stop.Fault.TheVariants as fault
@@ -28,7 +28,7 @@ module _ {Tok Cx St Er V : Type 0} (merged : Er → Er → Er) (safe : Type 0) (
   no_of (Clash e) o a l = let no : ⊥ = cc in absurd no
 
   ended_at : (o : Outcome V Er St) → SameRun old mid → mid.state ≡ o.state → Leaves merged safe o (record old { kept = None }) mid → (k : Option (Event Er)) → record mid { kept = k } ≡ record (ended merged safe final o old) { kept = k }
-  ended_at o same s l k = cc (same.tokens, same.context, s, l.end, l.emitted)
+  ended_at o same s l k = cc (same.tokens, same.context, s, l.end, l.emitted, l.stopped)
 
   pub apart_yes : {x : Option V} {new : Held Tok Cx St Er} → Ran merged safe meaning w (record old { kept = None }) mid (Ok x) → new ≡ kept_after merged old.kept mid → RanApart merged safe final meaning w old new (Ok x)
   apart_yes {x} {new} h n =
@@ -40,19 +40,24 @@ module _ {Tok Cx St Er V : Type 0} (merged : Er → Er → Er) (safe : Type 0) (
         hands = rw y.0 (inl (refl, n ∙ ap (λ k. record mid { kept = primary merged (option_to_list old.kept ++ option_to_list k) }) y.1.kept ∙ ended_at o (record { tokens = h.same.tokens; context = h.same.context }) h.state y.1 _));
       }
 
-  pub apart_clash : {x : Option V} {new : Held Tok Cx St Er} → Ran merged safe meaning w (record old { kept = None }) mid (Ok x) → ClashesWith safe old.kept mid.kept × (new ≡ record mid { kept = None }) → RanApart merged safe final meaning w old new (Err (failure.Stop Memory))
-  apart_clash {x} {new} h n =
+  pub apart_clash : {x : Option V} {kept new : Held Tok Cx St Er} → Ran merged safe meaning w (record old { kept = None }) mid (Ok x) → ClashesWith safe old.kept mid.kept × (kept ≡ record mid { kept = None }) → new ≡ record kept { stopped = true } → RanApart merged safe final meaning w old new (Err (failure.Stop Memory))
+  apart_clash {x} {kept} {new} h k n =
       let o = h.outcome in
       let y = yes_of o.verdict o x h.answered h.left in
       record {
         outcome = o;
         meant = h.meant;
-        hands = rw y.0 (inr (refl, ap (λ (z : Held Tok Cx St Er). z.state) n.1 ∙ h.state, subst (λ k. ClashesWith safe old.kept k) y.1.kept n.0));
+        hands = rw y.0 (inr (
+          refl,
+          ap (λ (z : Held Tok Cx St Er). z.state) n ∙ ap (λ (z : Held Tok Cx St Er). z.state) k.1 ∙ h.state,
+          ap (λ (z : Held Tok Cx St Er). z.stopped) n,
+          subst (λ e. ClashesWith safe old.kept e) y.1.kept k.0,
+        ));
       }
 
   hands_no : {new : Held Tok Cx St Er} (o : Outcome V Er St) → SameRun old mid → mid.state ≡ o.state → Leaves merged safe o (record old { kept = None }) mid → (f : Failure Er) → HandsOut safe final old.kept mid new f → HandsBy merged safe final No o old new (Err f)
   hands_no o same s l (failure.Error e) n = inl (cc (n.0, l.kept, same.tokens, l.end), n.1 ∙ ended_at o same s l old.kept)
-  hands_no o same s l (failure.Stop z) n = inr (ap (λ q. Err (failure.Stop q)) n.0, ap (λ (q : Held Tok Cx St Er). q.state) n.3 ∙ s, n.1, sym l.kept ∙ n.2)
+  hands_no o same s l (failure.Stop z) n = inr (ap (λ q. Err (failure.Stop q)) n.0, ap (λ (q : Held Tok Cx St Er). q.state) n.3 ∙ s, ap (λ (q : Held Tok Cx St Er). q.stopped) n.3, n.1, sym l.kept ∙ n.2)
 
   pub apart_no : {new : Held Tok Cx St Er} {f : Failure Er} → Ran merged safe meaning w (record old { kept = None }) mid (Err fault.Fail) → HandsOut safe final old.kept mid new f → RanApart merged safe final meaning w old new (Err f)
   apart_no {new} {f} h n =
@@ -60,11 +65,16 @@ module _ {Tok Cx St Er V : Type 0} (merged : Er → Er → Er) (safe : Type 0) (
       let y = no_of o.verdict o h.answered h.left in
       record { outcome = o; meant = h.meant; hands = rw y.0 (hands_no o (record { tokens = h.same.tokens; context = h.same.context }) h.state y.1 f n) }
 
-  hands_stop : (v : Verdict V Er) (o : Outcome V Er St) (s : Stop) → Err (fault.Stop s) ≡ answer v → mid.state ≡ o.state → LeavesBy merged safe v o (record old { kept = None }) mid → HandsBy merged safe final v o old mid (Err (failure.Stop s))
-  hands_stop (Yes y) o s a t l = let no : ⊥ = cc in absurd no
-  hands_stop No o s a t l = let no : ⊥ = cc in absurd no
-  hands_stop (Halt z) o s a t l = (cc, t)
-  hands_stop (Clash e) o s a t l = (cc, t, l.0, l.1)
+  hands_stop : (v : Verdict V Er) (o : Outcome V Er St) (s : Stop) (new : Held Tok Cx St Er) → Err (fault.Stop s) ≡ answer v → new.state ≡ o.state → new.stopped ≡ true → LeavesBy merged safe v o (record old { kept = None }) mid → HandsBy merged safe final v o old new (Err (failure.Stop s))
+  hands_stop (Yes y) o s new a t p l = let no : ⊥ = cc in absurd no
+  hands_stop No o s new a t p l = let no : ⊥ = cc in absurd no
+  hands_stop (Halt z) o s new a t p l = (cc, t, p)
+  hands_stop (Clash e) o s new a t p l = (cc, t, p, l.0, l.1)
 
-  pub apart_stop : {s : Stop} → Ran merged safe meaning w (record old { kept = None }) mid (Err (fault.Stop s)) → RanApart merged safe final meaning w old mid (Err (failure.Stop s))
-  apart_stop {s} h = record { outcome = h.outcome; meant = h.meant; hands = hands_stop h.outcome.verdict h.outcome s h.answered h.state h.left }
+  pub apart_stop : {s : Stop} {new : Held Tok Cx St Er} → Ran merged safe meaning w (record old { kept = None }) mid (Err (fault.Stop s)) → new ≡ record mid { stopped = true } → RanApart merged safe final meaning w old new (Err (failure.Stop s))
+  apart_stop {s} {new} h n =
+      record {
+        outcome = h.outcome;
+        meant = h.meant;
+        hands = hands_stop h.outcome.verdict h.outcome s new h.answered (ap (λ (z : Held Tok Cx St Er). z.state) n ∙ h.state) (ap (λ (z : Held Tok Cx St Er). z.stopped) n) h.left;
+      }

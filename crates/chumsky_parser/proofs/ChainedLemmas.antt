@@ -25,7 +25,7 @@ module _ {Tok Cx St Er V W : Type 0} (merged : Er → Er → Er) (safe : Type 0)
         meant = record { first = record { verdict = No; end = end; state = state; events = events; emitted = emitted }; meant = m; follows = refl };
         answered = cc;
         state = s;
-        left = record { end = l.end; kept = l.kept; emitted = l.emitted };
+        left = record { end = l.end; kept = l.kept; emitted = l.emitted; stopped = l.stopped };
         same = same;
       }
   chained_err (Halt h) new end state events emitted f m a s l same =
@@ -59,12 +59,14 @@ module _ {Tok Cx St Er V W : Type 0} (merged : Er → Er → Er) (safe : Type 0)
         end = l.end;
         kept = l.kept ∙ ap (λ k. primary merged (option_to_list k ++ q.events)) first.kept ∙ primary-append merged (option_to_list old.kept ++ p.events) q.events ∙ ap (primary merged) (append_assoc (option_to_list old.kept) p.events q.events);
         emitted = l.emitted ∙ ap (λ es. es ++ q.emitted) first.emitted ∙ append_assoc old.emitted p.emitted q.emitted;
+        stopped = l.stopped ∙ first.stopped;
       }
   chained_left p q No mid new first l =
       record {
         end = l.end;
         kept = l.kept ∙ ap (λ k. primary merged (option_to_list k ++ q.events)) first.kept ∙ primary-append merged (option_to_list old.kept ++ p.events) q.events ∙ ap (primary merged) (append_assoc (option_to_list old.kept) p.events q.events);
         emitted = l.emitted ∙ ap (λ es. es ++ q.emitted) first.emitted ∙ append_assoc old.emitted p.emitted q.emitted;
+        stopped = l.stopped ∙ first.stopped;
       }
   chained_left p q (Halt _) mid new first l = tt
   chained_left p q (Clash e) mid new first l = (
@@ -111,7 +113,7 @@ module _ {Tok Cx St Er V : Type 0} {merged : Er → Er → Er} {safe : Type 0} w
         meant = refl;
         answered = refl;
         state = refl;
-        left = record { end = refl; kept = kept-same merged old.kept; emitted = sym (append-nil old.emitted) };
+        left = record { end = refl; kept = kept-same merged old.kept; emitted = sym (append-nil old.emitted); stopped = refl };
         same = record { tokens = refl; context = refl };
       }
 
@@ -150,38 +152,38 @@ module _ {Tok Cx St Er V W : Type 0} {merged : Er → Er → Er} {safe : Type 0}
   last_check (Err f) r h = failed r refl refl
 
 module _ {Tok Cx St Er V : Type 0} (merged : Er → Er → Er) (safe : Type 0) where
-  pub rebased : (v : Verdict V Er) (o : Outcome V Er St) (old mid new : Held Tok Cx St Er) → mid.kept ≡ old.kept → mid.emitted ≡ old.emitted → LeavesBy merged safe v o mid new → LeavesBy merged safe v o old new
-  rebased (Yes _) o old mid new k e l = record { end = l.end; kept = l.kept ∙ ap (λ z. primary merged (option_to_list z ++ o.events)) k; emitted = l.emitted ∙ ap (λ z. z ++ o.emitted) e }
-  rebased No o old mid new k e l = record { end = l.end; kept = l.kept ∙ ap (λ z. primary merged (option_to_list z ++ o.events)) k; emitted = l.emitted ∙ ap (λ z. z ++ o.emitted) e }
-  rebased (Halt _) o old mid new k e l = tt
-  rebased (Clash x) o old mid new k e l = (l.0, subst (λ z. HasEventAt x.place (option_to_list z ++ o.events)) k l.1)
+  pub rebased : (v : Verdict V Er) (o : Outcome V Er St) (old mid new : Held Tok Cx St Er) → mid.kept ≡ old.kept → mid.emitted ≡ old.emitted → mid.stopped ≡ old.stopped → LeavesBy merged safe v o mid new → LeavesBy merged safe v o old new
+  rebased (Yes _) o old mid new k e s l = record { end = l.end; kept = l.kept ∙ ap (λ z. primary merged (option_to_list z ++ o.events)) k; emitted = l.emitted ∙ ap (λ z. z ++ o.emitted) e; stopped = l.stopped ∙ s }
+  rebased No o old mid new k e s l = record { end = l.end; kept = l.kept ∙ ap (λ z. primary merged (option_to_list z ++ o.events)) k; emitted = l.emitted ∙ ap (λ z. z ++ o.emitted) e; stopped = l.stopped ∙ s }
+  rebased (Halt _) o old mid new k e s l = tt
+  rebased (Clash x) o old mid new k e s l = (l.0, subst (λ z. HasEventAt x.place (option_to_list z ++ o.events)) k l.1)
 
 module _ {Tok Cx St Er V : Type 0} {merged : Er → Er → Er} {safe : Type 0} {meaning : Meaning Tok Cx St Er V} {wanted : Bool} where
   -- a run from where nothing has changed is one from before
-  pub ran-from : {old mid new : Held Tok Cx St Er} {r : Result (Option V) Fault} → SameRun old mid → mid.place ≡ old.place → mid.state ≡ old.state → mid.kept ≡ old.kept → mid.emitted ≡ old.emitted
+  pub ran-from : {old mid new : Held Tok Cx St Er} {r : Result (Option V) Fault} → SameRun old mid → mid.place ≡ old.place → mid.state ≡ old.state → mid.kept ≡ old.kept → mid.emitted ≡ old.emitted → mid.stopped ≡ old.stopped
       → Ran merged safe meaning wanted mid new r → Ran merged safe meaning wanted old new r
-  ran-from {old} {mid} {new} {r} same cursor state kept emitted h =
+  ran-from {old} {mid} {new} {r} same cursor state kept emitted stopped h =
       let begun : begin wanted mid ≡ begin wanted old = cc (same.tokens, same.context) in
       record {
         outcome = h.outcome;
         meant = subst (λ b. meaning b h.outcome) begun h.meant;
         answered = h.answered;
         state = h.state;
-        left = rebased merged safe h.outcome.verdict h.outcome old mid new kept emitted h.left;
+        left = rebased merged safe h.outcome.verdict h.outcome old mid new kept emitted stopped h.left;
         same = same_run-trans old mid new same h.same;
       }
 
 module _ {Tok Cx St Er V : Type 0} {merged : Er → Er → Er} {safe : Type 0} {m n : Meaning Tok Cx St Er V} {wanted : Bool} where
   -- a run from a later beginning, with no event or emitted error in between
-  pub ran-moved : {old mid new : Held Tok Cx St Er} {r : Result (Option V) Fault} → SameRun old mid → mid.kept ≡ old.kept → mid.emitted ≡ old.emitted
+  pub ran-moved : {old mid new : Held Tok Cx St Er} {r : Result (Option V) Fault} → SameRun old mid → mid.kept ≡ old.kept → mid.emitted ≡ old.emitted → mid.stopped ≡ old.stopped
       → ((o : Outcome V Er St) → m (begin wanted mid) o → n (begin wanted old) o) → Ran merged safe m wanted mid new r → Ran merged safe n wanted old new r
-  ran-moved {old} {mid} {new} {r} same kept emitted f h =
+  ran-moved {old} {mid} {new} {r} same kept emitted stopped f h =
       record {
         outcome = h.outcome;
         meant = f h.outcome h.meant;
         answered = h.answered;
         state = h.state;
-        left = rebased merged safe h.outcome.verdict h.outcome old mid new kept emitted h.left;
+        left = rebased merged safe h.outcome.verdict h.outcome old mid new kept emitted stopped h.left;
         same = same_run-trans old mid new same h.same;
       }
 

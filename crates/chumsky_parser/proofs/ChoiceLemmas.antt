@@ -43,22 +43,24 @@ module _ {Tok Cx St Er V : Type 0} (merged : Er → Er → Er) (safe : Type 0) (
   tried (Halt s) end state events emitted a mid l = let no : ⊥ = cc in absurd no
   tried (Clash e) end state events emitted a mid l = let no : ⊥ = cc in absurd no
 
-  back_left : (p : Outcome V Er St) (v : Verdict V Er) (q : Outcome V Er St) (mid bk new : Held Tok Cx St Er) → Leaves merged safe p old mid → bk.kept ≡ mid.kept → bk.emitted ≡ old.emitted
+  back_left : (p : Outcome V Er St) (v : Verdict V Er) (q : Outcome V Er St) (mid bk new : Held Tok Cx St Er) → Leaves merged safe p old mid → bk.kept ≡ mid.kept → bk.emitted ≡ old.emitted → bk.stopped ≡ mid.stopped
       → LeavesBy merged safe v q bk new → LeavesBy merged safe v (record q { events = p.events ++ q.events }) old new
-  back_left p (Yes _) q mid bk new t k e l =
+  back_left p (Yes _) q mid bk new t k e s l =
       record {
         end = l.end;
         kept = l.kept ∙ ap (λ z. primary merged (option_to_list z ++ q.events)) (k ∙ t.kept) ∙ primary-append merged (option_to_list old.kept ++ p.events) q.events ∙ ap (primary merged) (append_assoc (option_to_list old.kept) p.events q.events);
         emitted = l.emitted ∙ ap (λ z. z ++ q.emitted) e;
+        stopped = l.stopped ∙ s ∙ t.stopped;
       }
-  back_left p No q mid bk new t k e l =
+  back_left p No q mid bk new t k e s l =
       record {
         end = l.end;
         kept = l.kept ∙ ap (λ z. primary merged (option_to_list z ++ q.events)) (k ∙ t.kept) ∙ primary-append merged (option_to_list old.kept ++ p.events) q.events ∙ ap (primary merged) (append_assoc (option_to_list old.kept) p.events q.events);
         emitted = l.emitted ∙ ap (λ z. z ++ q.emitted) e;
+        stopped = l.stopped ∙ s ∙ t.stopped;
       }
-  back_left p (Halt _) q mid bk new t k e l = tt
-  back_left p (Clash x) q mid bk new t k e l = (
+  back_left p (Halt _) q mid bk new t k e s l = tt
+  back_left p (Clash x) q mid bk new t k e s l = (
     l.0,
     subst (HasEventAt x.place) (append_assoc (option_to_list old.kept) p.events q.events)
         (has_event_at-kept merged x.place (option_to_list old.kept ++ p.events) q.events (subst (λ z. HasEventAt x.place (option_to_list z ++ q.events)) (k ∙ t.kept) l.1)),
@@ -90,7 +92,7 @@ module _ {Tok Cx St Mk Er V : Type 0} (merged : Er → Er → Er) (safe : Type 0
         meant = record { attempt = p; meant = h.meant; then_else = rw t.1 (inr (o, subst (λ z. second z o) begun k.meant, refl)) };
         answered = k.answered;
         state = k.state;
-        left = back_left merged safe old p o.verdict o mid b new t.0 refl (cut at h) k.left;
+        left = back_left merged safe old p o.verdict o mid b new t.0 refl (cut at h) refl k.left;
         same = record { tokens = k.same.tokens ∙ h.same.tokens; context = k.same.context ∙ h.same.context };
       }
 

@@ -11,13 +11,14 @@ use chumsky_input::extra::ParserExtra;
 use chumsky_input::input::Input;
 use chumsky_input::input_ref::InputRef;
 use chumsky_input::inspector::Inspector;
-use chumsky_input::stop::{Failure, Fault};
+use chumsky_input::stop::{Failure, Fault, Stop};
 
 /// Running parsers on an `InputRef`, as `inp.parse(any())`.
 ///
 /// The parser runs from where the run stands. Where it says yes, its events count as one, the last error that it would
 /// report. Where it fails, that error is handed out in place of being kept, and the cursor stays where the parser left
-/// it. A `Failure::Stop` is to be passed on: nothing but the state is known after it.
+/// it. A `Failure::Stop` is to be passed on: nothing but the state is known after it, and the run notes that there was
+/// one.
 pub trait InputRefExt<'src, I: Input<'src>, O, E: ParserExtra<I>, P: Parser<'src, I, O, E>> {
     /// Runs a parser for its output.
     fn parse(&mut self, parser: P) -> Result<O, Failure<E::Error>>
@@ -44,12 +45,12 @@ where
     {
         let older = self.take_kept();
         match parser.go_emit(self) {
-            Ok(value) => {
-                self.keep_before(older)?;
-                Ok(value)
-            }
+            Ok(value) => match self.keep_before(older) {
+                Ok(()) => Ok(value),
+                Err(_) => Err(self.stop(Stop::Memory)),
+            },
             Err(Fault::Fail) => Err(self.hand_out(older)),
-            Err(Fault::Stop(stop)) => Err(Failure::Stop(stop)),
+            Err(Fault::Stop(stop)) => Err(self.stop(stop)),
         }
     }
 
@@ -62,12 +63,12 @@ where
     {
         let older = self.take_kept();
         match parser.go_check(self) {
-            Ok(()) => {
-                self.keep_before(older)?;
-                Ok(())
-            }
+            Ok(()) => match self.keep_before(older) {
+                Ok(()) => Ok(()),
+                Err(_) => Err(self.stop(Stop::Memory)),
+            },
             Err(Fault::Fail) => Err(self.hand_out(older)),
-            Err(Fault::Stop(stop)) => Err(Failure::Stop(stop)),
+            Err(Fault::Stop(stop)) => Err(self.stop(stop)),
         }
     }
 }

@@ -35,7 +35,7 @@ module _ {I X Tok Sp Cu Er St Cx Mk V F : Type 0} (source : input_trait.Ghosts I
   seen_left = held source errors states left.now
 
   abbrev calls : (w : Bool) (r : Result V (Failure Er)) → g.post f (p, tt) (r, (left, tt)) → held source errors states p.now ≡ without_errors old → Call source errors states g f (begin w old)
-  calls w r met e = record { lent = p; left = left; returned = r; met = met; begins = e }
+  calls w r met e = record { stopped = old.stopped; lent = p; left = left; returned = r; met = met; begins = e }
 
   forward : Forward (held source errors states p.now) seen_left → held source errors states p.now ≡ without_errors old → Forward (without_errors old) seen_left
   forward h e = subst (λ z. Forward z seen_left) e h
@@ -49,7 +49,7 @@ module _ {I X Tok Sp Cu Er St Cx Mk V F : Type 0} (source : input_trait.Ghosts I
         meant = record { call = calls w (Ok v) met e; does = inl refl; later = λ a. ahead.place };
         answered = refl;
         state = ap (λ (z : Held Tok Cx states.Seen errors.Seen). z.state) n;
-        left = record { end = ap (λ (z : Held Tok Cx states.Seen errors.Seen). z.place) n; kept = ap (λ (z : Held Tok Cx states.Seen errors.Seen). z.kept) n; emitted = ap (λ (z : Held Tok Cx states.Seen errors.Seen). z.emitted) n };
+        left = record { end = ap (λ (z : Held Tok Cx states.Seen errors.Seen). z.place) n; kept = ap (λ (z : Held Tok Cx states.Seen errors.Seen). z.kept) n; emitted = ap (λ (z : Held Tok Cx states.Seen errors.Seen). z.emitted) n; stopped = ap (λ (z : Held Tok Cx states.Seen errors.Seen). z.stopped) n ∙ ahead.stopped };
         same = record { tokens = ap (λ (z : Held Tok Cx states.Seen errors.Seen). z.tokens) n ∙ ahead.tokens; context = ap (λ (z : Held Tok Cx states.Seen errors.Seen). z.context) n ∙ ahead.context };
       }
 
@@ -76,6 +76,7 @@ module _ {I X Tok Sp Cu Er St Cx Mk V F : Type 0} (source : input_trait.Ghosts I
           end = ap (λ (z : Held Tok Cx states.Seen errors.Seen). z.place) a ∙ ap (λ (z : Held Tok Cx states.Seen errors.Seen). z.place) n;
           kept = ap (λ (z : Held Tok Cx states.Seen errors.Seen). z.kept) a ∙ ap (λ (z : Held Tok Cx states.Seen errors.Seen). primary errors.merged (option_to_list z.kept ++ record { place = old.place; error = errors.seen x } ∷ [])) n ∙ kept_twice (record { place = old.place; error = errors.seen x });
           emitted = ap (λ (z : Held Tok Cx states.Seen errors.Seen). z.emitted) a ∙ ap (λ (z : Held Tok Cx states.Seen errors.Seen). z.emitted) n;
+          stopped = ap (λ (z : Held Tok Cx states.Seen errors.Seen). z.stopped) a ∙ ap (λ (z : Held Tok Cx states.Seen errors.Seen). z.stopped) n ∙ ahead.stopped;
         };
         same = record {
           tokens = ap (λ (z : Held Tok Cx states.Seen errors.Seen). z.tokens) a ∙ ap (λ (z : Held Tok Cx states.Seen errors.Seen). z.tokens) n ∙ ahead.tokens;

@@ -38,7 +38,7 @@ module _ {I Tok Sp Cu Er St Mk Cx : Type 0} (source : input_trait.Ghosts I Cu To
       → Fails errors.merged errors.takes_no_memory (expects source errors old.tokens (wanted.EndOfInput ∷ []) (Some t) old.place (old.place + 1)) (record old { state = states.back (states.after old.state t) (states.mark old.state) }) new f
       → Ran errors.merged errors.takes_no_memory (MeansEnd source errors states) w old new (Err f)
   back_from t new f e k =
-      ran-moved (record { tokens = refl; context = refl }) refl refl (λ o h. record { by_token = rw (sym e) (inr (inr h)) })
+      ran-moved (record { tokens = refl; context = refl }) refl refl refl (λ o h. record { by_token = rw (sym e) (inr (inr h)) })
       (ran-misses errors.merged errors.takes_no_memory
       (λ b o. Misses errors.takes_no_memory (expects source errors b.tokens (wanted.EndOfInput ∷ []) (Some t) b.start (b.start + 1)) b.start (states.back (states.after old.state t) (states.mark old.state)) o)
       w (record old { state = states.back (states.after old.state t) (states.mark old.state) }) _ new f k (λ o h. h))

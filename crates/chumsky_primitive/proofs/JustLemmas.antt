@@ -49,7 +49,7 @@ module _ {I Tok Sp Cu Er St Mk Cx : Type 0} (source : input_trait.Ghosts I Cu To
       → Fails errors.merged errors.takes_no_memory (expects source errors old.tokens (wanted.Token m ∷ []) found old.place (past found old.place)) (record old { state = states.back (told states.after found old.state) (states.mark old.state) }) new f
       → Ran errors.merged errors.takes_no_memory (MeansMember source equal errors states m) w old new (Err f)
   back_from found new f e i k =
-      ran-moved (record { tokens = refl; context = refl }) refl refl (λ o h. means found false e i o (inr h))
+      ran-moved (record { tokens = refl; context = refl }) refl refl refl (λ o h. means found false e i o (inr h))
       (ran-misses errors.merged errors.takes_no_memory
       (λ b o. Misses errors.takes_no_memory (expects source errors b.tokens (wanted.Token m ∷ []) found b.start (past found b.start)) b.start (states.back (told states.after found old.state) (states.mark old.state)) o)
       w (record old { state = states.back (told states.after found old.state) (states.mark old.state) }) _ new f k (λ o h. h))

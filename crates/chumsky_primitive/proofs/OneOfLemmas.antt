@@ -71,7 +71,7 @@ module _ {I Tok Sp Cu Er St Mk Cx S : Type 0} (source : input_trait.Ghosts I Cu 
       → Fails errors.merged errors.takes_no_memory (expects source errors old.tokens what found old.place (past found old.place)) (gone_back_from states.after states.mark states.back found old) new f
       → (w : Bool) → Ran errors.merged errors.takes_no_memory (MeansTested source seen safe errors states test what) w old new (Err f)
   back_from found new f e p k w =
-      ran-moved (record { tokens = refl; context = refl }) refl refl (λ o h. means w found false e p o (inr (inr h)))
+      ran-moved (record { tokens = refl; context = refl }) refl refl refl (λ o h. means w found false e p o (inr (inr h)))
       (ran-misses errors.merged errors.takes_no_memory
       (λ b o. Misses errors.takes_no_memory (expects source errors b.tokens what found b.start (past found b.start)) b.start (states.back (told states.after found old.state) (states.mark old.state)) o)
       w (gone_back_from states.after states.mark states.back found old) _ new f k (λ o h. h))

@@ -64,7 +64,7 @@ module _ {I Tok Sp Cu Er St Mk Cx V : Type 0} (source : input_trait.Ghosts I Cu 
           → Fails errors.merged errors.takes_no_memory (expects source errors old.tokens (wanted.SomethingElse ∷ []) (Some t) old.place (old.place + 1)) (record old { state = states.back s (states.mark old.state) }) new f
           → Ran errors.merged errors.takes_no_memory (MeansSelect source safe errors states picks) w old new (Err f)
       back_from new f h k =
-          ran-moved (record { tokens = refl; context = refl }) refl refl (λ o q. record { by_token = rw (sym there) (inr (inr (record { answer = None; state = s; picked = shown_there None h; outcome = inr q }))) })
+          ran-moved (record { tokens = refl; context = refl }) refl refl refl (λ o q. record { by_token = rw (sym there) (inr (inr (record { answer = None; state = s; picked = shown_there None h; outcome = inr q }))) })
           (ran-misses errors.merged errors.takes_no_memory
           (λ b o. Misses errors.takes_no_memory (expects source errors b.tokens (wanted.SomethingElse ∷ []) (Some t) b.start (b.start + 1)) b.start (states.back s (states.mark old.state)) o)
           w (record old { state = states.back s (states.mark old.state) }) _ new f k (λ o q. q))

@@ -1,5 +1,5 @@
 -- A parser given by a closure.
-use Rattle.std.specs.Prelude.{◌≡◌, ◌≤◌, None, List, [], ◌∷◌, ◌++◌, Result, Ok, Err, option_to_list, ◌⊎◌, ⊤}
+use Rattle.std.specs.Prelude.{◌≡◌, Bool, false, ◌≤◌, None, List, [], ◌∷◌, ◌++◌, Result, Ok, Err, option_to_list, ◌⊎◌, ⊤}
 use Rattle.std.specs.Fn.{Shared}
 use denote.Ref.{MutBor}
 use Rattle.chumsky_input.specs.declared.error.Error as error_trait
@@ -15,8 +15,12 @@ use Rattle.chumsky_parser.specs.Failure.{Refuses, wanting}
 
 module _ {Tok Cx St Er : Type 0} where
   -- held at a beginning, with nothing kept and nothing emitted
-  abbrev pub begun : Beginning Tok Cx St → Held Tok Cx St Er
-  begun b = record { tokens = b.tokens; place = b.start; context = b.context; state = b.state; kept = None; emitted = [] }
+  abbrev pub begun : Bool → Beginning Tok Cx St → Held Tok Cx St Er
+  begun stopped b = record { tokens = b.tokens; place = b.start; context = b.context; state = b.state; kept = None; emitted = []; stopped = stopped }
+
+  -- held, but for whether a parser has stopped
+  abbrev pub unstopped : Held Tok Cx St Er → Held Tok Cx St Er
+  unstopped h = record h { stopped = false }
 
 module _ {Tok Cx St Er E V : Type 0} (seen : E → Er) where
   -- what a call that ended so does: the one event that it kept, and after it a failure's own error, at the start
@@ -27,11 +31,11 @@ module _ {Tok Cx St Er E V : Type 0} (seen : E → Er) where
 
   -- two calls that end alike: in a value both, or in errors that count as one; of a stop nothing is asked
   abbrev pub EndAlike : Result V (Failure E) → Result V (Failure E) → Held Tok Cx St Er → Held Tok Cx St Er → Type 0
-  EndAlike (Ok v) (Ok w) h k = h ≡ k
+  EndAlike (Ok v) (Ok w) h k = unstopped h ≡ unstopped k
   EndAlike (Ok v) (Err (failure.Error e)) h k = ⊥
   EndAlike (Ok v) (Err (failure.Stop s)) h k = ⊤
   EndAlike (Err (failure.Error e)) (Ok w) h k = ⊥
-  EndAlike (Err (failure.Error e)) (Err (failure.Error d)) h k = (seen e ≡ seen d) × (h ≡ k)
+  EndAlike (Err (failure.Error e)) (Err (failure.Error d)) h k = (seen e ≡ seen d) × (unstopped h ≡ unstopped k)
   EndAlike (Err (failure.Error e)) (Err (failure.Stop s)) h k = ⊤
   EndAlike (Err (failure.Stop s)) r h k = ⊤
 
@@ -51,18 +55,19 @@ module _ {V Er St : Type 0} where
   OrLacksMemory whole o = (o ≡ whole) ⊎ (ClashesAmong whole o ⊎ Refuses (whole.emitted ≡ [] → ⊥) whole.state o)
 
 module _ {I X Tok Sp Cu Er St Cx Mk V F : Type 0} (source : input_trait.Ghosts I Cu Tok Sp) (errors : error_trait.Ghosts Er I Tok Sp) (states : inspector_trait.Ghosts St I Mk Tok Sp) (g : Shared F (MutBor (InputRef I X Cu Tok Sp Er St Cx Mk) × Unit {0}) (Result V (Failure Er) × (MutBor (InputRef I X Cu Tok Sp Er St Cx Mk) × Unit {0}))) where
-  -- the closure may be called on any input; after a value and after an error it stands where it began or further on, in the same tokens, under the same context, with the older emitted errors before any new ones; and it keeps the lent state
+  -- the closure may be called on any input; after a value and after an error it stands where it began or further on, in the same tokens, under the same context, with the older emitted errors before any new ones, and no parser that it ran has stopped; and it keeps the lent state
   pub record MayRun (f : F) : Type 0 where
     pub may : (p : MutBor (InputRef I X Cu Tok Sp Er St Cx Mk)) → g.pre f (p, tt)
     pub keeps : (p left : MutBor (InputRef I X Cu Tok Sp Er St Cx Mk)) (r : Result V (Failure Er)) → g.post f (p, tt) (r, (left, tt)) → GoesForward r (held source errors states p.now) (held source errors states left.now) × (left.now.state.ghost_name ≡ p.now.state.ghost_name)
 
   -- a call of the closure from a beginning, with nothing kept and nothing emitted
   pub record Call (f : F) (b : Beginning Tok Cx states.Seen) : Type 0 where
+    pub stopped : Bool
     pub lent : MutBor (InputRef I X Cu Tok Sp Er St Cx Mk)
     pub left : MutBor (InputRef I X Cu Tok Sp Er St Cx Mk)
     pub returned : Result V (Failure Er)
     pub met : g.post f (lent, tt) (returned, (left, tt))
-    pub begins : held source errors states lent.now ≡ begun b
+    pub begins : held source errors states lent.now ≡ begun stopped b
 
   -- what a call does, where it does not end before its start
   pub record MeansCustom (f : F) (b : Beginning Tok Cx states.Seen) (o : Outcome V errors.Seen states.Seen) : Type 0 where

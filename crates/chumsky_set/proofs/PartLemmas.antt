@@ -33,7 +33,7 @@ module _ {Tok Cx St Er V : Type 0} {merged : Er → Er → Er} {safe : Type 0} {
         meant = inr (l, refl);
         answered = refl;
         state = refl;
-        left = record { end = refl; kept = kept-same merged new.kept; emitted = sym (append-nil new.emitted) };
+        left = record { end = refl; kept = kept-same merged new.kept; emitted = sym (append-nil new.emitted); stopped = refl };
         same = record { tokens = refl; context = refl };
       }
 

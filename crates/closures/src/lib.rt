@@ -165,11 +165,11 @@ pub fn check_foo_or_nothing_by_check(
     text: &str,
 ) -> Result<ParseResult<(), Rich<char>>, Stop> {
     custom::<_, &str, bool, Errors>(|inp| {
-        let before = inp.save()?;
+        let start = inp.save()?;
         match inp.check(just("foo")) {
             Ok(()) => Ok(true),
             Err(Failure::Error(_)) => {
-                inp.rewind(&before)?;
+                inp.rewind(&start)?;
                 Ok(false)
             }
             Err(Failure::Stop(refused)) => Err(Failure::Stop(refused)),

@@ -78,6 +78,7 @@ module _ {J Tok Sp Cu Mk Er St I Tok' Sp' Mk' Cx V : Type 0} {source : input_tra
           end = ap (λ (z : Held Tok' Cx states'.Seen errors'.Seen). z.place) n;
           kept = ap (λ (z : Held Tok' Cx states'.Seen errors'.Seen). z.kept) n;
           emitted = ap (λ (z : Held Tok' Cx states'.Seen errors'.Seen). z.emitted) n;
+          stopped = ap (λ (z : Held Tok' Cx states'.Seen errors'.Seen). z.stopped) n;
         });
         same = record { tokens = ap (λ (z : Held Tok' Cx states'.Seen errors'.Seen). z.tokens) n; context = ap (λ (z : Held Tok' Cx states'.Seen errors'.Seen). z.context) n };
       }

@@ -9,7 +9,6 @@ use chumsky::input::{Input, InputRef};
 use chumsky::{PResult, Parser};
 use chumsky_input::aside::Aside;
 use std::alloc::Global;
-use std::marker::PhantomData;
 
 /// What a parser's run from parts gives back: its answer, where its cursor stands, and the errors.
 struct Returned<O, C, E> {
@@ -32,24 +31,16 @@ where
     requires { P.ready parser.now }
     ensures { Ran E.Error.merged E.Error.takes_no_memory (P.meaning parser.now E.Error.Error E.State.Inspector) true (held_of I.Input E.Error.Error E.State.Inspector cursor errors state.old context.now) (held_of I.Input E.Error.Error E.State.Inspector result.cursor result.errors state.new context.now) (with_value result.answer) }
 {
-    let mut inp: InputRef<'src, '_, I, E> = InputRef {
-        cursor,
-        state,
-        context,
-        kept: errors.kept,
-        emitted: errors.emitted,
-        alloc,
-        source: PhantomData,
-    };
+    let mut inp: InputRef<'src, '_, I, E> = InputRef::resume(alloc, cursor, state, context);
+    inp.kept = errors.kept;
+    inp.emitted = errors.emitted;
     let answer = parser.go_emit(&mut inp);
     let InputRef {
         cursor,
         state: last,
-        context: _,
         kept,
         emitted,
-        alloc: _,
-        source: _,
+        ..
     } = inp;
     let _last = &*last;
     Returned {
@@ -73,24 +64,16 @@ where
     requires { P.ready parser.now }
     ensures { Ran E.Error.merged E.Error.takes_no_memory (P.meaning parser.now E.Error.Error E.State.Inspector) false (held_of I.Input E.Error.Error E.State.Inspector cursor errors state.old context.now) (held_of I.Input E.Error.Error E.State.Inspector result.cursor result.errors state.new context.now) (without_value result.answer) }
 {
-    let mut inp: InputRef<'src, '_, I, E> = InputRef {
-        cursor,
-        state,
-        context,
-        kept: errors.kept,
-        emitted: errors.emitted,
-        alloc,
-        source: PhantomData,
-    };
+    let mut inp: InputRef<'src, '_, I, E> = InputRef::resume(alloc, cursor, state, context);
+    inp.kept = errors.kept;
+    inp.emitted = errors.emitted;
     let answer = parser.go_check(&mut inp);
     let InputRef {
         cursor,
         state: last,
-        context: _,
         kept,
         emitted,
-        alloc: _,
-        source: _,
+        ..
     } = inp;
     let _last = &*last;
     Returned {

@@ -90,15 +90,7 @@ where
     let mut inp: InputRef<'src, '_, J, X> = InputRef::new(alloc, input, state, context);
     let answer = parser.go_emit(&mut inp);
     let report = report_answer(answer, &mut inp);
-    let InputRef {
-        cursor: _,
-        state: last,
-        context: _,
-        kept: _,
-        emitted: _,
-        alloc: _,
-        source: _,
-    } = inp;
+    let InputRef { state: last, .. } = inp;
     let _last = &*last;
     report
 }
@@ -119,15 +111,7 @@ where
     let mut inp: InputRef<'src, '_, J, X> = InputRef::new(alloc, input, state, context);
     let answer = parser.go_check(&mut inp);
     let report = report_answer(answer, &mut inp);
-    let InputRef {
-        cursor: _,
-        state: last,
-        context: _,
-        kept: _,
-        emitted: _,
-        alloc: _,
-        source: _,
-    } = inp;
+    let InputRef { state: last, .. } = inp;
     let _last = &*last;
     report
 }

@@ -3,4 +3,4 @@ use Rattle.contexts.proofs.UnderLemmas.{ran-under}
 use Rattle.contexts.proofs.under.emit_under.Goals as goal
 
 pub returns-clause-ran : goal.returns-clause-ran
-returns-clause-ran g c = ran-under c.set_aside-errors.ensures.leaves c.set_aside-errors.ensures.kept c.set_aside-errors.ensures.emitted refl c.emit_parts-answer.ensures
+returns-clause-ran g c = ran-under c.set_aside-errors.ensures.leaves c.set_aside-errors.ensures.kept c.set_aside-errors.ensures.emitted refl refl c.emit_parts-answer.ensures
