@@ -12,7 +12,7 @@ mod run;
 pub mod input {
     pub use chumsky_input::emitter::Emitter;
     pub use chumsky_input::input::{BorrowInput, Input, SliceInput, Tokens, ValueInput};
-    pub use chumsky_input::input_ref::{Checkpoint, InputRef};
+    pub use chumsky_input::input_ref::{Checkpoint, Finished, InputRef};
     pub use chumsky_input::map_extra::MapExtra;
     pub use chumsky_input::stop::Failure;
     pub use chumsky_parser::input_ref_ext::InputRefExt;

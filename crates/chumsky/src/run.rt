@@ -6,7 +6,7 @@ ghost use Rattle.chumsky.specs.Answer.{WholeRun, SettlesAs, Parses};
 
 use chumsky_input::extra::ParserExtra;
 use chumsky_input::input::Input;
-use chumsky_input::input_ref::InputRef;
+use chumsky_input::input_ref::{Finished, InputRef};
 use chumsky_input::stop::{Fault, PResult, Stop};
 use chumsky_parser::parser::Parser;
 use chumsky_parser::result::ParseResult;
@@ -88,16 +88,16 @@ where
     let mut inp: InputRef<'src, '_, I, E> = InputRef::new(alloc, input, state, &context);
     let answer = whole_emit(parser, &mut inp);
     let output = settle(&mut inp, answer);
-    let InputRef {
+    let Finished {
+        cursor: _,
         state: last,
-        emitted,
-        ..
-    } = inp;
+        errors,
+    } = inp.finish();
     let _last = &*last;
     match output {
         Ok(output) => Ok(ParseResult {
             output,
-            errors: emitted,
+            errors: errors.emitted,
         }),
         Err(stop) => Err(stop),
     }
@@ -126,16 +126,16 @@ where
     let mut inp: InputRef<'src, '_, I, E> = InputRef::new(alloc, input, state, &context);
     let answer = whole_check(parser, &mut inp);
     let output = settle(&mut inp, answer);
-    let InputRef {
+    let Finished {
+        cursor: _,
         state: last,
-        emitted,
-        ..
-    } = inp;
+        errors,
+    } = inp.finish();
     let _last = &*last;
     match output {
         Ok(output) => Ok(ParseResult {
             output,
-            errors: emitted,
+            errors: errors.emitted,
         }),
         Err(stop) => Err(stop),
     }

@@ -9,6 +9,7 @@ ghost use Rattle.chumsky_input.specs.Maybe.{maybe_value, ref_value};
 ghost use Rattle.chumsky_input.specs.Wanted.{wanted, plain_wanted, Token, Wanted, Shows};
 ghost use Rattle.chumsky_input.specs.Run.{took, TookValue, LacksToken, TokenMayLack, marked_here, gone_back, Adds, Fails, KeepsPast, final_error, with_last, with_emitted};
 
+use crate::aside::Aside;
 use crate::error::Error;
 use crate::extra::ParserExtra;
 use crate::input::{BorrowInput, Input, SliceInput, ValueInput};
@@ -44,6 +45,13 @@ pub struct InputRef<'src, 'p, I: Input<'src>, E: ParserExtra<I>> {
     pub alloc: Global,
     pub source: PhantomData<(&'src I::Token, I)>,
     stopped: bool,
+}
+
+/// What a run leaves: where its cursor stands, the state, and the errors.
+pub struct Finished<'p, C, S, E> {
+    pub cursor: C,
+    pub state: &'p mut S,
+    pub errors: Aside<E>,
 }
 
 /// One expectation, or none.
@@ -333,15 +341,15 @@ impl<'src, 'p, I: Input<'src>, E: ParserExtra<I>> InputRef<'src, 'p, I, E> {
     #[inline]
     pub fn resume(
         alloc: Global,
-        cursor: I::Cursor,
+        from: I::Cursor,
         state: &'p mut E::State,
         context: &'p E::Context,
     ) -> InputRef<'src, 'p, I, E>
-        ensures begins { held I.Input E.Error.Error E.State.Inspector result ≡ record { tokens = I.cursor_tokens cursor; place = I.place cursor; context = context.now; state = E.State.seen state.entry.now; kept = None; emitted = []; stopped = false } }
+        ensures begins { held I.Input E.Error.Error E.State.Inspector result ≡ record { tokens = I.cursor_tokens from; place = I.place from; context = context.now; state = E.State.seen state.entry.now; kept = None; emitted = []; stopped = false } }
         ensures lent { result.state.ghost_name ≡ state.entry.ghost_name }
     {
         InputRef {
-            cursor,
+            cursor: from,
             state,
             context,
             kept: None,
@@ -372,6 +380,31 @@ impl<'src, 'p, I: Input<'src>, E: ParserExtra<I>> InputRef<'src, 'p, I, E> {
             alloc,
             source: PhantomData,
             stopped: false,
+        }
+    }
+
+    /// Ends a run, and hands out what it leaves.
+    #[inline]
+    pub fn finish(self) -> Finished<'p, I::Cursor, E::State, E::Error>
+        ensures cursor { result.cursor ≡ self.entry.cursor }
+        ensures state { result.state ≡ self.entry.state }
+        ensures kept { result.errors.kept ≡ self.entry.kept }
+        ensures emitted { result.errors.emitted ≡ self.entry.emitted }
+    {
+        let InputRef {
+            cursor,
+            state,
+            context: _,
+            kept,
+            emitted,
+            alloc: _,
+            source: _,
+            stopped: _,
+        } = self;
+        Finished {
+            cursor,
+            state,
+            errors: Aside { kept, emitted },
         }
     }
 

@@ -4,7 +4,7 @@ ghost use Rattle.std.specs.Prelude.{◌≡◌, ℕ, ⊤, refl};
 use crate::error::EmptyErr;
 use crate::extra::{Default, Full};
 use crate::input::Tokens;
-use crate::input_ref::InputRef;
+use crate::input_ref::{Finished, InputRef};
 use crate::inspector::Inspector;
 use crate::span::SimpleSpan;
 use std::alloc::AllocError;
@@ -54,7 +54,11 @@ type Told = Full<EmptyErr, Last, char>;
 
 /// Takes a run apart.
 fn end<'src>(inp: InputRef<'src, '_, &'src [u8], Told>) {
-    let InputRef { .. } = inp;
+    let Finished {
+        cursor: _,
+        state: _,
+        errors: _,
+    } = inp.finish();
 }
 
 /// Writes the state, and leaves all else.
@@ -149,5 +153,9 @@ fn a_part_of_a_text_begins_and_ends_at_characters(rt: HostRuntime) {
     let before = inp.cursor();
     inp.skip();
     assert!(rt; inp.slice_since(&before) == "é");
-    let InputRef { .. } = inp;
+    let Finished {
+        cursor: _,
+        state: _,
+        errors: _,
+    } = inp.finish();
 }

@@ -5,7 +5,7 @@ ghost use Rattle.chumsky_input.specs.Run.{Ran, with_value, without_value};
 ghost use Rattle.contexts.specs.Under.{held_of, UnderValue};
 
 use chumsky::extra::{Full, ParserExtra};
-use chumsky::input::{Input, InputRef};
+use chumsky::input::{Finished, Input, InputRef};
 use chumsky::{PResult, Parser};
 use chumsky_input::aside::Aside;
 use std::alloc::Global;
@@ -35,18 +35,16 @@ where
     inp.kept = errors.kept;
     inp.emitted = errors.emitted;
     let answer = parser.go_emit(&mut inp);
-    let InputRef {
+    let Finished {
         cursor,
         state: last,
-        kept,
-        emitted,
-        ..
-    } = inp;
+        errors,
+    } = inp.finish();
     let _last = &*last;
     Returned {
         answer,
         cursor,
-        errors: Aside { kept, emitted },
+        errors,
     }
 }
 
@@ -68,18 +66,16 @@ where
     inp.kept = errors.kept;
     inp.emitted = errors.emitted;
     let answer = parser.go_check(&mut inp);
-    let InputRef {
+    let Finished {
         cursor,
         state: last,
-        kept,
-        emitted,
-        ..
-    } = inp;
+        errors,
+    } = inp.finish();
     let _last = &*last;
     Returned {
         answer,
         cursor,
-        errors: Aside { kept, emitted },
+        errors,
     }
 }
 

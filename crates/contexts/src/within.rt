@@ -7,7 +7,7 @@ ghost use Rattle.contexts.specs.Within.{Within, Reports, RunsWhole, AddsReported
 
 use chumsky::error::Error;
 use chumsky::extra::{Full, ParserExtra};
-use chumsky::input::{Input, InputRef};
+use chumsky::input::{Finished, Input, InputRef};
 use chumsky::inspector::Inspector;
 use chumsky::{PResult, Parser};
 use chumsky_input::aside::Aside;
@@ -90,7 +90,11 @@ where
     let mut inp: InputRef<'src, '_, J, X> = InputRef::new(alloc, input, state, context);
     let answer = parser.go_emit(&mut inp);
     let report = report_answer(answer, &mut inp);
-    let InputRef { state: last, .. } = inp;
+    let Finished {
+        cursor: _,
+        state: last,
+        errors: _,
+    } = inp.finish();
     let _last = &*last;
     report
 }
@@ -111,7 +115,11 @@ where
     let mut inp: InputRef<'src, '_, J, X> = InputRef::new(alloc, input, state, context);
     let answer = parser.go_check(&mut inp);
     let report = report_answer(answer, &mut inp);
-    let InputRef { state: last, .. } = inp;
+    let Finished {
+        cursor: _,
+        state: last,
+        errors: _,
+    } = inp.finish();
     let _last = &*last;
     report
 }

@@ -8,7 +8,7 @@ returns-in-Ok g c =
     parses g.I.Input g.E.Error.Error g.E.State.Inspector (λ w. Some w) (g.I.Input.tokens c.args.input)
     (held g.I.Input g.E.Error.Error g.E.State.Inspector c.new-inp.result) (held g.I.Input g.E.Error.Error g.E.State.Inspector c.whole_emit-answer.new.inp) (held g.I.Input g.E.Error.Error g.E.State.Inspector c.settle-output.new.inp)
     c.whole_emit-answer.result c.settle-output.result c.new-inp.ensures.begins c.default-context.ensures c.whole_emit-answer.ensures.ran (told-with _) c.settle-output.ensures.settles
-    (search rules) (rw c.in-Ok.is (_, refl, refl, refl))
+    (search rules) (rw c.in-Ok.is (_, refl, refl, rw c.finish-last.ensures.emitted refl))
     (λ y. whole-agrees g.I.Input g.E.Error.Error g.E.State.Inspector _ _ ((g.met.P.Parser c.lifetimes (search rules)).agrees c.args.parser.now y))
 
 pub returns : goal.returns
