@@ -1,5 +1,5 @@
 -- What a run under another context leaves.
-use Rattle.std.proofs.Common.{◌≡◌, Bool, Option, Some, false, List, Result, refl, subst, ap, ◌∙◌}
+use Rattle.std.proofs.Common.{◌≡◌, Bool, Option, Some, None, false, List, [], Result, refl, sym, subst, ap, ◌∙◌}
 use Rattle.chumsky_input.specs.declared.stop.Fault.{Fault}
 use Rattle.chumsky_input.specs.Held.{Held}
 use Rattle.chumsky_input.specs.Aside.{without_errors}
@@ -27,6 +27,13 @@ module _ {Tok Cx St Er V : Type 0} {merged : Er → Er → Er} {safe : Type 0} {
         left = left_kept_context merged safe h.outcome.verdict h.outcome old new state h.left;
         same = record { tokens = h.same.tokens; context = refl };
       }
+
+  -- a run that was made of parts, and what it left taken apart
+  pub ran-parts : {old begun mid new : Held Tok Cx St Er} {r : Result (Option V) Fault} → begun ≡ record old { kept = None; emitted = [] } → Ran merged safe meaning wanted (record begun { kept = old.kept; emitted = old.emitted }) mid r → new.state ≡ mid.state
+      → new ≡ record mid { context = old.context; state = new.state; stopped = old.stopped } → Ran merged safe meaning wanted old new r
+  ran-parts {old} {begun} {mid} {new} {r} b h s n =
+      let whole : record begun { kept = old.kept; emitted = old.emitted } ≡ old = ap (λ (x : Held Tok Cx St Er). record x { kept = old.kept; emitted = old.emitted }) b in
+      subst (λ x. Ran merged safe meaning wanted old x r) (sym n) (ran-kept_context (subst (λ x. Ran merged safe meaning wanted x mid r) whole h) s)
 
 module _ {Tok Cx V St Er : Type 0} where
   -- held by a run of its own, under another context
