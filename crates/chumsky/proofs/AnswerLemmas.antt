@@ -12,7 +12,6 @@ use Rattle.chumsky_input.specs.Primary.{primary}
 use Rattle.chumsky_input.specs.Run.{Ran, LeavesBy, begin, answer, with_value, without_value, final_error}
 use Rattle.chumsky_parser.specs.declared.result.ParseResult.{ParseResult}
 use Rattle.chumsky.specs.Answer.{SettlesAs, reported, IsOutput, Reports, Answers, Parses, WholeRun}
-use Rattle.chumsky_primitive.specs.End.{MeansEnd}
 use Rattle.chumsky_parser.specs.FailureLaws.{SameUnit}
 use Rattle.chumsky_primitive.specs.EndLaws.{end-agrees}
 use Rattle.chumsky_parser.specs.Laws.{chained-agrees, given-agrees, asked-agrees}
@@ -119,7 +118,7 @@ module _ {I Tok Sp Cu Er St V W : Type 0} (source : input_trait.Ghosts I Cu Tok 
 
 module _ {I Tok Sp Cu Er St Mk Cx V W : Type 0} (source : input_trait.Ghosts I Cu Tok Sp) (errors : error_trait.Ghosts Er I Tok Sp) (states : inspector_trait.Ghosts St I Mk Tok Sp) (gives : W → Option V) (ts : List Tok) (before mid after : Held Tok Cx states.Seen errors.Seen) where
   pub parses : {is_default : Cx → Type 0} {steady : Type 0} {same : V → V → Type 0} {meaning : Meaning Tok Cx states.Seen errors.Seen V} {wanted : Bool} {context : Cx} {old new : states.Seen} (a : Result W Fault) {x : Result (Option V) Fault} (s : Result (Option W) Stop) {r : Result (ParseResult W Er) Stop}
-      → before ≡ record { tokens = ts; place = 0; context = context; state = old; kept = None; emitted = []; stopped = false } → is_default context
+      → before ≡ record { tokens = ts; place = 0; context = context; state = old; kept = None; emitted = []; stopped = None } → is_default context
       → Ran errors.merged errors.takes_no_memory meaning wanted before mid x → x ≡ told gives a → SettlesAs errors.expectation source.span_between a mid after s → new ≡ after.state
       → Replies source errors states gives ts before mid after s r → (steady → Agreeing same meaning meaning)
       → Parses source errors states is_default steady same gives meaning wanted ts old new r

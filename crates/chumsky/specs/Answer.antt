@@ -9,7 +9,7 @@ use Rattle.chumsky_input.specs.declared.stop.Fault.{Fault}
 use Rattle.chumsky_input.specs.declared.stop.Fault.TheVariants as fault
 use Rattle.chumsky_input.specs.Held.{Held}
 use Rattle.chumsky_input.specs.Wanted.{Wanted}
-use Rattle.chumsky_input.specs.Outcome.{Meaning, Beginning, Outcome, Verdict, Yes, No, Halt, Clash, HasEventAt, IsAnswer, SameValue}
+use Rattle.chumsky_input.specs.Outcome.{Meaning, Outcome, Verdict, Yes, No, Halt, Clash, HasEventAt, IsAnswer, SameValue}
 use Rattle.chumsky_input.specs.Primary.{primary}
 use Rattle.chumsky_input.specs.Run.{final_error, with_last}
 use Rattle.chumsky_parser.specs.Chained.{Chained, Given, Asked}

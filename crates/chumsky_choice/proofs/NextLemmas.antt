@@ -133,4 +133,4 @@ module _ {Tok Cx St Mk Er V : Type 0} {merged : Er → Er → Er} {safe : Type 0
   pub first_of-unmarked : {old : Held Tok Cx St Er} {r : Result (Option V) Fault} → r ≡ Err (fault.Stop Memory) → (quiet → ⊥)
       → Ran merged safe (FirstOf mark back quiet first (next ∷ others)) wanted old old r
   first_of-unmarked {old} e may =
-      rw e (ran-halts merged safe (FirstOf mark back quiet first (next ∷ others)) wanted old old (record { tokens = refl; context = refl }) (λ o v s. record { cases = inl (may, v, s) }))
+      rw e (ran-halts merged safe (FirstOf mark back quiet first (next ∷ others)) wanted old old (record { tokens = refl; context = refl }) refl (λ o v s. record { cases = inl (may, v, s) }))

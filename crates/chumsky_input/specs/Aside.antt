@@ -1,11 +1,11 @@
 -- What a run sets aside and brings back, and where a closure that is lent one may leave it.
-use Rattle.std.specs.Prelude.{◌≡◌, ℕ, true, ◌≤◌, ◌++◌, length, take, [], None, Some, Option, List, Result, Ok, Err, option_to_list, ⊤}
+use Rattle.std.specs.Prelude.{◌≡◌, ℕ, ◌≤◌, ◌++◌, length, take, [], None, Some, Option, List, Result, Ok, Err, option_to_list}
 use Rattle.chumsky_input.specs.declared.stop.Stop.TheVariants.{Memory}
 use Rattle.chumsky_input.specs.declared.stop.Failure.{Failure}
 use Rattle.chumsky_input.specs.declared.stop.Failure.TheVariants as failure
 use Rattle.chumsky_input.specs.Outcome.{Event, HasEventAt}
 use Rattle.chumsky_input.specs.Primary.{primary}
-use Rattle.chumsky_input.specs.Held.{Held}
+use Rattle.chumsky_input.specs.Held.{Held, with_stop, PassesOn}
 
 -- a failure, by what counts of its error
 abbrev pub failure_seen : {E S : Type 0} → (E → S) → Failure E → Failure S
@@ -13,7 +13,7 @@ failure_seen seen (failure.Error e) = failure.Error (seen e)
 failure_seen seen (failure.Stop s) = failure.Stop s
 
 module _ {Tok Cx St Er : Type 0} where
-  -- the same tokens, the same context, a place not before, the emitted errors before any new ones, and nothing has stopped in between
+  -- the same tokens, the same context, a place not before, the emitted errors before any new ones, and no stop noted in between
   pub record Forward (old new : Held Tok Cx St Er) : Type 0 where
     pub tokens : new.tokens ≡ old.tokens
     pub context : new.context ≡ old.context
@@ -21,11 +21,11 @@ module _ {Tok Cx St Er : Type 0} where
     pub emitted : take (length old.emitted) new.emitted ≡ old.emitted
     pub stopped : new.stopped ≡ old.stopped
 
-  -- so after a value and after an error; of a stop nothing is said
+  -- so after a value and after an error; and a stop is passed on
   abbrev pub GoesForward : {V E : Type 0} → Result V (Failure E) → Held Tok Cx St Er → Held Tok Cx St Er → Type 0
   GoesForward (Ok v) old new = Forward old new
   GoesForward (Err (failure.Error e)) old new = Forward old new
-  GoesForward (Err (failure.Stop s)) old new = ⊤
+  GoesForward (Err (failure.Stop s)) old new = PassesOn s old new
 
   -- nothing kept, nothing emitted
   abbrev pub without_errors : Held Tok Cx St Er → Held Tok Cx St Er
@@ -53,4 +53,4 @@ module _ {Tok Cx St Er : Type 0} (safe : Type 0) (final : Option (Event Er) → 
   -- the last error of a failure is handed out and an older event kept in its place; or there is no memory to build one
   abbrev pub HandsOut : Option (Event Er) → Held Tok Cx St Er → Held Tok Cx St Er → Failure Er → Type 0
   HandsOut older old new (failure.Error e) = (e ≡ final old.kept old.tokens old.place) × (new ≡ record old { kept = older })
-  HandsOut older old new (failure.Stop s) = (s ≡ Memory) × (safe → ⊥) × (old.kept ≡ None) × (new ≡ record old { stopped = true })
+  HandsOut older old new (failure.Stop s) = (s ≡ Memory) × (safe → ⊥) × (old.kept ≡ None) × (new ≡ with_stop Memory old)

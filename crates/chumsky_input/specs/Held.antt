@@ -1,14 +1,15 @@
 -- What counts of what a run holds.
-use Rattle.std.specs.Prelude.{ℕ, Bool, Option, List, map, option_map}
+use Rattle.std.specs.Prelude.{◌≡◌, ℕ, Option, Some, None, List, map, option_map}
 use Rattle.chumsky_input.specs.declared.error.Error as error_trait
 use Rattle.chumsky_input.specs.declared.inspector.Inspector as inspector_trait
 use Rattle.chumsky_input.specs.declared.input.Input as input_trait
+use Rattle.chumsky_input.specs.declared.stop.Stop.{Stop}
 use Rattle.chumsky_input.specs.declared.input_ref.InputRef.{InputRef}
 use Rattle.chumsky_input.specs.declared.input_ref.Located.{Located}
 use Rattle.chumsky_input.specs.declared.input_ref.Checkpoint.{Checkpoint}
 use Rattle.chumsky_input.specs.Outcome.{Event}
 
--- the tokens, the place, the context, the state, the error that is kept, those that were emitted, and whether a parser that a closure ran has stopped
+-- the tokens, the place, the context, the state, the error that is kept, those that were emitted, and the first stop of a parser that a closure ran
 pub record Held (Tok Cx St Er : Type 0) : Type 0 where
   pub tokens : List Tok
   pub place : ℕ
@@ -16,7 +17,21 @@ pub record Held (Tok Cx St Er : Type 0) : Type 0 where
   pub state : St
   pub kept : Option (Event Er)
   pub emitted : List Er
-  pub stopped : Bool
+  pub stopped : Option Stop
+
+-- the first stop: the one that was noted, or else this one
+abbrev pub first_stop : Option Stop → Stop → Stop
+first_stop (Some t) s = t
+first_stop None s = s
+
+module _ {Tok Cx St Er : Type 0} where
+  -- a stop is noted, where none was
+  abbrev pub with_stop : Stop → Held Tok Cx St Er → Held Tok Cx St Er
+  with_stop s h = record h { stopped = Some (first_stop h.stopped s) }
+
+  -- a stop that is answered is the first one, if any was noted in between
+  abbrev pub PassesOn : Stop → Held Tok Cx St Er → Held Tok Cx St Er → Type 0
+  PassesOn s old new = first_stop new.stopped s ≡ first_stop old.stopped s
 
 -- an event, of an error and its place
 abbrev pub located : {E S : Type 0} → (E → S) → Located E → Event S

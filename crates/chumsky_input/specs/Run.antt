@@ -1,11 +1,11 @@
 -- What a run leaves, of one outcome.
-use Rattle.std.specs.Prelude.{◌≡◌, ℕ, ◌+◌, ◌<◌, Bool, Option, Some, None, List, [], ◌∷◌, ◌++◌, Result, Ok, Err, length, option_to_list, slice_get, take, ⊤, ◌⊎◌}
+use Rattle.std.specs.Prelude.{◌≡◌, ℕ, ◌+◌, ◌<◌, Bool, Option, Some, None, List, [], ◌∷◌, ◌++◌, Result, Ok, Err, length, option_to_list, slice_get, take, ◌⊎◌}
 use Rattle.chumsky_input.specs.declared.stop.Stop.TheVariants.{Memory}
 use Rattle.chumsky_input.specs.declared.stop.Fault.{Fault}
 use Rattle.chumsky_input.specs.declared.stop.Fault.TheVariants as fault
 use Rattle.chumsky_input.specs.Outcome.{Event, Beginning, Outcome, Meaning, Verdict, Yes, No, Halt, Clash, HasEventAt}
 use Rattle.chumsky_input.specs.Primary.{primary}
-use Rattle.chumsky_input.specs.Held.{Held, Marks}
+use Rattle.chumsky_input.specs.Held.{Held, Marks, PassesOn}
 use Rattle.chumsky_input.specs.Wanted.{Wanted}
 
 -- the answer of a call, by verdict
@@ -87,8 +87,8 @@ module _ {Tok Cx St Er V : Type 0} (merged : Er → Er → Er) (safe : Type 0) w
   abbrev pub LeavesBy : Verdict V Er → Outcome V Er St → Held Tok Cx St Er → Held Tok Cx St Er → Type 0
   LeavesBy (Yes _) o old new = Leaves o old new
   LeavesBy No o old new = Leaves o old new
-  LeavesBy (Halt _) o old new = ⊤
-  LeavesBy (Clash e) o old new = (safe → ⊥) × HasEventAt e.place (option_to_list old.kept ++ o.events)
+  LeavesBy (Halt s) o old new = PassesOn s old new
+  LeavesBy (Clash e) o old new = (safe → ⊥) × HasEventAt e.place (option_to_list old.kept ++ o.events) × PassesOn Memory old new
 
   -- one outcome of the meaning, which the answer and what is left show
   pub record Ran (meaning : Meaning Tok Cx St Er V) (wanted : Bool) (old new : Held Tok Cx St Er) (result : Result (Option V) Fault) : Type 0 where

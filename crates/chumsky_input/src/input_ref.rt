@@ -3,7 +3,7 @@ ghost use Rattle.std.specs.Prelude.{◌≡◌, ◌∷◌, [], option_map, option
 ghost use Rattle.chumsky_input.specs.declared.stop.Failure.TheVariants as failure;
 ghost use Rattle.std.specs.Borrow.{sem};
 ghost use Rattle.std.specs.Iterator.{YieldsFirstBy, item_count, IsFinite};
-ghost use Rattle.chumsky_input.specs.Held.{Held, held, marks, located};
+ghost use Rattle.chumsky_input.specs.Held.{Held, held, marks, located, with_stop};
 ghost use Rattle.chumsky_input.specs.Lending.{LendsState};
 ghost use Rattle.chumsky_input.specs.Maybe.{maybe_value, ref_value};
 ghost use Rattle.chumsky_input.specs.Wanted.{wanted, plain_wanted, Token, Wanted, Shows};
@@ -35,7 +35,7 @@ pub struct Checkpoint<C, M> {
 }
 
 /// What a parser is lent by a run: a cursor into the input, the state, the context, the error of the furthest failure
-/// so far and the errors that were emitted; and, for itself, whether a parser that a closure ran on it has stopped.
+/// so far and the errors that were emitted; and, for itself, the first stop of a parser that a closure ran on it.
 pub struct InputRef<'src, 'p, I: Input<'src>, E: ParserExtra<I>> {
     pub cursor: I::Cursor,
     pub state: &'p mut E::State,
@@ -44,7 +44,7 @@ pub struct InputRef<'src, 'p, I: Input<'src>, E: ParserExtra<I>> {
     pub emitted: Vec<E::Error>,
     pub alloc: Global,
     pub source: PhantomData<(&'src I::Token, I)>,
-    stopped: bool,
+    stopped: Option<Stop>,
 }
 
 /// What a run leaves: where its cursor stands, the state, and the errors.
@@ -345,7 +345,7 @@ impl<'src, 'p, I: Input<'src>, E: ParserExtra<I>> InputRef<'src, 'p, I, E> {
         state: &'p mut E::State,
         context: &'p E::Context,
     ) -> InputRef<'src, 'p, I, E>
-        ensures begins { held I.Input E.Error.Error E.State.Inspector result ≡ record { tokens = I.cursor_tokens from; place = I.place from; context = context.now; state = E.State.seen state.entry.now; kept = None; emitted = []; stopped = false } }
+        ensures begins { held I.Input E.Error.Error E.State.Inspector result ≡ record { tokens = I.cursor_tokens from; place = I.place from; context = context.now; state = E.State.seen state.entry.now; kept = None; emitted = []; stopped = None } }
         ensures lent { result.state.ghost_name ≡ state.entry.ghost_name }
     {
         InputRef {
@@ -356,7 +356,7 @@ impl<'src, 'p, I: Input<'src>, E: ParserExtra<I>> InputRef<'src, 'p, I, E> {
             emitted: Vec::new(alloc),
             alloc,
             source: PhantomData,
-            stopped: false,
+            stopped: None,
         }
     }
 
@@ -368,7 +368,7 @@ impl<'src, 'p, I: Input<'src>, E: ParserExtra<I>> InputRef<'src, 'p, I, E> {
         state: &'p mut E::State,
         context: &'p E::Context,
     ) -> InputRef<'src, 'p, I, E>
-        ensures begins { held I.Input E.Error.Error E.State.Inspector result ≡ record { tokens = I.tokens input; place = 0; context = context.now; state = E.State.seen state.entry.now; kept = None; emitted = []; stopped = false } }
+        ensures begins { held I.Input E.Error.Error E.State.Inspector result ≡ record { tokens = I.tokens input; place = 0; context = context.now; state = E.State.seen state.entry.now; kept = None; emitted = []; stopped = None } }
         ensures lent { result.state.ghost_name ≡ state.entry.ghost_name }
     {
         InputRef {
@@ -379,7 +379,7 @@ impl<'src, 'p, I: Input<'src>, E: ParserExtra<I>> InputRef<'src, 'p, I, E> {
             emitted: Vec::new(alloc),
             alloc,
             source: PhantomData,
-            stopped: false,
+            stopped: None,
         }
     }
 
@@ -408,14 +408,16 @@ impl<'src, 'p, I: Input<'src>, E: ParserExtra<I>> InputRef<'src, 'p, I, E> {
         }
     }
 
-    /// A stop of a parser that a closure ran, which the run remembers: the closure is to pass it on.
+    /// A stop of a parser that a closure ran, which the closure is to pass on. The run notes the first one.
     #[inline]
     pub fn stop(&mut self, stop: Stop) -> Failure<E::Error>
         ensures is { result ≡ failure.Stop stop }
-        ensures stops { held I.Input E.Error.Error E.State.Inspector self.new ≡ record (held I.Input E.Error.Error E.State.Inspector self.old) { stopped = true } }
+        ensures stops { held I.Input E.Error.Error E.State.Inspector self.new ≡ with_stop stop (held I.Input E.Error.Error E.State.Inspector self.old) }
         ensures lent { self.new.state.ghost_name ≡ self.old.state.ghost_name }
     {
-        self.stopped = true;
+        if self.stopped.is_none() {
+            self.stopped = Some(stop);
+        }
         Failure::Stop(stop)
     }
 

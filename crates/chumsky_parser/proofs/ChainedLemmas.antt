@@ -1,8 +1,9 @@
 -- What is left of one part after another.
 use Rattle.std.proofs.Common.{◌≡◌, ℕ, Bool, Option, Some, None, List, [], ◌++◌, refl, sym, ◌∙◌, ap, subst, Result, Ok, Err, append_assoc, option_to_list}
 use Rattle.std.proofs.lemmas.List.{append-nil}
+use Rattle.chumsky_input.specs.declared.stop.Stop.TheVariants.{Memory}
 use Rattle.chumsky_input.specs.declared.stop.Fault.{Fault}
-use Rattle.chumsky_input.specs.Held.{Held}
+use Rattle.chumsky_input.specs.Held.{Held, first_stop}
 use Rattle.chumsky_input.specs.Outcome.{Event, Meaning, Beginning, Outcome, Verdict, Yes, No, Halt, Clash, HasEventAt}
 use Rattle.chumsky_input.specs.Primary.{primary}
 use Rattle.chumsky_input.specs.Run.{Ran, SameRun, Leaves, LeavesBy, begin, answer, with_value, without_value}
@@ -34,7 +35,7 @@ module _ {Tok Cx St Er V W : Type 0} (merged : Er → Er → Er) (safe : Type 0)
         meant = record { first = record { verdict = Halt h; end = end; state = state; events = events; emitted = emitted }; meant = m; follows = refl };
         answered = cc;
         state = s;
-        left = tt;
+        left = l;
         same = same;
       }
   chained_err (Clash e) new end state events emitted f m a s l same =
@@ -68,11 +69,12 @@ module _ {Tok Cx St Er V W : Type 0} (merged : Er → Er → Er) (safe : Type 0)
         emitted = l.emitted ∙ ap (λ es. es ++ q.emitted) first.emitted ∙ append_assoc old.emitted p.emitted q.emitted;
         stopped = l.stopped ∙ first.stopped;
       }
-  chained_left p q (Halt _) mid new first l = tt
+  chained_left p q (Halt h) mid new first l = l ∙ ap (λ z. first_stop z h) first.stopped
   chained_left p q (Clash e) mid new first l = (
     l.0,
     subst (HasEventAt e.place) (append_assoc (option_to_list old.kept) p.events q.events)
         (has_event_at-kept merged e.place (option_to_list old.kept ++ p.events) q.events (subst (λ k. HasEventAt e.place (option_to_list k ++ q.events)) first.kept l.1)),
+    l.2 ∙ ap (λ z. first_stop z Memory) first.stopped,
   )
 
   begins : (p : Outcome V Er St) (mid : Held Tok Cx St Er) → SameRun old mid → mid.place ≡ p.end → mid.state ≡ p.state → begin wanted mid ≡ from (begin wanted old) p
@@ -155,8 +157,8 @@ module _ {Tok Cx St Er V : Type 0} (merged : Er → Er → Er) (safe : Type 0) w
   pub rebased : (v : Verdict V Er) (o : Outcome V Er St) (old mid new : Held Tok Cx St Er) → mid.kept ≡ old.kept → mid.emitted ≡ old.emitted → mid.stopped ≡ old.stopped → LeavesBy merged safe v o mid new → LeavesBy merged safe v o old new
   rebased (Yes _) o old mid new k e s l = record { end = l.end; kept = l.kept ∙ ap (λ z. primary merged (option_to_list z ++ o.events)) k; emitted = l.emitted ∙ ap (λ z. z ++ o.emitted) e; stopped = l.stopped ∙ s }
   rebased No o old mid new k e s l = record { end = l.end; kept = l.kept ∙ ap (λ z. primary merged (option_to_list z ++ o.events)) k; emitted = l.emitted ∙ ap (λ z. z ++ o.emitted) e; stopped = l.stopped ∙ s }
-  rebased (Halt _) o old mid new k e s l = tt
-  rebased (Clash x) o old mid new k e s l = (l.0, subst (λ z. HasEventAt x.place (option_to_list z ++ o.events)) k l.1)
+  rebased (Halt h) o old mid new k e s l = l ∙ ap (λ z. first_stop z h) s
+  rebased (Clash x) o old mid new k e s l = (l.0, subst (λ z. HasEventAt x.place (option_to_list z ++ o.events)) k l.1, l.2 ∙ ap (λ z. first_stop z Memory) s)
 
 module _ {Tok Cx St Er V : Type 0} {merged : Er → Er → Er} {safe : Type 0} {meaning : Meaning Tok Cx St Er V} {wanted : Bool} where
   -- a run from where nothing has changed is one from before

@@ -5,7 +5,7 @@ use Rattle.chumsky_input.specs.declared.stop.Fault.{Fault}
 use Rattle.chumsky_input.specs.declared.stop.Fault.TheVariants as fault
 use Rattle.chumsky_input.specs.declared.stop.Stop.TheVariants.{Memory}
 use Rattle.chumsky_input.specs.Outcome.{Event, Meaning, Outcome, Verdict, Yes, No, Halt, Clash, HasEventAt}
-use Rattle.chumsky_input.specs.Held.{Held, Marks}
+use Rattle.chumsky_input.specs.Held.{Held, Marks, first_stop}
 use Rattle.chumsky_input.specs.Primary.{primary}
 use Rattle.chumsky_input.specs.Run.{Ran, Leaves, LeavesBy, begin, answer, gone_back, marked_here}
 use Rattle.chumsky_input.proofs.PrimaryLemmas.{primary-append, has_event_at-kept}
@@ -59,11 +59,12 @@ module _ {Tok Cx St Er V : Type 0} (merged : Er → Er → Er) (safe : Type 0) (
         emitted = l.emitted ∙ ap (λ z. z ++ q.emitted) e;
         stopped = l.stopped ∙ s ∙ t.stopped;
       }
-  back_left p (Halt _) q mid bk new t k e s l = tt
+  back_left p (Halt h) q mid bk new t k e s l = l ∙ ap (λ z. first_stop z h) (s ∙ t.stopped)
   back_left p (Clash x) q mid bk new t k e s l = (
     l.0,
     subst (HasEventAt x.place) (append_assoc (option_to_list old.kept) p.events q.events)
         (has_event_at-kept merged x.place (option_to_list old.kept ++ p.events) q.events (subst (λ z. HasEventAt x.place (option_to_list z ++ q.events)) (k ∙ t.kept) l.1)),
+    l.2 ∙ ap (λ z. first_stop z Memory) (s ∙ t.stopped),
   )
 
 module _ {Tok Cx St Mk Er V : Type 0} (merged : Er → Er → Er) (safe : Type 0) (back : St → Mk → St) (quiet : Type 0) (m : Marks Tok Mk) (first : Meaning Tok Cx St Er V) (wanted : Bool) (old mid : Held Tok Cx St Er) where
@@ -110,7 +111,7 @@ module _ {Tok Cx St Mk Er V : Type 0} (merged : Er → Er → Er) (safe : Type 0
   attempt-unrestored second new h e may =
       let p = h.outcome in
       let t = tried merged safe old p.verdict p.end p.state p.events p.emitted h.answered mid h.left in
-      rw e (ran-halts merged safe _ wanted old mid h.same (λ o v s. record { attempt = p; meant = h.meant; then_else = rw t.1 (inl (may, v, s ∙ h.state)) }))
+      rw e (ran-halts merged safe _ wanted old mid h.same t.0.stopped (λ o v s. record { attempt = p; meant = h.meant; then_else = rw t.1 (inl (may, v, s ∙ h.state)) }))
 
 module _ {Tok Cx St Mk Er : Type 0} (mark : St → Mk) where
   -- a checkpoint that was just made
@@ -127,7 +128,7 @@ module _ {Tok Cx St Mk Er V : Type 0} (merged : Er → Er → Er) (safe : Type 0
 
   -- want of memory for the mark
   pub ran-not_marked : (quiet → ⊥) → Ran merged safe (ByMark mark quiet part) wanted old old (Err (fault.Stop Memory))
-  ran-not_marked may = ran-halts merged safe _ wanted old old (record { tokens = refl; context = refl }) (λ o v s. inl (may, v, s))
+  ran-not_marked may = ran-halts merged safe _ wanted old old (record { tokens = refl; context = refl }) refl (λ o v s. inl (may, v, s))
 
 module _ {Tok Cx St Mk Er V : Type 0} (merged : Er → Er → Er) (safe : Type 0) (mark : St → Mk) (back : St → Mk → St) (quiet : Type 0) (first second : Meaning Tok Cx St Er V) (wanted : Bool) (old : Held Tok Cx St Er) where
   ran-attempt : (new : Held Tok Cx St Er) (r : Result (Option V) Fault) → Ran merged safe (AttemptFrom back quiet (mark old.state) first second) wanted old new r
@@ -147,7 +148,7 @@ module _ {Tok Cx St Mk Er V : Type 0} (merged : Er → Er → Er) (safe : Type 0
 
   -- want of memory at the mark, and at going back
   pub ran-unmarked : (new : Held Tok Cx St Er) → new ≡ old → (quiet → ⊥) → Ran merged safe (OrElse mark back quiet first second) wanted old new (Err (fault.Stop Memory))
-  ran-unmarked new e may = rw e (ran-halts merged safe _ wanted old old (record { tokens = refl; context = refl }) (λ o v s. record { cases = inl (may, v, s) }))
+  ran-unmarked new e may = rw e (ran-halts merged safe _ wanted old old (record { tokens = refl; context = refl }) refl (λ o v s. record { cases = inl (may, v, s) }))
 
   pub ran-unrestored : (mid new : Held Tok Cx St Er) → Ran merged safe first wanted old mid (Err fault.Fail) → new ≡ mid → (quiet → ⊥)
       → Ran merged safe (OrElse mark back quiet first second) wanted old new (Err (fault.Stop Memory))

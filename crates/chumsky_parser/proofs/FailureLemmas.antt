@@ -4,7 +4,7 @@ use Rattle.std.proofs.lemmas.List.{append-nil}
 use Rattle.chumsky_input.specs.declared.stop.Fault.{Fault}
 use Rattle.chumsky_input.specs.declared.stop.Fault.TheVariants as fault
 use Rattle.chumsky_input.specs.declared.stop.Stop.TheVariants.{Memory}
-use Rattle.chumsky_input.specs.Held.{Held}
+use Rattle.chumsky_input.specs.Held.{Held, first_stop}
 use Rattle.chumsky_input.specs.Outcome.{Event, Meaning, Outcome, Yes, No, Halt, Clash, HasEventAt}
 use Rattle.chumsky_input.specs.Run.{Ran, SameRun, begin, Adds, Fails}
 use Rattle.chumsky_input.proofs.PrimaryLemmas.{kept-same}
@@ -25,15 +25,15 @@ module _ {Tok Cx St Er V : Type 0} (merged : Er → Er → Er) (safe : Type 0) (
       }
 
   -- a refusal for want of memory
-  pub ran-halts : (new : Held Tok Cx St Er) → SameRun old new
+  pub ran-halts : (new : Held Tok Cx St Er) → SameRun old new → new.stopped ≡ old.stopped
       → ((o : Outcome V Er St) → o.verdict ≡ Halt Memory → o.state ≡ new.state → meaning (begin wanted old) o) → Ran merged safe meaning wanted old new (Err (fault.Stop Memory))
-  ran-halts new same m =
+  ran-halts new same stopped m =
       record {
         outcome = record { verdict = Halt Memory; end = old.place; state = new.state; events = []; emitted = [] };
         meant = m _ refl refl;
         answered = refl;
         state = refl;
-        left = tt;
+        left = ap (λ z. first_stop z Memory) stopped;
         same = same;
       }
 
@@ -55,7 +55,7 @@ module _ {Tok Cx St Er V : Type 0} (merged : Er → Er → Er) (safe : Type 0) (
         meant = m _ (record { by = inr (refl, refl); end_at = refl; left = refl; emitted = refl });
         answered = ap (λ z. Err (fault.Stop z)) a.0;
         state = ap (λ (h : Held Tok Cx St Er). h.state) a.3;
-        left = (a.1, subst (HasEventAt e.place) (sym (append-nil (option_to_list old.kept))) a.2);
+        left = (a.1, subst (HasEventAt e.place) (sym (append-nil (option_to_list old.kept))) a.2, ap (λ (h : Held Tok Cx St Er). first_stop h.stopped Memory) a.3);
         same = record { tokens = ap (λ (h : Held Tok Cx St Er). h.tokens) a.3; context = ap (λ (h : Held Tok Cx St Er). h.context) a.3 };
       }
 
@@ -64,5 +64,5 @@ module _ {Tok Cx St Er V : Type 0} (merged : Er → Er → Er) (safe : Type 0) (
       → ((o : Outcome V Er St) → Misses safe e old.place old.state o → meaning (begin wanted old) o) → Ran merged safe meaning wanted old new (Err f)
   ran-misses e new f (inl a) m = ran-adds e new f a (λ o h. m o (inr h))
   ran-misses e new f (inr l) m =
-      rw l.0 (ran-halts new (record { tokens = ap (λ (h : Held Tok Cx St Er). h.tokens) l.2; context = ap (λ (h : Held Tok Cx St Er). h.context) l.2 })
+      rw l.0 (ran-halts new (record { tokens = ap (λ (h : Held Tok Cx St Er). h.tokens) l.2; context = ap (λ (h : Held Tok Cx St Er). h.context) l.2 }) (ap (λ (h : Held Tok Cx St Er). h.stopped) l.2)
       (λ o v s. m o (inl (l.1, v, s ∙ ap (λ (h : Held Tok Cx St Er). h.state) l.2))))

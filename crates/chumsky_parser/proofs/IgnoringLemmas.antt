@@ -25,7 +25,7 @@ module _ {Tok Cx St Er V : Type 0} {merged : Er → Er → Er} {safe : Type 0} {
 
   -- want of memory for the copy
   pub ran-lacks_copy : (quiet → ⊥) → Ran merged safe (GivesCopy copies quiet) true old old (Err (fault.Stop Memory))
-  ran-lacks_copy may = ran-halts merged safe (GivesCopy copies quiet) true old old (record { tokens = refl; context = refl }) (λ o v s. record { cases = inl ((refl, may), v, s) })
+  ran-lacks_copy may = ran-halts merged safe (GivesCopy copies quiet) true old old (record { tokens = refl; context = refl }) refl (λ o v s. record { cases = inl ((refl, may), v, s) })
 
 module _ {Tok Cx St Er V W : Type 0} {merged : Er → Er → Er} {safe : Type 0} {part : Meaning Tok Cx St Er V} {old new : Held Tok Cx St Er} where
   -- a part without its value, and then what does nothing more

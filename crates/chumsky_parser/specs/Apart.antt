@@ -1,11 +1,12 @@
 -- A part that is run by itself, within a closure: its events count as one.
-use Rattle.std.specs.Prelude.{◌≡◌, ℕ, Bool, true, Option, Some, None, List, ◌++◌, Result, Ok, Err, option_to_list, ◌⊎◌}
+use Rattle.std.specs.Prelude.{◌≡◌, ℕ, Bool, Option, Some, None, List, ◌++◌, Result, Ok, Err, option_to_list, ◌⊎◌}
+use Rattle.chumsky_input.specs.declared.stop.Stop.{Stop}
 use Rattle.chumsky_input.specs.declared.stop.Stop.TheVariants.{Memory}
 use Rattle.chumsky_input.specs.declared.stop.Failure.{Failure}
 use Rattle.chumsky_input.specs.declared.stop.Failure.TheVariants as failure
 use Rattle.chumsky_input.specs.Outcome.{Event, Meaning, Outcome, Verdict, Yes, No, Halt, Clash, HasEventAt}
 use Rattle.chumsky_input.specs.Primary.{primary}
-use Rattle.chumsky_input.specs.Held.{Held}
+use Rattle.chumsky_input.specs.Held.{Held, first_stop}
 use Rattle.chumsky_input.specs.Run.{begin}
 use Rattle.chumsky_input.specs.Aside.{failure_seen, ClashesWith}
 
@@ -23,16 +24,20 @@ module _ {Tok Cx St Er V : Type 0} (merged : Er → Er → Er) (safe : Type 0) (
   abbrev pub ended : Outcome V Er St → Held Tok Cx St Er → Held Tok Cx St Er
   ended o h = record h { place = o.end; state = o.state; emitted = h.emitted ++ o.emitted }
 
-  -- after a yes the part's one event is added, and after a no it is handed out; of a stop the state is known, and that there was one
+  -- a stop is handed out, and noted where none was; of what else is held the state is known
+  abbrev pub HandsStop : Stop → Outcome V Er St → Held Tok Cx St Er → Held Tok Cx St Er → Result (Option V) (Failure Er) → Type 0
+  HandsStop s o old new r = (r ≡ Err (failure.Stop s)) × (new.state ≡ o.state) × (new.stopped ≡ Some (first_stop old.stopped s))
+
+  -- after a yes the part's one event is added, and after a no it is handed out; a stop is handed out too
   abbrev pub HandsBy : Verdict V Er → Outcome V Er St → Held Tok Cx St Er → Held Tok Cx St Er → Result (Option V) (Failure Er) → Type 0
   HandsBy (Yes v) o old new r =
       ((r ≡ Ok v) × (new ≡ record (ended o old) { kept = primary merged (option_to_list old.kept ++ option_to_list (primary merged o.events)) }))
-      ⊎ ((r ≡ Err (failure.Stop Memory)) × (new.state ≡ o.state) × (new.stopped ≡ true) × ClashesWith safe old.kept (primary merged o.events))
+      ⊎ (HandsStop Memory o old new r × ClashesWith safe old.kept (primary merged o.events))
   HandsBy No o old new r =
       ((r ≡ Err (failure.Error (final (primary merged o.events) old.tokens o.end))) × (new ≡ ended o old))
-      ⊎ ((r ≡ Err (failure.Stop Memory)) × (new.state ≡ o.state) × (new.stopped ≡ true) × (safe → ⊥) × (primary merged o.events ≡ None))
-  HandsBy (Halt s) o old new r = (r ≡ Err (failure.Stop s)) × (new.state ≡ o.state) × (new.stopped ≡ true)
-  HandsBy (Clash e) o old new r = (r ≡ Err (failure.Stop Memory)) × (new.state ≡ o.state) × (new.stopped ≡ true) × (safe → ⊥) × HasEventAt e.place o.events
+      ⊎ (HandsStop Memory o old new r × (safe → ⊥) × (primary merged o.events ≡ None))
+  HandsBy (Halt s) o old new r = HandsStop s o old new r
+  HandsBy (Clash e) o old new r = HandsStop Memory o old new r × (safe → ⊥) × HasEventAt e.place o.events
 
   -- one outcome of the part, and what is made of it
   pub record RanApart (meaning : Meaning Tok Cx St Er V) (wanted : Bool) (old new : Held Tok Cx St Er) (result : Result (Option V) (Failure Er)) : Type 0 where

@@ -54,5 +54,5 @@ module _ {I Tok Sp Cu Er St Mk Cx V : Type 0} (source : input_trait.Ghosts I Cu 
   pub any_lacks : (new : Held Tok Cx states.Seen errors.Seen) → LacksToken safe old new
       → Ran errors.merged errors.takes_no_memory (MeansAny source IsOf safe errors states) true old new (Err (fault.Stop Memory))
   any_lacks new k =
-      rw k.0 (ran-halts errors.merged errors.takes_no_memory _ true old old (record { tokens = refl; context = refl })
+      rw k.0 (ran-halts errors.merged errors.takes_no_memory _ true old old (record { tokens = refl; context = refl }) refl
       (λ o v s. record { by_token = rw k.1.1 (inl ((refl, k.1.2), v, s)) }))

@@ -14,7 +14,7 @@ use Rattle.chumsky_input.specs.declared.stop.Fault.{Fault}
 use Rattle.chumsky_input.specs.declared.stop.Fault.TheVariants as fault
 use Rattle.chumsky_input.specs.declared.stop.Failure.{Failure}
 use Rattle.chumsky_input.specs.declared.stop.Failure.TheVariants as failure
-use Rattle.chumsky_input.specs.Held.{Held, held}
+use Rattle.chumsky_input.specs.Held.{Held, held, first_stop}
 use Rattle.chumsky_input.specs.Primary.{primary}
 use Rattle.chumsky_input.specs.Outcome.{Event, Meaning, Outcome, Halt, Clash, HasEventAt}
 use Rattle.chumsky_input.specs.Run.{Ran, begin, with_value, Adds}
@@ -95,7 +95,11 @@ module _ {I X Tok Sp Cu Er St Cx Mk V F : Type 0} (source : input_trait.Ghosts I
         };
         answered = ap (λ z. Err (fault.Stop z)) a.0;
         state = ap (λ (z : Held Tok Cx states.Seen errors.Seen). z.state) a.3 ∙ ap (λ (z : Held Tok Cx states.Seen errors.Seen). z.state) n;
-        left = (a.1, event_before old.place (subst (λ (z : Held Tok Cx states.Seen errors.Seen). HasEventAt old.place (option_to_list z.kept)) n a.2));
+        left = (
+          a.1,
+          event_before old.place (subst (λ (z : Held Tok Cx states.Seen errors.Seen). HasEventAt old.place (option_to_list z.kept)) n a.2),
+          ap (λ (z : Held Tok Cx states.Seen errors.Seen). first_stop z.stopped Memory) a.3 ∙ ap (λ (z : Held Tok Cx states.Seen errors.Seen). first_stop z.stopped Memory) n ∙ ap (λ z. first_stop z Memory) ahead.stopped,
+        );
         same = record {
           tokens = ap (λ (z : Held Tok Cx states.Seen errors.Seen). z.tokens) a.3 ∙ ap (λ (z : Held Tok Cx states.Seen errors.Seen). z.tokens) n ∙ ahead.tokens;
           context = ap (λ (z : Held Tok Cx states.Seen errors.Seen). z.context) a.3 ∙ ap (λ (z : Held Tok Cx states.Seen errors.Seen). z.context) n ∙ ahead.context;
@@ -119,7 +123,7 @@ module _ {I X Tok Sp Cu Er St Cx Mk V F : Type 0} (source : input_trait.Ghosts I
         meant = record { call = calls w r met e; does = lacks_merge whole seen_left.kept tail c.0 is.0 c.1; later = λ z. absurd z };
         answered = refl;
         state = ap (λ (z : Held Tok Cx states.Seen errors.Seen). z.state) s ∙ sym is.2;
-        left = (c.2, has_event_at-left errors.merged c.0.place (option_to_list old.kept) [] c.3);
+        left = (c.2, has_event_at-left errors.merged c.0.place (option_to_list old.kept) [] c.3, ap (λ (z : Held Tok Cx states.Seen errors.Seen). first_stop z.stopped Memory) s ∙ ap (λ z. first_stop z Memory) ahead.stopped);
         same = record { tokens = ap (λ (z : Held Tok Cx states.Seen errors.Seen). z.tokens) s ∙ ahead.tokens; context = ap (λ (z : Held Tok Cx states.Seen errors.Seen). z.context) s ∙ ahead.context };
       }
   refuses r tail {new} w met e ahead is (inr n) s =
@@ -129,7 +133,7 @@ module _ {I X Tok Sp Cu Er St Cx Mk V F : Type 0} (source : input_trait.Ghosts I
         meant = record { call = calls w r met e; does = inr (inr (λ z. n (sym is.1 ∙ z), refl, refl)); later = λ z. absurd z };
         answered = refl;
         state = ap (λ (z : Held Tok Cx states.Seen errors.Seen). z.state) s ∙ sym is.2;
-        left = tt;
+        left = ap (λ (z : Held Tok Cx states.Seen errors.Seen). first_stop z.stopped Memory) s ∙ ap (λ z. first_stop z Memory) ahead.stopped;
         same = record { tokens = ap (λ (z : Held Tok Cx states.Seen errors.Seen). z.tokens) s ∙ ahead.tokens; context = ap (λ (z : Held Tok Cx states.Seen errors.Seen). z.context) s ∙ ahead.context };
       }
 
@@ -143,15 +147,15 @@ module _ {I X Tok Sp Cu Er St Cx Mk V F : Type 0} (source : input_trait.Ghosts I
       → (w : Bool) → Ran errors.merged errors.takes_no_memory (MeansCustom source errors states g f) w old new (Err (fault.Stop Memory))
   custom_no_refused {x} may met e n w = refuses (Err (failure.Error x)) (record { place = old.place; error = errors.seen x } ∷ []) w met e (forward (may.keeps p left (Err (failure.Error x)) met).0 e) (refl, refl, refl) n.0 n.1
 
-  pub custom_stops : {s : Stop} → g.post f (p, tt) (Err (failure.Stop s), (left, tt)) → held source errors states p.now ≡ without_errors old
+  pub custom_stops : {s : Stop} → MayRun source errors states g f → g.post f (p, tt) (Err (failure.Stop s), (left, tt)) → held source errors states p.now ≡ without_errors old
       → (w : Bool) → Ran errors.merged errors.takes_no_memory (MeansCustom source errors states g f) w old (record seen_left { tokens = old.tokens; place = old.place; context = old.context }) (Err (fault.Stop s))
-  custom_stops {s} met e w =
+  custom_stops {s} may met e w =
       record {
         outcome = done errors.seen (begin w old) (Err (failure.Stop s)) seen_left;
         meant = record { call = calls w (Err (failure.Stop s)) met e; does = inl refl; later = λ z. absurd z };
         answered = refl;
         state = refl;
-        left = tt;
+        left = (may.keeps p left (Err (failure.Stop s)) met).0 ∙ ap (λ (z : Held Tok Cx states.Seen errors.Seen). first_stop z.stopped s) e;
         same = record { tokens = refl; context = refl };
       }
 

@@ -25,12 +25,12 @@ module _ {I Tok Sp Cu Er St Mk Cx : Type 0} (source : input_trait.Ghosts I Cu To
   pub end_unmarked : (new : Held Tok Cx states.Seen errors.Seen) → new ≡ old → (states.takes_no_memory → ⊥)
       → Ran errors.merged errors.takes_no_memory (MeansEnd source errors states) w old new (Err (fault.Stop Memory))
   end_unmarked new k may =
-      rw k (ran-halts errors.merged errors.takes_no_memory _ w old old (record { tokens = refl; context = refl }) (λ o v s. record { by_token = inl (may, v, s) }))
+      rw k (ran-halts errors.merged errors.takes_no_memory _ w old old (record { tokens = refl; context = refl }) refl (λ o v s. record { by_token = inl (may, v, s) }))
 
   pub end_unrestored : (t : Tok) (mid new : Held Tok Cx states.Seen errors.Seen) → Some t ≡ slice_get old.tokens old.place → mid ≡ took states.after old (Some t) → new ≡ mid → (states.takes_no_memory → ⊥)
       → Ran errors.merged errors.takes_no_memory (MeansEnd source errors states) w old new (Err (fault.Stop Memory))
   end_unrestored t mid new e k n may =
-      rw (n, k) (ran-halts errors.merged errors.takes_no_memory _ w old (took states.after old (Some t)) (record { tokens = refl; context = refl })
+      rw (n, k) (ran-halts errors.merged errors.takes_no_memory _ w old (took states.after old (Some t)) (record { tokens = refl; context = refl }) refl
       (λ o v s. record { by_token = rw (sym e) (inr (inl (may, v, s))) }))
 
   -- the event of the end, where the token was taken and gone back from

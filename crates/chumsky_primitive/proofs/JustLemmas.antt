@@ -29,7 +29,7 @@ module _ {I Tok Sp Cu Er St Mk Cx : Type 0} (source : input_trait.Ghosts I Cu To
   means found e f i o h = record { by_token = inr (rw (sym f, i) h) }
 
   pub member_unmarked : (states.takes_no_memory → ⊥) → Ran errors.merged errors.takes_no_memory (MeansMember source equal errors states m) w old old (Err (fault.Stop Memory))
-  member_unmarked may = ran-halts errors.merged errors.takes_no_memory _ w old old (record { tokens = refl; context = refl }) (λ o v s. record { by_token = inl (may, v, s) })
+  member_unmarked may = ran-halts errors.merged errors.takes_no_memory _ w old old (record { tokens = refl; context = refl }) refl (λ o v s. record { by_token = inl (may, v, s) })
 
   pub member_there : (found : Option Tok) (mid : Held Tok Cx states.Seen errors.Seen) → found ≡ slice_get old.tokens old.place → is_member equal m found ≡ true → mid ≡ took states.after old found
       → Ran errors.merged errors.takes_no_memory (MeansMember source equal errors states m) w old mid (Ok None)
@@ -41,7 +41,7 @@ module _ {I Tok Sp Cu Er St Mk Cx : Type 0} (source : input_trait.Ghosts I Cu To
       → Ran errors.merged errors.takes_no_memory (MeansMember source equal errors states m) w old new (Err (fault.Stop Memory))
   member_unrestored found mid new f i k n may =
       rw (n ∙ k ∙ took-is states.after old found)
-      (ran-halts errors.merged errors.takes_no_memory _ w old (record old { place = past found old.place; state = told states.after found old.state }) (record { tokens = refl; context = refl })
+      (ran-halts errors.merged errors.takes_no_memory _ w old (record old { place = past found old.place; state = told states.after found old.state }) (record { tokens = refl; context = refl }) refl
       (λ o v s. means found false f i o (inl (may, v, s))))
 
   -- the event of a member, where what was found was gone back from

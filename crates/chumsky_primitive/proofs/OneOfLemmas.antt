@@ -61,9 +61,9 @@ module _ {I Tok Sp Cu Er St Mk Cx S : Type 0} (source : input_trait.Ghosts I Cu 
   pub tested_stays : (found : Option Tok) (new : Held Tok Cx states.Seen errors.Seen) → found ≡ slice_get old.tokens old.place → passes test found ≡ false → StaysAt states.takes_no_memory states.after found old new
       → (w : Bool) → Ran errors.merged errors.takes_no_memory (MeansTested source seen safe errors states test what) w old new (Err (fault.Stop Memory))
   tested_stays found new f p (may, inl n) w =
-      rw n (ran-halts errors.merged errors.takes_no_memory _ w old old (record { tokens = refl; context = refl }) (λ o v s. means w found false f p o (inl (may, v, s))))
+      rw n (ran-halts errors.merged errors.takes_no_memory _ w old old (record { tokens = refl; context = refl }) refl (λ o v s. means w found false f p o (inl (may, v, s))))
   tested_stays found new f p (may, inr n) w =
-      rw n (ran-halts errors.merged errors.takes_no_memory _ w old (record old { state = told states.after found old.state }) (record { tokens = refl; context = refl })
+      rw n (ran-halts errors.merged errors.takes_no_memory _ w old (record old { state = told states.after found old.state }) (record { tokens = refl; context = refl }) refl
       (λ o v s. means w found false f p o (inr (inl (may, v, s)))))
 
   -- the event of what doesn't pass, where that was gone back from

@@ -21,7 +21,7 @@ module _ {I Tok Sp Cu Er St Mk Cx V : Type 0} (source : input_trait.Ghosts I Cu 
   pub select_unmarked : (x : Result V Fault) → x ≡ Err (fault.Stop Memory) → (states.takes_no_memory → ⊥)
       → Ran errors.merged errors.takes_no_memory (MeansSelect source safe errors states picks) w old old (asked w x)
   select_unmarked x e may =
-      rw e (ran-halts errors.merged errors.takes_no_memory (MeansSelect source safe errors states picks) w old old (record { tokens = refl; context = refl }) (λ o v s. record { by_token = inl (may, v, s) }))
+      rw e (ran-halts errors.merged errors.takes_no_memory (MeansSelect source safe errors states picks) w old old (record { tokens = refl; context = refl }) refl (λ o v s. record { by_token = inl (may, v, s) }))
 
   at_end : (new : Held Tok Cx states.Seen errors.Seen) (f : Fault) → None ≡ slice_get old.tokens old.place
       → Fails errors.merged errors.takes_no_memory (expects source errors old.tokens (wanted.SomethingElse ∷ []) None old.place old.place) old new f
@@ -37,7 +37,7 @@ module _ {I Tok Sp Cu Er St Mk Cx V : Type 0} (source : input_trait.Ghosts I Cu 
     pub select_lacks : (x : Result V Fault) → x ≡ Err (fault.Stop Memory) → (safe t → ⊥)
         → Ran errors.merged errors.takes_no_memory (MeansSelect source safe errors states picks) w old mid (asked w x)
     select_lacks x e may =
-        rw (e, taken) (ran-halts errors.merged errors.takes_no_memory (MeansSelect source safe errors states picks) w old (took states.after old (Some t)) (record { tokens = refl; context = refl })
+        rw (e, taken) (ran-halts errors.merged errors.takes_no_memory (MeansSelect source safe errors states picks) w old (took states.after old (Some t)) (record { tokens = refl; context = refl }) refl
         (λ o v s. record { by_token = rw (sym there) (inr (inl (may, v, s))) }))
 
     module _ (m : Marks Tok states.Marked) (marked : m ≡ marked_here states.mark old) (left : Held Tok Cx states.Seen errors.Seen) (s : states.Seen) (called : left ≡ record mid { state = s }) where
@@ -56,7 +56,7 @@ module _ {I Tok Sp Cu Er St Mk Cx V : Type 0} (source : input_trait.Ghosts I Cu 
       pub select_unrestored : (new : Held Tok Cx states.Seen errors.Seen) (x : Result V Fault) → picks t (shown_from m.place mid) None s → new ≡ left → x ≡ Err (fault.Stop Memory) → (states.takes_no_memory → ⊥)
           → Ran errors.merged errors.takes_no_memory (MeansSelect source safe errors states picks) w old new (asked w x)
       select_unrestored new x h n e may =
-          rw (e, n, left_there) (ran-halts errors.merged errors.takes_no_memory (MeansSelect source safe errors states picks) w old (record old { place = old.place + 1; state = s }) (record { tokens = refl; context = refl })
+          rw (e, n, left_there) (ran-halts errors.merged errors.takes_no_memory (MeansSelect source safe errors states picks) w old (record old { place = old.place + 1; state = s }) (record { tokens = refl; context = refl }) refl
           (λ o v q. record { by_token = rw (sym there) (inr (inr (record { answer = None; state = s; picked = shown_there None h; outcome = inl (may, v, q) }))) }))
 
       -- the event of a token that is gone back from

@@ -1,11 +1,12 @@
 -- A parser given by a closure.
-use Rattle.std.specs.Prelude.{◌≡◌, Bool, false, ◌≤◌, None, List, [], ◌∷◌, ◌++◌, Result, Ok, Err, option_to_list, ◌⊎◌, ⊤}
+use Rattle.std.specs.Prelude.{◌≡◌, ◌≤◌, Option, None, List, [], ◌∷◌, ◌++◌, Result, Ok, Err, option_to_list, ◌⊎◌, ⊤}
 use Rattle.std.specs.Fn.{Shared}
 use denote.Ref.{MutBor}
 use Rattle.chumsky_input.specs.declared.error.Error as error_trait
 use Rattle.chumsky_input.specs.declared.inspector.Inspector as inspector_trait
 use Rattle.chumsky_input.specs.declared.input.Input as input_trait
 use Rattle.chumsky_input.specs.declared.input_ref.InputRef.{InputRef}
+use Rattle.chumsky_input.specs.declared.stop.Stop.{Stop}
 use Rattle.chumsky_input.specs.declared.stop.Failure.{Failure}
 use Rattle.chumsky_input.specs.declared.stop.Failure.TheVariants as failure
 use Rattle.chumsky_input.specs.Held.{Held, held}
@@ -15,12 +16,12 @@ use Rattle.chumsky_parser.specs.Failure.{Refuses, wanting}
 
 module _ {Tok Cx St Er : Type 0} where
   -- held at a beginning, with nothing kept and nothing emitted
-  abbrev pub begun : Bool → Beginning Tok Cx St → Held Tok Cx St Er
+  abbrev pub begun : Option Stop → Beginning Tok Cx St → Held Tok Cx St Er
   begun stopped b = record { tokens = b.tokens; place = b.start; context = b.context; state = b.state; kept = None; emitted = []; stopped = stopped }
 
-  -- held, but for whether a parser has stopped
+  -- held, but for a stop that was noted
   abbrev pub unstopped : Held Tok Cx St Er → Held Tok Cx St Er
-  unstopped h = record h { stopped = false }
+  unstopped h = record h { stopped = None }
 
 module _ {Tok Cx St Er E V : Type 0} (seen : E → Er) where
   -- what a call that ended so does: the one event that it kept, and after it a failure's own error, at the start
@@ -55,14 +56,14 @@ module _ {V Er St : Type 0} where
   OrLacksMemory whole o = (o ≡ whole) ⊎ (ClashesAmong whole o ⊎ Refuses (whole.emitted ≡ [] → ⊥) whole.state o)
 
 module _ {I X Tok Sp Cu Er St Cx Mk V F : Type 0} (source : input_trait.Ghosts I Cu Tok Sp) (errors : error_trait.Ghosts Er I Tok Sp) (states : inspector_trait.Ghosts St I Mk Tok Sp) (g : Shared F (MutBor (InputRef I X Cu Tok Sp Er St Cx Mk) × Unit {0}) (Result V (Failure Er) × (MutBor (InputRef I X Cu Tok Sp Er St Cx Mk) × Unit {0}))) where
-  -- the closure may be called on any input; after a value and after an error it stands where it began or further on, in the same tokens, under the same context, with the older emitted errors before any new ones, and no parser that it ran has stopped; and it keeps the lent state
+  -- the closure may be called on any input; after a value and after an error it stands where it began or further on, in the same tokens, under the same context, with the older emitted errors before any new ones, and no parser that it ran has stopped; the stop that it answers is the first of those that it ran into; and it keeps the lent state
   pub record MayRun (f : F) : Type 0 where
     pub may : (p : MutBor (InputRef I X Cu Tok Sp Er St Cx Mk)) → g.pre f (p, tt)
     pub keeps : (p left : MutBor (InputRef I X Cu Tok Sp Er St Cx Mk)) (r : Result V (Failure Er)) → g.post f (p, tt) (r, (left, tt)) → GoesForward r (held source errors states p.now) (held source errors states left.now) × (left.now.state.ghost_name ≡ p.now.state.ghost_name)
 
   -- a call of the closure from a beginning, with nothing kept and nothing emitted
   pub record Call (f : F) (b : Beginning Tok Cx states.Seen) : Type 0 where
-    pub stopped : Bool
+    pub stopped : Option Stop
     pub lent : MutBor (InputRef I X Cu Tok Sp Er St Cx Mk)
     pub left : MutBor (InputRef I X Cu Tok Sp Er St Cx Mk)
     pub returned : Result V (Failure Er)

@@ -208,7 +208,7 @@ module _ {X Tok Cx St Mk Er V : Type 0} {merged : Er → Er → Er} {safe : Type
 
 module _ {X Tok Cx St Mk Er V : Type 0} {merged : Er → Er → Er} {safe : Type 0} (mark : St → Mk) (back : St → Mk → St) (quiet : Type 0) (meaning : X → Meaning Tok Cx St Er V) (parts : List X) (slots : List (Slot V)) {old : Held Tok Cx St Er} where
   pub ran_last_short : {r : Result (Option (List V)) Fault} → (length parts ≡ 0 → ⊥) → r ≡ Err (fault.Stop Memory) → Ran merged safe ((each_part mark back quiet meaning parts).last slots) true old old r
-  ran_last_short {r} n e = rw e (ran-halts merged safe ((each_part mark back quiet meaning parts).last slots) true old old (record { tokens = refl; context = refl }) (λ o v s. inl ((refl, n), v, s)))
+  ran_last_short {r} n e = rw e (ran-halts merged safe ((each_part mark back quiet meaning parts).last slots) true old old (record { tokens = refl; context = refl }) refl (λ o v s. inl ((refl, n), v, s)))
 
 -- a list that is written whole
 pub written_whole : {X : Type 0} (xs ys : List X) (n : ℕ) → length ys ≡ length xs → n ≡ length xs → take n (ys ++ drop (length ys) xs) ≡ ys

@@ -1,7 +1,8 @@
 -- What a run under another context leaves.
-use Rattle.std.proofs.Common.{◌≡◌, Bool, Option, Some, None, false, List, [], Result, refl, sym, subst, ap, ◌∙◌}
+use Rattle.std.proofs.Common.{◌≡◌, Bool, Option, Some, None, List, [], Result, refl, sym, subst, ap, ◌∙◌}
 use Rattle.chumsky_input.specs.declared.stop.Fault.{Fault}
-use Rattle.chumsky_input.specs.Held.{Held}
+use Rattle.chumsky_input.specs.declared.stop.Stop.TheVariants.{Memory}
+use Rattle.chumsky_input.specs.Held.{Held, first_stop}
 use Rattle.chumsky_input.specs.Aside.{without_errors}
 use Rattle.chumsky_input.specs.Outcome.{Event, Meaning, Outcome, Verdict, Yes, No, Halt, Clash}
 use Rattle.chumsky_input.specs.Run.{Ran, LeavesBy}
@@ -11,8 +12,8 @@ module _ {Tok Cx St Er V : Type 0} (merged : Er → Er → Er) (safe : Type 0) w
   left_kept_context : (v : Verdict V Er) (o : Outcome V Er St) (old new : Held Tok Cx St Er) (state : St) → LeavesBy merged safe v o old new → LeavesBy merged safe v o old (record new { context = old.context; state = state; stopped = old.stopped })
   left_kept_context (Yes _) o old new state l = record { end = l.end; kept = l.kept; emitted = l.emitted; stopped = refl }
   left_kept_context No o old new state l = record { end = l.end; kept = l.kept; emitted = l.emitted; stopped = refl }
-  left_kept_context (Halt _) o old new state l = tt
-  left_kept_context (Clash _) o old new state l = l
+  left_kept_context (Halt _) o old new state l = refl
+  left_kept_context (Clash _) o old new state l = (l.0, l.1, refl)
 
 module _ {Tok Cx St Er V : Type 0} {merged : Er → Er → Er} {safe : Type 0} {meaning : Meaning Tok Cx St Er V} {wanted : Bool} where
   -- a run ends under the context that it began with; where it was not refused, nothing has stopped
@@ -38,14 +39,14 @@ module _ {Tok Cx St Er V : Type 0} {merged : Er → Er → Er} {safe : Type 0} {
 module _ {Tok Cx V St Er : Type 0} where
   -- held by a run of its own, under another context
   abbrev pub under : V → Held Tok Cx St Er → Held Tok V St Er
-  under v h = record { tokens = h.tokens; place = h.place; context = v; state = h.state; kept = h.kept; emitted = h.emitted; stopped = false }
+  under v h = record { tokens = h.tokens; place = h.place; context = v; state = h.state; kept = h.kept; emitted = h.emitted; stopped = None }
 
 module _ {Tok Cx St Er V W : Type 0} (merged : Er → Er → Er) (safe : Type 0) where
   left_under : (x : Verdict W Er) (o : Outcome W Er St) (v : V) (old new : Held Tok Cx St Er) → new.stopped ≡ old.stopped → LeavesBy merged safe x o (under v old) (under v new) → LeavesBy merged safe x o old new
   left_under (Yes _) o v old new p l = record { end = l.end; kept = l.kept; emitted = l.emitted; stopped = p }
   left_under No o v old new p l = record { end = l.end; kept = l.kept; emitted = l.emitted; stopped = p }
-  left_under (Halt _) o v old new p l = tt
-  left_under (Clash e) o v old new p l = l
+  left_under (Halt s) o v old new p l = ap (λ z. first_stop z s) p
+  left_under (Clash e) o v old new p l = (l.0, l.1, ap (λ z. first_stop z Memory) p)
 
 module _ {Tok Cx St Er V W : Type 0} {merged : Er → Er → Er} {safe : Type 0} where
   ran_under : {part : Meaning Tok V St Er W} {wanted : Bool} (v : V) (old new : Held Tok Cx St Er) (r : Result (Option W) Fault) → new.context ≡ old.context → new.stopped ≡ old.stopped

@@ -8,7 +8,7 @@ use Rattle.chumsky_input.specs.declared.input.Input as input_trait
 use Rattle.chumsky_input.specs.declared.stop.Stop.TheVariants.{Memory}
 use Rattle.chumsky_input.specs.declared.stop.Fault.{Fault}
 use Rattle.chumsky_input.specs.declared.stop.Fault.TheVariants as fault
-use Rattle.chumsky_input.specs.Held.{Held}
+use Rattle.chumsky_input.specs.Held.{Held, first_stop}
 use Rattle.chumsky_input.specs.Aside.{brought_back, ClashesWith, SameButErrors, without_errors}
 use Rattle.chumsky_input.specs.Outcome.{Event, Meaning, Outcome, Halt, Clash, HasEventAt}
 use Rattle.chumsky_input.specs.Run.{Ran, Leaves, LeavesBy, answer, with_value, without_value}
@@ -59,7 +59,7 @@ module _ {Tok Cx St Er V : Type 0} (merged : Er → Er → Er) (safe : Type 0) w
   leaves-verdict : (a : Result (Option V) Fault) (o : Outcome V Er St) (old new : Held Tok Cx St Er) → Leaves merged safe o old new → LeavesBy merged safe (verdict_of a) o old new
   leaves-verdict (Ok v) o old new l = l
   leaves-verdict (Err fault.Fail) o old new l = l
-  leaves-verdict (Err (fault.Stop s)) o old new l = tt
+  leaves-verdict (Err (fault.Stop s)) o old new l = ap (λ z. first_stop z s) l.stopped
 
 module _ {J Tok Sp Cu Mk Er St I Tok' Sp' Mk' Cx V : Type 0} {source : input_trait.Ghosts J Cu Tok Sp} {errors : error_trait.Ghosts Er J Tok Sp} {states : inspector_trait.Ghosts St J Mk Tok Sp} {errors' : error_trait.Ghosts Er I Tok' Sp'} {states' : inspector_trait.Ghosts St I Mk' Tok' Sp'} {part : Meaning Tok Cx states.Seen errors.Seen V} where
   -- a report that is told
@@ -95,7 +95,7 @@ module _ {J Tok Sp Cu Mk Er St I Tok' Sp' Mk' Cx V : Type 0} {source : input_tra
         meant = record { input = input; is = refl; state = state; begins = s; report = r; runs = w; does = inr (inl (record { event = c.0; alone = ap option_to_list c.1; verdict = refl; before = refl; state = refl })) };
         answered = e;
         state = ap (λ (z : Held Tok' Cx states'.Seen errors'.Seen). z.state) n;
-        left = (c.2, subst (HasEventAt c.0.place) (sym (append-nil (option_to_list old.kept))) c.3);
+        left = (c.2, subst (HasEventAt c.0.place) (sym (append-nil (option_to_list old.kept))) c.3, ap (λ (z : Held Tok' Cx states'.Seen errors'.Seen). first_stop z.stopped Memory) n);
         same = record { tokens = ap (λ (z : Held Tok' Cx states'.Seen errors'.Seen). z.tokens) n; context = ap (λ (z : Held Tok' Cx states'.Seen errors'.Seen). z.context) n };
       }
   within-refused {wanted} {place} {input} {state} {r} {x} old new e s w (inr m) n =
@@ -104,7 +104,7 @@ module _ {J Tok Sp Cu Mk Er St I Tok' Sp' Mk' Cx V : Type 0} {source : input_tra
         meant = record { input = input; is = refl; state = state; begins = s; report = r; runs = w; does = inr (inr (m, refl, refl)) };
         answered = e;
         state = ap (λ (z : Held Tok' Cx states'.Seen errors'.Seen). z.state) n;
-        left = tt;
+        left = ap (λ (z : Held Tok' Cx states'.Seen errors'.Seen). first_stop z.stopped Memory) n;
         same = record { tokens = ap (λ (z : Held Tok' Cx states'.Seen errors'.Seen). z.tokens) n; context = ap (λ (z : Held Tok' Cx states'.Seen errors'.Seen). z.context) n };
       }
 

@@ -1,5 +1,5 @@
 -- Runs under another context.
-use Rattle.std.specs.Prelude.{◌≡◌, true, false, Option, Some, None, map, option_map}
+use Rattle.std.specs.Prelude.{◌≡◌, true, Option, Some, None, map, option_map}
 use Rattle.chumsky_input.specs.declared.error.Error as error_trait
 use Rattle.chumsky_input.specs.declared.inspector.Inspector as inspector_trait
 use Rattle.chumsky_input.specs.declared.input.Input as input_trait
@@ -19,7 +19,7 @@ module _ {I Tok Sp Cu Er St Mk Cx : Type 0} (source : input_trait.Ghosts I Cu To
         state = states.seen state;
         kept = option_map (located errors.seen) found.kept;
         emitted = map errors.seen found.emitted.items;
-        stopped = false;
+        stopped = None;
       }
 
 module _ {Tok Cx V St : Type 0} where

@@ -1,5 +1,5 @@
 -- Runs over an input that another part gave.
-use Rattle.std.specs.Prelude.{◌≡◌, ℕ, Bool, true, false, Option, Some, None, List, [], ◌∷◌, map, option_map, option_to_list, Result, Ok, Err, ◌⊎◌}
+use Rattle.std.specs.Prelude.{◌≡◌, ℕ, Bool, true, Option, Some, None, List, [], ◌∷◌, map, option_map, option_to_list, Result, Ok, Err, ◌⊎◌}
 use Rattle.chumsky_input.specs.declared.error.Error as error_trait
 use Rattle.chumsky_input.specs.declared.inspector.Inspector as inspector_trait
 use Rattle.chumsky_input.specs.declared.input.Input as input_trait
@@ -29,7 +29,7 @@ verdict_of (Err (fault.Stop s)) = Halt s
 module _ {J Tok Sp Cu Er St Mk : Type 0} (source : input_trait.Ghosts J Cu Tok Sp) (errors : error_trait.Ghosts Er J Tok Sp) (states : inspector_trait.Ghosts St J Mk Tok Sp) where
   -- held at the start of an input, with nothing kept and nothing emitted
   abbrev pub at_start : {Cx : Type 0} → J → Cx → St → Held Tok Cx states.Seen errors.Seen
-  at_start input context state = record { tokens = source.tokens input; place = 0; context = context; state = states.seen state; kept = None; emitted = []; stopped = false }
+  at_start input context state = record { tokens = source.tokens input; place = 0; context = context; state = states.seen state; kept = None; emitted = []; stopped = None }
 
   -- a report of this answer, with an error and emitted errors that count as these
   abbrev pub Tells : {W : Type 0} → Result W Fault → Option errors.Seen → List errors.Seen → Report W Er St → Type 0

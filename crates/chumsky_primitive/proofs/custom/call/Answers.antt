@@ -25,4 +25,4 @@ returns-in_ok-bring_back-in-Err-Error-clause-ran g c w =
 
 pub returns-in-Err-Stop-clause-ran : goal.returns-in-Err-Stop-clause-ran
 returns-in-Err-Stop-clause-ran g c w =
-    custom_stops g.I.Input g.E.Error.Error g.E.State.Inspector g.F.Fn c.args.parser.now.closure (held g.I.Input g.E.Error.Error g.E.State.Inspector c.args.inp.now) _ _ (rw c.in-Err-Stop.field-0-is at c.in-Err-Stop.ensures) c.set_aside-older.ensures.leaves w
+    custom_stops g.I.Input g.E.Error.Error g.E.State.Inspector g.F.Fn c.args.parser.now.closure (held g.I.Input g.E.Error.Error g.E.State.Inspector c.args.inp.now) _ _ c.requires (rw c.in-Err-Stop.field-0-is at c.in-Err-Stop.ensures) c.set_aside-older.ensures.leaves w

@@ -1,4 +1,4 @@
-use Rattle.std.proofs.Common.{true, false}
+use Rattle.std.proofs.Common.{false}
 use Rattle.chumsky_input.specs.Held.{held}
 use Rattle.chumsky_input.specs.Run.{final_error}
 use Rattle.chumsky_parser.proofs.ApartLemmas.{apart_yes, apart_clash, apart_no, apart_stop}
