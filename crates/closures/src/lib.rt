@@ -1,7 +1,14 @@
-//! Parsers given by closures, that the tests run. The edits of must-fail/ hold closures that the check refuses where
-//! they are run.
+//! Parsers given by closures, and by functions, that the tests run. The edits of must-fail/ hold some that the check
+//! refuses.
 #![tactic(auto)]
 
+ghost use Rattle.std.specs.Prelude.{◌≡◌};
+ghost use Rattle.chumsky_input.specs.Held.{held};
+ghost use Rattle.chumsky_input.specs.Aside.{GoesForward};
+
+use chumsky::error::Error;
+use chumsky::input::{Input, InputRef};
+use chumsky::inspector::Inspector;
 use chumsky::prelude::*;
 use chumsky::{Failure, Stop};
 use std::alloc::Global;
@@ -12,33 +19,58 @@ mod tests;
 
 type Errors = extra::Err<Rich<char>>;
 
-/// What `parse` gives of a closure that takes two tokens and fails with an error of its own, `.or(just("ab"))`.
+/// Takes two tokens, and fails with an error of its own.
+fn two_and_an_error<'src>(
+    inp: &mut InputRef<'src, '_, &'src str, Errors>,
+) -> Result<&'static str, Failure<Rich<char>>>
+    ensures forward { GoesForward result (held ⟦<&'src str as Input<'src>>⟧ ⟦<Rich<char> as Error<&'src str>>⟧ ⟦<() as Inspector<&'src str>>⟧ inp.old) (held ⟦<&'src str as Input<'src>>⟧ ⟦<Rich<char> as Error<&'src str>>⟧ ⟦<() as Inspector<&'src str>>⟧ inp.new) }
+    ensures lent { inp.new.state.ghost_name ≡ inp.old.state.ghost_name }
+{
+    inp.next()?;
+    inp.next()?;
+    let span = SimpleSpan { start: 0, end: 2 };
+    Err(Failure::Error(Rich::custom(span, String::new(inp.alloc))))
+}
+
+/// Runs `just('x')`, and gives a text of its own for the token.
+fn an_x<'src>(
+    inp: &mut InputRef<'src, '_, &'src str, Errors>,
+) -> Result<&'static str, Failure<Rich<char>>>
+    ensures forward { GoesForward result (held ⟦<&'src str as Input<'src>>⟧ ⟦<Rich<char> as Error<&'src str>>⟧ ⟦<() as Inspector<&'src str>>⟧ inp.old) (held ⟦<&'src str as Input<'src>>⟧ ⟦<Rich<char> as Error<&'src str>>⟧ ⟦<() as Inspector<&'src str>>⟧ inp.new) }
+    ensures lent { inp.new.state.ghost_name ≡ inp.old.state.ghost_name }
+{
+    match inp.check(just('x')) {
+        Ok(()) => Ok("x"),
+        Err(Failure::Error(error)) => Err(Failure::Error(error)),
+        Err(Failure::Stop(reason)) => Err(Failure::Stop(reason)),
+    }
+}
+
+/// What `parse` gives of `custom(two_and_an_error).or(just("ab"))`.
 pub fn parse_error_or_ab(
     alloc: Global,
     text: &str,
 ) -> Result<ParseResult<&'static str, Rich<char>>, Stop> {
-    custom::<_, &str, (), Errors>(|inp| {
-        inp.next()?;
-        inp.next()?;
-        let span = SimpleSpan { start: 0, end: 2 };
-        Err(Failure::Error(Rich::custom(span, String::new(inp.alloc))))
-    })
-    .to("")
-    .or(just("ab"))
-    .parse(alloc, text)
+    custom::<_, &str, &'static str, Errors>(two_and_an_error)
+        .or(just("ab"))
+        .parse(alloc, text)
 }
 
 /// What `check` gives of it.
 pub fn check_error_or_ab(alloc: Global, text: &str) -> Result<ParseResult<(), Rich<char>>, Stop> {
-    custom::<_, &str, (), Errors>(|inp| {
-        inp.next()?;
-        inp.next()?;
-        let span = SimpleSpan { start: 0, end: 2 };
-        Err(Failure::Error(Rich::custom(span, String::new(inp.alloc))))
-    })
-    .to("")
-    .or(just("ab"))
-    .check(alloc, text)
+    custom::<_, &str, &'static str, Errors>(two_and_an_error)
+        .or(just("ab"))
+        .check(alloc, text)
+}
+
+/// What `parse` gives of `custom(an_x)`.
+pub fn parse_x(alloc: Global, text: &str) -> Result<ParseResult<&'static str, Rich<char>>, Stop> {
+    custom::<_, &str, &'static str, Errors>(an_x).parse(alloc, text)
+}
+
+/// What `check` gives of it.
+pub fn check_x(alloc: Global, text: &str) -> Result<ParseResult<(), Rich<char>>, Stop> {
+    custom::<_, &str, &'static str, Errors>(an_x).check(alloc, text)
 }
 
 /// What `parse` gives of a closure that fails with the message `first`, `.or` one that fails with `second`.

@@ -1,10 +1,10 @@
 use crate::{
     check_c_or_emitting, check_either_message, check_emitting_first, check_emitting_last,
     check_emitting_or_any, check_error_or_ab, check_foo_or_nothing, check_foo_or_nothing_by_check,
-    check_perhaps_a_then_c, check_twin, parse_c_or_emitting, parse_either_message,
+    check_perhaps_a_then_c, check_twin, check_x, parse_c_or_emitting, parse_either_message,
     parse_emitting_first, parse_emitting_last, parse_emitting_or_any, parse_error_or_ab,
     parse_foo_or_nothing, parse_foo_or_nothing_by_check, parse_perhaps_a_then_c, parse_stop_or_a,
-    parse_twin,
+    parse_twin, parse_x,
 };
 use chumsky::Stop;
 use chumsky::error::RichPattern;
@@ -79,6 +79,28 @@ fn an_error_of_a_closure_stands_at_its_start(rt: HostRuntime) {
         .expect(&rt, "the run was refused");
     assert!(rt; checked.output() == Some(&()));
     assert!(rt; checked.errors().len() == 0);
+}
+
+#[test]
+fn a_function_is_a_parser(rt: HostRuntime) {
+    let expected = [RichPattern::Token('x')];
+    let parsed = parse_x(rt.alloc(), "x")
+        .ok()
+        .expect(&rt, "the run was refused");
+    assert!(rt; parsed.output() == Some(&"x"));
+    assert!(rt; parsed.errors().len() == 0);
+    let (output, errors) = parse_x(rt.alloc(), "y")
+        .ok()
+        .expect(&rt, "the run was refused")
+        .into_output_errors();
+    assert!(rt; output.is_none());
+    assert!(rt; says(&errors, &expected, Some('y'), 0, 1));
+    let (output, errors) = check_x(rt.alloc(), "y")
+        .ok()
+        .expect(&rt, "the run was refused")
+        .into_output_errors();
+    assert!(rt; output.is_none());
+    assert!(rt; says(&errors, &expected, Some('y'), 0, 1));
 }
 
 #[test]
