@@ -17,8 +17,7 @@ use chumsky_input::stop::{Failure, Fault, Stop};
 ///
 /// The parser runs from where the run stands. Where it says yes, its events count as one, the last error that it would
 /// report. Where it fails, that error is handed out in place of being kept, and the cursor stays where the parser left
-/// it. A `Failure::Stop` is to be passed on: nothing but the state is known after it, and the run notes that there was
-/// one.
+/// it. A `Failure::Stop` is to be passed on: nothing but the state is known after it, and the run notes the first one.
 pub trait InputRefExt<'src, I: Input<'src>, O, E: ParserExtra<I>, P: Parser<'src, I, O, E>> {
     /// Runs a parser for its output.
     fn parse(&mut self, parser: P) -> Result<O, Failure<E::Error>>

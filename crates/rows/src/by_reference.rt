@@ -5,9 +5,6 @@ use either::Either;
 use std::alloc::Global;
 use std::rc::Rc;
 
-#[cfg(test)]
-mod tests;
-
 type Errors = extra::Err<Rich<char>>;
 
 /// What `parse` gives of `just('a')` where `strict`, and else of `any()`: a parser of one type.

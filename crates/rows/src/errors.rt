@@ -3,9 +3,6 @@ use chumsky::Stop;
 use chumsky::prelude::*;
 use std::alloc::Global;
 
-#[cfg(test)]
-mod tests;
-
 /// What `parse` gives of `just('a').or(just('b'))`, with errors that show where, and what was found.
 pub fn parse_a_or_b_simple(
     alloc: Global,

@@ -7,9 +7,6 @@ use chumsky::prelude::*;
 use chumsky::primitive::Just;
 use std::alloc::Global;
 
-#[cfg(test)]
-mod tests;
-
 /// `just` of a character, over a text.
 type Letter<'src> = Just<char, &'src str, Errors>;
 

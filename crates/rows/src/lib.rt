@@ -1,4 +1,4 @@
-//! Parsers that the tests run, each built and run in one function.
+//! Small parsers, each built and run in one function. The crate `tests` runs them.
 #![tactic(auto)]
 
 use chumsky::Stop;
@@ -21,8 +21,6 @@ pub mod sequences;
 pub mod sets;
 pub mod sets_of_tokens;
 pub mod slices;
-#[cfg(test)]
-mod tests;
 
 type Errors = extra::Err<Rich<char>>;
 

@@ -3,9 +3,6 @@ use chumsky::Stop;
 use chumsky::prelude::*;
 use std::alloc::Global;
 
-#[cfg(test)]
-mod tests;
-
 type Errors = extra::Err<Rich<char>>;
 
 type ByteErrors = extra::Err<Rich<u8>>;

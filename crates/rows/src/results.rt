@@ -1,9 +1,6 @@
 //! What can be asked of a result.
 use chumsky::prelude::*;
 
-#[cfg(test)]
-mod tests;
-
 /// The output of a run without errors, which may be unwrapped.
 pub fn output_alone(parsed: ParseResult<char, u8>) -> Option<char> {
     if parsed.has_output() && !parsed.has_errors() {

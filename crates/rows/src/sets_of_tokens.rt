@@ -4,9 +4,6 @@ use chumsky::Stop;
 use chumsky::prelude::*;
 use std::alloc::Global;
 
-#[cfg(test)]
-mod tests;
-
 /// What `parse` gives of `one_of(seq)`.
 pub fn parse_one_of(
     alloc: Global,

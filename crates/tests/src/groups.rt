@@ -1,10 +1,10 @@
-use super::{
+use crate::says::says;
+use chumsky::error::RichPattern;
+use chumsky::prelude::*;
+use rows::groups::{
     check_merging, check_of_array, parse_eight, parse_five, parse_four, parse_merging,
     parse_of_array, parse_one, parse_seven, parse_six, parse_two,
 };
-use crate::tests::says;
-use chumsky::error::RichPattern;
-use chumsky::prelude::*;
 
 #[test]
 fn an_array_gives_its_outputs_in_order(rt: HostRuntime) {

@@ -1,33 +1,13 @@
-use crate::{
-    check_c_or_emitting, check_either_message, check_emitting_first, check_emitting_last,
-    check_emitting_or_any, check_error_or_ab, check_foo_or_nothing, check_foo_or_nothing_by_check,
-    check_perhaps_a_then_c, check_twin, check_x, parse_c_or_emitting, parse_either_message,
-    parse_emitting_first, parse_emitting_last, parse_emitting_or_any, parse_error_or_ab,
-    parse_foo_or_nothing, parse_foo_or_nothing_by_check, parse_perhaps_a_then_c, parse_stop_or_a,
-    parse_twin, parse_x,
-};
+use crate::says::says;
 use chumsky::Stop;
 use chumsky::error::RichPattern;
 use chumsky::prelude::*;
-
-/// Whether the one error of a run says just this.
-pub(crate) fn says(
-    errors: &[Rich<char>],
-    expected: &[RichPattern<char>],
-    found: Option<char>,
-    start: usize,
-    end: usize,
-) -> bool {
-    match errors {
-        [error] => {
-            error.expected().as_slice() == expected
-                && error.found().copied() == found
-                && *error.span() == SimpleSpan { start, end }
-                && error.reason().is_none()
-        }
-        _ => false,
-    }
-}
+use closures::{
+    check_c_or_emitting, check_either_message, check_emitting_first, check_emitting_last,
+    check_emitting_or_any, check_error_or_ab, check_perhaps_a_then_c, check_twin,
+    parse_c_or_emitting, parse_either_message, parse_emitting_first, parse_emitting_last,
+    parse_emitting_or_any, parse_error_or_ab, parse_perhaps_a_then_c, parse_stop_or_a, parse_twin,
+};
 
 /// Whether the one error of a run is this message.
 fn tells(errors: &[Rich<char>], message: &str, start: usize, end: usize) -> bool {
@@ -79,28 +59,6 @@ fn an_error_of_a_closure_stands_at_its_start(rt: HostRuntime) {
         .expect(&rt, "the run was refused");
     assert!(rt; checked.output() == Some(&()));
     assert!(rt; checked.errors().len() == 0);
-}
-
-#[test]
-fn a_function_is_a_parser(rt: HostRuntime) {
-    let expected = [RichPattern::Token('x')];
-    let parsed = parse_x(rt.alloc(), "x")
-        .ok()
-        .expect(&rt, "the run was refused");
-    assert!(rt; parsed.output() == Some(&"x"));
-    assert!(rt; parsed.errors().len() == 0);
-    let (output, errors) = parse_x(rt.alloc(), "y")
-        .ok()
-        .expect(&rt, "the run was refused")
-        .into_output_errors();
-    assert!(rt; output.is_none());
-    assert!(rt; says(&errors, &expected, Some('y'), 0, 1));
-    let (output, errors) = check_x(rt.alloc(), "y")
-        .ok()
-        .expect(&rt, "the run was refused")
-        .into_output_errors();
-    assert!(rt; output.is_none());
-    assert!(rt; says(&errors, &expected, Some('y'), 0, 1));
 }
 
 #[test]
@@ -166,46 +124,6 @@ fn a_closure_runs_over_bytes(rt: HostRuntime) {
             assert!(rt; *error.span() == SimpleSpan { start: 1, end: 2 });
         }
         _ => assert!(rt; false),
-    }
-}
-
-#[test]
-fn a_failure_within_a_closure_is_handed_out(rt: HostRuntime) {
-    let expected = [RichPattern::EndOfInput];
-    for (text, found) in [("not foo", 'n'), ("fox", 'f')] {
-        for parsed in [
-            parse_foo_or_nothing(rt.alloc(), text),
-            parse_foo_or_nothing_by_check(rt.alloc(), text),
-        ] {
-            let (output, errors) = parsed
-                .ok()
-                .expect(&rt, "the run was refused")
-                .into_output_errors();
-            assert!(rt; output.is_none());
-            assert!(rt; says(&errors, &expected, Some(found), 0, 1));
-        }
-        for checked in [
-            check_foo_or_nothing(rt.alloc(), text),
-            check_foo_or_nothing_by_check(rt.alloc(), text),
-        ] {
-            let (output, errors) = checked
-                .ok()
-                .expect(&rt, "the run was refused")
-                .into_output_errors();
-            assert!(rt; output.is_none());
-            assert!(rt; says(&errors, &expected, Some(found), 0, 1));
-        }
-    }
-    for (text, is_foo) in [("foo", true), ("", false)] {
-        let parsed = parse_foo_or_nothing(rt.alloc(), text)
-            .ok()
-            .expect(&rt, "the run was refused");
-        assert!(rt; parsed.output() == Some(&is_foo));
-        assert!(rt; parsed.errors().len() == 0);
-        let parsed = parse_foo_or_nothing_by_check(rt.alloc(), text)
-            .ok()
-            .expect(&rt, "the run was refused");
-        assert!(rt; parsed.output() == Some(&is_foo));
     }
 }
 

@@ -1,9 +1,9 @@
-use crate::by_reference::{
+use crate::says::says;
+use chumsky::error::RichPattern;
+use rows::by_reference::{
     check_a_or_any, check_boxed, check_shared, check_twice, parse_a_or_any, parse_boxed,
     parse_shared, parse_twice,
 };
-use crate::tests::says;
-use chumsky::error::RichPattern;
 
 #[test]
 fn the_side_that_is_there_runs(rt: HostRuntime) {

@@ -1,10 +1,10 @@
-use super::{
+use crate::says::says;
+use chumsky::error::RichPattern;
+use chumsky::prelude::*;
+use rows::sets_of_tokens::{
     check_empty, check_none_of, check_one_of, parse_empty, parse_none_of, parse_one_of,
     parse_one_of_a,
 };
-use crate::tests::says;
-use chumsky::error::RichPattern;
-use chumsky::prelude::*;
 
 #[test]
 fn each_member_is_taken(rt: HostRuntime) {

@@ -1,11 +1,11 @@
-use super::{
+use crate::says::says;
+use chumsky::error::RichPattern;
+use chumsky::prelude::*;
+use rows::sets::{
     check_either_and_abc, check_of_array, check_of_vec, check_optional, check_three,
     parse_either_and_abc, parse_four, parse_of_array, parse_of_vec, parse_one, parse_optional,
     parse_three,
 };
-use crate::tests::says;
-use chumsky::error::RichPattern;
-use chumsky::prelude::*;
 
 #[test]
 fn parts_come_in_any_order(rt: HostRuntime) {

@@ -1,33 +1,15 @@
-use super::{
+use crate::says::{says, says_of_bytes};
+use chumsky::error::RichPattern;
+use chumsky::prelude::*;
+use rows::members::{
     check_a_to_c, check_all_letters, check_all_members, check_letter, check_member,
     check_no_letter, check_no_member, check_no_one_or_two, check_one_and_two, check_one_of_slice,
     check_one_or_two, check_slice, parse_a_to_c, parse_all_letters, parse_all_members,
     parse_letter, parse_member, parse_no_letter, parse_no_member, parse_no_one_or_two,
     parse_one_and_two, parse_one_of_slice, parse_one_or_two, parse_slice,
 };
-use crate::tests::says;
-use chumsky::error::RichPattern;
-use chumsky::prelude::*;
 use std::alloc::Global;
 use std::process::Abort;
-
-/// Whether the one error of a run over bytes says just this.
-fn says_of_bytes(
-    errors: &[Rich<u8>],
-    expected: &[RichPattern<u8>],
-    found: Option<u8>,
-    start: usize,
-    end: usize,
-) -> bool {
-    match errors {
-        [error] => {
-            error.expected().as_slice() == expected
-                && error.found().copied() == found
-                && *error.span() == SimpleSpan { start, end }
-        }
-        _ => false,
-    }
-}
 
 #[test]
 fn a_range_expects_each_of_its_characters(rt: HostRuntime) {

@@ -1,5 +1,5 @@
-use crate::results::output_alone;
 use chumsky::prelude::*;
+use rows::results::output_alone;
 use std::alloc::Global;
 use std::cmp::Ordering;
 use std::hash::{DefaultHasher, Hash, Hasher};

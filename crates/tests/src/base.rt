@@ -1,29 +1,11 @@
-use crate::{
+use crate::says::says;
+use chumsky::error::RichPattern;
+use chumsky::prelude::*;
+use rows::{
     check_ab_or_ac, check_accent_then_x, check_accent_then_x_with_state, check_any_mapped,
     check_nothing, check_two_tokens, parse_ab_or_ac, parse_accent_then_x,
     parse_accent_then_x_with_state, parse_any_mapped, parse_nothing,
 };
-use chumsky::error::RichPattern;
-use chumsky::prelude::*;
-
-/// Whether the one error of a run says just this.
-pub(crate) fn says(
-    errors: &[Rich<char>],
-    expected: &[RichPattern<char>],
-    found: Option<char>,
-    start: usize,
-    end: usize,
-) -> bool {
-    match errors {
-        [error] => {
-            error.expected().as_slice() == expected
-                && error.found().copied() == found
-                && *error.span() == SimpleSpan { start, end }
-                && error.reason().is_none()
-        }
-        _ => false,
-    }
-}
 
 #[test]
 fn the_furthest_failures_are_merged_in_order(rt: HostRuntime) {

@@ -1,11 +1,11 @@
-use super::{
+use crate::says::says;
+use chumsky::error::RichPattern;
+use chumsky::prelude::*;
+use rows::choices::{
     check_a_before_ab, check_furthest, check_of_slice, parse_a_before_ab, parse_eight, parse_five,
     parse_four, parse_furthest, parse_of_array, parse_of_slice, parse_of_vec, parse_one,
     parse_seven, parse_six,
 };
-use crate::tests::says;
-use chumsky::error::RichPattern;
-use chumsky::prelude::*;
 
 #[test]
 fn a_later_alternative_that_goes_further_is_not_taken(rt: HostRuntime) {

@@ -1,8 +1,8 @@
-use crate::errors::{
+use chumsky::prelude::*;
+use rows::errors::{
     check_a_or_b_cheap, check_a_or_b_simple, check_any_with_context, parse_a_or_b_cheap,
     parse_a_or_b_simple, parse_any_with_state, parse_array,
 };
-use chumsky::prelude::*;
 
 const FIRST: SimpleSpan = SimpleSpan { start: 0, end: 1 };
 
