@@ -1,6 +1,8 @@
 //! One run of the program, over any input and any outputs.
-ghost use Rattle.std.specs.Prelude.{◌≡◌, ◌⊎◌, [], ◌∷◌, ◌++◌, codes, OnOk, IfSome, IfOk, IfErr};
+ghost use Rattle.std.specs.Prelude.{◌≡◌, ◌⊎◌, ◌≤◌, [], ◌∷◌, ◌++◌, codes, OnOk, IfSome, IfOk, IfErr, option_map};
+ghost use Rattle.std.specs.Option.{option_copied};
 ghost use Rattle.std.specs.Io.KnownBytes.{Appends};
+ghost use Rattle.chk.specs.Lines.{error_lines, alone, pair_text, Tells, TellsSome};
 ghost use Rattle.chk.specs.Show.{stop_text};
 ghost use Rattle.chk.specs.declared.run.Failure.TheVariants.{Refused, Unwritable};
 
@@ -58,7 +60,11 @@ pub fn run<R: Read, W: Write, E: Write>(
     input: &mut R,
     out: &mut W,
     err: &mut E,
-) -> u8 {
+) -> u8
+    ensures status { result ≤ REFUSED }
+    ensures told { (result ≡ ACCEPTED) ⊎ (result ≡ REJECTED) → TellsSome (W.contents out.old) (W.contents out.new) result }
+    ensures refused { result ≡ REFUSED → (stop : Stop) × Appends (W.contents out.old) (W.contents out.new) (codes "refused " ++ (stop_text stop ++ 10 ∷ [])) }
+{
     match answer(alloc, words, input, out) {
         Ok(status) => status,
         Err(Failure::Usage) => complain(err, "usage: chk parse|check NAME"),
@@ -70,7 +76,9 @@ pub fn run<R: Read, W: Write, E: Write>(
 }
 
 /// Says what is wrong, if it can be said at all.
-fn complain<E: Write>(err: &mut E, message: &str) -> u8 {
+fn complain<E: Write>(err: &mut E, message: &str) -> u8
+    ensures { result ≡ FAILED }
+{
     let _ = writeln!(err, "{message}");
     FAILED
 }
@@ -92,7 +100,11 @@ fn answer<R: Read, W: Write>(
     words: &[String],
     input: &mut R,
     out: &mut W,
-) -> Result<u8, Failure> {
+) -> Result<u8, Failure>
+    ensures status { IfOk result (λ status. (status ≡ ACCEPTED) ⊎ (status ≡ REJECTED)) }
+    ensures told { IfOk result (λ status. TellsSome (W.contents out.old) (W.contents out.new) status) }
+    ensures unprinted { IfErr result (λ why. (why ≡ Unwritable) ⊎ (out.new ≡ out.old)) }
+{
     let (command, grammar) = request(words).ok_or(Failure::Usage)?;
     let text = read_text(alloc, input)?;
     match command {
@@ -129,34 +141,45 @@ fn read_text<R: Read>(alloc: Global, input: &mut R) -> Result<String, Failure> {
 }
 
 /// Prints the output of the text, or its errors.
-fn parse<W: Write>(
-    alloc: Global,
-    grammar: Grammar,
-    text: &str,
-    out: &mut W,
-) -> Result<u8, Failure> {
+fn parse<W: Write>(alloc: Global, grammar: Grammar, text: &str, out: &mut W) -> Result<u8, Failure>
+    ensures told { IfOk result (λ status. TellsSome (W.contents out.old) (W.contents out.new) status) }
+    ensures unprinted { IfErr result (λ why. (why ≡ Unwritable) ⊎ (out.new ≡ out.old)) }
+{
     match grammar {
-        Grammar::Ab => {
-            let answer = parse_ab(alloc, text)?;
-            match report(out, &answer)? {
-                Some((first, second)) => accept(out, format_args!("ok {first}{second}")),
-                None => Ok(REJECTED),
-            }
-        }
+        Grammar::Ab => tell_pair(out, &parse_ab(alloc, text)?),
     }
 }
 
 /// Prints whether the text is right, or its errors.
-fn check<W: Write>(
-    alloc: Global,
-    grammar: Grammar,
-    text: &str,
+fn check<W: Write>(alloc: Global, grammar: Grammar, text: &str, out: &mut W) -> Result<u8, Failure>
+    ensures told { IfOk result (λ status. TellsSome (W.contents out.old) (W.contents out.new) status) }
+    ensures unprinted { IfErr result (λ why. (why ≡ Unwritable) ⊎ (out.new ≡ out.old)) }
+{
+    match grammar {
+        Grammar::Ab => tell_checked(out, &check_ab(alloc, text)?),
+    }
+}
+
+/// Prints the two characters of an answer, or its errors.
+fn tell_pair<W: Write>(
     out: &mut W,
-) -> Result<u8, Failure> {
-    let answer = match grammar {
-        Grammar::Ab => check_ab(alloc, text)?,
-    };
-    match report(out, &answer)? {
+    answer: &ParseResult<(char, char), Rich<char>>,
+) -> Result<u8, Failure>
+    ensures told { IfOk result (λ status. Tells (W.contents out.old) (W.contents out.new) answer.now.errors.items (option_map pair_text answer.now.output) status) }
+    ensures unwritten { IfErr result (λ why. why ≡ Unwritable) }
+{
+    match report(out, answer)? {
+        Some((first, second)) => accept(out, format_args!("ok {first}{second}")),
+        None => Ok(REJECTED),
+    }
+}
+
+/// Prints that an answer has no errors, or its errors.
+fn tell_checked<W: Write>(out: &mut W, answer: &ParseResult<(), Rich<char>>) -> Result<u8, Failure>
+    ensures told { IfOk result (λ status. Tells (W.contents out.old) (W.contents out.new) answer.now.errors.items (option_map (λ _. codes "ok") answer.now.output) status) }
+    ensures unwritten { IfErr result (λ why. why ≡ Unwritable) }
+{
+    match report(out, answer)? {
         Some(()) => accept(out, "ok"),
         None => Ok(REJECTED),
     }
@@ -166,11 +189,16 @@ fn check<W: Write>(
 fn report<'a, O, W: Write>(
     out: &mut W,
     answer: &'a ParseResult<O, Rich<char>>,
-) -> Result<Option<&'a O>, Failure> {
-    for error in answer.errors() {
+) -> Result<Option<&'a O>, Failure>
+    ensures printed { OnOk result (Appends (W.contents out.old) (W.contents out.new) (error_lines answer.now.errors.items)) }
+    ensures output { IfOk result (λ output. option_copied output ≡ alone answer.now.errors.items answer.now.output) }
+    ensures unwritten { IfErr result (λ why. why ≡ Unwritable) }
+{
+    let errors = answer.errors.as_slice();
+    for error in errors {
         print(out, ErrorLine(error))?;
     }
-    if answer.errors().len() == 0 {
+    if errors.is_empty() {
         Ok(answer.output())
     } else {
         Ok(None)

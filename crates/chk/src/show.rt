@@ -1,7 +1,7 @@
 //! How errors print.
 ghost use Rattle.std.specs.Prelude.{◌≡◌, Some};
 ghost use Rattle.std.specs.Option.{option_copied};
-ghost use Rattle.chk.specs.Show.{is_plain, symbol_text, pattern_text, patterns_text, found_text, error_text, stop_text};
+ghost use Rattle.chk.specs.Show.{is_plain, symbol_text, pattern_text, patterns_text, found_text, error_text, items_text, stop_text};
 
 use chumsky::Stop;
 use chumsky::error::{Rich, RichPattern};
@@ -101,6 +101,22 @@ impl Display for ErrorLine<'_> {
                 write!(f, "expected {patterns} found {}", Found(error.found()))
             }
         }
+    }
+}
+
+/// That a list is right, and then each of its items after a space.
+#[derive(Clone, Copy)]
+pub struct Items<'a>(pub &'a [String]);
+
+impl Display for Items<'_> {
+    ghost output = { λ s. Some (items_text s.0.now) };
+
+    fn fmt<W: fmt::Write>(&self, f: &mut fmt::Formatter<W>) -> fmt::Result {
+        write!(f, "ok")?;
+        for item in self.0 {
+            write!(f, " {item}")?;
+        }
+        Ok(())
     }
 }
 

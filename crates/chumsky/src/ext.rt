@@ -7,7 +7,7 @@ use chumsky_combinator::choice::Or;
 use chumsky_combinator::delimited_by::DelimitedBy;
 use chumsky_combinator::ignore_then::IgnoreThen;
 use chumsky_combinator::ignored::Ignored;
-use chumsky_combinator::mapped::Map;
+use chumsky_combinator::mapped::{Map, Mapper};
 use chumsky_combinator::or_not::OrNot;
 use chumsky_combinator::padded_by::PaddedBy;
 use chumsky_combinator::sequence::Then;
@@ -16,6 +16,8 @@ use chumsky_combinator::to::To;
 use chumsky_input::extra::ParserExtra;
 use chumsky_input::input::Input;
 use chumsky_input::stop::Stop;
+use chumsky_items::repeated::Repeated;
+use chumsky_items::separated_by::SeparatedBy;
 use chumsky_parser::parser::{IsParser, Parser};
 use chumsky_parser::result::ParseResult;
 use std::alloc::Global;
@@ -120,9 +122,72 @@ pub trait ParserExt<'src, I, O, E>: IsParser<I, O, E> + Sized {
         OrNot { parser: self }
     }
 
+    /// This parser again and again, each time from where it ended, until it fails, which is then gone back from. Any
+    /// number of items will do, none too, until `at_least`, `at_most` or `exactly` say otherwise.
+    ///
+    /// It is a parser of items, for `collect`, `collect_exactly` or `count`, and by itself a parser of `()`. An item that
+    /// ends where it began refuses the run (`Stop::NoProgress`), unless `at_most` caps their number or `collect_exactly`
+    /// takes them.
+    #[inline]
+    final fn repeated(self) -> Repeated<Self, O, I, E>
+        ensures parser { result.parser ≡ self }
+        ensures at_least { result.at_least ≡ 0 }
+        ensures at_most { result.at_most ≡ None }
+    {
+        Repeated {
+            parser: self,
+            at_least: 0,
+            at_most: None,
+            of: PhantomData,
+        }
+    }
+
+    /// This parser again and again, with `separator` between its runs, which runs without its output. A separator that no
+    /// item follows is gone back from, until `allow_trailing` says otherwise, and none stands before the first item until
+    /// `allow_leading` does.
+    ///
+    /// It is a parser of items, as `repeated` is. An item after the first that ends where its separator began refuses the
+    /// run, unless their number is capped.
+    #[inline]
+    final fn separated_by<U, B: IsParser<I, U, E>>(
+        self,
+        separator: B,
+    ) -> SeparatedBy<Self, B, O, U, I, E>
+        ensures parser { result.parser ≡ self }
+        ensures separator { result.separator ≡ separator }
+        ensures at_least { result.at_least ≡ 0 }
+        ensures at_most { result.at_most ≡ None }
+        ensures leading { result.allow_leading ≡ false }
+        ensures trailing { result.allow_trailing ≡ false }
+    {
+        SeparatedBy {
+            parser: self,
+            separator,
+            at_least: 0,
+            at_most: None,
+            allow_leading: false,
+            allow_trailing: false,
+            of: PhantomData,
+        }
+    }
+
     /// This parser, its output put through `mapper`, which is not called where no output is wanted.
     #[inline]
     final fn map<U, F: Fn(O) -> U>(self, mapper: F) -> Map<Self, O, F, U>
+        ensures parser { result.parser ≡ self }
+        ensures mapper { result.mapper ≡ mapper }
+    {
+        Map {
+            parser: self,
+            mapper,
+            of: PhantomData,
+        }
+    }
+
+    /// This parser, its output put through `mapper`, a value of a type with an impl of `Mapper`. The parser's type can then
+    /// be written down, and what the mapper gives is known where the parser is run.
+    #[inline]
+    final fn map_by<U, F: Mapper<O, U>>(self, mapper: F) -> Map<Self, O, F, U>
         ensures parser { result.parser ≡ self }
         ensures mapper { result.mapper ≡ mapper }
     {

@@ -37,14 +37,23 @@ pub mod error {
     pub use chumsky_input::util::DefaultExpected;
 }
 
-/// Sequences of tokens.
+/// Errors as they are shown to people.
+pub mod report {
+    pub use chumsky_report::line::{Place, place_of};
+    pub use chumsky_report::report::{ByteReport, Report};
+}
+
+/// Sequences of tokens, and what items are collected into.
 pub mod container {
+    pub use chumsky_items::container::{Container, ContainerExactly};
     pub use chumsky_parser::container::{OrderedSeq, Seq};
 }
 
 /// The types of a parser beside its input and its output.
 pub mod extra {
-    pub use chumsky_input::extra::{Context, Default, Err, Full, ParserExtra, State};
+    pub use chumsky_input::extra::{
+        Context, Default, EmptyText, Err, Full, ParserExtra, RichBytes, RichText, SimpleText, State,
+    };
 }
 
 /// States of a parser.
@@ -82,26 +91,35 @@ pub mod combinator {
     pub use chumsky_combinator::delimited_by::DelimitedBy;
     pub use chumsky_combinator::ignore_then::IgnoreThen;
     pub use chumsky_combinator::ignored::Ignored;
-    pub use chumsky_combinator::mapped::Map;
+    pub use chumsky_combinator::mapped::{Map, Mapper};
     pub use chumsky_combinator::or_not::OrNot;
     pub use chumsky_combinator::padded_by::PaddedBy;
+    pub use chumsky_combinator::part::{OfPart, Part, part_of, run_part};
     pub use chumsky_combinator::sequence::Then;
     pub use chumsky_combinator::then_ignore::ThenIgnore;
     pub use chumsky_combinator::to::To;
+    pub use chumsky_items::collect::Collect;
+    pub use chumsky_items::collect_exactly::CollectExactly;
+    pub use chumsky_items::count::Count;
+    pub use chumsky_items::repeated::Repeated;
+    pub use chumsky_items::separated_by::SeparatedBy;
 }
 
 /// Laws of parsers, each the contract of a function that does nothing: which of them mean the same, and which are steady.
 pub mod laws {
     pub use chumsky_choice::laws::{
-        choice_is_repeated_or, one_alternative_of_a_list_stands, one_alternative_stands,
+        choice_agrees_by_one_alternative, choice_is_repeated_or,
+        choice_of_a_list_agrees_by_one_alternative, one_alternative_of_a_list_stands,
+        one_alternative_stands,
     };
     pub use chumsky_choice::steady::{choice_is_steady, choice_of_a_list_is_steady};
     pub use chumsky_combinator::laws::{
-        ignore_then_agrees_with_then, or_not_never_says_no, then_is_associative,
+        ignore_then_agrees_with_then, or_agrees_by_one_alternative, or_not_never_says_no,
+        then_is_associative,
     };
     pub use chumsky_combinator::steady::{
-        delimited_by_is_steady, ignore_then_is_steady, map_is_steady, or_is_steady, then_is_steady,
-        to_is_steady,
+        delimited_by_is_steady, ignore_then_is_steady, map_is_steady, or_is_steady, part_is_steady,
+        then_is_steady, to_is_steady,
     };
     pub use chumsky_group::laws::{group_of_three_is_then_twice, group_of_two_is_then};
     pub use chumsky_group::steady::{group_is_steady, group_of_an_array_is_steady};
@@ -119,6 +137,9 @@ pub mod laws {
 pub use chumsky_input::same::SameClone;
 pub use chumsky_input::stop::{Failure, Fault, PResult, Stop};
 pub use chumsky_input::util::DefaultExpected;
+pub use chumsky_items::ext::IterParserExt;
+pub use chumsky_parser::input_ref_ext::InputRefExt;
+pub use chumsky_parser::iter::{IsIterParser, IterParser, IterParserDebug, Iterates};
 pub use chumsky_parser::parser::{IsParser, Parser};
 pub use chumsky_parser::result::ParseResult;
 pub use ext::ParserExt;

@@ -5,6 +5,9 @@ use Rattle.chumsky_input.specs.declared.inspector.Inspector as inspector_trait
 use Rattle.chumsky_input.specs.declared.input.Input as input_trait
 use Rattle.chumsky_input.specs.Outcome.{Meaning, Beginning, Outcome, IsAnswer}
 use Rattle.chumsky_parser.specs.Choice.{Stands, FirstOf}
+use Rattle.chumsky_parser.specs.ChoiceLaws.{AllAgree}
+use Rattle.chumsky_combinator.specs.Standing.{SameByStandingIfAny}
+use Rattle.chumsky_combinator.specs.StandingLaws.{first_of-both}
 use Rattle.chumsky_choice.specs.Among.{FirstAmong}
 use Rattle.chumsky_choice.specs.InOrder.{OneStands, StandsByOne, StandsByOneIfAny}
 
@@ -28,3 +31,8 @@ module _ {I Tok Sp Cu Er St Mk Cx V : Type 0} (source : input_trait.Ghosts I Cu 
   pub first_among-stands : (alternatives : List (Meaning Tok Cx states.Seen errors.Seen V)) → StandsByOneIfAny states.mark states.back (FirstAmong source errors states alternatives) alternatives
   first_among-stands [] = λ b o h a. elim h.cases [ inl r ↦ absurd (subst IsAnswer r.1 a) | inr f ↦ elim f.by [ inl y ↦ y.0 | inr k ↦ absurd (subst IsAnswer k.0 a) ] ]
   first_among-stands (first ∷ others) = λ b o h a. first_of-stands states.mark states.back states.takes_no_memory first others b o h.cases a
+
+  pub first_among-both : (ss : List (V → V → Type 0)) (alternatives : List (Meaning Tok Cx states.Seen errors.Seen V)) → AllAgree ss alternatives → SameByStandingIfAny states.mark states.back states.takes_no_memory (FirstAmong source errors states alternatives) ss alternatives
+  first_among-both ss [] h = tt
+  first_among-both [] (first ∷ others) h = absurd h.each
+  first_among-both (s ∷ ss) (first ∷ others) h = λ b c o q alike m n a z. first_of-both states.mark states.back states.takes_no_memory s ss first others h b c o q alike m.cases n.cases a z

@@ -1,5 +1,9 @@
 //! Which choices are steady, each the contract of a function that does nothing: those whose alternatives are.
+//! And what is known of two outputs that count as the same: that they do to one alternative.
+ghost use Rattle.std.specs.Prelude.{[], ◌∷◌, map};
 ghost use Rattle.std.specs.List.{All};
+ghost use Rattle.chumsky_parser.specs.Choice.{SameByOne};
+ghost use Rattle.chumsky_choice.specs.Among.{SameByAny};
 
 use crate::choice::Choice;
 use chumsky_input::extra::ParserExtra;
@@ -38,6 +42,14 @@ pub fn choice_is_steady<
     ensures six { A.steady six.now.parsers.0 → B.steady six.now.parsers.1 → C.steady six.now.parsers.2 → D.steady six.now.parsers.3 → F.steady six.now.parsers.4 → G.steady six.now.parsers.5 → ⟦<Choice<(A, B, C, D, F, G)> as Parser<'src, I, O, E>>⟧.steady six.now }
     ensures seven { A.steady seven.now.parsers.0 → B.steady seven.now.parsers.1 → C.steady seven.now.parsers.2 → D.steady seven.now.parsers.3 → F.steady seven.now.parsers.4 → G.steady seven.now.parsers.5 → H.steady seven.now.parsers.6 → ⟦<Choice<(A, B, C, D, F, G, H)> as Parser<'src, I, O, E>>⟧.steady seven.now }
     ensures eight { A.steady eight.now.parsers.0 → B.steady eight.now.parsers.1 → C.steady eight.now.parsers.2 → D.steady eight.now.parsers.3 → F.steady eight.now.parsers.4 → G.steady eight.now.parsers.5 → H.steady eight.now.parsers.6 → J.steady eight.now.parsers.7 → ⟦<Choice<(A, B, C, D, F, G, H, J)> as Parser<'src, I, O, E>>⟧.steady eight.now }
+    ensures same_one { (x y : O) → ⟦<Choice<(A,)> as Parser<'src, I, O, E>>⟧.same one.now x y → A.same one.now.parsers.0 x y }
+    ensures same_two { (x y : O) → ⟦<Choice<(A, B)> as Parser<'src, I, O, E>>⟧.same two.now x y → SameByOne (A.same two.now.parsers.0) (B.same two.now.parsers.1 ∷ []) x y }
+    ensures same_three { (x y : O) → ⟦<Choice<(A, B, C)> as Parser<'src, I, O, E>>⟧.same three.now x y → SameByOne (A.same three.now.parsers.0) (B.same three.now.parsers.1 ∷ C.same three.now.parsers.2 ∷ []) x y }
+    ensures same_four { (x y : O) → ⟦<Choice<(A, B, C, D)> as Parser<'src, I, O, E>>⟧.same four.now x y → SameByOne (A.same four.now.parsers.0) (B.same four.now.parsers.1 ∷ C.same four.now.parsers.2 ∷ D.same four.now.parsers.3 ∷ []) x y }
+    ensures same_five { (x y : O) → ⟦<Choice<(A, B, C, D, F)> as Parser<'src, I, O, E>>⟧.same five.now x y → SameByOne (A.same five.now.parsers.0) (B.same five.now.parsers.1 ∷ C.same five.now.parsers.2 ∷ D.same five.now.parsers.3 ∷ F.same five.now.parsers.4 ∷ []) x y }
+    ensures same_six { (x y : O) → ⟦<Choice<(A, B, C, D, F, G)> as Parser<'src, I, O, E>>⟧.same six.now x y → SameByOne (A.same six.now.parsers.0) (B.same six.now.parsers.1 ∷ C.same six.now.parsers.2 ∷ D.same six.now.parsers.3 ∷ F.same six.now.parsers.4 ∷ G.same six.now.parsers.5 ∷ []) x y }
+    ensures same_seven { (x y : O) → ⟦<Choice<(A, B, C, D, F, G, H)> as Parser<'src, I, O, E>>⟧.same seven.now x y → SameByOne (A.same seven.now.parsers.0) (B.same seven.now.parsers.1 ∷ C.same seven.now.parsers.2 ∷ D.same seven.now.parsers.3 ∷ F.same seven.now.parsers.4 ∷ G.same seven.now.parsers.5 ∷ H.same seven.now.parsers.6 ∷ []) x y }
+    ensures same_eight { (x y : O) → ⟦<Choice<(A, B, C, D, F, G, H, J)> as Parser<'src, I, O, E>>⟧.same eight.now x y → SameByOne (A.same eight.now.parsers.0) (B.same eight.now.parsers.1 ∷ C.same eight.now.parsers.2 ∷ D.same eight.now.parsers.3 ∷ F.same eight.now.parsers.4 ∷ G.same eight.now.parsers.5 ∷ H.same eight.now.parsers.6 ∷ J.same eight.now.parsers.7 ∷ []) x y }
 {}
 
 /// A choice among the parsers of a slice, a `Vec` or an array.
@@ -53,4 +65,7 @@ pub fn choice_of_a_list_is_steady<
     ensures slice { All A.steady slice.now.parsers.now → ⟦<Choice<&'p [A]> as Parser<'src, I, O, E>>⟧.steady slice.now }
     ensures vec { All A.steady vec.now.parsers.items → ⟦<Choice<Vec<A>> as Parser<'src, I, O, E>>⟧.steady vec.now }
     ensures array { All A.steady array.now.parsers → ⟦<Choice<[A; N]> as Parser<'src, I, O, E>>⟧.steady array.now }
+    ensures same_slice { (x y : O) → ⟦<Choice<&'p [A]> as Parser<'src, I, O, E>>⟧.same slice.now x y → SameByAny (map A.same slice.now.parsers.now) x y }
+    ensures same_vec { (x y : O) → ⟦<Choice<Vec<A>> as Parser<'src, I, O, E>>⟧.same vec.now x y → SameByAny (map A.same vec.now.parsers.items) x y }
+    ensures same_array { (x y : O) → ⟦<Choice<[A; N]> as Parser<'src, I, O, E>>⟧.same array.now x y → SameByAny (map A.same array.now.parsers) x y }
 {}

@@ -12,7 +12,7 @@ use chumsky_input::stop::{Fault, PResult};
 use chumsky_parser::parser::Parser;
 
 /// After a failure goes back to the checkpoint and runs the next alternative; any other answer stands.
-#[inline]
+#[inline(always)]
 pub fn emit_next<'src, I: Input<'src>, O, E: ParserExtra<I>, P: Parser<'src, I, O, E>>(
     tried: PResult<O>,
     next: &P,
@@ -36,7 +36,7 @@ pub fn emit_next<'src, I: Input<'src>, O, E: ParserExtra<I>, P: Parser<'src, I, 
 }
 
 /// The same without outputs.
-#[inline]
+#[inline(always)]
 pub fn check_next<'src, I: Input<'src>, O, E: ParserExtra<I>, P: Parser<'src, I, O, E>>(
     tried: PResult<()>,
     next: &P,

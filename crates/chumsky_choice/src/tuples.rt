@@ -23,12 +23,12 @@ impl<'src, I: Input<'src>, O, E: ParserExtra<I>, A: Parser<'src, I, O, E>> Parse
 
     ghost agrees = { λ p s. A.agrees p.parsers.0 s };
 
-    #[inline]
+    #[inline(always)]
     fn go_emit(&self, inp: &mut InputRef<'src, '_, I, E>) -> PResult<O> {
         self.parsers.0.go_emit(inp)
     }
 
-    #[inline]
+    #[inline(always)]
     fn go_check(&self, inp: &mut InputRef<'src, '_, I, E>) -> PResult<()> {
         self.parsers.0.go_check(inp)
     }
@@ -60,14 +60,14 @@ impl<
 
     ghost agrees = { λ p s. first_of-agrees _ _ _ (A.same p.parsers.0) (B.same p.parsers.1 ∷ []) _ _ (and-agrees (A.agrees p.parsers.0 s.0) (and-agrees (B.agrees p.parsers.1 s.1) none-agree)) };
 
-    #[inline]
+    #[inline(always)]
     fn go_emit(&self, inp: &mut InputRef<'src, '_, I, E>) -> PResult<O> {
         let before = inp.save()?;
         let tried = self.parsers.0.go_emit(inp);
         emit_next(tried, &self.parsers.1, inp, &before)
     }
 
-    #[inline]
+    #[inline(always)]
     fn go_check(&self, inp: &mut InputRef<'src, '_, I, E>) -> PResult<()> {
         let before = inp.save()?;
         let tried = self.parsers.0.go_check(inp);
@@ -103,7 +103,7 @@ impl<
 
     ghost agrees = { λ p s. first_of-agrees _ _ _ (A.same p.parsers.0) (B.same p.parsers.1 ∷ C.same p.parsers.2 ∷ []) _ _ (and-agrees (A.agrees p.parsers.0 s.0) (and-agrees (B.agrees p.parsers.1 s.1) (and-agrees (C.agrees p.parsers.2 s.2) none-agree))) };
 
-    #[inline]
+    #[inline(always)]
     fn go_emit(&self, inp: &mut InputRef<'src, '_, I, E>) -> PResult<O> {
         let before = inp.save()?;
         let tried = self.parsers.0.go_emit(inp);
@@ -111,7 +111,7 @@ impl<
         emit_next(tried, &self.parsers.2, inp, &before)
     }
 
-    #[inline]
+    #[inline(always)]
     fn go_check(&self, inp: &mut InputRef<'src, '_, I, E>) -> PResult<()> {
         let before = inp.save()?;
         let tried = self.parsers.0.go_check(inp);
@@ -156,7 +156,7 @@ impl<
 
     ghost agrees = { λ p s. first_of-agrees _ _ _ (A.same p.parsers.0) (B.same p.parsers.1 ∷ C.same p.parsers.2 ∷ D.same p.parsers.3 ∷ []) _ _ (and-agrees (A.agrees p.parsers.0 s.0) (and-agrees (B.agrees p.parsers.1 s.1) (and-agrees (C.agrees p.parsers.2 s.2) (and-agrees (D.agrees p.parsers.3 s.3) none-agree)))) };
 
-    #[inline]
+    #[inline(always)]
     fn go_emit(&self, inp: &mut InputRef<'src, '_, I, E>) -> PResult<O> {
         let before = inp.save()?;
         let tried = self.parsers.0.go_emit(inp);
@@ -165,7 +165,7 @@ impl<
         emit_next(tried, &self.parsers.3, inp, &before)
     }
 
-    #[inline]
+    #[inline(always)]
     fn go_check(&self, inp: &mut InputRef<'src, '_, I, E>) -> PResult<()> {
         let before = inp.save()?;
         let tried = self.parsers.0.go_check(inp);
@@ -213,7 +213,7 @@ impl<
 
     ghost agrees = { λ p s. first_of-agrees _ _ _ (A.same p.parsers.0) (B.same p.parsers.1 ∷ C.same p.parsers.2 ∷ D.same p.parsers.3 ∷ F.same p.parsers.4 ∷ []) _ _ (and-agrees (A.agrees p.parsers.0 s.0) (and-agrees (B.agrees p.parsers.1 s.1) (and-agrees (C.agrees p.parsers.2 s.2) (and-agrees (D.agrees p.parsers.3 s.3) (and-agrees (F.agrees p.parsers.4 s.4) none-agree))))) };
 
-    #[inline]
+    #[inline(always)]
     fn go_emit(&self, inp: &mut InputRef<'src, '_, I, E>) -> PResult<O> {
         let before = inp.save()?;
         let tried = self.parsers.0.go_emit(inp);
@@ -223,7 +223,7 @@ impl<
         emit_next(tried, &self.parsers.4, inp, &before)
     }
 
-    #[inline]
+    #[inline(always)]
     fn go_check(&self, inp: &mut InputRef<'src, '_, I, E>) -> PResult<()> {
         let before = inp.save()?;
         let tried = self.parsers.0.go_check(inp);
@@ -274,7 +274,7 @@ impl<
 
     ghost agrees = { λ p s. first_of-agrees _ _ _ (A.same p.parsers.0) (B.same p.parsers.1 ∷ C.same p.parsers.2 ∷ D.same p.parsers.3 ∷ F.same p.parsers.4 ∷ G.same p.parsers.5 ∷ []) _ _ (and-agrees (A.agrees p.parsers.0 s.0) (and-agrees (B.agrees p.parsers.1 s.1) (and-agrees (C.agrees p.parsers.2 s.2) (and-agrees (D.agrees p.parsers.3 s.3) (and-agrees (F.agrees p.parsers.4 s.4) (and-agrees (G.agrees p.parsers.5 s.5) none-agree)))))) };
 
-    #[inline]
+    #[inline(always)]
     fn go_emit(&self, inp: &mut InputRef<'src, '_, I, E>) -> PResult<O> {
         let before = inp.save()?;
         let tried = self.parsers.0.go_emit(inp);
@@ -285,7 +285,7 @@ impl<
         emit_next(tried, &self.parsers.5, inp, &before)
     }
 
-    #[inline]
+    #[inline(always)]
     fn go_check(&self, inp: &mut InputRef<'src, '_, I, E>) -> PResult<()> {
         let before = inp.save()?;
         let tried = self.parsers.0.go_check(inp);
@@ -339,7 +339,7 @@ impl<
 
     ghost agrees = { λ p s. first_of-agrees _ _ _ (A.same p.parsers.0) (B.same p.parsers.1 ∷ C.same p.parsers.2 ∷ D.same p.parsers.3 ∷ F.same p.parsers.4 ∷ G.same p.parsers.5 ∷ H.same p.parsers.6 ∷ []) _ _ (and-agrees (A.agrees p.parsers.0 s.0) (and-agrees (B.agrees p.parsers.1 s.1) (and-agrees (C.agrees p.parsers.2 s.2) (and-agrees (D.agrees p.parsers.3 s.3) (and-agrees (F.agrees p.parsers.4 s.4) (and-agrees (G.agrees p.parsers.5 s.5) (and-agrees (H.agrees p.parsers.6 s.6) none-agree))))))) };
 
-    #[inline]
+    #[inline(always)]
     fn go_emit(&self, inp: &mut InputRef<'src, '_, I, E>) -> PResult<O> {
         let before = inp.save()?;
         let tried = self.parsers.0.go_emit(inp);
@@ -351,7 +351,7 @@ impl<
         emit_next(tried, &self.parsers.6, inp, &before)
     }
 
-    #[inline]
+    #[inline(always)]
     fn go_check(&self, inp: &mut InputRef<'src, '_, I, E>) -> PResult<()> {
         let before = inp.save()?;
         let tried = self.parsers.0.go_check(inp);
@@ -408,7 +408,7 @@ impl<
 
     ghost agrees = { λ p s. first_of-agrees _ _ _ (A.same p.parsers.0) (B.same p.parsers.1 ∷ C.same p.parsers.2 ∷ D.same p.parsers.3 ∷ F.same p.parsers.4 ∷ G.same p.parsers.5 ∷ H.same p.parsers.6 ∷ J.same p.parsers.7 ∷ []) _ _ (and-agrees (A.agrees p.parsers.0 s.0) (and-agrees (B.agrees p.parsers.1 s.1) (and-agrees (C.agrees p.parsers.2 s.2) (and-agrees (D.agrees p.parsers.3 s.3) (and-agrees (F.agrees p.parsers.4 s.4) (and-agrees (G.agrees p.parsers.5 s.5) (and-agrees (H.agrees p.parsers.6 s.6) (and-agrees (J.agrees p.parsers.7 s.7) none-agree)))))))) };
 
-    #[inline]
+    #[inline(always)]
     fn go_emit(&self, inp: &mut InputRef<'src, '_, I, E>) -> PResult<O> {
         let before = inp.save()?;
         let tried = self.parsers.0.go_emit(inp);
@@ -421,7 +421,7 @@ impl<
         emit_next(tried, &self.parsers.7, inp, &before)
     }
 
-    #[inline]
+    #[inline(always)]
     fn go_check(&self, inp: &mut InputRef<'src, '_, I, E>) -> PResult<()> {
         let before = inp.save()?;
         let tried = self.parsers.0.go_check(inp);

@@ -37,7 +37,7 @@ impl<
 
     ghost agrees = { λ p s. or_else-agrees _ _ _ _ _ (A.same p.first) (B.same p.second) (A.agrees p.first s.0) (B.agrees p.second s.1) };
 
-    #[inline]
+    #[inline(always)]
     fn go_emit(&self, inp: &mut InputRef<'src, '_, I, E>) -> PResult<O> {
         let before = inp.save()?;
         match self.first.go_emit(inp) {
@@ -50,7 +50,7 @@ impl<
         }
     }
 
-    #[inline]
+    #[inline(always)]
     fn go_check(&self, inp: &mut InputRef<'src, '_, I, E>) -> PResult<()> {
         let before = inp.save()?;
         match self.first.go_check(inp) {

@@ -48,7 +48,7 @@ impl<
 
     ghost agrees = { λ p s. between-agrees _ _ _ (B.same p.opening) (A.same p.parser) (C.same p.closing) (B.agrees p.opening s.1) (A.agrees p.parser s.0) (C.agrees p.closing s.2) };
 
-    #[inline]
+    #[inline(always)]
     fn go_emit(&self, inp: &mut InputRef<'src, '_, I, E>) -> PResult<O> {
         self.opening.go_check(inp)?;
         let value = self.parser.go_emit(inp)?;
@@ -56,7 +56,7 @@ impl<
         Ok(value)
     }
 
-    #[inline]
+    #[inline(always)]
     fn go_check(&self, inp: &mut InputRef<'src, '_, I, E>) -> PResult<()> {
         self.opening.go_check(inp)?;
         self.parser.go_check(inp)?;

@@ -42,13 +42,13 @@ impl<
 
     ghost agrees = { λ p s. ignoring_first-agrees _ _ (A.same p.first) (B.same p.second) (A.agrees p.first s.0) (B.agrees p.second s.1) };
 
-    #[inline]
+    #[inline(always)]
     fn go_emit(&self, inp: &mut InputRef<'src, '_, I, E>) -> PResult<U> {
         self.first.go_check(inp)?;
         self.second.go_emit(inp)
     }
 
-    #[inline]
+    #[inline(always)]
     fn go_check(&self, inp: &mut InputRef<'src, '_, I, E>) -> PResult<()> {
         self.first.go_check(inp)?;
         self.second.go_check(inp)

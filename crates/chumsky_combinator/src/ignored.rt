@@ -34,12 +34,12 @@ impl<'src, I: Input<'src>, O, E: ParserExtra<I>, A: Parser<'src, I, O, E>> Parse
 
     ghost agrees = { λ p s. ignoring_first-agrees _ _ (A.same p.parser) SameUnit (A.agrees p.parser s) (gives-agrees tt SameUnit tt) };
 
-    #[inline]
+    #[inline(always)]
     fn go_emit(&self, inp: &mut InputRef<'src, '_, I, E>) -> PResult<()> {
         self.parser.go_check(inp)
     }
 
-    #[inline]
+    #[inline(always)]
     fn go_check(&self, inp: &mut InputRef<'src, '_, I, E>) -> PResult<()> {
         self.parser.go_check(inp)
     }

@@ -1,7 +1,10 @@
 //! Laws that compare parsers, each the contract of a function that does nothing.
+ghost use Rattle.std.specs.Prelude.{[], ◌∷◌};
 ghost use Rattle.chumsky_combinator.specs.Compared.{AgreesAs, ShownAs, regroup, ungroup};
 ghost use Rattle.chumsky_combinator.specs.Optional.{NeverSaysNo};
+ghost use Rattle.chumsky_combinator.specs.Standing.{SameByStanding};
 
+use crate::choice::Or;
 use crate::ignore_then::IgnoreThen;
 use crate::or_not::OrNot;
 use crate::sequence::Then;
@@ -28,6 +31,19 @@ pub fn or_not_never_says_no<'src, I: Input<'src>, O, E: ParserExtra<I>, A: Parse
     a: &A,
 )
     ensures { NeverSaysNo (⟦<OrNot<A> as Parser<'src, I, Option<O>, E>>⟧.meaning (record { parser = a.now }) E.Error.Error E.State.Inspector) }
+{}
+
+/// Of two answers of a steady `a.or(b)`, from beginnings that differ at most in whether a value is wanted, one and the same
+/// alternative stands in both, and their outputs are the same by what that one calls the same.
+pub fn or_agrees_by_one_alternative<
+    'src,
+    I: Input<'src>,
+    O,
+    E: ParserExtra<I>,
+    A: Parser<'src, I, O, E>,
+    B: Parser<'src, I, O, E>,
+>(first: &A, second: &B)
+    ensures { A.steady first.now → B.steady second.now → SameByStanding E.State.mark E.State.back E.State.takes_no_memory (⟦<Or<A, B> as Parser<'src, I, O, E>>⟧.meaning (record { first = first.now; second = second.now }) E.Error.Error E.State.Inspector) (A.same first.now) (B.same second.now ∷ []) (A.meaning first.now E.Error.Error E.State.Inspector) (B.meaning second.now E.Error.Error E.State.Inspector ∷ []) }
 {}
 
 /// `a.then(b).then(c)` has the outcomes of `a.then(b.then(c))`, up to the grouping of the pairs.

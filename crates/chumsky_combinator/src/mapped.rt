@@ -1,4 +1,6 @@
 //! Output mappers.
+ghost use Rattle.std.specs.Prelude.{⊤};
+
 use chumsky_input::extra::ParserExtra;
 use chumsky_input::input::Input;
 use chumsky_input::input_ref::InputRef;
@@ -6,7 +8,45 @@ use chumsky_input::stop::PResult;
 use chumsky_parser::parser::{IsParser, Parser};
 use std::marker::PhantomData;
 
-/// A parser whose output goes through a closure. See `map`.
+/// What makes an output of another. Each closure `Fn(O) -> U` is one, and so is a type of one's own that has an impl,
+/// which says in `gives` what is later known of the output:
+///
+/// ```text
+/// pub struct ToNumber;
+///
+/// impl Mapper<(char, char), u8> for ToNumber {
+///     ghost gives = { λ mapper digits number. number ≤ 99 };
+///
+///     fn apply(&self, value: (char, char)) -> u8 {
+///         two_digits(value)
+///     }
+/// }
+/// ```
+pub trait Mapper<O, U> {
+    /// That it may be called. Where nothing is said, it may.
+    ghost callable: { Self → Type 0 } = { λ mapper. ⊤ };
+
+    /// What it may give for a value.
+    ghost gives: { Self → O → U → Type 0 };
+
+    /// The output for a value.
+    fn apply(&self, value: O) -> U
+        requires { callable self.now }
+        ensures { gives self.now value result };
+}
+
+impl<O, U, F: Fn(O) -> U> Mapper<O, U> for F {
+    ghost callable = { λ f. F.IsAlwaysCallable f };
+
+    ghost gives = { λ f value result. F.post f value result };
+
+    #[inline]
+    fn apply(&self, value: O) -> U {
+        (*self)(value)
+    }
+}
+
+/// A parser whose output goes through a mapper. See `map` and `map_by`.
 #[derive(Drop)]
 #[derive_where(Clone, Copy; A, F)]
 pub struct Map<A, O, F, U> {
@@ -17,34 +57,37 @@ pub struct Map<A, O, F, U> {
 
 impl<I, O, U, E, A: IsParser<I, O, E>, F> IsParser<I, U, E> for Map<A, O, F, U> {}
 
-impl<'src, I: Input<'src>, O, U, E: ParserExtra<I>, A: Parser<'src, I, O, E>, F: Fn(O) -> U> Parser<
+impl<
     'src,
-    I,
+    I: Input<'src>,
+    O,
     U,
-    E,
-> for Map<A, O, F, U> {
+    E: ParserExtra<I>,
+    A: Parser<'src, I, O, E>,
+    F: Mapper<O, U>,
+> Parser<'src, I, U, E> for Map<A, O, F, U> {
     ghost use Rattle.chumsky_combinator.specs.Mapped.{Mapped, IsFunction, SameMapped};
     ghost use Rattle.chumsky_combinator.specs.MappedLaws.{mapped-ends, mapped-agrees};
 
-    ghost ready = { λ p. A.ready p.parser × F.IsAlwaysCallable p.mapper };
+    ghost ready = { λ p. A.ready p.parser × F.callable p.mapper };
 
-    ghost meaning = { λ p errors states. Mapped (F.post p.mapper) (A.meaning p.parser errors states) };
+    ghost meaning = { λ p errors states. Mapped (F.gives p.mapper) (A.meaning p.parser errors states) };
 
-    ghost steady = { λ p. A.steady p.parser × IsFunction (F.post p.mapper) };
+    ghost steady = { λ p. A.steady p.parser × IsFunction (F.gives p.mapper) };
 
-    ghost same = { λ p. SameMapped (A.same p.parser) (F.post p.mapper) };
+    ghost same = { λ p. SameMapped (A.same p.parser) (F.gives p.mapper) };
 
-    ghost ends_after_start = { λ p. mapped-ends (F.post p.mapper) _ (A.ends_after_start p.parser) };
+    ghost ends_after_start = { λ p. mapped-ends (F.gives p.mapper) _ (A.ends_after_start p.parser) };
 
-    ghost agrees = { λ p s. mapped-agrees (F.post p.mapper) _ (A.same p.parser) (A.agrees p.parser s.0) };
+    ghost agrees = { λ p s. mapped-agrees (F.gives p.mapper) _ (A.same p.parser) (A.agrees p.parser s.0) };
 
-    #[inline]
+    #[inline(always)]
     fn go_emit(&self, inp: &mut InputRef<'src, '_, I, E>) -> PResult<U> {
         let value = self.parser.go_emit(inp)?;
-        Ok((self.mapper)(value))
+        Ok(self.mapper.apply(value))
     }
 
-    #[inline]
+    #[inline(always)]
     fn go_check(&self, inp: &mut InputRef<'src, '_, I, E>) -> PResult<()> {
         self.parser.go_check(inp)
     }

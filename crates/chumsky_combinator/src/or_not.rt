@@ -34,7 +34,7 @@ impl<'src, I: Input<'src>, O, E: ParserExtra<I>, A: Parser<'src, I, O, E>> Parse
 
     ghost agrees = { λ p s. or_none-agrees _ _ _ _ (A.same p.parser) (A.agrees p.parser s) };
 
-    #[inline]
+    #[inline(always)]
     fn go_emit(&self, inp: &mut InputRef<'src, '_, I, E>) -> PResult<Option<O>> {
         let before = inp.save()?;
         match self.parser.go_emit(inp) {
@@ -47,7 +47,7 @@ impl<'src, I: Input<'src>, O, E: ParserExtra<I>, A: Parser<'src, I, O, E>> Parse
         }
     }
 
-    #[inline]
+    #[inline(always)]
     fn go_check(&self, inp: &mut InputRef<'src, '_, I, E>) -> PResult<()> {
         let before = inp.save()?;
         match self.parser.go_check(inp) {

@@ -1,14 +1,18 @@
 //! Which combinators are steady, each the contract of a function that does nothing: those whose parts are, and whose
-//! closures are functions.
-ghost use Rattle.chumsky_combinator.specs.Mapped.{IsFunction};
+//! closures are functions. And what is known of two outputs that count as the same: mostly that those of the parts do.
+ghost use Rattle.std.specs.Prelude.{Option, ◌⊎◌};
+ghost use Rattle.chumsky_combinator.specs.Mapped.{IsFunction, SameMapped};
+ghost use Rattle.chumsky_combinator.specs.Optional.{SameOption};
+ghost use Rattle.chumsky_combinator.specs.Part.{MeansNoMore};
 
 use crate::choice::Or;
 use crate::delimited_by::DelimitedBy;
 use crate::ignore_then::IgnoreThen;
 use crate::ignored::Ignored;
-use crate::mapped::Map;
+use crate::mapped::{Map, Mapper};
 use crate::or_not::OrNot;
 use crate::padded_by::PaddedBy;
+use crate::part::{OfPart, Part};
 use crate::sequence::Then;
 use crate::then_ignore::ThenIgnore;
 use crate::to::To;
@@ -28,6 +32,8 @@ pub fn then_is_steady<
 >(then: &Then<A, B, O, U>, then_ignore: &ThenIgnore<A, B, U>)
     ensures then { A.steady then.now.first → B.steady then.now.second → ⟦<Then<A, B, O, U> as Parser<'src, I, (O, U), E>>⟧.steady then.now }
     ensures then_ignore { A.steady then_ignore.now.first → B.steady then_ignore.now.second → ⟦<ThenIgnore<A, B, U> as Parser<'src, I, O, E>>⟧.steady then_ignore.now }
+    ensures same_pair { (x y : O × U) → ⟦<Then<A, B, O, U> as Parser<'src, I, (O, U), E>>⟧.same then.now x y → A.same then.now.first x.0 y.0 × B.same then.now.second x.1 y.1 }
+    ensures same_first { (x y : O) → ⟦<ThenIgnore<A, B, U> as Parser<'src, I, O, E>>⟧.same then_ignore.now x y → A.same then_ignore.now.first x y }
 {}
 
 /// `a.ignore_then(b)`.
@@ -40,7 +46,8 @@ pub fn ignore_then_is_steady<
     A: Parser<'src, I, O, E>,
     B: Parser<'src, I, U, E>,
 >(ignore_then: &IgnoreThen<A, B, O>)
-    ensures { A.steady ignore_then.now.first → B.steady ignore_then.now.second → ⟦<IgnoreThen<A, B, O> as Parser<'src, I, U, E>>⟧.steady ignore_then.now }
+    ensures steady { A.steady ignore_then.now.first → B.steady ignore_then.now.second → ⟦<IgnoreThen<A, B, O> as Parser<'src, I, U, E>>⟧.steady ignore_then.now }
+    ensures same { (x y : U) → ⟦<IgnoreThen<A, B, O> as Parser<'src, I, U, E>>⟧.same ignore_then.now x y → B.same ignore_then.now.second x y }
 {}
 
 /// `a.delimited_by(b, c)` and `a.padded_by(b)`.
@@ -57,6 +64,8 @@ pub fn delimited_by_is_steady<
 >(delimited_by: &DelimitedBy<A, B, C, U, V>, padded_by: &PaddedBy<A, B, U>)
     ensures delimited_by { A.steady delimited_by.now.parser → B.steady delimited_by.now.opening → C.steady delimited_by.now.closing → ⟦<DelimitedBy<A, B, C, U, V> as Parser<'src, I, O, E>>⟧.steady delimited_by.now }
     ensures padded_by { A.steady padded_by.now.parser → B.steady padded_by.now.padding → ⟦<PaddedBy<A, B, U> as Parser<'src, I, O, E>>⟧.steady padded_by.now }
+    ensures same_delimited { (x y : O) → ⟦<DelimitedBy<A, B, C, U, V> as Parser<'src, I, O, E>>⟧.same delimited_by.now x y → A.same delimited_by.now.parser x y }
+    ensures same_padded { (x y : O) → ⟦<PaddedBy<A, B, U> as Parser<'src, I, O, E>>⟧.same padded_by.now x y → A.same padded_by.now.parser x y }
 {}
 
 /// `a.or(b)` and `a.or_not()`.
@@ -70,6 +79,8 @@ pub fn or_is_steady<
 >(or: &Or<A, B>, or_not: &OrNot<A>)
     ensures or { A.steady or.now.first → B.steady or.now.second → ⟦<Or<A, B> as Parser<'src, I, O, E>>⟧.steady or.now }
     ensures or_not { A.steady or_not.now.parser → ⟦<OrNot<A> as Parser<'src, I, Option<O>, E>>⟧.steady or_not.now }
+    ensures same_either { (x y : O) → ⟦<Or<A, B> as Parser<'src, I, O, E>>⟧.same or.now x y → A.same or.now.first x y ⊎ B.same or.now.second x y }
+    ensures same_option { (x y : Option O) → ⟦<OrNot<A> as Parser<'src, I, Option<O>, E>>⟧.same or_not.now x y → SameOption (A.same or_not.now.parser) x y }
 {}
 
 /// `a.to(v)` and `a.ignored()`.
@@ -79,9 +90,10 @@ pub fn to_is_steady<'src, I: Input<'src>, O, U: Clone, E: ParserExtra<I>, A: Par
 )
     ensures to { A.steady to.now.parser → ⟦<To<A, O, U> as Parser<'src, I, U, E>>⟧.steady to.now }
     ensures ignored { A.steady ignored.now.parser → ⟦<Ignored<A, O> as Parser<'src, I, (), E>>⟧.steady ignored.now }
+    ensures same { (x y : U) → ⟦<To<A, O, U> as Parser<'src, I, U, E>>⟧.same to.now x y → U.is_clone to.now.value x × U.is_clone to.now.value y }
 {}
 
-/// `a.map(f)`, where `f` gives one answer to each argument.
+/// `a.map(f)` and `a.map_by(f)`, where `f` gives one answer to each argument.
 pub fn map_is_steady<
     'src,
     I: Input<'src>,
@@ -89,7 +101,22 @@ pub fn map_is_steady<
     U,
     E: ParserExtra<I>,
     A: Parser<'src, I, O, E>,
-    F: Fn(O) -> U,
+    F: Mapper<O, U>,
 >(map: &Map<A, O, F, U>)
-    ensures { A.steady map.now.parser → IsFunction (F.post map.now.mapper) → ⟦<Map<A, O, F, U> as Parser<'src, I, U, E>>⟧.steady map.now }
+    ensures steady { A.steady map.now.parser → IsFunction (F.gives map.now.mapper) → ⟦<Map<A, O, F, U> as Parser<'src, I, U, E>>⟧.steady map.now }
+    ensures same { (x y : U) → ⟦<Map<A, O, F, U> as Parser<'src, I, U, E>>⟧.same map.now x y → SameMapped (A.same map.now.parser) (F.gives map.now.mapper) x y }
+{}
+
+/// `part_of(p)`, where `p` means no more than a steady parser, and outputs that are the same to that parser are alike to
+/// `p`.
+pub fn part_is_steady<
+    'src,
+    I: Input<'src>,
+    O: Drop,
+    E: ParserExtra<I>,
+    A: Parser<'src, I, O, E>,
+    P: Part<'src, I, O, E>,
+>(part: &OfPart<P>, inside: &A)
+    ensures steady { A.steady inside.now → MeansNoMore (P.means part.now.part E.Error.Error E.State.Inspector) (A.meaning inside.now E.Error.Error E.State.Inspector) → ((v w : O) → A.same inside.now v w → P.alike part.now.part v w) → ⟦<OfPart<P> as Parser<'src, I, O, E>>⟧.steady part.now }
+    ensures same { (x y : O) → ⟦<OfPart<P> as Parser<'src, I, O, E>>⟧.same part.now x y → P.alike part.now.part x y }
 {}

@@ -39,14 +39,14 @@ impl<'src, I: Input<'src>, O, U: Clone, E: ParserExtra<I>, A: Parser<'src, I, O,
 
     ghost agrees = { λ p s. ignoring_first-agrees _ _ (A.same p.parser) (BothCopies (U.is_clone p.value)) (A.agrees p.parser s) (copy-agrees (U.is_clone p.value) (U.is_infallible p.value)) };
 
-    #[inline]
+    #[inline(always)]
     fn go_emit(&self, inp: &mut InputRef<'src, '_, I, E>) -> PResult<U> {
         self.parser.go_check(inp)?;
         let value = self.value.clone()?;
         Ok(value)
     }
 
-    #[inline]
+    #[inline(always)]
     fn go_check(&self, inp: &mut InputRef<'src, '_, I, E>) -> PResult<()> {
         self.parser.go_check(inp)
     }

@@ -10,7 +10,7 @@ use chumsky_input::stop::PResult;
 use chumsky_parser::parser::Parser;
 
 /// After a value, the next parser's beside it; after a failure nothing is run.
-#[inline]
+#[inline(always)]
 pub(crate) fn emit_after<
     'src,
     I: Input<'src>,
@@ -29,7 +29,7 @@ pub(crate) fn emit_after<
 }
 
 /// After a yes, whether the next parser says yes; after a failure nothing is run.
-#[inline]
+#[inline(always)]
 pub(crate) fn check_after<'src, I: Input<'src>, U, E: ParserExtra<I>, P: Parser<'src, I, U, E>>(
     before: PResult<()>,
     next: &P,

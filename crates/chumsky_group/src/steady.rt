@@ -1,5 +1,8 @@
-//! Which groups are steady, each the contract of a function that does nothing: those whose parts are.
+//! Which groups are steady, each the contract of a function that does nothing: those whose parts are. And
+//! what is known of two outputs that count as the same: that those of each part do.
+ghost use Rattle.std.specs.Prelude.{map};
 ghost use Rattle.std.specs.List.{All};
+ghost use Rattle.chumsky_group.specs.InTurn.{SameItems};
 
 use crate::group::Group;
 use arrayvec::ArrayVec;
@@ -46,6 +49,14 @@ pub fn group_is_steady<
     ensures six { A.steady six.now.parsers.0 → B.steady six.now.parsers.1 → C.steady six.now.parsers.2 → D.steady six.now.parsers.3 → F.steady six.now.parsers.4 → J.steady six.now.parsers.5 → ⟦<Group<(A, B, C, D, F, J)> as Parser<'src, I, (OA, OB, OC, OD, OF, OJ), E>>⟧.steady six.now }
     ensures seven { A.steady seven.now.parsers.0 → B.steady seven.now.parsers.1 → C.steady seven.now.parsers.2 → D.steady seven.now.parsers.3 → F.steady seven.now.parsers.4 → G.steady seven.now.parsers.5 → J.steady seven.now.parsers.6 → ⟦<Group<(A, B, C, D, F, G, J)> as Parser<'src, I, (OA, OB, OC, OD, OF, OG, OJ), E>>⟧.steady seven.now }
     ensures eight { A.steady eight.now.parsers.0 → B.steady eight.now.parsers.1 → C.steady eight.now.parsers.2 → D.steady eight.now.parsers.3 → F.steady eight.now.parsers.4 → G.steady eight.now.parsers.5 → H.steady eight.now.parsers.6 → J.steady eight.now.parsers.7 → ⟦<Group<(A, B, C, D, F, G, H, J)> as Parser<'src, I, (OA, OB, OC, OD, OF, OG, OH, OJ), E>>⟧.steady eight.now }
+    ensures same_one { (x y : record { 0 : OJ }) → ⟦<Group<(J,)> as Parser<'src, I, (OJ,), E>>⟧.same one.now x y → J.same one.now.parsers.0 x.0 y.0 }
+    ensures same_two { (x y : OA × OJ) → ⟦<Group<(A, J)> as Parser<'src, I, (OA, OJ), E>>⟧.same two.now x y → A.same two.now.parsers.0 x.0 y.0 × J.same two.now.parsers.1 x.1 y.1 }
+    ensures same_three { (x y : OA × OB × OJ) → ⟦<Group<(A, B, J)> as Parser<'src, I, (OA, OB, OJ), E>>⟧.same three.now x y → A.same three.now.parsers.0 x.0 y.0 × B.same three.now.parsers.1 x.1 y.1 × J.same three.now.parsers.2 x.2 y.2 }
+    ensures same_four { (x y : OA × OB × OC × OJ) → ⟦<Group<(A, B, C, J)> as Parser<'src, I, (OA, OB, OC, OJ), E>>⟧.same four.now x y → A.same four.now.parsers.0 x.0 y.0 × B.same four.now.parsers.1 x.1 y.1 × C.same four.now.parsers.2 x.2 y.2 × J.same four.now.parsers.3 x.3 y.3 }
+    ensures same_five { (x y : OA × OB × OC × OD × OJ) → ⟦<Group<(A, B, C, D, J)> as Parser<'src, I, (OA, OB, OC, OD, OJ), E>>⟧.same five.now x y → A.same five.now.parsers.0 x.0 y.0 × B.same five.now.parsers.1 x.1 y.1 × C.same five.now.parsers.2 x.2 y.2 × D.same five.now.parsers.3 x.3 y.3 × J.same five.now.parsers.4 x.4 y.4 }
+    ensures same_six { (x y : OA × OB × OC × OD × OF × OJ) → ⟦<Group<(A, B, C, D, F, J)> as Parser<'src, I, (OA, OB, OC, OD, OF, OJ), E>>⟧.same six.now x y → A.same six.now.parsers.0 x.0 y.0 × B.same six.now.parsers.1 x.1 y.1 × C.same six.now.parsers.2 x.2 y.2 × D.same six.now.parsers.3 x.3 y.3 × F.same six.now.parsers.4 x.4 y.4 × J.same six.now.parsers.5 x.5 y.5 }
+    ensures same_seven { (x y : OA × OB × OC × OD × OF × OG × OJ) → ⟦<Group<(A, B, C, D, F, G, J)> as Parser<'src, I, (OA, OB, OC, OD, OF, OG, OJ), E>>⟧.same seven.now x y → A.same seven.now.parsers.0 x.0 y.0 × B.same seven.now.parsers.1 x.1 y.1 × C.same seven.now.parsers.2 x.2 y.2 × D.same seven.now.parsers.3 x.3 y.3 × F.same seven.now.parsers.4 x.4 y.4 × G.same seven.now.parsers.5 x.5 y.5 × J.same seven.now.parsers.6 x.6 y.6 }
+    ensures same_eight { (x y : OA × OB × OC × OD × OF × OG × OH × OJ) → ⟦<Group<(A, B, C, D, F, G, H, J)> as Parser<'src, I, (OA, OB, OC, OD, OF, OG, OH, OJ), E>>⟧.same eight.now x y → A.same eight.now.parsers.0 x.0 y.0 × B.same eight.now.parsers.1 x.1 y.1 × C.same eight.now.parsers.2 x.2 y.2 × D.same eight.now.parsers.3 x.3 y.3 × F.same eight.now.parsers.4 x.4 y.4 × G.same eight.now.parsers.5 x.5 y.5 × H.same eight.now.parsers.6 x.6 y.6 × J.same eight.now.parsers.7 x.7 y.7 }
 {}
 
 /// A group of the parsers of an array.
@@ -57,5 +68,6 @@ pub fn group_of_an_array_is_steady<
     P: Parser<'src, I, O, E>,
     const N: usize,
 >(group: &Group<[P; N]>)
-    ensures { All P.steady group.now.parsers → ⟦<Group<[P; N]> as Parser<'src, I, ArrayVec<O, N>, E>>⟧.steady group.now }
+    ensures steady { All P.steady group.now.parsers → ⟦<Group<[P; N]> as Parser<'src, I, ArrayVec<O, N>, E>>⟧.steady group.now }
+    ensures same { (x y : _) → ⟦<Group<[P; N]> as Parser<'src, I, ArrayVec<O, N>, E>>⟧.same group.now x y → SameItems (map P.same group.now.parsers) x y }
 {}

@@ -30,13 +30,13 @@ impl<'src, I: Input<'src>, OA, E: ParserExtra<I>, A: Parser<'src, I, OA, E>> Par
 
     ghost agrees = { λ p s. regrouped-agrees _ _ _ (λ v w t. t) (first-agrees (A.agrees p.parsers.0 s)) };
 
-    #[inline]
+    #[inline(always)]
     fn go_emit(&self, inp: &mut InputRef<'src, '_, I, E>) -> PResult<(OA,)> {
         let a = self.parsers.0.go_emit(inp)?;
         Ok((a,))
     }
 
-    #[inline]
+    #[inline(always)]
     fn go_check(&self, inp: &mut InputRef<'src, '_, I, E>) -> PResult<()> {
         self.parsers.0.go_check(inp)
     }
@@ -69,13 +69,13 @@ impl<
 
     ghost agrees = { λ p s. sequence-agrees _ _ (A.same p.parsers.0) (B.same p.parsers.1) (A.agrees p.parsers.0 s.0) (B.agrees p.parsers.1 s.1) };
 
-    #[inline]
+    #[inline(always)]
     fn go_emit(&self, inp: &mut InputRef<'src, '_, I, E>) -> PResult<(OA, OB)> {
         let one = self.parsers.0.go_emit(inp);
         emit_after(one, &self.parsers.1, inp)
     }
 
-    #[inline]
+    #[inline(always)]
     fn go_check(&self, inp: &mut InputRef<'src, '_, I, E>) -> PResult<()> {
         let one = self.parsers.0.go_check(inp);
         check_after(one, &self.parsers.1, inp)
@@ -121,7 +121,7 @@ impl<
 
     ghost agrees = { λ p s. regrouped-agrees _ _ _ (λ v w t. (t.0.0, t.0.1, t.1)) (and-agrees (and-agrees (first-agrees (A.agrees p.parsers.0 s.0)) (B.agrees p.parsers.1 s.1)) (C.agrees p.parsers.2 s.2)) };
 
-    #[inline]
+    #[inline(always)]
     fn go_emit(&self, inp: &mut InputRef<'src, '_, I, E>) -> PResult<(OA, OB, OC)> {
         let (a, b, c) = &self.parsers;
         let one = a.go_emit(inp);
@@ -130,7 +130,7 @@ impl<
         Ok((a, b, c))
     }
 
-    #[inline]
+    #[inline(always)]
     fn go_check(&self, inp: &mut InputRef<'src, '_, I, E>) -> PResult<()> {
         let (a, b, c) = &self.parsers;
         let one = a.go_check(inp);
@@ -182,7 +182,7 @@ impl<
 
     ghost agrees = { λ p s. regrouped-agrees _ _ _ (λ v w t. (t.0.0.0, t.0.0.1, t.0.1, t.1)) (and-agrees (and-agrees (and-agrees (first-agrees (A.agrees p.parsers.0 s.0)) (B.agrees p.parsers.1 s.1)) (C.agrees p.parsers.2 s.2)) (D.agrees p.parsers.3 s.3)) };
 
-    #[inline]
+    #[inline(always)]
     fn go_emit(&self, inp: &mut InputRef<'src, '_, I, E>) -> PResult<(OA, OB, OC, OD)> {
         let (a, b, c, d) = &self.parsers;
         let one = a.go_emit(inp);
@@ -192,7 +192,7 @@ impl<
         Ok((a, b, c, d))
     }
 
-    #[inline]
+    #[inline(always)]
     fn go_check(&self, inp: &mut InputRef<'src, '_, I, E>) -> PResult<()> {
         let (a, b, c, d) = &self.parsers;
         let one = a.go_check(inp);
@@ -249,7 +249,7 @@ impl<
 
     ghost agrees = { λ p s. regrouped-agrees _ _ _ (λ v w t. (t.0.0.0.0, t.0.0.0.1, t.0.0.1, t.0.1, t.1)) (and-agrees (and-agrees (and-agrees (and-agrees (first-agrees (A.agrees p.parsers.0 s.0)) (B.agrees p.parsers.1 s.1)) (C.agrees p.parsers.2 s.2)) (D.agrees p.parsers.3 s.3)) (F.agrees p.parsers.4 s.4)) };
 
-    #[inline]
+    #[inline(always)]
     fn go_emit(&self, inp: &mut InputRef<'src, '_, I, E>) -> PResult<(OA, OB, OC, OD, OF)> {
         let (a, b, c, d, f) = &self.parsers;
         let one = a.go_emit(inp);
@@ -260,7 +260,7 @@ impl<
         Ok((a, b, c, d, f))
     }
 
-    #[inline]
+    #[inline(always)]
     fn go_check(&self, inp: &mut InputRef<'src, '_, I, E>) -> PResult<()> {
         let (a, b, c, d, f) = &self.parsers;
         let one = a.go_check(inp);
@@ -322,7 +322,7 @@ impl<
 
     ghost agrees = { λ p s. regrouped-agrees _ _ _ (λ v w t. (t.0.0.0.0.0, t.0.0.0.0.1, t.0.0.0.1, t.0.0.1, t.0.1, t.1)) (and-agrees (and-agrees (and-agrees (and-agrees (and-agrees (first-agrees (A.agrees p.parsers.0 s.0)) (B.agrees p.parsers.1 s.1)) (C.agrees p.parsers.2 s.2)) (D.agrees p.parsers.3 s.3)) (F.agrees p.parsers.4 s.4)) (G.agrees p.parsers.5 s.5)) };
 
-    #[inline]
+    #[inline(always)]
     fn go_emit(&self, inp: &mut InputRef<'src, '_, I, E>) -> PResult<(OA, OB, OC, OD, OF, OG)> {
         let (a, b, c, d, f, g) = &self.parsers;
         let one = a.go_emit(inp);
@@ -334,7 +334,7 @@ impl<
         Ok((a, b, c, d, f, g))
     }
 
-    #[inline]
+    #[inline(always)]
     fn go_check(&self, inp: &mut InputRef<'src, '_, I, E>) -> PResult<()> {
         let (a, b, c, d, f, g) = &self.parsers;
         let one = a.go_check(inp);
@@ -401,7 +401,7 @@ impl<
 
     ghost agrees = { λ p s. regrouped-agrees _ _ _ (λ v w t. (t.0.0.0.0.0.0, t.0.0.0.0.0.1, t.0.0.0.0.1, t.0.0.0.1, t.0.0.1, t.0.1, t.1)) (and-agrees (and-agrees (and-agrees (and-agrees (and-agrees (and-agrees (first-agrees (A.agrees p.parsers.0 s.0)) (B.agrees p.parsers.1 s.1)) (C.agrees p.parsers.2 s.2)) (D.agrees p.parsers.3 s.3)) (F.agrees p.parsers.4 s.4)) (G.agrees p.parsers.5 s.5)) (H.agrees p.parsers.6 s.6)) };
 
-    #[inline]
+    #[inline(always)]
     fn go_emit(&self, inp: &mut InputRef<'src, '_, I, E>) -> PResult<(OA, OB, OC, OD, OF, OG, OH)> {
         let (a, b, c, d, f, g, h) = &self.parsers;
         let one = a.go_emit(inp);
@@ -414,7 +414,7 @@ impl<
         Ok((a, b, c, d, f, g, h))
     }
 
-    #[inline]
+    #[inline(always)]
     fn go_check(&self, inp: &mut InputRef<'src, '_, I, E>) -> PResult<()> {
         let (a, b, c, d, f, g, h) = &self.parsers;
         let one = a.go_check(inp);
@@ -486,7 +486,7 @@ impl<
 
     ghost agrees = { λ p s. regrouped-agrees _ _ _ (λ v w t. (t.0.0.0.0.0.0.0, t.0.0.0.0.0.0.1, t.0.0.0.0.0.1, t.0.0.0.0.1, t.0.0.0.1, t.0.0.1, t.0.1, t.1)) (and-agrees (and-agrees (and-agrees (and-agrees (and-agrees (and-agrees (and-agrees (first-agrees (A.agrees p.parsers.0 s.0)) (B.agrees p.parsers.1 s.1)) (C.agrees p.parsers.2 s.2)) (D.agrees p.parsers.3 s.3)) (F.agrees p.parsers.4 s.4)) (G.agrees p.parsers.5 s.5)) (H.agrees p.parsers.6 s.6)) (J.agrees p.parsers.7 s.7)) };
 
-    #[inline]
+    #[inline(always)]
     fn go_emit(
         &self,
         inp: &mut InputRef<'src, '_, I, E>,
@@ -503,7 +503,7 @@ impl<
         Ok((a, b, c, d, f, g, h, j))
     }
 
-    #[inline]
+    #[inline(always)]
     fn go_check(&self, inp: &mut InputRef<'src, '_, I, E>) -> PResult<()> {
         let (a, b, c, d, f, g, h, j) = &self.parsers;
         let one = a.go_check(inp);

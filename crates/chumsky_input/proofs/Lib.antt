@@ -1,3 +1,4 @@
+pub mod DisplayLemmas
 pub mod PrimaryLemmas
 pub mod Events
 pub mod AsideLemmas

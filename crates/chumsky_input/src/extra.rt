@@ -2,6 +2,8 @@
 use crate::error::{EmptyErr, Error};
 use crate::input::Tokens;
 use crate::inspector::Inspector;
+use crate::rich::Rich;
+use crate::simple::Simple;
 use std::marker::PhantomData;
 
 /// The error, the state and the context of parsers over the inputs `I`.
@@ -35,3 +37,50 @@ pub type State<S> = Full<EmptyErr, S, ()>;
 
 /// A context type alone.
 pub type Context<C> = Full<EmptyErr, (), C>;
+
+/// `Err<Rich<char>>` over a text, as a type of its own.
+///
+/// It says what `Err<Rich<char>>` says over `&str`. The check of a function that runs a parser takes less time with it,
+/// since a type without parameters is looked up at no cost; and so with each below.
+pub struct RichText;
+
+impl<'src> ParserExtra<&'src str> for RichText {
+    type Error = Rich<char>;
+
+    type State = ();
+
+    type Context = ();
+}
+
+/// `Err<Simple<char>>` over a text, as a type of its own.
+pub struct SimpleText;
+
+impl<'src> ParserExtra<&'src str> for SimpleText {
+    type Error = Simple<char>;
+
+    type State = ();
+
+    type Context = ();
+}
+
+/// `Err<EmptyErr>` over a text, as a type of its own.
+pub struct EmptyText;
+
+impl<'src> ParserExtra<&'src str> for EmptyText {
+    type Error = EmptyErr;
+
+    type State = ();
+
+    type Context = ();
+}
+
+/// `Err<Rich<u8>>` over a slice of bytes, as a type of its own.
+pub struct RichBytes;
+
+impl<'src> ParserExtra<&'src [u8]> for RichBytes {
+    type Error = Rich<u8>;
+
+    type State = ();
+
+    type Context = ();
+}

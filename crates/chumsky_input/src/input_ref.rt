@@ -75,7 +75,7 @@ impl<'s, T: Drop> Iterator for One<'s, T> {
 
 impl<'src, 'p, I: Input<'src>, E: ParserExtra<I>> InputRef<'src, 'p, I, E> {
     /// The next token where it lies, which is taken and told to the state; none at the end of input.
-    #[inline]
+    #[inline(always)]
     pub fn next_maybe(&mut self) -> Option<MaybeRef<'src, I::Token>>
         ensures taken { option_map maybe_value result ≡ slice_get (held I.Input E.Error.Error E.State.Inspector self.old).tokens (held I.Input E.Error.Error E.State.Inspector self.old).place }
         ensures moves { held I.Input E.Error.Error E.State.Inspector self.new ≡ took E.State.after (held I.Input E.Error.Error E.State.Inspector self.old) (option_map maybe_value result) }
@@ -111,7 +111,7 @@ impl<'src, 'p, I: Input<'src>, E: ParserExtra<I>> InputRef<'src, 'p, I, E> {
     }
 
     /// A checkpoint to go back to. A refusal changes nothing.
-    #[inline]
+    #[inline(always)]
     pub fn save(
         &self,
     ) -> Result<Checkpoint<I::Cursor, <E::State as Inspector<I>>::Mark>, AllocError>
@@ -127,7 +127,7 @@ impl<'src, 'p, I: Input<'src>, E: ParserExtra<I>> InputRef<'src, 'p, I, E> {
 
     /// Goes back to a checkpoint of this input: the cursor stands where it stood, the errors emitted since are dropped,
     /// and the state gets its mark. Failures stay. A refusal changes nothing.
-    #[inline]
+    #[inline(always)]
     pub fn rewind(
         &mut self,
         to: &Checkpoint<I::Cursor, <E::State as Inspector<I>>::Mark>,

@@ -2,13 +2,12 @@
 #![tactic(auto)]
 
 pub mod aside;
+mod display;
 pub mod emitter;
 pub mod error;
 pub mod extra;
 pub mod input;
 pub mod input_ref;
-#[cfg(test)]
-mod input_ref_tests;
 pub mod inspector;
 pub mod map_extra;
 mod numbers;
@@ -18,6 +17,4 @@ pub mod simple;
 pub mod slice;
 pub mod span;
 pub mod stop;
-#[cfg(test)]
-mod tests;
 pub mod util;

@@ -1,5 +1,5 @@
 //! An error that says what was expected and what was found.
-ghost use Rattle.std.specs.Prelude.{◌≡◌, List, [], ◌∷◌, Option, Some, None, IfOk, OnOk, IsOk, map, option_map, option_copied, string_bytes};
+ghost use Rattle.std.specs.Prelude.{◌≡◌, ℕ, List, [], ◌∷◌, Option, Some, None, IfOk, IfSome, OnOk, IsOk, map, option_map, option_copied, string_bytes};
 ghost use Rattle.std.specs.Iterator.{IsFinite, Drains};
 ghost use Rattle.std.specs.List.{filter_map};
 ghost use Rattle.std.specs.Slice.Iter.{iter_rest};
@@ -13,6 +13,7 @@ use crate::same::SameClone;
 use crate::span::SimpleSpan;
 use crate::util::{DefaultExpected, Expectation, MaybeRef, token_of};
 use std::alloc::{AllocError, Global};
+use std::fmt::Display;
 
 /// Something that would have been accepted.
 #[derive(Clone, Drop)]
@@ -71,6 +72,21 @@ impl<T> Rich<T> {
             span,
             reason: RichReason::Custom(message),
         }
+    }
+
+    /// The same with a message that is made of anything that prints: `Rich::custom_in(alloc, span, "no such day")?`.
+    pub fn custom_in<M: Display + Drop>(
+        alloc: Global,
+        span: SimpleSpan,
+        message: M,
+    ) -> Result<Self, AllocError>
+        ensures span { IfOk result (λ e. rich_span e ≡ span) }
+        ensures found { IfOk result (λ e. rich_found e ≡ None) }
+        ensures patterns { IfOk result (λ e. rich_patterns e ≡ []) }
+        ensures message { IfOk result (λ e. (text : List ℕ) × (rich_message e ≡ Some text) × IfSome (M.output message) (λ printed. text ≡ printed)) }
+    {
+        let message = String::format(alloc, message)?;
+        Ok(Rich::custom(span, message))
     }
 
     /// Where the error stands.

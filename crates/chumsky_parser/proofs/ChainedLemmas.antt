@@ -8,7 +8,7 @@ use Rattle.chumsky_input.specs.Outcome.{Event, Meaning, Beginning, Outcome, Verd
 use Rattle.chumsky_input.specs.Primary.{primary}
 use Rattle.chumsky_input.specs.Run.{Ran, SameRun, Leaves, LeavesBy, begin, answer, with_value, without_value}
 use Rattle.chumsky_input.proofs.PrimaryLemmas.{kept-same, primary-append, has_event_at-kept}
-use Rattle.chumsky_parser.specs.Chained.{from, after, Chained, Given, Asked}
+use Rattle.chumsky_parser.specs.Chained.{from, after, Follows, Chained, Given, Asked}
 
 module _ {Tok Cx St Er : Type 0} where
   pub same_run-trans : (old mid new : Held Tok Cx St Er) → SameRun old mid → SameRun mid new → SameRun old new
@@ -123,6 +123,30 @@ module _ {Tok Cx St Er V : Type 0} (merged : Er → Er → Er) (safe : Type 0) (
   -- under a meaning that has the first one's outcomes
   pub ran-weaker : (r : Result (Option V) Fault) → ((o : Outcome V Er St) → m (begin wanted old) o → n (begin wanted old) o) → Ran merged safe m wanted old new r → Ran merged safe n wanted old new r
   ran-weaker r h k = record { outcome = k.outcome; meant = h k.outcome k.meant; answered = k.answered; state = k.state; left = k.left; same = k.same }
+
+module _ {Tok Cx St Er V W : Type 0} (next next' : Option V → Meaning Tok Cx St Er W) (b : Beginning Tok Cx St) (h : (v : Option V) (c : Beginning Tok Cx St) (o : Outcome W Er St) → c.wanted ≡ b.wanted → next v c o → next' v c o) where
+  follows-weaker : (v : Verdict V Er) (p : Outcome V Er St) (o : Outcome W Er St) → Follows v next b p o → Follows v next' b p o
+  follows-weaker (Yes v) p o f = (f.0, h v (from b p) f.0 refl f.1, f.2)
+  follows-weaker No p o f = f
+  follows-weaker (Halt s) p o f = f
+  follows-weaker (Clash e) p o f = f
+
+  -- the same of a part with more outcomes, before what has more
+  pub chained-weaker : (part part' : Meaning Tok Cx St Er V) → ((o : Outcome V Er St) → part b o → part' b o) → (o : Outcome W Er St) → Chained part next b o → Chained part' next' b o
+  chained-weaker part part' k o m = record { first = m.first; meant = k m.first m.meant; follows = follows-weaker m.first.verdict m.first o m.follows }
+
+module _ {Tok Cx St Er V W : Type 0} (next : Option V → Meaning Tok Cx St Er W) (b : Beginning Tok Cx St) (o : Outcome W Er St) where
+  abbrev nothing : Outcome V Er St
+  nothing = record { verdict = Yes None; end = b.start; state = b.state; events = []; emitted = [] }
+
+  -- what follows where nothing was done
+  pub skipped : Chained (Given None) next b o → next None b o
+  skipped m =
+      let f : Follows (Yes None) next b nothing o = subst (λ (p : Outcome V Er St). Follows p.verdict next b p o) m.meant m.follows in
+      subst (next None b) (sym f.2) f.1
+
+  pub skips : (part : Meaning Tok Cx St Er V) → part b nothing → next None b o → Chained part next b o
+  skips part k m = record { first = nothing; meant = k; follows = (o, m, refl) }
 
 -- the same with what was found of the calls, as proofs of combinators cite them
 module _ {Tok Cx St Er V W : Type 0} {merged : Er → Er → Er} {safe : Type 0} {part : Meaning Tok Cx St Er V} {next : Option V → Meaning Tok Cx St Er W} {wanted : Bool} {old : Held Tok Cx St Er} where

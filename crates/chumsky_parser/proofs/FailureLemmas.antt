@@ -3,12 +3,13 @@ use Rattle.std.proofs.Common.{◌≡◌, ℕ, Bool, Option, [], ◌∷◌, refl,
 use Rattle.std.proofs.lemmas.List.{append-nil}
 use Rattle.chumsky_input.specs.declared.stop.Fault.{Fault}
 use Rattle.chumsky_input.specs.declared.stop.Fault.TheVariants as fault
+use Rattle.chumsky_input.specs.declared.stop.Stop.{Stop}
 use Rattle.chumsky_input.specs.declared.stop.Stop.TheVariants.{Memory}
 use Rattle.chumsky_input.specs.Held.{Held, first_stop}
 use Rattle.chumsky_input.specs.Outcome.{Event, Meaning, Outcome, Yes, No, Halt, Clash, HasEventAt}
 use Rattle.chumsky_input.specs.Run.{Ran, SameRun, begin, Adds, Fails}
 use Rattle.chumsky_input.proofs.PrimaryLemmas.{kept-same}
-use Rattle.chumsky_parser.specs.Failure.{FailsAt, Misses}
+use Rattle.chumsky_parser.specs.Failure.{FailsAt, Misses, SaysNo, Stops}
 
 module _ {Tok Cx St Er V : Type 0} (merged : Er → Er → Er) (safe : Type 0) (meaning : Meaning Tok Cx St Er V) (wanted : Bool) (old : Held Tok Cx St Er) where
   -- a yes, with nothing added
@@ -66,3 +67,26 @@ module _ {Tok Cx St Er V : Type 0} (merged : Er → Er → Er) (safe : Type 0) (
   ran-misses e new f (inr l) m =
       rw l.0 (ran-halts new (record { tokens = ap (λ (h : Held Tok Cx St Er). h.tokens) l.2; context = ap (λ (h : Held Tok Cx St Er). h.context) l.2 }) (ap (λ (h : Held Tok Cx St Er). h.stopped) l.2)
       (λ o v s. m o (inl (l.1, v, s ∙ ap (λ (h : Held Tok Cx St Er). h.state) l.2))))
+
+module _ {Tok Cx St Er V : Type 0} {merged : Er → Er → Er} {safe : Type 0} {wanted : Bool} {now : Held Tok Cx St Er} where
+  pub ran-stops : (s : Stop) → Ran merged safe (Stops {V = V} s) wanted now now (Err (fault.Stop s))
+  ran-stops s =
+      record {
+        outcome = record { verdict = Halt s; end = now.place; state = now.state; events = []; emitted = [] };
+        meant = refl;
+        answered = refl;
+        state = refl;
+        left = refl;
+        same = record { tokens = refl; context = refl };
+      }
+
+  pub ran-no : Ran merged safe (SaysNo {V = V}) wanted now now (Err fault.Fail)
+  ran-no =
+      record {
+        outcome = record { verdict = No; end = now.place; state = now.state; events = []; emitted = [] };
+        meant = refl;
+        answered = refl;
+        state = refl;
+        left = record { end = refl; kept = kept-same merged now.kept; emitted = sym (append-nil now.emitted); stopped = refl };
+        same = record { tokens = refl; context = refl };
+      }

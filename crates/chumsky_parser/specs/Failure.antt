@@ -2,10 +2,11 @@
 use Rattle.std.specs.Prelude.{◌≡◌, ℕ, Bool, true, false, Option, Some, None, List, [], ◌∷◌, ◌⊎◌, ⊤, Result, Ok, Err}
 use Rattle.chumsky_input.specs.declared.error.Error as error_trait
 use Rattle.chumsky_input.specs.declared.input.Input as input_trait
+use Rattle.chumsky_input.specs.declared.stop.Stop.{Stop}
 use Rattle.chumsky_input.specs.declared.stop.Stop.TheVariants.{Memory}
 use Rattle.chumsky_input.specs.declared.stop.Fault.{Fault}
 use Rattle.chumsky_input.specs.Wanted.{Wanted}
-use Rattle.chumsky_input.specs.Outcome.{Event, Outcome, No, Halt, Clash}
+use Rattle.chumsky_input.specs.Outcome.{Event, Meaning, Outcome, No, Halt, Clash}
 
 -- a value with P where one is wanted, else none
 abbrev pub IsWanted : {V : Type 0} → (V → Type 0) → Bool → Option V → Type 0
@@ -32,6 +33,15 @@ module _ {V Er St : Type 0} where
   -- a failure, or want of memory for its error
   abbrev pub Misses : Type 0 → Event Er → ℕ → St → Outcome V Er St → Type 0
   Misses safe e end state o = Refuses (safe → ⊥) state o ⊎ FailsAt e end state o
+
+module _ {Tok Cx St Er V : Type 0} where
+  -- no, and nothing done
+  abbrev pub SaysNo : Meaning Tok Cx St Er V
+  SaysNo b o = o ≡ record { verdict = No; end = b.start; state = b.state; events = []; emitted = [] }
+
+  -- a refusal, and nothing done
+  abbrev pub Stops : Stop → Meaning Tok Cx St Er V
+  Stops s b o = o ≡ record { verdict = Halt s; end = b.start; state = b.state; events = []; emitted = [] }
 
 module _ {I Tok Sp Cu Er : Type 0} (source : input_trait.Ghosts I Cu Tok Sp) (errors : error_trait.Ghosts Er I Tok Sp) where
   -- the event of an expectation, at a place and spanning to another one

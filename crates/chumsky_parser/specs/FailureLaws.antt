@@ -1,8 +1,9 @@
 -- The laws of failures and of wanted values.
-use Rattle.std.proofs.Common.{◌≡◌, ℕ, ◌≤◌, Bool, true, false, Option, Some, None, [], ◌∷◌, subst, arith, inl, inr}
+use Rattle.std.proofs.Common.{◌≡◌, ℕ, ◌≤◌, Bool, true, false, Option, Some, None, [], ◌∷◌, ap, subst, arith, inl, inr}
 use Rattle.std.specs.Prelude.{⊤}
-use Rattle.chumsky_input.specs.Outcome.{Event, Outcome, No, IsAnswer, SameValue, Agree}
-use Rattle.chumsky_parser.specs.Failure.{IsWanted, FailsAt, Misses, wanting}
+use Rattle.chumsky_input.specs.declared.stop.Stop.{Stop}
+use Rattle.chumsky_input.specs.Outcome.{Event, Meaning, Outcome, No, IsAnswer, SameValue, Agree, EndsAfterStart, Agreeing}
+use Rattle.chumsky_parser.specs.Failure.{IsWanted, FailsAt, Misses, SaysNo, Stops, wanting}
 
 module _ {V Er St : Type 0} (same : V → V → Type 0) where
   fails-answer : {e : Event Er} {end : ℕ} {s : St} {o : Outcome V Er St} → FailsAt e end s o → IsAnswer o.verdict → (o.verdict ≡ No) × (o.events ≡ e ∷ [])
@@ -23,6 +24,23 @@ module _ {V Er St : Type 0} (same : V → V → Type 0) where
   misses-ends l (inl r) a = absurd (subst IsAnswer r.1 a)
   misses-ends l (inr f) a = omega (arith, f.end_at)
 
+module _ {Tok Cx St Er V : Type 0} where
+  pub stops-ends : (s : Stop) → EndsAfterStart (Stops {Tok = Tok} {Cx = Cx} {St = St} {Er = Er} {V = V} s)
+  stops-ends s b o m a = absurd (subst IsAnswer (ap (λ (x : Outcome V Er St). x.verdict) m) a)
+
+  -- a refusal is no answer
+  pub stops-agrees : (n : Meaning Tok Cx St Er V) (same : V → V → Type 0) (s : Stop) → Agreeing same (Stops {Tok = Tok} {Cx = Cx} {St = St} {Er = Er} {V = V} s) n
+  stops-agrees n' same s b c o q alike m n a z = absurd (subst IsAnswer (ap (λ (x : Outcome V Er St). x.verdict) m) a)
+
+  pub no-ends : EndsAfterStart (SaysNo {Tok = Tok} {Cx = Cx} {St = St} {Er = Er} {V = V})
+  no-ends b o m a = omega (arith, ap (λ (x : Outcome V Er St). x.end) m)
+
+  pub no-agrees : (same : V → V → Type 0) → Agreeing same (SaysNo {Tok = Tok} {Cx = Cx} {St = St} {Er = Er} {V = V}) SaysNo
+  no-agrees same b c o q alike m n a z =
+      let ov = ap (λ (x : Outcome V Er St). x.verdict) m in
+      let qv = ap (λ (x : Outcome V Er St). x.verdict) n in
+      record { answer = rw (ov, qv) tt; end = cc (m, n, alike.start); state = cc (m, n, alike.state); events = cc (m, n); emitted = cc (m, n) }
+
 -- two values, where any two that P allows are the same
 pub wanted-same : {V : Type 0} (P : V → Type 0) (same : V → V → Type 0) → ((v w : V) → P v → P w → same v w) → (b c : Bool) (v w : Option V) → IsWanted P b v → IsWanted P c w → SameValue same v w
 wanted-same P same h true true (Some v) (Some w) p q = h v w p q
@@ -42,3 +60,7 @@ wanting-same same false c v s = tt
 -- there is one value
 abbrev pub SameUnit : Unit {0} → Unit {0} → Type 0
 SameUnit x y = ⊤
+
+-- two counts
+abbrev pub SameCount : ℕ → ℕ → Type 0
+SameCount i j = i ≡ j

@@ -99,6 +99,29 @@ impl<T: PartialEq, const N: usize> Seq<T> for [T; N] {
 
 impl<T: PartialEq, const N: usize> OrderedSeq<T> for [T; N] {}
 
+/// As of the array, so that `just(b"ok")` runs over bytes.
+impl<T: PartialEq, const N: usize> Seq<T> for &[T; N] {
+    ghost members = { λ s. s.now };
+
+    ghost members_from = { λ s i. drop i s.now };
+
+    ghost all_from = { λ s. refl };
+
+    #[inline]
+    fn contains(&self, token: &T) -> bool {
+        let members: &[T] = *self;
+        members.contains(token)
+    }
+
+    #[inline]
+    fn seq_at(&self, at: usize) -> Option<(MaybeRef<'_, T>, usize)> {
+        let members: &[T] = *self;
+        item_at(members, at)
+    }
+}
+
+impl<T: PartialEq, const N: usize> OrderedSeq<T> for &[T; N] {}
+
 impl<T: PartialEq> Seq<T> for Vec<T> {
     ghost members = { λ s. s.items };
 

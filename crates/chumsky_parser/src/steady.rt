@@ -1,5 +1,5 @@
 //! Which parsers that hold another are steady, each the contract of a function that does nothing: those whose own parser
-//! is.
+//! is. And which of their outputs count as the same: those that do to their own parser.
 ghost use Rattle.std.specs.Rc.{rc_value};
 ghost use Rattle.either.specs.Either.{MatchEither};
 
@@ -21,6 +21,9 @@ pub fn by_reference_is_steady<
     ensures reference { P.steady reference.now.now → ⟦<&'a P as Parser<'src, I, O, E>>⟧.steady reference.now }
     ensures boxed { P.steady boxed.now.value → ⟦<Box<P> as Parser<'src, I, O, E>>⟧.steady boxed.now }
     ensures counted { P.steady (rc_value counted.now) → ⟦<Rc<P> as Parser<'src, I, O, E>>⟧.steady counted.now }
+    ensures same_by_reference { (x y : O) → ⟦<&'a P as Parser<'src, I, O, E>>⟧.same reference.now x y → P.same reference.now.now x y }
+    ensures same_boxed { (x y : O) → ⟦<Box<P> as Parser<'src, I, O, E>>⟧.same boxed.now x y → P.same boxed.now.value x y }
+    ensures same_counted { (x y : O) → ⟦<Rc<P> as Parser<'src, I, O, E>>⟧.same counted.now x y → P.same (rc_value counted.now) x y }
 {}
 
 /// A parser of one of two types.
@@ -32,5 +35,6 @@ pub fn either_is_steady<
     A: Parser<'src, I, O, E>,
     B: Parser<'src, I, O, E>,
 >(either: &Either<A, B>)
-    ensures { MatchEither either.now A.steady B.steady → ⟦<Either<A, B> as Parser<'src, I, O, E>>⟧.steady either.now }
+    ensures steady { MatchEither either.now A.steady B.steady → ⟦<Either<A, B> as Parser<'src, I, O, E>>⟧.steady either.now }
+    ensures same { (x y : O) → ⟦<Either<A, B> as Parser<'src, I, O, E>>⟧.same either.now x y → MatchEither either.now (λ a. A.same a x y) (λ b. B.same b x y) }
 {}

@@ -33,7 +33,7 @@ impl<'src, I: ValueInput<'src>, E: ParserExtra<I>> Parser<'src, I, I::Token, E> 
 
     ghost agrees = { λ _ _. any-agrees _ _ _ _ _ _ (counts-same I.seen) };
 
-    #[inline]
+    #[inline(always)]
     fn go_emit(&self, inp: &mut InputRef<'src, '_, I, E>) -> PResult<I::Token> {
         match inp.next() {
             Ok(Some(token)) => Ok(token),
@@ -45,7 +45,7 @@ impl<'src, I: ValueInput<'src>, E: ParserExtra<I>> Parser<'src, I, I::Token, E> 
         }
     }
 
-    #[inline]
+    #[inline(always)]
     fn go_check(&self, inp: &mut InputRef<'src, '_, I, E>) -> PResult<()> {
         if inp.advance() {
             return Ok(());

@@ -34,7 +34,7 @@ impl<'src, I: BorrowInput<'src>, E: ParserExtra<I>> Parser<'src, I, &'src I::Tok
 
     ghost agrees = { λ _ _. any-agrees _ _ _ _ _ _ points-same };
 
-    #[inline]
+    #[inline(always)]
     fn go_emit(&self, inp: &mut InputRef<'src, '_, I, E>) -> PResult<&'src I::Token> {
         match inp.next_ref() {
             Some(token) => Ok(token),
@@ -45,7 +45,7 @@ impl<'src, I: BorrowInput<'src>, E: ParserExtra<I>> Parser<'src, I, &'src I::Tok
         }
     }
 
-    #[inline]
+    #[inline(always)]
     fn go_check(&self, inp: &mut InputRef<'src, '_, I, E>) -> PResult<()> {
         if inp.advance() {
             return Ok(());

@@ -46,21 +46,21 @@ where
 
     ghost agrees = { λ p _. just-agrees _ _ _ _ _ _ (T.members p.seq) };
 
-    #[inline]
+    #[inline(always)]
     fn go_emit(&self, inp: &mut InputRef<'src, '_, I, E>) -> PResult<T> {
         take_members(&self.seq, inp)?;
         let seq = self.seq.clone()?;
         Ok(seq)
     }
 
-    #[inline]
+    #[inline(always)]
     fn go_check(&self, inp: &mut InputRef<'src, '_, I, E>) -> PResult<()> {
         take_members(&self.seq, inp)
     }
 }
 
 /// Takes the members of a sequence, each where the former ended.
-#[inline]
+#[inline(always)]
 fn take_members<'src, T: OrderedSeq<I::Token>, I: Input<'src>, E: ParserExtra<I>>(
     seq: &T,
     inp: &mut InputRef<'src, '_, I, E>,
@@ -79,7 +79,7 @@ where
 }
 
 /// Takes the next token if it is a member; else goes back to before it, and fails there.
-#[inline]
+#[inline(always)]
 fn take_member<'src, I: Input<'src>, E: ParserExtra<I>>(
     member: &I::Token,
     inp: &mut InputRef<'src, '_, I, E>,
@@ -100,7 +100,7 @@ where
 }
 
 /// Whether what was found is a member.
-#[inline]
+#[inline(always)]
 fn is_there<'a, T: PartialEq>(member: &T, found: &Option<MaybeRef<'a, T>>) -> bool
     ensures { result ≡ is_member T.eq member.now (option_map maybe_value found.now) }
 {

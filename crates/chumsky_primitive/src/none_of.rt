@@ -49,7 +49,7 @@ where
 
     ghost agrees = { λ p _. tested-agrees _ _ _ _ _ (wanted.SomethingElse ∷ []) (outside I.Token.eq (S.members p.seq)) };
 
-    #[inline]
+    #[inline(always)]
     fn go_emit(&self, inp: &mut InputRef<'src, '_, I, E>) -> PResult<I::Token> {
         let mut past = inp.cursor;
         let found = I::next_maybe(&mut past);
@@ -62,7 +62,7 @@ where
         Err(expect_another(&past, found, inp))
     }
 
-    #[inline]
+    #[inline(always)]
     fn go_check(&self, inp: &mut InputRef<'src, '_, I, E>) -> PResult<()> {
         let mut past = inp.cursor;
         let found = I::next_maybe(&mut past);

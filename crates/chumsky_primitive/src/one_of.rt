@@ -50,7 +50,7 @@ where
 
     ghost agrees = { λ p _. tested-agrees _ _ _ _ _ (map wanted.Token (S.members p.seq)) (among I.Token.eq (S.members p.seq)) };
 
-    #[inline]
+    #[inline(always)]
     fn go_emit(&self, inp: &mut InputRef<'src, '_, I, E>) -> PResult<I::Token> {
         let mut past = inp.cursor;
         let found = I::next_maybe(&mut past);
@@ -63,7 +63,7 @@ where
         Err(expect_members(&self.seq, &past, found, inp))
     }
 
-    #[inline]
+    #[inline(always)]
     fn go_check(&self, inp: &mut InputRef<'src, '_, I, E>) -> PResult<()> {
         let mut past = inp.cursor;
         let found = I::next_maybe(&mut past);

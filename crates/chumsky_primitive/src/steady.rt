@@ -1,7 +1,10 @@
 //! Which primitives are steady, each the contract of a function that does nothing. Of a steady parser `parse` and `check`
-//! report every answer that its meaning allows.
-ghost use Rattle.chumsky_primitive.specs.Custom.{IsSteady};
-ghost use Rattle.chumsky_primitive.specs.Select.{PicksAlike, PicksRef, PicksValue};
+//! report every answer that its meaning allows. And what is known of two outputs that count as the same, which are those
+//! of two such answers.
+ghost use Rattle.std.specs.Prelude.{◌≡◌};
+ghost use Rattle.std.specs.Borrow.{Bor};
+ghost use Rattle.chumsky_primitive.specs.Custom.{IsSteady, SameCalled};
+ghost use Rattle.chumsky_primitive.specs.Select.{PicksAlike, PicksRef, PicksValue, SamePicked};
 
 use crate::any::Any;
 use crate::any_ref::AnyRef;
@@ -29,14 +32,16 @@ pub fn end_is_steady<'src, I: Input<'src>, E: ParserExtra<I>>(end: &End<I, E>, e
 
 /// `any()` is steady.
 pub fn any_is_steady<'src, I: ValueInput<'src>, E: ParserExtra<I>>(parser: &Any<I, E>)
-    ensures { ⟦<Any<I, E> as Parser<'src, I, I::Token, E>>⟧.steady parser.now }
+    ensures steady { ⟦<Any<I, E> as Parser<'src, I, I::Token, E>>⟧.steady parser.now }
+    ensures same { (x y : I.Token) → ⟦<Any<I, E> as Parser<'src, I, I::Token, E>>⟧.same parser.now x y → I.seen x ≡ I.seen y }
 {}
 
 /// `any_ref()` is steady.
 pub fn any_ref_is_steady<'src, I: BorrowInput<'src>, E: ParserExtra<I>>(parser: &AnyRef<I, E>)
 where
     I::Token: 'src,
-    ensures { ⟦<AnyRef<I, E> as Parser<'src, I, &'src I::Token, E>>⟧.steady parser.now }
+    ensures steady { ⟦<AnyRef<I, E> as Parser<'src, I, &'src I::Token, E>>⟧.steady parser.now }
+    ensures same { (x y : Bor I.Token) → ⟦<AnyRef<I, E> as Parser<'src, I, &'src I::Token, E>>⟧.same parser.now x y → x.now ≡ y.now }
 {}
 
 /// `just(seq)` is steady, whatever the sequence.
@@ -45,7 +50,8 @@ pub fn just_is_steady<'src, T: OrderedSeq<I::Token> + Clone, I: Input<'src>, E: 
 )
 where
     I::Token: PartialEq,
-    ensures { ⟦<Just<T, I, E> as Parser<'src, I, T, E>>⟧.steady parser.now }
+    ensures steady { ⟦<Just<T, I, E> as Parser<'src, I, T, E>>⟧.steady parser.now }
+    ensures same { (x y : T) → ⟦<Just<T, I, E> as Parser<'src, I, T, E>>⟧.same parser.now x y → T.is_clone parser.now.seq x × T.is_clone parser.now.seq y }
 {}
 
 /// `one_of(seq)` and `none_of(seq)` are steady, whatever the sequence.
@@ -57,6 +63,8 @@ where
     I::Token: PartialEq,
     ensures one_of { ⟦<OneOf<S, I, E> as Parser<'src, I, I::Token, E>>⟧.steady one_of.now }
     ensures none_of { ⟦<NoneOf<S, I, E> as Parser<'src, I, I::Token, E>>⟧.steady none_of.now }
+    ensures same_one { (x y : I.Token) → ⟦<OneOf<S, I, E> as Parser<'src, I, I::Token, E>>⟧.same one_of.now x y → I.seen x ≡ I.seen y }
+    ensures same_other { (x y : I.Token) → ⟦<NoneOf<S, I, E> as Parser<'src, I, I::Token, E>>⟧.same none_of.now x y → I.seen x ≡ I.seen y }
 {}
 
 /// `select` is steady where its closure gives each token and extra one verdict, and leaves one state.
@@ -66,7 +74,8 @@ where
     O: Drop,
     E: ParserExtra<I>,
     F: Fn(I::Token, &mut MapExtra<'src, '_, I, E>) -> Option<O>,
-    ensures { PicksAlike (PicksValue I.Input E.State.Inspector I.seen F.Fn parser.now.filter) → ⟦<Select<F, I, O, E> as Parser<'src, I, O, E>>⟧.steady parser.now }
+    ensures steady { PicksAlike (PicksValue I.Input E.State.Inspector I.seen F.Fn parser.now.filter) → ⟦<Select<F, I, O, E> as Parser<'src, I, O, E>>⟧.steady parser.now }
+    ensures same { (x y : O) → ⟦<Select<F, I, O, E> as Parser<'src, I, O, E>>⟧.same parser.now x y → SamePicked (PicksValue I.Input E.State.Inspector I.seen F.Fn parser.now.filter) x y }
 {}
 
 /// `select_ref` is steady where its closure gives each token and extra one verdict, and leaves one state.
@@ -77,7 +86,8 @@ where
     O: Drop,
     E: ParserExtra<I>,
     F: Fn(&'src I::Token, &mut MapExtra<'src, '_, I, E>) -> Option<O>,
-    ensures { PicksAlike (PicksRef I.Input E.State.Inspector F.Fn parser.now.filter) → ⟦<SelectRef<F, I, O, E> as Parser<'src, I, O, E>>⟧.steady parser.now }
+    ensures steady { PicksAlike (PicksRef I.Input E.State.Inspector F.Fn parser.now.filter) → ⟦<SelectRef<F, I, O, E> as Parser<'src, I, O, E>>⟧.steady parser.now }
+    ensures same { (x y : O) → ⟦<SelectRef<F, I, O, E> as Parser<'src, I, O, E>>⟧.same parser.now x y → SamePicked (PicksRef I.Input E.State.Inspector F.Fn parser.now.filter) x y }
 {}
 
 /// `custom` is steady where any two calls of its closure from one beginning end alike.
@@ -88,5 +98,6 @@ where
     O: Drop,
     E: ParserExtra<I>,
     F: Fn(&mut InputRef<'src, '_, I, E>) -> Result<O, Failure<E::Error>>,
-    ensures { IsSteady I.Input E.Error.Error E.State.Inspector F.Fn parser.now.closure → ⟦<Custom<F, I, O, E> as Parser<'src, I, O, E>>⟧.steady parser.now }
+    ensures steady { IsSteady I.Input E.Error.Error E.State.Inspector F.Fn parser.now.closure → ⟦<Custom<F, I, O, E> as Parser<'src, I, O, E>>⟧.steady parser.now }
+    ensures same { (x y : O) → ⟦<Custom<F, I, O, E> as Parser<'src, I, O, E>>⟧.same parser.now x y → SameCalled I.Input E.Error.Error E.State.Inspector F.Fn parser.now.closure x y }
 {}

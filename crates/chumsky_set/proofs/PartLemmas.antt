@@ -9,6 +9,8 @@ use Rattle.chumsky_input.specs.Run.{Ran}
 use Rattle.chumsky_input.proofs.PrimaryLemmas.{kept-same}
 use Rattle.chumsky_parser.specs.Chained.{Given, Chained}
 use Rattle.chumsky_parser.proofs.ChainedLemmas.{ran-weaker, ran-given, chained, failed}
+use Rattle.chumsky_parser.specs.Failure.{SaysNo}
+use Rattle.chumsky_parser.proofs.FailureLemmas.{ran-no}
 use Rattle.chumsky_set.specs.AnyOrder.{Slot, still, Past, Moving, Offered}
 use Rattle.chumsky_set.specs.Passes.{shown_by, slot_of, taken_then, Lessens}
 
@@ -27,15 +29,7 @@ taken_err t e = rw e refl
 
 module _ {Tok Cx St Er V : Type 0} {merged : Er → Er → Er} {safe : Type 0} {wanted : Bool} {new : Held Tok Cx St Er} where
   ran_stayed : {place : ℕ} {v : Option V} → new.place ≤ place → Ran merged safe (Past place v) wanted new new (Err fault.Fail)
-  ran_stayed l =
-      record {
-        outcome = record { verdict = No; end = new.place; state = new.state; events = []; emitted = [] };
-        meant = inr (l, refl);
-        answered = refl;
-        state = refl;
-        left = record { end = refl; kept = kept-same merged new.kept; emitted = sym (append-nil new.emitted); stopped = refl };
-        same = record { tokens = refl; context = refl };
-      }
+  ran_stayed {place} {v} l = ran-weaker merged safe SaysNo (Past place v) wanted new new (Err fault.Fail) (λ o k. inr (l, k)) ran-no
 
   ran_past : {place : ℕ} {v : Option V} → place < new.place → Ran merged safe (Past place v) wanted new new (Ok (Some (Some v)))
   ran_past {place} {v} l = ran-weaker merged safe (Given (Some (Some v))) (Past place v) wanted new new (Ok (Some (Some v))) (λ o k. inl (l, k)) ran-given

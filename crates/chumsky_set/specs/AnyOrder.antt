@@ -1,8 +1,8 @@
 -- Parsers in any order: rounds over those that are not taken yet, and then what is left.
 use Rattle.std.specs.Prelude.{◌≡◌, ℕ, ◌<◌, ◌≤◌, ◌+◌, Option, Some, None, option_map, List, [], ◌∷◌, ◌⊎◌, true, length}
-use Rattle.chumsky_input.specs.Outcome.{Meaning, Beginning, Outcome, No}
+use Rattle.chumsky_input.specs.Outcome.{Meaning, Beginning, Outcome}
 use Rattle.chumsky_parser.specs.Chained.{Chained, Given, Sequence, both}
-use Rattle.chumsky_parser.specs.Failure.{Refuses, wanting}
+use Rattle.chumsky_parser.specs.Failure.{Refuses, SaysNo, wanting}
 use Rattle.chumsky_parser.specs.Choice.{OrElse}
 
 -- what is taken of a part: nothing yet, or its value, where one is wanted
@@ -20,11 +20,6 @@ pub record Row (Tok Cx St Er T V : Type 0) : Type 1 where
   pub pass : T → Meaning Tok Cx St Er T
   pub last : T → Meaning Tok Cx St Er V
   pub left : T → ℕ
-
-module _ {Tok Cx St Er V : Type 0} where
-  -- no, and nothing done
-  abbrev pub SaysNo : Meaning Tok Cx St Er V
-  SaysNo b o = o ≡ record { verdict = No; end = b.start; state = b.state; events = []; emitted = [] }
 
 module _ {Tok Cx St Er V : Type 0} where
   -- a value for a slot where the run stands past a place; else no

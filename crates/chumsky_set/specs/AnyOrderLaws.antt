@@ -4,6 +4,7 @@ use Rattle.std.specs.Prelude.{⊤}
 use Rattle.chumsky_input.specs.Outcome.{Meaning, Beginning, Outcome, Verdict, Yes, No, Halt, Clash, SameValue, Agree, EndsAfterStart, Agreeing}
 use Rattle.chumsky_parser.specs.Chained.{Chained, Given, Follows, Sequence, SamePair, both, from}
 use Rattle.chumsky_parser.specs.Laws.{chained-ends, chained-agrees, given-ends, given-agrees, sequence-ends}
+use Rattle.chumsky_parser.specs.FailureLaws.{SameUnit, no-ends, no-agrees}
 use Rattle.chumsky_parser.specs.Choice.{SameEither}
 use Rattle.chumsky_parser.specs.ChoiceLaws.{or_else-ends, or_else-agrees, agree-weaker}
 use Rattle.chumsky_set.specs.AnyOrder.{Slot, still, Row, Past, Moving, Missing, Offered, no_part, part_and, TookNone, TookSome, Rounds, AnyOrder, WithinRounds}
@@ -15,25 +16,17 @@ SameSlot same (Some v) None = ⊥
 SameSlot same None (Some w) = ⊥
 SameSlot same None None = ⊤
 
--- there is one value
-abbrev pub SameUnit : Unit {0} → Unit {0} → Type 0
-SameUnit x y = ⊤
-
 module _ {Tok Cx St Er V : Type 0} where
   past-ends : (place : ℕ) (v : Option V) → EndsAfterStart (Past {Tok = Tok} {Cx = Cx} {St = St} {Er = Er} place v)
   past-ends place v b o (inl m) a = given-ends (Some (Some v)) b o m.1 a
-  past-ends place v b o (inr m) a = omega (arith, ap (λ (x : Outcome (Slot V) Er St). x.end) m.1)
+  past-ends place v b o (inr m) a = no-ends b o m.1 a
 
   past-agrees : (same : V → V → Type 0) (p q : ℕ) (v w : Option V) → p ≡ q → SameValue same v w
       → Agreeing (SameSlot same) (Past {Tok = Tok} {Cx = Cx} {St = St} {Er = Er} p v) (Past {Tok = Tok} {Cx = Cx} {St = St} {Er = Er} q w)
   past-agrees same p q v w e s b c o r alike (inl m) (inl n) a z = given-agrees (SameSlot same) (Some (Some v)) (Some (Some w)) s b c o r alike m.1 n.1 a z
   past-agrees same p q v w e s b c o r alike (inl m) (inr n) a z = absurd (omega (arith, m.0, n.0, e, alike.start))
   past-agrees same p q v w e s b c o r alike (inr m) (inl n) a z = absurd (omega (arith, m.0, n.0, e, alike.start))
-  past-agrees same p q v w e s b c o r alike (inr m) (inr n) a z =
-      let x : Outcome (Slot V) Er St = record { verdict = No; end = b.start; state = b.state; events = []; emitted = [] } in
-      let y : Outcome (Slot V) Er St = record { verdict = No; end = c.start; state = c.state; events = []; emitted = [] } in
-      let xy : Agree (SameSlot same) x y = record { answer = tt; end = alike.start; state = alike.state; events = refl; emitted = refl } in
-      rw (m.1, n.1) xy
+  past-agrees same p q v w e s b c o r alike (inr m) (inr n) a z = no-agrees (SameSlot same) b c o r alike m.1 n.1 a z
 
   moving-ends : (part : Meaning Tok Cx St Er V) → EndsAfterStart part → EndsAfterStart (Moving part)
   moving-ends part h b o m a = chained-ends part (Past b.start) h (past-ends b.start) b o m.run a

@@ -4,7 +4,8 @@ use Rattle.chumsky_input.specs.Outcome.{Meaning, SameValue, EndsAfterStart, Agre
 use Rattle.chumsky_parser.specs.Chained.{Given, SamePair}
 use Rattle.chumsky_parser.specs.Laws.{chained-ends, chained-agrees, given-ends, given-agrees}
 use Rattle.chumsky_set.specs.AnyOrder.{Row, AnyOrder}
-use Rattle.chumsky_set.specs.AnyOrderLaws.{SameSlot, SameUnit, RowEnds, RowAgrees, no_part-ends, no_part-agrees, part_and-ends, part_and-agrees, any_order-ends, any_order-agrees}
+use Rattle.chumsky_parser.specs.FailureLaws.{SameUnit}
+use Rattle.chumsky_set.specs.AnyOrderLaws.{SameSlot, RowEnds, RowAgrees, no_part-ends, no_part-agrees, part_and-ends, part_and-agrees, any_order-ends, any_order-agrees}
 use Rattle.chumsky_set.specs.Tuples.{SetOf, flat_one, flat_two, flat_three, flat_four, Same1, Same2, Same3, Same4, Set1, Set2, Set3, Set4}
 
 module _ {V W : Type 0} (f : V → W) (sv : V → V → Type 0) (sw : W → W → Type 0) where

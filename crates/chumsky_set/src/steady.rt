@@ -1,5 +1,7 @@
-//! Which sets are steady, each the contract of a function that does nothing: those whose parts are.
+//! Which sets are steady, each the contract of a function that does nothing: those whose parts are. And what
+//! is known of two outputs that count as the same: that those of each part do.
 ghost use Rattle.std.specs.List.{All};
+ghost use Rattle.chumsky_set.specs.Lists.{Each};
 
 use crate::set::Set;
 use arrayvec::ArrayVec;
@@ -25,6 +27,10 @@ pub fn set_is_steady<
     ensures two { P0.steady two.now.parsers.0 → P1.steady two.now.parsers.1 → ⟦<Set<(P0, P1)> as Parser<'src, I, (O0, O1), E>>⟧.steady two.now }
     ensures three { P0.steady three.now.parsers.0 → P1.steady three.now.parsers.1 → P2.steady three.now.parsers.2 → ⟦<Set<(P0, P1, P2)> as Parser<'src, I, (O0, O1, O2), E>>⟧.steady three.now }
     ensures four { P0.steady four.now.parsers.0 → P1.steady four.now.parsers.1 → P2.steady four.now.parsers.2 → P3.steady four.now.parsers.3 → ⟦<Set<(P0, P1, P2, P3)> as Parser<'src, I, (O0, O1, O2, O3), E>>⟧.steady four.now }
+    ensures same_one { (x y : record { 0 : O0 }) → ⟦<Set<(P0,)> as Parser<'src, I, (O0,), E>>⟧.same one.now x y → P0.same one.now.parsers.0 x.0 y.0 }
+    ensures same_two { (x y : O0 × O1) → ⟦<Set<(P0, P1)> as Parser<'src, I, (O0, O1), E>>⟧.same two.now x y → P0.same two.now.parsers.0 x.0 y.0 × P1.same two.now.parsers.1 x.1 y.1 }
+    ensures same_three { (x y : O0 × O1 × O2) → ⟦<Set<(P0, P1, P2)> as Parser<'src, I, (O0, O1, O2), E>>⟧.same three.now x y → P0.same three.now.parsers.0 x.0 y.0 × P1.same three.now.parsers.1 x.1 y.1 × P2.same three.now.parsers.2 x.2 y.2 }
+    ensures same_four { (x y : O0 × O1 × O2 × O3) → ⟦<Set<(P0, P1, P2, P3)> as Parser<'src, I, (O0, O1, O2, O3), E>>⟧.same four.now x y → P0.same four.now.parsers.0 x.0 y.0 × P1.same four.now.parsers.1 x.1 y.1 × P2.same four.now.parsers.2 x.2 y.2 × P3.same four.now.parsers.3 x.3 y.3 }
 {}
 
 /// A set of the parsers of a `Vec` or an array.
@@ -40,4 +46,6 @@ pub fn set_of_a_list_is_steady<
 >(vec: &Set<Vec<P>>, array: &Set<[Q; N]>)
     ensures vec { All P.steady vec.now.parsers.items → ⟦<Set<Vec<P>> as Parser<'src, I, Vec<O>, E>>⟧.steady vec.now }
     ensures array { All Q.steady array.now.parsers → ⟦<Set<[Q; N]> as Parser<'src, I, ArrayVec<U, N>, E>>⟧.steady array.now }
+    ensures same_vec { (x y : _) → ⟦<Set<Vec<P>> as Parser<'src, I, Vec<O>, E>>⟧.same vec.now x y → Each P.same vec.now.parsers.items x.items y.items }
+    ensures same_array { (x y : _) → ⟦<Set<[Q; N]> as Parser<'src, I, ArrayVec<U, N>, E>>⟧.same array.now x y → Each Q.same array.now.parsers x.items y.items }
 {}

@@ -2,8 +2,6 @@
 #![tactic(auto)]
 
 pub mod steady;
-#[cfg(test)]
-mod tests;
 pub mod under;
 pub mod under_output;
 pub mod within;

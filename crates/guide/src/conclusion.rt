@@ -1,5 +1,6 @@
 //! What a caller can conclude.
-ghost use Rattle.std.specs.Prelude.{◌≡◌, [], IfOk, IsTrue, is_some, length, None};
+ghost use Rattle.std.specs.Prelude.{◌≡◌, [], IfOk, IsOk, IsTrue, is_some, length, None, option_to_list};
+ghost use Rattle.std.specs.Str.{chars};
 
 use chumsky::Stop;
 use chumsky::prelude::*;
@@ -12,4 +13,24 @@ pub fn two(alloc: Global, text: &str) -> Result<ParseResult<(char, char), EmptyE
 {
     let parser = any::<_, extra::Err<EmptyErr>>().then(any());
     parser.parse(alloc, text)
+}
+
+/// The one character of a text. Where the text has one, the run asks for no memory, and is never refused.
+pub fn one(alloc: Global, text: &str) -> Result<ParseResult<char, EmptyErr>, Stop>
+    requires { length (chars text.now) ≡ 1 }
+    ensures accepted { IsOk result }
+    ensures output { IfOk result (λ parsed. option_to_list parsed.output ≡ chars text.now) }
+    ensures errors { IfOk result (λ parsed. length parsed.errors.items ≡ 0) }
+{
+    any::<_, extra::Err<EmptyErr>>().parse(alloc, text)
+}
+
+/// Whether there is one, and nothing more. The same is said of it.
+pub fn check_one(alloc: Global, text: &str) -> Result<ParseResult<(), EmptyErr>, Stop>
+    requires { length (chars text.now) ≡ 1 }
+    ensures accepted { IsOk result }
+    ensures output { IfOk result (λ parsed. IsTrue (is_some parsed.output)) }
+    ensures errors { IfOk result (λ parsed. length parsed.errors.items ≡ 0) }
+{
+    any::<_, extra::Err<EmptyErr>>().check(alloc, text)
 }

@@ -19,25 +19,3 @@ pub fn token_past<'src, I: ValueInput<'src>, O: Drop, E: ParserExtra<I>, A: Pars
     any_is_steady(second);
     ignore_then_agrees_with_then(first, second);
 }
-
-#[cfg(test)]
-mod tests {
-    use super::*;
-    use chumsky::laws::{end_is_steady, just_is_steady, or_not_never_says_no, then_is_associative};
-
-    /// What a law says stands in its contract; at run time it does nothing.
-    #[test]
-    fn laws_are_called_at_parsers(rt: HostRuntime) {
-        let parser = any::<&str, extra::Err<EmptyErr>>().ignore_then(just('é'));
-        just_is_steady(&parser.second);
-        token_past(&parser, &any());
-        or_not_never_says_no(&parser);
-        then_is_associative(&parser, &any(), &parser);
-        end_is_steady::<&str, extra::Err<EmptyErr>>(&end(), &empty());
-        let parsed = parser
-            .parse(rt.alloc(), "xé")
-            .ok()
-            .expect(&rt, "the run was refused");
-        assert!(rt; parsed.output() == Some(&'é'));
-    }
-}

@@ -10,6 +10,5 @@ pub mod laws;
 pub mod own_type;
 pub mod picking;
 pub mod readme;
+pub mod repeating;
 pub mod running;
-#[cfg(test)]
-mod tests;

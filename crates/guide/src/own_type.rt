@@ -12,7 +12,7 @@ type Parts<'src> = Then<Any<&'src str, Quiet>, Any<&'src str, Quiet>, char, char
 /// Two characters.
 #[derive(Drop)]
 pub struct Two<'src> {
-    parts: Parts<'src>,
+    pub parts: Parts<'src>,
 }
 
 impl<'src> IsParser<&'src str, (char, char), Quiet> for Two<'src> {}
@@ -39,24 +39,5 @@ impl<'src> Parser<'src, &'src str, (char, char), Quiet> for Two<'src> {
 
     fn go_check(&self, inp: &mut InputRef<'src, '_, &'src str, Quiet>) -> PResult<()> {
         self.parts.go_check(inp)
-    }
-}
-
-#[cfg(test)]
-mod tests {
-    use super::*;
-
-    #[test]
-    fn it_has_builders_and_run_forms(rt: HostRuntime) {
-        let two = Two {
-            parts: any().then(any()),
-        };
-        let parsed = two
-            .then(just('c'))
-            .parse(rt.alloc(), "ébc")
-            .ok()
-            .expect(&rt, "the run was refused");
-        assert!(rt; parsed.output() == Some(&(('é', 'b'), 'c')));
-        assert!(rt; parsed.errors().len() == 0);
     }
 }

@@ -1,104 +1,53 @@
-use crate::says::says;
-use chumsky::error::RichPattern;
-use rows::by_reference::{
-    check_a_or_any, check_boxed, check_shared, check_twice, parse_a_or_any, parse_boxed,
-    parse_shared, parse_twice,
-};
+//! Parsers by reference, in boxes, shared, and of one of two types.
+use crate::asserts::assert_answers;
+use answers::extras::Own;
+use chumsky::prelude::*;
+use either::Either;
+use std::rc::Rc;
 
 #[test]
 fn the_side_that_is_there_runs(rt: HostRuntime) {
-    let expected = [RichPattern::Token('a')];
-    let (output, errors) = parse_a_or_any(rt.alloc(), true, "b")
-        .ok()
-        .expect(&rt, "the run was refused")
-        .into_output_errors();
-    assert!(rt; output.is_none());
-    assert!(rt; says(&errors, &expected, Some('b'), 0, 1));
-    let (output, errors) = check_a_or_any(rt.alloc(), true, "b")
-        .ok()
-        .expect(&rt, "the run was refused")
-        .into_output_errors();
-    assert!(rt; output.is_none());
-    assert!(rt; says(&errors, &expected, Some('b'), 0, 1));
-    let (output, errors) = parse_a_or_any(rt.alloc(), false, "b")
-        .ok()
-        .expect(&rt, "the run was refused")
-        .into_output_errors();
-    assert!(rt; output == Some('b'));
-    assert!(rt; errors.is_empty());
-    let (output, errors) = check_a_or_any(rt.alloc(), false, "b")
-        .ok()
-        .expect(&rt, "the run was refused")
-        .into_output_errors();
-    assert!(rt; output == Some(()));
-    assert!(rt; errors.is_empty());
+    for (strict, line) in [
+        (true, "error 0..1 expected 'a' found 'b'"),
+        (false, "ok 'b'"),
+    ] {
+        let a_or_any = if strict {
+            Either::Left(just::<_, _, Own>('a'))
+        } else {
+            Either::Right(any())
+        };
+        assert_answers(&rt, &a_or_any, &[("b", line)]);
+    }
 }
 
 #[test]
 fn one_parser_runs_twice_by_reference(rt: HostRuntime) {
-    let expected = [RichPattern::Token('a')];
-    let (output, errors) = parse_twice(rt.alloc(), "aa")
-        .ok()
-        .expect(&rt, "the run was refused")
-        .into_output_errors();
-    assert!(rt; output == Some(('a', 'a')));
-    assert!(rt; errors.is_empty());
-    let (output, errors) = parse_twice(rt.alloc(), "ab")
-        .ok()
-        .expect(&rt, "the run was refused")
-        .into_output_errors();
-    assert!(rt; output.is_none());
-    assert!(rt; says(&errors, &expected, Some('b'), 1, 2));
-    let (output, errors) = check_twice(rt.alloc(), "a")
-        .ok()
-        .expect(&rt, "the run was refused")
-        .into_output_errors();
-    assert!(rt; output.is_none());
-    assert!(rt; says(&errors, &expected, None, 1, 1));
+    let a = just::<_, _, Own>('a');
+    let twice = (&a).then(&a);
+    let rows = [
+        ("aa", "ok ('a', 'a')"),
+        ("ab", "error 1..2 expected 'a' found 'b'"),
+        ("a", "error 1..1 expected 'a' found end"),
+    ];
+    assert_answers(&rt, &twice, &rows);
 }
 
 #[test]
 fn a_parser_in_a_box_does_as_the_parser(rt: HostRuntime) {
-    let expected = [RichPattern::Token('a'), RichPattern::Token('b')];
-    let (output, errors) = parse_boxed(rt.alloc(), "a")
-        .ok()
-        .expect(&rt, "the run was refused")
-        .into_output_errors();
-    assert!(rt; output == Some('a'));
-    assert!(rt; errors.is_empty());
-    let (output, errors) = parse_boxed(rt.alloc(), "c")
-        .ok()
-        .expect(&rt, "the run was refused")
-        .into_output_errors();
-    assert!(rt; output.is_none());
-    assert!(rt; says(&errors, &expected, Some('c'), 0, 1));
-    let (output, errors) = check_boxed(rt.alloc(), "c")
-        .ok()
-        .expect(&rt, "the run was refused")
-        .into_output_errors();
-    assert!(rt; output.is_none());
-    assert!(rt; says(&errors, &expected, Some('c'), 0, 1));
+    let boxed = Box::new(rt.alloc(), just::<_, _, Own>('a')).expect(&rt, "want of memory");
+    let rows = [
+        ("a", "ok 'a'"),
+        ("c", "error 0..1 expected 'a', 'b' found 'c'"),
+    ];
+    assert_answers(&rt, &boxed.or(just('b')), &rows);
 }
 
 #[test]
 fn a_shared_parser_does_as_the_parser(rt: HostRuntime) {
-    let expected = [RichPattern::Token('a'), RichPattern::Token('b')];
-    let (output, errors) = parse_shared(rt.alloc(), "a")
-        .ok()
-        .expect(&rt, "the run was refused")
-        .into_output_errors();
-    assert!(rt; output == Some('a'));
-    assert!(rt; errors.is_empty());
-    let (output, errors) = parse_shared(rt.alloc(), "c")
-        .ok()
-        .expect(&rt, "the run was refused")
-        .into_output_errors();
-    assert!(rt; output.is_none());
-    assert!(rt; says(&errors, &expected, Some('c'), 0, 1));
-    let (output, errors) = check_shared(rt.alloc(), "c")
-        .ok()
-        .expect(&rt, "the run was refused")
-        .into_output_errors();
-    assert!(rt; output.is_none());
-    assert!(rt; says(&errors, &expected, Some('c'), 0, 1));
+    let shared = Rc::new(rt.alloc(), just::<_, _, Own>('a')).expect(&rt, "want of memory");
+    let rows = [
+        ("a", "ok 'a'"),
+        ("c", "error 0..1 expected 'a', 'b' found 'c'"),
+    ];
+    assert_answers(&rt, &shared.or(just('b')), &rows);
 }

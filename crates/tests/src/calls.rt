@@ -1,76 +1,62 @@
-use crate::says::says;
-use chumsky::error::RichPattern;
+//! Closures that look ahead, ask where the run stands, and ask for its state and its context.
+use crate::asserts::{assert_answers, assert_answers_from};
+use answers::extras::{Counted, Own};
+use answers::states::Kept;
 use chumsky::prelude::*;
-use closures::calls::{
-    Tally, check_counted, check_extent, check_perhaps_x, check_twins_ref, parse_counted,
-    parse_extent, parse_perhaps_x, parse_twins_ref,
-};
 
 #[test]
 fn a_closure_looks_ahead(rt: HostRuntime) {
-    for (text, is_x) in [("x", true), ("", false)] {
-        let parsed = parse_perhaps_x(rt.alloc(), text)
-            .ok()
-            .expect(&rt, "the run was refused");
-        assert!(rt; parsed.output() == Some(&is_x));
-        assert!(rt; parsed.errors().len() == 0);
-        let checked = check_perhaps_x(rt.alloc(), text)
-            .ok()
-            .expect(&rt, "the run was refused");
-        assert!(rt; checked.output() == Some(&()));
-    }
-    let expected = [RichPattern::EndOfInput];
-    let (output, errors) = check_perhaps_x(rt.alloc(), "y")
-        .ok()
-        .expect(&rt, "the run was refused")
-        .into_output_errors();
-    assert!(rt; output.is_none());
-    assert!(rt; says(&errors, &expected, Some('y'), 0, 1));
+    let perhaps_x = custom::<_, &str, bool, Own>(|inp| {
+        let is_x = inp.peek()? == Some('x');
+        if is_x {
+            inp.skip();
+        }
+        Ok(is_x)
+    });
+    let rows = [
+        ("x", "ok true"),
+        ("", "ok false"),
+        ("y", "error 0..1 expected end of input found 'y'"),
+    ];
+    assert_answers(&rt, &perhaps_x, &rows);
 }
 
 #[test]
 fn a_closure_asks_where_it_stands(rt: HostRuntime) {
-    let parsed = parse_extent(rt.alloc(), "é")
-        .ok()
-        .expect(&rt, "the run was refused");
-    assert!(rt; parsed.output() == Some(&(SimpleSpan { start: 0, end: 2 }, 2)));
-    let parsed = parse_extent(rt.alloc(), "")
-        .ok()
-        .expect(&rt, "the run was refused");
-    assert!(rt; parsed.output() == Some(&(SimpleSpan { start: 0, end: 0 }, 0)));
-    let checked = check_extent(rt.alloc(), "é")
-        .ok()
-        .expect(&rt, "the run was refused");
-    assert!(rt; checked.output() == Some(&()));
+    let extent = custom::<_, &str, (usize, usize, usize), Own>(|inp| {
+        let before = inp.cursor();
+        inp.skip();
+        let span = inp.span_since(&before);
+        Ok((span.start, span.end, inp.slice_since(&before).len()))
+    });
+    let rows = [("é", "ok (0, 2, 2)"), ("", "ok (0, 0, 0)")];
+    assert_answers(&rt, &extent, &rows);
 }
 
 #[test]
 fn a_closure_sees_tokens_where_they_lie(rt: HostRuntime) {
-    let parsed = parse_twins_ref(rt.alloc(), &[7, 7])
-        .ok()
-        .expect(&rt, "the run was refused");
-    assert!(rt; parsed.output() == Some(&Some(7)));
-    let checked = check_twins_ref(rt.alloc(), &[7, 7])
-        .ok()
-        .expect(&rt, "the run was refused");
-    assert!(rt; checked.output() == Some(&()));
-    let checked = check_twins_ref(rt.alloc(), &[7, 8])
-        .ok()
-        .expect(&rt, "the run was refused");
-    assert!(rt; checked.output().is_none());
-    assert!(rt; checked.errors().len() == 1);
+    let twins = custom::<_, &[u8], Option<u8>, Own>(|inp| {
+        let first = inp.next_ref().copied();
+        if inp.peek_ref().copied() == first {
+            inp.skip();
+        }
+        Ok(first)
+    });
+    let rows: [(&[u8], &str); 2] = [
+        (&[7, 7], "ok Some(7)"),
+        (&[7, 8], "error 1..2 expected end of input found 8"),
+    ];
+    assert_answers(&rt, &twins, &rows);
 }
 
 #[test]
 fn a_closure_reads_and_writes_the_state(rt: HostRuntime) {
-    let mut state = Tally { count: 1 };
-    let parsed = parse_counted(rt.alloc(), "", &mut state)
-        .ok()
-        .expect(&rt, "the run was refused");
-    assert!(rt; parsed.output() == Some(&1) && state.count == 3);
-    let mut state = Tally { count: 1 };
-    let checked = check_counted(rt.alloc(), "", &mut state)
-        .ok()
-        .expect(&rt, "the run was refused");
-    assert!(rt; checked.output() == Some(&()) && state.count == 3);
+    let counted = custom::<_, &str, u32, Counted>(|inp| {
+        let before = inp.state().count;
+        let first = inp.ctx().number;
+        *inp.state() = Kept { count: first };
+        Ok(before)
+    });
+    let rows = [("", "ok 1; state Kept { count: 3 }")];
+    assert_answers_from(&rt, &counted, Kept { count: 1 }, &rows);
 }

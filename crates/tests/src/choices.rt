@@ -1,134 +1,145 @@
-use crate::says::says;
-use chumsky::error::RichPattern;
+//! Choices among many parsers: tuples, slices, arrays and vectors.
+use crate::asserts::assert_answers;
+use answers::extras::Own;
 use chumsky::prelude::*;
-use rows::choices::{
-    check_a_before_ab, check_furthest, check_of_slice, parse_a_before_ab, parse_eight, parse_five,
-    parse_four, parse_furthest, parse_of_array, parse_of_slice, parse_of_vec, parse_one,
-    parse_seven, parse_six,
-};
+use chumsky::primitive::Just;
+use std::alloc::AllocGlobal;
+use std::process::Abort;
+
+/// `just` of a character, over a text.
+type Letter<'src> = Just<char, &'src str, Own>;
 
 #[test]
 fn a_later_alternative_that_goes_further_is_not_taken(rt: HostRuntime) {
-    let expected = [RichPattern::EndOfInput];
-    let parsed = parse_a_before_ab(rt.alloc(), "a")
-        .ok()
-        .expect(&rt, "the run was refused");
-    assert!(rt; parsed.output() == Some(&"a"));
-    let (output, errors) = parse_a_before_ab(rt.alloc(), "ab")
-        .ok()
-        .expect(&rt, "the run was refused")
-        .into_output_errors();
-    assert!(rt; output.is_none());
-    assert!(rt; says(&errors, &expected, Some('b'), 1, 2));
-    let (output, errors) = check_a_before_ab(rt.alloc(), "ab")
-        .ok()
-        .expect(&rt, "the run was refused")
-        .into_output_errors();
-    assert!(rt; output.is_none());
-    assert!(rt; says(&errors, &expected, Some('b'), 1, 2));
+    let a_before_ab = choice((just::<_, _, Own>("a"), just("ab")));
+    let rows = [
+        ("a", "ok \"a\""),
+        ("ab", "error 1..2 expected end of input found 'b'"),
+    ];
+    assert_answers(&rt, &a_before_ab, &rows);
 }
 
 #[test]
 fn the_furthest_of_many_is_reported(rt: HostRuntime) {
-    let expected = [RichPattern::Token('z'), RichPattern::Token('w')];
-    let (output, errors) = parse_furthest(rt.alloc(), "xyq")
-        .ok()
-        .expect(&rt, "the run was refused")
-        .into_output_errors();
-    assert!(rt; output.is_none());
-    assert!(rt; says(&errors, &expected, Some('q'), 2, 3));
-    let (output, errors) = check_furthest(rt.alloc(), "xyq")
-        .ok()
-        .expect(&rt, "the run was refused")
-        .into_output_errors();
-    assert!(rt; output.is_none());
-    assert!(rt; says(&errors, &expected, Some('q'), 2, 3));
-    let parsed = parse_furthest(rt.alloc(), "xyw")
-        .ok()
-        .expect(&rt, "the run was refused");
-    assert!(rt; parsed.output() == Some(&"w"));
-    let parsed = parse_furthest(rt.alloc(), "x")
-        .ok()
-        .expect(&rt, "the run was refused");
-    assert!(rt; parsed.output() == Some(&"x"));
-    assert!(rt; parsed.errors().len() == 0);
+    let three = choice((
+        just::<_, _, Own>("xyz"),
+        just("xy").ignore_then(just("w")),
+        just("x"),
+    ));
+    let rows = [
+        ("xyq", "error 2..3 expected 'z', 'w' found 'q'"),
+        ("xyw", "ok \"w\""),
+        ("x", "ok \"x\""),
+    ];
+    assert_answers(&rt, &three, &rows);
 }
 
 #[test]
-fn the_last_of_each_width_is_tried(rt: HostRuntime) {
-    let last = parse_one(rt.alloc(), "a")
-        .ok()
-        .expect(&rt, "the run was refused");
-    assert!(rt; last.output() == Some(&'a'));
-    let last = parse_four(rt.alloc(), "d")
-        .ok()
-        .expect(&rt, "the run was refused");
-    assert!(rt; last.output() == Some(&'d'));
-    let last = parse_five(rt.alloc(), "e")
-        .ok()
-        .expect(&rt, "the run was refused");
-    assert!(rt; last.output() == Some(&'e'));
-    let last = parse_six(rt.alloc(), "f")
-        .ok()
-        .expect(&rt, "the run was refused");
-    assert!(rt; last.output() == Some(&'f'));
-    let last = parse_seven(rt.alloc(), "g")
-        .ok()
-        .expect(&rt, "the run was refused");
-    assert!(rt; last.output() == Some(&'g'));
-    let last = parse_eight(rt.alloc(), "h")
-        .ok()
-        .expect(&rt, "the run was refused");
-    assert!(rt; last.output() == Some(&'h'));
+fn the_last_of_one_and_of_four_is_tried(rt: HostRuntime) {
+    let one = choice((just::<_, _, Own>('a'),));
+    assert_answers(&rt, &one, &[("a", "ok 'a'")]);
+    let four = choice((just::<_, _, Own>('a'), just('b'), just('c'), just('d')));
+    assert_answers(&rt, &four, &[("d", "ok 'd'")]);
 }
 
 #[test]
-fn each_of_a_list_is_tried_in_order(rt: HostRuntime) {
-    let expected = [RichPattern::Token('a'), RichPattern::Token('b')];
-    let letters = [just('a'), just('b')];
-    let parsed = parse_of_slice(rt.alloc(), &letters, "b")
-        .ok()
-        .expect(&rt, "the run was refused");
-    assert!(rt; parsed.output() == Some(&'b'));
-    let (output, errors) = parse_of_slice(rt.alloc(), &letters, "c")
-        .ok()
-        .expect(&rt, "the run was refused")
-        .into_output_errors();
-    assert!(rt; output.is_none());
-    assert!(rt; says(&errors, &expected, Some('c'), 0, 1));
-    let (output, errors) = check_of_slice(rt.alloc(), &letters, "c")
-        .ok()
-        .expect(&rt, "the run was refused")
-        .into_output_errors();
-    assert!(rt; output.is_none());
-    assert!(rt; says(&errors, &expected, Some('c'), 0, 1));
-    let parsed = parse_of_array(rt.alloc(), [just('a'), just('b'), just('c')], "c")
-        .ok()
-        .expect(&rt, "the run was refused");
-    assert!(rt; parsed.output() == Some(&'c'));
-    let mut letters = Vec::new(rt.alloc());
-    letters.push(just('a')).ok().expect(&rt, "want of memory");
-    letters.push(just('b')).ok().expect(&rt, "want of memory");
-    let parsed = parse_of_vec(rt.alloc(), letters, "b")
-        .ok()
-        .expect(&rt, "the run was refused");
-    assert!(rt; parsed.output() == Some(&'b'));
+fn the_last_of_five_and_of_six_is_tried(rt: HostRuntime) {
+    let five = choice((
+        just::<_, _, Own>('a'),
+        just('b'),
+        just('c'),
+        just('d'),
+        just('e'),
+    ));
+    assert_answers(&rt, &five, &[("e", "ok 'e'")]);
+    let six = choice((
+        just::<_, _, Own>('a'),
+        just('b'),
+        just('c'),
+        just('d'),
+        just('e'),
+        just('f'),
+    ));
+    assert_answers(&rt, &six, &[("f", "ok 'f'")]);
+}
+
+#[test]
+fn the_last_of_seven_and_of_eight_is_tried(rt: HostRuntime) {
+    let seven = choice((
+        just::<_, _, Own>('a'),
+        just('b'),
+        just('c'),
+        just('d'),
+        just('e'),
+        just('f'),
+        just('g'),
+    ));
+    assert_answers(&rt, &seven, &[("g", "ok 'g'")]);
+    let eight = choice((
+        just::<_, _, Own>('a'),
+        just('b'),
+        just('c'),
+        just('d'),
+        just('e'),
+        just('f'),
+        just('g'),
+        just('h'),
+    ));
+    assert_answers(&rt, &eight, &[("h", "ok 'h'")]);
+}
+
+/// A choice among those of a slice.
+fn assert_of_slice<'src, R: Abort + AllocGlobal>(
+    rt: &R,
+    letters: &[Letter<'src>],
+    rows: &[(&'src str, &str)],
+) {
+    assert_answers(rt, &choice(letters), rows);
+}
+
+#[test]
+fn each_of_a_slice_is_tried_in_order(rt: HostRuntime) {
+    let rows = [
+        ("b", "ok 'b'"),
+        ("c", "error 0..1 expected 'a', 'b' found 'c'"),
+    ];
+    assert_of_slice(&rt, &[just('a'), just('b')], &rows);
 }
 
 #[test]
 fn a_choice_of_none_expects_nothing(rt: HostRuntime) {
-    let (output, errors) = parse_of_slice(rt.alloc(), &[], "")
-        .ok()
-        .expect(&rt, "the run was refused")
-        .into_output_errors();
-    assert!(rt; output.is_none());
-    assert!(rt; says(&errors, &[], None, 0, 0));
-    for text in ["", "x"] {
-        let (output, errors) = check_of_slice(rt.alloc(), &[], text)
-            .ok()
-            .expect(&rt, "the run was refused")
-            .into_output_errors();
-        assert!(rt; output.is_none());
-        assert!(rt; says(&errors, &[], None, 0, 0));
-    }
+    let rows = [
+        ("", "error 0..0 expected nothing found end"),
+        ("x", "error 0..0 expected nothing found end"),
+    ];
+    assert_of_slice(&rt, &[], &rows);
+}
+
+/// A choice among those of an array.
+fn assert_of_array<'src, R: Abort + AllocGlobal>(
+    rt: &R,
+    letters: [Letter<'src>; 3],
+    rows: &[(&'src str, &str)],
+) {
+    assert_answers(rt, &choice(letters), rows);
+}
+
+#[test]
+fn each_of_an_array_is_tried_in_order(rt: HostRuntime) {
+    assert_of_array(&rt, [just('a'), just('b'), just('c')], &[("c", "ok 'c'")]);
+}
+
+/// A choice among those of a `Vec`.
+fn assert_of_vec<'src, R: Abort + AllocGlobal>(
+    rt: &R,
+    letters: Vec<Letter<'src>>,
+    rows: &[(&'src str, &str)],
+) {
+    assert_answers(rt, &choice(letters), rows);
+}
+
+#[test]
+fn each_of_a_vec_is_tried_in_order(rt: HostRuntime) {
+    let letters = vec![in rt.alloc(); just('a'), just('b')].expect(&rt, "want of memory");
+    assert_of_vec(&rt, letters, &[("b", "ok 'b'")]);
 }

@@ -1,60 +1,65 @@
-use crate::says::says;
-use chumsky::error::RichPattern;
-use rows::copies::{parse_choice_twice, parse_clone, parse_mapped_twice};
+//! Parsers that are copied: a copy is a parser of its own, and runs as the first does.
+use crate::asserts::assert_answers;
+use answers::extras::Own;
+use answers::says::Says;
+use chumsky::extra::ParserExtra;
+use chumsky::prelude::*;
+use chumsky::primitive::Select;
+use std::alloc::AllocGlobal;
+use std::fmt::Debug;
+use std::process::Abort;
 
-#[test]
-fn a_mapped_parser_is_copied(rt: HostRuntime) {
-    let (copied, first) = parse_mapped_twice(rt.alloc(), "aé")
-        .ok()
-        .expect(&rt, "the run was refused");
-    assert!(rt; copied.output() == Some(&'é'));
-    assert!(rt; copied.errors().len() == 0);
-    assert!(rt; copied == first);
-    let (copied, first) = parse_mapped_twice(rt.alloc(), "b")
-        .ok()
-        .expect(&rt, "the run was refused");
-    assert!(rt; copied == first);
-    let (output, errors) = copied.into_output_errors();
-    assert!(rt; output.is_none());
-    assert!(rt; says(&errors, &[RichPattern::Token('a')], Some('b'), 0, 1));
+/// Asserts what a copy of a parser answers, and the parser itself.
+fn assert_both_answer<
+    'src,
+    I: Input<'src> + Copy,
+    O: Debug + Drop,
+    E: ParserExtra<I>,
+    P: IsParser<I, O, E> + Parser<'src, I, O, E> + Copy,
+    R: Abort + AllocGlobal,
+>(rt: &R, parser: P, rows: &[(I, &str)])
+where
+    I::Token: 'src,
+    E::Error: Says,
+    E::State: Default + Drop,
+    E::Context: Default + Drop,
+    requires { P.ready parser }
+{
+    let copy = parser;
+    assert_answers(rt, &copy, rows);
+    assert_answers(rt, &parser, rows);
 }
 
 #[test]
-fn a_clone_runs_as_the_first_would(rt: HostRuntime) {
-    let parsed = parse_clone(rt.alloc(), "ac")
-        .ok()
-        .expect(&rt, "the run was refused");
-    assert!(rt; parsed.output() == Some(&('a', Some('c'))));
-    assert!(rt; parsed.errors().len() == 0);
-    let (output, errors) = parse_clone(rt.alloc(), "x")
-        .ok()
-        .expect(&rt, "the run was refused")
-        .into_output_errors();
-    assert!(rt; output.is_none());
-    assert!(rt; says(&errors, &[RichPattern::Token('a')], Some('x'), 0, 1));
+fn a_mapped_parser_is_copied(rt: HostRuntime) {
+    let second = just::<_, _, Own>('a').then(any()).map(|(_, c)| c);
+    let rows = [("aé", "ok 'é'"), ("b", "error 0..1 expected 'a' found 'b'")];
+    assert_both_answer(&rt, second, &rows);
 }
 
 #[test]
 fn a_choice_is_copied(rt: HostRuntime) {
-    for (text, letter) in [("c", 'c'), ("d", 'd'), ("e", 'e')] {
-        let (copied, first) = parse_choice_twice(rt.alloc(), text)
-            .ok()
-            .expect(&rt, "the run was refused");
-        assert!(rt; copied.output() == Some(&letter));
-        assert!(rt; copied.errors().len() == 0);
-        assert!(rt; copied == first);
-    }
-    let expected = [
-        RichPattern::Token('b'),
-        RichPattern::Token('c'),
-        RichPattern::Token('d'),
-        RichPattern::SomethingElse,
+    let last: Select<_, &str, char, Own> = select! { 'e' => 'e' };
+    let letter = choice((one_of(['b', 'c']).or(just('d')), last));
+    let rows = [
+        ("c", "ok 'c'"),
+        ("d", "ok 'd'"),
+        ("e", "ok 'e'"),
+        (
+            "f",
+            "error 0..1 expected 'b', 'c', 'd', something else found 'f'",
+        ),
     ];
-    let (copied, first) = parse_choice_twice(rt.alloc(), "f")
-        .ok()
-        .expect(&rt, "the run was refused");
-    assert!(rt; copied == first);
-    let (output, errors) = copied.into_output_errors();
-    assert!(rt; output.is_none());
-    assert!(rt; says(&errors, &expected, Some('f'), 0, 1));
+    assert_both_answer(&rt, letter, &rows);
+}
+
+#[test]
+fn a_clone_runs_as_the_first_would(rt: HostRuntime) {
+    let first = just::<_, _, Own>('a').then(one_of("bc").or_not());
+    let cloned = first.clone().expect(&rt, "want of memory");
+    let rows = [
+        ("ac", "ok ('a', Some('c'))"),
+        ("x", "error 0..1 expected 'a' found 'x'"),
+    ];
+    assert_answers(&rt, &cloned, &rows);
 }

@@ -1,220 +1,142 @@
-use crate::says::says;
-use chumsky::Stop;
-use chumsky::error::RichPattern;
+//! Closures and functions as parsers: what they fail with, emit and refuse.
+use crate::asserts::assert_answers;
+use answers::extras::{Own, Quiet};
 use chumsky::prelude::*;
-use closures::{
-    check_c_or_emitting, check_either_message, check_emitting_first, check_emitting_last,
-    check_emitting_or_any, check_error_or_ab, check_perhaps_a_then_c, check_twin,
-    parse_c_or_emitting, parse_either_message, parse_emitting_first, parse_emitting_last,
-    parse_emitting_or_any, parse_error_or_ab, parse_perhaps_a_then_c, parse_stop_or_a, parse_twin,
-};
-
-/// Whether the one error of a run is this message.
-fn tells(errors: &[Rich<char>], message: &str, start: usize, end: usize) -> bool {
-    match errors {
-        [error] => {
-            error.reason() == Some(message)
-                && error.expected().len() == 0
-                && error.found().is_none()
-                && *error.span() == SimpleSpan { start, end }
-        }
-        _ => false,
-    }
-}
+use chumsky::{Failure, Stop};
+use closures::{an_x, foo_or_nothing, foo_or_nothing_by_check, two_and_an_error};
 
 #[test]
 fn an_error_of_a_closure_stands_at_its_start(rt: HostRuntime) {
-    let expected = [RichPattern::Token('b')];
-    let (output, errors) = parse_error_or_ab(rt.alloc(), "ac")
-        .ok()
-        .expect(&rt, "the run was refused")
-        .into_output_errors();
-    assert!(rt; output.is_none());
-    assert!(rt; says(&errors, &expected, Some('c'), 1, 2));
-    let (output, errors) = check_error_or_ab(rt.alloc(), "ac")
-        .ok()
-        .expect(&rt, "the run was refused")
-        .into_output_errors();
-    assert!(rt; output.is_none());
-    assert!(rt; says(&errors, &expected, Some('c'), 1, 2));
-    let (output, errors) = parse_error_or_ab(rt.alloc(), "xy")
-        .ok()
-        .expect(&rt, "the run was refused")
-        .into_output_errors();
-    assert!(rt; output.is_none());
-    assert!(rt; tells(&errors, "", 0, 2));
-    let (output, errors) = check_error_or_ab(rt.alloc(), "xy")
-        .ok()
-        .expect(&rt, "the run was refused")
-        .into_output_errors();
-    assert!(rt; output.is_none());
-    assert!(rt; tells(&errors, "", 0, 2));
-    let parsed = parse_error_or_ab(rt.alloc(), "ab")
-        .ok()
-        .expect(&rt, "the run was refused");
-    assert!(rt; parsed.output() == Some(&"ab"));
-    assert!(rt; parsed.errors().len() == 0);
-    let checked = check_error_or_ab(rt.alloc(), "ab")
-        .ok()
-        .expect(&rt, "the run was refused");
-    assert!(rt; checked.output() == Some(&()));
-    assert!(rt; checked.errors().len() == 0);
+    let error_or_ab = custom::<_, &str, &'static str, Own>(two_and_an_error).or(just("ab"));
+    let rows = [
+        ("ac", "error 1..2 expected 'b' found 'c'"),
+        ("xy", "error 0..2 \"\""),
+        ("ab", "ok \"ab\""),
+    ];
+    assert_answers(&rt, &error_or_ab, &rows);
 }
 
 #[test]
 fn of_two_messages_at_one_place_the_first_stands(rt: HostRuntime) {
-    let (output, errors) = parse_either_message(rt.alloc(), "x")
-        .ok()
-        .expect(&rt, "the run was refused")
-        .into_output_errors();
-    assert!(rt; output.is_none());
-    assert!(rt; tells(&errors, "first", 0, 0));
-    let (output, errors) = check_either_message(rt.alloc(), "x")
-        .ok()
-        .expect(&rt, "the run was refused")
-        .into_output_errors();
-    assert!(rt; output.is_none());
-    assert!(rt; tells(&errors, "first", 0, 0));
+    let first = custom::<_, &str, char, Own>(|inp| {
+        let message = String::from_str(inp.alloc, "first")?;
+        let span = SimpleSpan { start: 0, end: 0 };
+        Err(Failure::Error(Rich::custom(span, message)))
+    });
+    let second = custom::<_, &str, char, Own>(|inp| {
+        let message = String::from_str(inp.alloc, "second")?;
+        let span = SimpleSpan { start: 0, end: 1 };
+        Err(Failure::Error(Rich::custom(span, message)))
+    });
+    assert_answers(&rt, &first.or(second), &[("x", "error 0..0 \"first\"")]);
 }
 
 #[test]
 fn what_a_part_that_succeeds_expected_is_merged(rt: HostRuntime) {
-    let expected = [RichPattern::Token('a'), RichPattern::Token('c')];
-    let (output, errors) = parse_perhaps_a_then_c(rt.alloc(), "b")
-        .ok()
-        .expect(&rt, "the run was refused")
-        .into_output_errors();
-    assert!(rt; output.is_none());
-    assert!(rt; says(&errors, &expected, Some('b'), 0, 1));
-    let (output, errors) = check_perhaps_a_then_c(rt.alloc(), "b")
-        .ok()
-        .expect(&rt, "the run was refused")
-        .into_output_errors();
-    assert!(rt; output.is_none());
-    assert!(rt; says(&errors, &expected, Some('b'), 0, 1));
-    let parsed = parse_perhaps_a_then_c(rt.alloc(), "ac")
-        .ok()
-        .expect(&rt, "the run was refused");
-    assert!(rt; parsed.output() == Some(&'c'));
-    assert!(rt; parsed.errors().len() == 0);
-    let checked = check_perhaps_a_then_c(rt.alloc(), "c")
-        .ok()
-        .expect(&rt, "the run was refused");
-    assert!(rt; checked.output() == Some(&()));
-    assert!(rt; checked.errors().len() == 0);
+    let perhaps_a_then_c = custom::<_, &str, char, Own>(|inp| {
+        inp.parse(just('a').or_not())?;
+        inp.parse(just('c'))
+    });
+    let rows = [
+        ("ac", "ok 'c'"),
+        ("c", "ok 'c'"),
+        ("b", "error 0..1 expected 'a', 'c' found 'b'"),
+    ];
+    assert_answers(&rt, &perhaps_a_then_c, &rows);
 }
 
 #[test]
 fn a_closure_runs_over_bytes(rt: HostRuntime) {
-    let (output, errors) = parse_twin(rt.alloc(), &[7, 7])
-        .ok()
-        .expect(&rt, "the run was refused")
-        .into_output_errors();
-    assert!(rt; output == Some(7));
-    assert!(rt; errors.is_empty());
-    let (output, errors) = check_twin(rt.alloc(), &[7, 8])
-        .ok()
-        .expect(&rt, "the run was refused")
-        .into_output_errors();
-    assert!(rt; output.is_none());
-    match errors.as_slice() {
-        [error] => {
-            assert!(rt; error.expected().as_slice() == [RichPattern::Token(7)].as_slice());
-            assert!(rt; error.found() == Some(&8));
-            assert!(rt; *error.span() == SimpleSpan { start: 1, end: 2 });
-        }
-        _ => assert!(rt; false),
-    }
-}
-
-/// Whether a run has the error that a closure emits, and then the one that it fails with.
-fn emits_and_fails(errors: &[Rich<char>]) -> bool {
-    match errors {
-        [emitted, failed] => {
-            emitted.reason() == Some("")
-                && *emitted.span() == SimpleSpan { start: 0, end: 0 }
-                && failed.reason() == Some("")
-                && *failed.span() == SimpleSpan { start: 0, end: 1 }
-        }
-        _ => false,
-    }
+    let twin = custom::<_, &[u8], u8, Own>(|inp| {
+        let first = inp.parse(any())?;
+        inp.parse(just(first))
+    });
+    let rows: [(&[u8], &str); 2] = [
+        (&[7, 7], "ok 7"),
+        (&[7, 8], "error 1..2 expected 7 found 8"),
+    ];
+    assert_answers(&rt, &twin, &rows);
 }
 
 #[test]
 fn an_error_that_a_first_alternative_emits_goes_with_it(rt: HostRuntime) {
-    let parsed = parse_emitting_or_any(rt.alloc(), "a")
-        .ok()
-        .expect(&rt, "the run was refused");
-    assert!(rt; parsed.output() == Some(&'a'));
-    assert!(rt; parsed.errors().len() == 0);
-    let checked = check_emitting_or_any(rt.alloc(), "a")
-        .ok()
-        .expect(&rt, "the run was refused");
-    assert!(rt; checked.output() == Some(&()));
-    assert!(rt; checked.errors().len() == 0);
-    let (output, errors) = parse_emitting_or_any(rt.alloc(), "")
-        .ok()
-        .expect(&rt, "the run was refused")
-        .into_output_errors();
-    assert!(rt; output.is_none());
-    assert!(rt; tells(&errors, "", 0, 1));
-    let (output, errors) = check_emitting_or_any(rt.alloc(), "")
-        .ok()
-        .expect(&rt, "the run was refused")
-        .into_output_errors();
-    assert!(rt; output.is_none());
-    assert!(rt; tells(&errors, "", 0, 1));
+    let emitting = custom::<_, &str, char, Own>(|inp| {
+        let here = SimpleSpan { start: 0, end: 0 };
+        inp.emit(Rich::custom(here, String::new(inp.alloc)))?;
+        let span = SimpleSpan { start: 0, end: 1 };
+        Err(Failure::Error(Rich::custom(span, String::new(inp.alloc))))
+    });
+    let rows = [("a", "ok 'a'"), ("", "error 0..1 \"\"")];
+    assert_answers(&rt, &emitting.or(any()), &rows);
 }
 
 #[test]
 fn an_error_that_a_last_alternative_emits_stays(rt: HostRuntime) {
-    let (output, errors) = parse_c_or_emitting(rt.alloc(), "a")
-        .ok()
-        .expect(&rt, "the run was refused")
-        .into_output_errors();
-    assert!(rt; output.is_none());
-    assert!(rt; emits_and_fails(&errors));
-    let (output, errors) = check_c_or_emitting(rt.alloc(), "a")
-        .ok()
-        .expect(&rt, "the run was refused")
-        .into_output_errors();
-    assert!(rt; output.is_none());
-    assert!(rt; emits_and_fails(&errors));
+    let emitting = custom::<_, &str, char, Own>(|inp| {
+        let here = SimpleSpan { start: 0, end: 0 };
+        inp.emit(Rich::custom(here, String::new(inp.alloc)))?;
+        let span = SimpleSpan { start: 0, end: 1 };
+        Err(Failure::Error(Rich::custom(span, String::new(inp.alloc))))
+    });
+    let rows = [("a", "error 0..0 \"\"; error 0..1 \"\"")];
+    assert_answers(&rt, &just('c').or(emitting), &rows);
 }
 
 #[test]
 fn a_stop_of_a_closure_is_passed_on(rt: HostRuntime) {
-    assert!(rt; matches!(parse_stop_or_a(rt.alloc(), "ab"), Err(Stop::TooDeep)));
-    let parsed = parse_stop_or_a(rt.alloc(), "a")
-        .ok()
-        .expect(&rt, "the run was refused");
-    assert!(rt; parsed.output() == Some(&'a'));
+    let stopping = custom::<_, &str, char, Own>(|inp| {
+        inp.check(just('a'))?;
+        inp.check(any())?;
+        Err(Failure::Stop(Stop::TooDeep))
+    });
+    let rows = [("ab", "refused TooDeep"), ("a", "ok 'a'")];
+    assert_answers(&rt, &stopping.or(just('a')), &rows);
+}
+
+#[test]
+fn what_the_last_alternative_emits_stays(rt: HostRuntime) {
+    let emitting = custom::<_, &str, char, Quiet>(|inp| {
+        let token = inp.parse(any())?;
+        inp.emit(EmptyErr)?;
+        Ok(token)
+    });
+    let parser = choice((just('a').then(just('b')), emitting.then(just('c'))));
+    assert_answers(&rt, &parser, &[("aa", "error; error")]);
 }
 
 #[test]
 fn what_an_abandoned_alternative_emits_goes(rt: HostRuntime) {
-    let (output, errors) = parse_emitting_last(rt.alloc(), "aa")
-        .ok()
-        .expect(&rt, "the run was refused")
-        .into_output_errors();
-    assert!(rt; output.is_none());
-    assert!(rt; errors.len() == 2);
-    let (output, errors) = check_emitting_last(rt.alloc(), "aa")
-        .ok()
-        .expect(&rt, "the run was refused")
-        .into_output_errors();
-    assert!(rt; output.is_none());
-    assert!(rt; errors.len() == 2);
-    let (output, errors) = parse_emitting_first(rt.alloc(), "aa")
-        .ok()
-        .expect(&rt, "the run was refused")
-        .into_output_errors();
-    assert!(rt; output.is_none());
-    assert!(rt; errors.len() == 1);
-    let (output, errors) = check_emitting_first(rt.alloc(), "aa")
-        .ok()
-        .expect(&rt, "the run was refused")
-        .into_output_errors();
-    assert!(rt; output.is_none());
-    assert!(rt; errors.len() == 1);
+    let emitting = custom::<_, &str, char, Quiet>(|inp| {
+        let token = inp.parse(any())?;
+        inp.emit(EmptyErr)?;
+        Ok(token)
+    });
+    let parser = choice((emitting.then(just('c')), just('a').then(just('b'))));
+    assert_answers(&rt, &parser, &[("aa", "error")]);
+}
+
+#[test]
+fn a_function_is_a_parser(rt: HostRuntime) {
+    let x = custom::<_, &str, &'static str, Own>(an_x);
+    let rows = [
+        ("x", "ok \"x\""),
+        ("y", "error 0..1 expected 'x' found 'y'"),
+    ];
+    assert_answers(&rt, &x, &rows);
+}
+
+#[test]
+fn a_failure_within_a_closure_is_handed_out(rt: HostRuntime) {
+    let rows = [
+        ("foo", "ok true"),
+        ("", "ok false"),
+        ("not foo", "error 0..1 expected end of input found 'n'"),
+        ("fox", "error 0..1 expected end of input found 'f'"),
+    ];
+    for (text, line) in rows {
+        let by_parse = foo_or_nothing(rt.alloc(), text).expect(&rt, "want of memory");
+        assert_eq!(rt; by_parse.as_str(), line);
+        let by_check = foo_or_nothing_by_check(rt.alloc(), text).expect(&rt, "want of memory");
+        assert_eq!(rt; by_check.as_str(), line);
+    }
 }

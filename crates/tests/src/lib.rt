@@ -1,8 +1,9 @@
-//! What the parsers of `rows`, `closures` and `stops` answer, on texts and slices whose answers are known from outside.
+//! What parsers answer, on texts and slices whose answers are known from outside. `asserts` holds what nearly each test
+//! calls; each other file is about a family of parsers, or of what they stand on.
 #![tactic(auto)]
 
 #[cfg(test)]
-mod base;
+mod asserts;
 #[cfg(test)]
 mod by_reference;
 #[cfg(test)]
@@ -10,21 +11,29 @@ mod calls;
 #[cfg(test)]
 mod choices;
 #[cfg(test)]
+mod containers;
+#[cfg(test)]
 mod copies;
 #[cfg(test)]
 mod custom;
 #[cfg(test)]
 mod errors;
 #[cfg(test)]
+mod first;
+#[cfg(test)]
+mod from_contexts;
+#[cfg(test)]
+mod from_guide;
+#[cfg(test)]
 mod groups;
+#[cfg(test)]
+mod input_ref;
 #[cfg(test)]
 mod members;
 #[cfg(test)]
 mod results;
 #[cfg(test)]
 mod rounds;
-#[cfg(test)]
-mod says;
 #[cfg(test)]
 mod select;
 #[cfg(test)]
@@ -36,4 +45,4 @@ mod sets_of_tokens;
 #[cfg(test)]
 mod slices;
 #[cfg(test)]
-mod stopping;
+mod values;

@@ -1,5 +1,5 @@
+//! What can be asked of a result.
 use chumsky::prelude::*;
-use rows::results::output_alone;
 use std::alloc::Global;
 use std::cmp::Ordering;
 use std::hash::{DefaultHasher, Hash, Hasher};
@@ -67,6 +67,15 @@ fn an_output_beside_errors_is_dropped(rt: HostRuntime) {
     }
 }
 
+/// The output of a run without errors, which may be unwrapped.
+fn output_alone(parsed: ParseResult<char, u8>) -> Option<char> {
+    if parsed.has_output() && !parsed.has_errors() {
+        Some(parsed.unwrap())
+    } else {
+        None
+    }
+}
+
 #[test]
 fn an_output_alone_is_unwrapped(rt: HostRuntime) {
     assert!(rt; output_alone(with_errors(rt.alloc(), &rt, Some('a'), &[])) == Some('a'));
@@ -111,4 +120,9 @@ fn outputs_are_compared_before_errors(rt: HostRuntime) {
     assert!(rt; one < other && one < longer && none < one);
     let copy = one.clone().ok().expect(&rt, "no memory for a clone");
     assert!(rt; copy == one && one != longer);
+}
+
+#[test]
+fn a_range_is_a_span(rt: HostRuntime) {
+    assert!(rt; SimpleSpan::from(1..3) == SimpleSpan { start: 1, end: 3 });
 }

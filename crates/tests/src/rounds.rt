@@ -1,23 +1,19 @@
-use rows::rounds::{check_counting, parse_counting};
+//! How often a set runs its parts.
+use crate::asserts::assert_answers_from;
+use answers::extras::Telling;
+use answers::states::Told;
+use chumsky::prelude::*;
 
 /// Each part that isn't taken reads a token in each round; the parts left over read once more.
 #[test]
 fn a_set_goes_in_rounds(rt: HostRuntime) {
+    let letters = set((just::<_, _, Telling>('a'), just('b'), just('c')));
     let rows = [
-        ("abc", true, 3),
-        ("bac", true, 5),
-        ("cba", true, 6),
-        ("cbx", false, 7),
-        ("x", false, 4),
+        ("abc", "ok ('a', 'b', 'c'); state Told { tokens: 3 }"),
+        ("bac", "ok ('a', 'b', 'c'); state Told { tokens: 5 }"),
+        ("cba", "ok ('a', 'b', 'c'); state Told { tokens: 6 }"),
+        ("cbx", "error; state Told { tokens: 7 }"),
+        ("x", "error; state Told { tokens: 4 }"),
     ];
-    for (text, accepted, tokens) in rows {
-        let parsed = parse_counting(rt.alloc(), text)
-            .ok()
-            .expect(&rt, "the run was refused");
-        assert!(rt; parsed == (accepted, tokens));
-        let checked = check_counting(rt.alloc(), text)
-            .ok()
-            .expect(&rt, "the run was refused");
-        assert!(rt; checked == (accepted, tokens));
-    }
+    assert_answers_from(&rt, &letters, Told { tokens: 0 }, &rows);
 }

@@ -1,123 +1,91 @@
-use crate::says::says;
-use chumsky::error::RichPattern;
+//! Sets: each part once, in any order.
+use crate::asserts::assert_answers;
+use answers::extras::Own;
 use chumsky::prelude::*;
-use rows::sets::{
-    check_either_and_abc, check_of_array, check_of_vec, check_optional, check_three,
-    parse_either_and_abc, parse_four, parse_of_array, parse_of_vec, parse_one, parse_optional,
-    parse_three,
-};
+use chumsky::primitive::Just;
+use std::alloc::AllocGlobal;
+use std::process::Abort;
 
 #[test]
 fn parts_come_in_any_order(rt: HostRuntime) {
-    for text in ["ijkdefabc", "abcdefijk", "defabcijk"] {
-        let parsed = parse_three(rt.alloc(), text)
-            .ok()
-            .expect(&rt, "the run was refused");
-        assert!(rt; parsed.output() == Some(&("abc", "def", "ijk")));
-        assert!(rt; parsed.errors().len() == 0);
-        let checked = check_three(rt.alloc(), text)
-            .ok()
-            .expect(&rt, "the run was refused");
-        assert!(rt; checked.output() == Some(&()));
-    }
-    let expected = [RichPattern::Token('i'), RichPattern::Token('a')];
-    let (output, errors) = parse_three(rt.alloc(), "defx")
-        .ok()
-        .expect(&rt, "the run was refused")
-        .into_output_errors();
-    assert!(rt; output.is_none());
-    assert!(rt; says(&errors, &expected, Some('x'), 3, 4));
+    let three = set((just::<_, _, Own>("abc"), just("def"), just("ijk")));
+    let rows = [
+        ("ijkdefabc", "ok (\"abc\", \"def\", \"ijk\")"),
+        ("abcdefijk", "ok (\"abc\", \"def\", \"ijk\")"),
+        ("defabcijk", "ok (\"abc\", \"def\", \"ijk\")"),
+        ("defx", "error 3..4 expected 'i', 'a' found 'x'"),
+    ];
+    assert_answers(&rt, &three, &rows);
 }
 
 #[test]
 fn a_part_that_moved_is_kept(rt: HostRuntime) {
-    let expected = [RichPattern::Token('a')];
-    let (output, errors) = parse_either_and_abc(rt.alloc(), "abcdef")
-        .ok()
-        .expect(&rt, "the run was refused")
-        .into_output_errors();
-    assert!(rt; output.is_none());
-    assert!(rt; says(&errors, &expected, Some('d'), 3, 4));
-    let (output, errors) = check_either_and_abc(rt.alloc(), "abcdef")
-        .ok()
-        .expect(&rt, "the run was refused")
-        .into_output_errors();
-    assert!(rt; output.is_none());
-    assert!(rt; says(&errors, &expected, Some('d'), 3, 4));
-    let parsed = parse_either_and_abc(rt.alloc(), "defabc")
-        .ok()
-        .expect(&rt, "the run was refused");
-    assert!(rt; parsed.output() == Some(&("def", "abc")));
-    let checked = check_either_and_abc(rt.alloc(), "defabc")
-        .ok()
-        .expect(&rt, "the run was refused");
-    assert!(rt; checked.output() == Some(&()));
+    let either_and_abc = set((choice((just::<_, _, Own>("abc"), just("def"))), just("abc")));
+    let rows = [
+        ("abcdef", "error 3..4 expected 'a' found 'd'"),
+        ("defabc", "ok (\"def\", \"abc\")"),
+    ];
+    assert_answers(&rt, &either_and_abc, &rows);
 }
 
 #[test]
 fn parts_that_may_be_absent_are_none(rt: HostRuntime) {
-    let parsed = parse_optional(rt.alloc(), "ijkabc")
-        .ok()
-        .expect(&rt, "the run was refused");
-    assert!(rt; parsed.output() == Some(&(Some("abc"), None, Some("ijk"))));
-    let parsed = parse_optional(rt.alloc(), "")
-        .ok()
-        .expect(&rt, "the run was refused");
-    assert!(rt; parsed.output() == Some(&(None, None, None)));
-    for text in ["ijkabc", ""] {
-        let checked = check_optional(rt.alloc(), text)
-            .ok()
-            .expect(&rt, "the run was refused");
-        assert!(rt; checked.output() == Some(&()));
-        assert!(rt; checked.errors().len() == 0);
-    }
+    let optional = set((
+        just::<_, _, Own>("abc").or_not(),
+        just("def").or_not(),
+        just("ijk").or_not(),
+    ));
+    let rows = [
+        ("ijkabc", "ok (Some(\"abc\"), None, Some(\"ijk\"))"),
+        ("", "ok (None, None, None)"),
+    ];
+    assert_answers(&rt, &optional, &rows);
 }
 
 #[test]
-fn each_width_of_a_set_gives_its_outputs_in_order(rt: HostRuntime) {
-    let one = parse_one(rt.alloc(), "a")
-        .ok()
-        .expect(&rt, "the run was refused");
-    assert!(rt; one.output() == Some(&('a',)));
-    let four = parse_four(rt.alloc(), "dacb")
-        .ok()
-        .expect(&rt, "the run was refused");
-    assert!(rt; four.output() == Some(&('a', 'b', 'c', 'd')));
+fn one_and_four_give_their_outputs_in_order(rt: HostRuntime) {
+    let one = set((just::<_, _, Own>('a'),));
+    assert_answers(&rt, &one, &[("a", "ok ('a',)")]);
+    let four = set((just::<_, _, Own>('a'), just('b'), just('c'), just('d')));
+    assert_answers(&rt, &four, &[("dacb", "ok ('a', 'b', 'c', 'd')")]);
+}
+
+/// A set over a `Vec`.
+fn assert_of_vec<'src, R: Abort + AllocGlobal>(
+    rt: &R,
+    words: Vec<Just<&'static str, &'src str, Own>>,
+    rows: &[(&'src str, &str)],
+) {
+    assert_answers(rt, &set(words), rows);
 }
 
 #[test]
-fn a_list_of_parts_comes_in_any_order(rt: HostRuntime) {
-    let mut words = Vec::new(rt.alloc());
-    words.push(just("abc")).ok().expect(&rt, "want of memory");
-    words.push(just("def")).ok().expect(&rt, "want of memory");
-    words.push(just("ijk")).ok().expect(&rt, "want of memory");
-    let parsed = parse_of_vec(rt.alloc(), words, "ijkdefabc")
-        .ok()
-        .expect(&rt, "the run was refused");
-    let output = parsed.into_output().expect(&rt, "no output");
-    assert!(rt; output.as_slice() == ["abc", "def", "ijk"].as_slice());
-    let mut words = Vec::new(rt.alloc());
-    words.push(just("abc")).ok().expect(&rt, "want of memory");
-    words.push(just("def")).ok().expect(&rt, "want of memory");
-    words.push(just("ijk")).ok().expect(&rt, "want of memory");
-    let checked = check_of_vec(rt.alloc(), words, "ijkdefabc")
-        .ok()
-        .expect(&rt, "the run was refused");
-    assert!(rt; checked.output() == Some(&()));
-    let parsed = parse_of_array(rt.alloc(), [just('a'), just('b')], "ba")
-        .ok()
-        .expect(&rt, "the run was refused");
-    let output = parsed.into_output().expect(&rt, "no output");
-    assert!(rt; output.as_slice() == ['a', 'b'].as_slice());
-    let checked = check_of_array(rt.alloc(), [just('a'), just('b')], "ba")
-        .ok()
-        .expect(&rt, "the run was refused");
-    assert!(rt; checked.output() == Some(&()));
-    let expected = [RichPattern::Token('a')];
-    let (output, errors) = check_of_array(rt.alloc(), [just('a'), just('b')], "bb")
-        .ok()
-        .expect(&rt, "the run was refused")
-        .into_output_errors();
-    assert!(rt; output.is_none());
-    assert!(rt; says(&errors, &expected, Some('b'), 1, 2));
+fn parts_of_a_vec_come_in_any_order(rt: HostRuntime) {
+    let words = vec![in rt.alloc(); just("abc"), just("def"), just("ijk")].expect(
+        &rt,
+        "want of memory",
+    );
+    assert_of_vec(
+        &rt,
+        words,
+        &[("ijkdefabc", "ok [\"abc\", \"def\", \"ijk\"]")],
+    );
+}
+
+/// A set over an array.
+fn assert_of_array<'src, R: Abort + AllocGlobal>(
+    rt: &R,
+    letters: [Just<char, &'src str, Own>; 2],
+    rows: &[(&'src str, &str)],
+) {
+    assert_answers(rt, &set(letters), rows);
+}
+
+#[test]
+fn parts_of_an_array_come_in_any_order(rt: HostRuntime) {
+    let rows = [
+        ("ba", "ok ['a', 'b']"),
+        ("bb", "error 1..2 expected 'a' found 'b'"),
+    ];
+    assert_of_array(&rt, [just('a'), just('b')], &rows);
 }

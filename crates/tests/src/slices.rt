@@ -1,95 +1,45 @@
-use crate::says::says_of_bytes;
-use chumsky::error::RichPattern;
+//! Parsers over slices of tokens.
+use crate::asserts::assert_answers;
+use answers::extras::Own;
 use chumsky::prelude::*;
-use rows::slices::{
-    Word, check_byte_ref, check_one_then_any, parse_byte_ref, parse_one_then_any, parse_word,
-};
 
 #[test]
 fn a_token_is_given_where_it_lies(rt: HostRuntime) {
-    let bytes = [7];
-    let (output, errors) = parse_byte_ref(rt.alloc(), &bytes)
-        .ok()
-        .expect(&rt, "the run was refused")
-        .into_output_errors();
-    assert!(rt; output == Some(&7));
-    assert!(rt; errors.is_empty());
-    let checked = check_byte_ref(rt.alloc(), &bytes)
-        .ok()
-        .expect(&rt, "the run was refused");
-    assert!(rt; checked.output() == Some(&()));
-    assert!(rt; checked.errors().len() == 0);
-}
-
-#[test]
-fn a_token_too_many_has_its_index(rt: HostRuntime) {
-    let bytes = [7, 8];
-    let expected = [RichPattern::EndOfInput];
-    let (output, errors) = parse_byte_ref(rt.alloc(), &bytes)
-        .ok()
-        .expect(&rt, "the run was refused")
-        .into_output_errors();
-    assert!(rt; output.is_none());
-    assert!(rt; says_of_bytes(&errors, &expected, Some(8), 1, 2));
-    let (output, errors) = check_byte_ref(rt.alloc(), &bytes)
-        .ok()
-        .expect(&rt, "the run was refused")
-        .into_output_errors();
-    assert!(rt; output.is_none());
-    assert!(rt; says_of_bytes(&errors, &expected, Some(8), 1, 2));
-}
-
-#[test]
-fn an_empty_slice_has_no_token(rt: HostRuntime) {
-    let bytes: [u8; 0] = [];
-    let expected = [RichPattern::Any];
-    let (output, errors) = parse_byte_ref(rt.alloc(), &bytes)
-        .ok()
-        .expect(&rt, "the run was refused")
-        .into_output_errors();
-    assert!(rt; output.is_none());
-    assert!(rt; says_of_bytes(&errors, &expected, None, 0, 0));
-    let (output, errors) = check_byte_ref(rt.alloc(), &bytes)
-        .ok()
-        .expect(&rt, "the run was refused")
-        .into_output_errors();
-    assert!(rt; output.is_none());
-    assert!(rt; says_of_bytes(&errors, &expected, None, 0, 0));
+    let rows: [(&[u8], &str); 3] = [
+        (&[7], "ok 7"),
+        (&[7, 8], "error 1..2 expected end of input found 8"),
+        (&[], "error 0..0 expected any found end"),
+    ];
+    assert_answers(&rt, &any_ref::<_, Own>(), &rows);
 }
 
 #[test]
 fn tokens_come_by_value(rt: HostRuntime) {
-    let (output, errors) = parse_one_then_any(rt.alloc(), &[1, 2])
-        .ok()
-        .expect(&rt, "the run was refused")
-        .into_output_errors();
-    assert!(rt; output == Some((1, 2)));
-    assert!(rt; errors.is_empty());
-    let expected = [RichPattern::Token(1)];
-    let (output, errors) = parse_one_then_any(rt.alloc(), &[2, 1])
-        .ok()
-        .expect(&rt, "the run was refused")
-        .into_output_errors();
-    assert!(rt; output.is_none());
-    assert!(rt; says_of_bytes(&errors, &expected, Some(2), 0, 1));
-    let expected = [RichPattern::Any];
-    let (output, errors) = check_one_then_any(rt.alloc(), &[1])
-        .ok()
-        .expect(&rt, "the run was refused")
-        .into_output_errors();
-    assert!(rt; output.is_none());
-    assert!(rt; says_of_bytes(&errors, &expected, None, 1, 1));
+    let one_then_any = just::<_, _, Own>(1).then(any());
+    let rows: [(&[u8], &str); 3] = [
+        (&[1, 2], "ok (1, 2)"),
+        (&[2, 1], "error 0..1 expected 1 found 2"),
+        (&[1], "error 1..1 expected any found end"),
+    ];
+    assert_answers(&rt, &one_then_any, &rows);
+}
+
+/// A token that can't be cloned.
+#[derive(Drop)]
+enum Word {
+    Number(u32),
+    Comma,
 }
 
 #[test]
 fn a_token_need_not_be_cloned(rt: HostRuntime) {
-    let parsed = parse_word(rt.alloc(), &[Word::Number(12)])
-        .ok()
-        .expect(&rt, "the run was refused");
-    assert!(rt; parsed.output() == Some(&12));
-    let parsed = parse_word(rt.alloc(), &[Word::Comma, Word::Comma])
-        .ok()
-        .expect(&rt, "the run was refused");
-    assert!(rt; parsed.output() == None);
-    assert!(rt; parsed.errors().len() == 1);
+    let number = any_ref::<_, extra::Default>().map(|word: &Word| match word {
+        Word::Number(number) => *number,
+        Word::Comma => 0,
+    });
+    let rows: [(&[Word], &str); 2] = [
+        (&[Word::Number(12)], "ok 12"),
+        (&[Word::Comma, Word::Comma], "error"),
+    ];
+    assert_answers(&rt, &number, &rows);
 }

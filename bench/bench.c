@@ -1,0 +1,273 @@
+/* The jobs of crates/bench_jobs, by parsers and by hand, in turn: the best of the rounds of each. See scripts/bench. */
+#include <stdint.h>
+#include <stdio.h>
+#include <stdlib.h>
+#include <string.h>
+#include <time.h>
+
+typedef uint64_t job_function(const uint8_t *bytes, size_t length);
+
+job_function bench_dates_parse, bench_dates_check, bench_words_parse, bench_words_check, bench_headers_parse,
+    bench_headers_check, bench_fail_empty, bench_fail_rich;
+
+#ifdef WITH_RUST
+job_function rust_dates_parse, rust_dates_check, rust_words_parse, rust_words_check, rust_headers_parse,
+    rust_headers_check, rust_fail;
+#define RUST(name) rust_##name
+#else
+#define RUST(name) NULL
+#endif
+
+/* By hand. */
+
+static inline int is_digit(uint8_t byte) { return (uint8_t)(byte - '0') < 10; }
+
+/* `2026-11-23` and a line's end. */
+enum { DATE = 11 };
+
+static inline int is_date(const uint8_t *at) {
+    return is_digit(at[0]) && is_digit(at[1]) && is_digit(at[2]) && is_digit(at[3]) && at[4] == '-' &&
+           is_digit(at[5]) && is_digit(at[6]) && at[7] == '-' && is_digit(at[8]) && is_digit(at[9]) && at[10] == '\n';
+}
+
+static inline uint64_t date_digits(const uint8_t *at) {
+    return (uint64_t)at[0] + at[1] + at[2] + at[3] + at[5] + at[6] + at[8] + at[9];
+}
+
+static uint64_t dates_parse(const uint8_t *bytes, size_t length) {
+    const uint8_t *at = bytes, *end = bytes + length;
+    uint64_t total = 0;
+    while (end - at >= DATE && is_date(at)) {
+        total += date_digits(at);
+        at += DATE;
+    }
+    return total;
+}
+
+static uint64_t dates_check(const uint8_t *bytes, size_t length) {
+    const uint8_t *at = bytes, *end = bytes + length;
+    uint64_t times = 0;
+    while (end - at >= DATE && is_date(at)) {
+        times += 1;
+        at += DATE;
+    }
+    return times;
+}
+
+/* A run from the start of each line, which refuses all that isn't one date to the end. */
+static uint64_t fail(const uint8_t *bytes, size_t length) {
+    uint64_t total = 0;
+    for (size_t at = 0; at < length; at += DATE) {
+        int is_whole = length - at >= DATE && is_date(bytes + at) && length - at == DATE;
+        total += is_whole ? date_digits(bytes + at) : 1000;
+    }
+    return total;
+}
+
+#define BEGINS(word) ((size_t)(end - at) >= sizeof word - 1 && !memcmp(at, word, sizeof word - 1))
+
+/* The number of the word at a place, or 0, and its length. */
+static inline unsigned word(const uint8_t *at, const uint8_t *end, size_t *length) {
+    if (BEGINS("let")) return *length = 3, 1;
+    if (BEGINS("fn")) return *length = 2, 2;
+    if (BEGINS("if")) return *length = 2, 3;
+    if (BEGINS("else")) return *length = 4, 4;
+    if (BEGINS("while")) return *length = 5, 5;
+    if (BEGINS("return")) return *length = 6, 6;
+    if (BEGINS("struct")) return *length = 6, 7;
+    if (BEGINS("impl")) return *length = 4, 8;
+    return 0;
+}
+
+static uint64_t words_parse(const uint8_t *bytes, size_t length) {
+    const uint8_t *at = bytes, *end = bytes + length;
+    uint64_t total = 0;
+    for (;;) {
+        size_t taken = 0;
+        unsigned number = word(at, end, &taken);
+        if (!number) return total;
+        at += taken;
+        if (at == end || *at != '\n') return total;
+        at += 1;
+        total += number;
+    }
+}
+
+static uint64_t words_check(const uint8_t *bytes, size_t length) {
+    const uint8_t *at = bytes, *end = bytes + length;
+    uint64_t times = 0;
+    for (;;) {
+        size_t taken = 0;
+        if (!word(at, end, &taken)) return times;
+        at += taken;
+        if (at == end || *at != '\n') return times;
+        at += 1;
+        times += 1;
+    }
+}
+
+/* Four fixed bytes, 1 or 2, a version, and two flags. */
+enum { HEADER = 8 };
+
+static inline int is_header(const uint8_t *at) {
+    return !memcmp(at, "\x7f" "ELF", 4) && (at[4] == 1 || at[4] == 2) && at[5] == 1;
+}
+
+static uint64_t headers_parse(const uint8_t *bytes, size_t length) {
+    const uint8_t *at = bytes, *end = bytes + length;
+    uint64_t total = 0;
+    while (end - at >= HEADER && is_header(at)) {
+        total += (uint64_t)at[6] + at[7];
+        at += HEADER;
+    }
+    return total;
+}
+
+static uint64_t headers_check(const uint8_t *bytes, size_t length) {
+    const uint8_t *at = bytes, *end = bytes + length;
+    uint64_t times = 0;
+    while (end - at >= HEADER && is_header(at)) {
+        times += 1;
+        at += HEADER;
+    }
+    return times;
+}
+
+/* Inputs, of a fixed seed. */
+
+static uint64_t seed = 1;
+
+static unsigned below(unsigned limit) {
+    seed = seed * 6364136223846793005u + 1442695040888963407u;
+    return (unsigned)((seed >> 33) % limit);
+}
+
+struct input {
+    uint8_t *bytes;
+    size_t length;
+};
+
+static struct input room(size_t length) {
+    struct input made = {malloc(length + 1), length};
+    if (!made.bytes) exit(2);
+    return made;
+}
+
+static struct input make_dates(unsigned count) {
+    struct input made = room((size_t)count * DATE);
+    for (unsigned line = 0; line < count; line++)
+        snprintf((char *)made.bytes + (size_t)line * DATE, DATE + 1, "%04u-%02u-%02u\n", 1900 + below(200), 1 + below(12),
+                 1 + below(28));
+    return made;
+}
+
+/* One of the last three characters of each date is no digit and no hyphen. */
+static struct input make_failing(unsigned count) {
+    struct input made = make_dates(count);
+    for (unsigned line = 0; line < count; line++) made.bytes[(size_t)line * DATE + 7 + below(3)] = 'x';
+    return made;
+}
+
+static struct input make_words(unsigned count) {
+    static const char *const words[] = {"let", "fn", "if", "else", "while", "return", "struct", "impl"};
+    struct input made = room((size_t)count * 7);
+    made.length = 0;
+    for (unsigned line = 0; line < count; line++)
+        made.length += (size_t)sprintf((char *)made.bytes + made.length, "%s\n", words[below(8)]);
+    return made;
+}
+
+static struct input make_headers(unsigned count) {
+    struct input made = room((size_t)count * HEADER);
+    for (unsigned each = 0; each < count; each++) {
+        uint8_t header[HEADER] = {0x7f, 0x45, 0x4c, 0x46, 1 + below(2), 1, below(256), below(256)};
+        memcpy(made.bytes + (size_t)each * HEADER, header, HEADER);
+    }
+    return made;
+}
+
+/* Rounds. */
+
+static double now(void) {
+    struct timespec time;
+    clock_gettime(CLOCK_MONOTONIC, &time);
+    return (double)time.tv_sec + (double)time.tv_nsec * 1e-9;
+}
+
+enum { PARSERS, C, RUST, WAYS };
+
+struct job {
+    const char *name;
+    job_function *ways[WAYS];
+    struct input input;
+    double best[WAYS];
+};
+
+/* Whether each way answers the number of the one by hand. */
+static int agree(const struct job *job) {
+    uint64_t wanted = job->ways[C](job->input.bytes, job->input.length);
+    for (int way = 0; way < WAYS; way++) {
+        if (!job->ways[way]) continue;
+        uint64_t number = job->ways[way](job->input.bytes, job->input.length);
+        if (number == wanted) continue;
+        printf("%s: %llu, and not %llu\n", job->name, (unsigned long long)number, (unsigned long long)wanted);
+        return 0;
+    }
+    return wanted != 0;
+}
+
+static void measure(struct job *job, double seconds) {
+    for (int way = 0; way < WAYS; way++) job->best[way] = 1e9;
+    double start = now();
+    for (int round = 0; round < 5 || now() - start < seconds; round++) {
+        for (int way = 0; way < WAYS; way++) {
+            if (!job->ways[way]) continue;
+            double from = now();
+            volatile uint64_t number = job->ways[way](job->input.bytes, job->input.length);
+            double taken = now() - from;
+            (void)number;
+            if (taken < job->best[way]) job->best[way] = taken;
+        }
+    }
+}
+
+static void print(const struct job *job) {
+    double megabytes = (double)job->input.length / 1e6;
+    printf("%-14s %8.0f %8.0f %8.2f", job->name, megabytes / job->best[PARSERS], megabytes / job->best[C],
+           job->best[PARSERS] / job->best[C]);
+    if (job->ways[RUST]) printf(" %8.0f %8.2f", megabytes / job->best[RUST], job->best[PARSERS] / job->best[RUST]);
+    printf("\n");
+}
+
+int main(int count, char **arguments) {
+    double seconds = count > 1 ? atof(arguments[1]) : 1;
+    const char *only = count > 2 ? arguments[2] : "";
+    struct input dates = make_dates(5000), words = make_words(10000), headers = make_headers(10000);
+    struct input failing = make_failing(2000);
+    struct job jobs[] = {
+        {"dates parse", {bench_dates_parse, dates_parse, RUST(dates_parse)}, dates, {0}},
+        {"dates check", {bench_dates_check, dates_check, RUST(dates_check)}, dates, {0}},
+        {"words parse", {bench_words_parse, words_parse, RUST(words_parse)}, words, {0}},
+        {"words check", {bench_words_check, words_check, RUST(words_check)}, words, {0}},
+        {"headers parse", {bench_headers_parse, headers_parse, RUST(headers_parse)}, headers, {0}},
+        {"headers check", {bench_headers_check, headers_check, RUST(headers_check)}, headers, {0}},
+        {"fail EmptyErr", {bench_fail_empty, fail, RUST(fail)}, failing, {0}},
+        {"fail Rich", {bench_fail_rich, fail, RUST(fail)}, failing, {0}},
+    };
+    size_t of = sizeof jobs / sizeof *jobs;
+    int all_agree = 1;
+    printf("%-14s %8s %8s %8s", "job, MB/s", "parsers", "C", "ratio");
+    printf(jobs[0].ways[RUST] ? " %8s %8s\n" : "\n", "Rust", "ratio");
+    for (size_t each = 0; each < of; each++) {
+        if (strncmp(jobs[each].name, only, strlen(only))) continue;
+        if (!agree(&jobs[each])) {
+            all_agree = 0;
+            continue;
+        }
+        measure(&jobs[each], seconds);
+        print(&jobs[each]);
+    }
+    if (jobs[of - 2].best[PARSERS] > 0)
+        printf("fail: Rich takes %.2f times what EmptyErr takes\n", jobs[of - 1].best[PARSERS] / jobs[of - 2].best[PARSERS]);
+    return all_agree ? 0 : 1;
+}

@@ -1,0 +1,9 @@
+//! What a parser answers of an input, as one line of text; errors and states that show what befell them; and extras of
+//! one's own. The crate `tests` stands on it.
+#![tactic(auto)]
+
+pub mod answer;
+pub mod extras;
+pub mod merges;
+pub mod says;
+pub mod states;

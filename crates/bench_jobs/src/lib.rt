@@ -1,0 +1,8 @@
+//! Jobs whose speed is measured from outside: each takes bytes, runs one parser over them, and folds what comes out to a
+//! number. `bench/` has the same jobs by hand, and `scripts/bench` runs both.
+#![tactic(auto)]
+
+mod dates;
+mod headers;
+mod run;
+mod words;

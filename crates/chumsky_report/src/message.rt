@@ -1,0 +1,188 @@
+//! What an error says.
+ghost use Rattle.std.specs.Prelude.{◌≡◌, ◌<◌, ◌≤◌, ◌∷◌, [], List, Option, Some, None, length, take, ◌^◌, ℕ};
+ghost use Rattle.std.specs.Option.{option_copied};
+ghost use Rattle.std.specs.Fmt.{WritesOnOk};
+ghost use Rattle.chumsky_report.specs.Message.{character_text, byte_text, pattern_text, follows, following, item_length, item_text, listed, items, found_text, message_text};
+
+use chumsky_input::rich::{Rich, RichPattern};
+use std::fmt;
+use std::fmt::{Display, Formatter};
+
+/// A token that a message can show.
+pub trait Symbol: Copy {
+    ghost number: { Self → ℕ };
+
+    ghost text: { Self → List ℕ };
+
+    /// The number of the token among those of its kind.
+    fn number(self) -> u32
+        ensures value { result ≡ number self }
+        ensures bound { result < 2 ^ 24 };
+
+    fn write<W: fmt::Write>(self, f: &mut Formatter<W>) -> fmt::Result
+        ensures { WritesOnOk W.write_str_gives f.old result (text self) f.new };
+}
+
+impl Symbol for char {
+    ghost number = { λ c. c };
+
+    ghost text = { character_text };
+
+    fn number(self) -> u32 {
+        u32::from(self)
+    }
+
+    fn write<W: fmt::Write>(self, f: &mut Formatter<W>) -> fmt::Result {
+        match self {
+            '\n' => write!(f, "'\\n'"),
+            '\r' => write!(f, "'\\r'"),
+            '\t' => write!(f, "'\\t'"),
+            '\'' | '\\' => write!(f, "'\\{self}'"),
+            _ if self.is_control() => write!(f, "'\\u{{{:x}}}'", u32::from(self)),
+            _ => write!(f, "'{self}'"),
+        }
+    }
+}
+
+impl Symbol for u8 {
+    ghost number = { λ b. b };
+
+    ghost text = { byte_text };
+
+    fn number(self) -> u32 {
+        u32::from(self)
+    }
+
+    fn write<W: fmt::Write>(self, f: &mut Formatter<W>) -> fmt::Result {
+        write!(f, "0x{self:02x}")
+    }
+}
+
+/// One thing that was expected.
+#[derive_where(Clone, Copy)]
+struct Pattern<'a, T>(&'a RichPattern<T>);
+
+impl<T: Symbol> Display for Pattern<'_, T> {
+    ghost output = { λ p. Some (pattern_text T.number T.text p.0.now) };
+
+    fn fmt<W: fmt::Write>(&self, f: &mut Formatter<W>) -> fmt::Result {
+        match self.0 {
+            RichPattern::Token(token) => token.write(f),
+            RichPattern::Any => write!(f, "anything"),
+            RichPattern::SomethingElse => write!(f, "something else"),
+            RichPattern::EndOfInput => write!(f, "end of input"),
+        }
+    }
+}
+
+/// Whether both are tokens, and the second is the next after the first.
+fn follows<T: Symbol>(one: &RichPattern<T>, two: &RichPattern<T>) -> bool
+    ensures { result ≡ follows T.number T.text one.now two.now }
+{
+    match (one, two) {
+        (RichPattern::Token(one), RichPattern::Token(two)) => two.number() == one.number() + 1,
+        _ => false,
+    }
+}
+
+/// How many patterns belong to the first item: three or more tokens that follow one another are one item.
+fn item_length<T: Symbol>(patterns: &[RichPattern<T>]) -> usize
+    ensures value { result ≡ item_length T.number T.text patterns.now }
+    ensures bound { result ≤ length patterns.now }
+    ensures some { 0 < length patterns.now → 0 < result }
+{
+    let [first, others @ ..] = patterns else {
+        return 0;
+    };
+    let following = following(first, others);
+    if following < 2 { 1 } else { following + 1 }
+}
+
+/// How many patterns follow, each on the one before it.
+fn following<T: Symbol>(first: &RichPattern<T>, others: &[RichPattern<T>]) -> usize
+    ensures value { result ≡ following T.number T.text first.now others.now }
+    ensures bound { result ≤ length others.now }
+{
+    let mut last = first;
+    let mut count: usize = 0;
+    for other in others {
+        if !follows(last, other) {
+            break;
+        }
+        count += 1;
+        last = other;
+    }
+    count
+}
+
+/// An item of what was expected.
+#[derive_where(Clone, Copy)]
+struct Item<'a, T>(&'a [RichPattern<T>]);
+
+impl<T: Symbol> Display for Item<'_, T> {
+    ghost output = { λ p. Some (item_text T.number T.text p.0.now) };
+
+    fn fmt<W: fmt::Write>(&self, f: &mut Formatter<W>) -> fmt::Result {
+        match self.0 {
+            [] => Ok(()),
+            [only] => write!(f, "{}", Pattern(only)),
+            [first, .., last] => write!(f, "{}..={}", Pattern(first), Pattern(last)),
+        }
+    }
+}
+
+/// All that was expected.
+#[derive_where(Clone, Copy)]
+struct Patterns<'a, T>(&'a [RichPattern<T>]);
+
+impl<T: Symbol> Display for Patterns<'_, T> {
+    ghost output = { λ p. Some (listed (items T.number T.text 0 p.0.now)) };
+
+    fn fmt<W: fmt::Write>(&self, f: &mut Formatter<W>) -> fmt::Result {
+        if self.0.is_empty() {
+            return write!(f, "something else");
+        }
+        let (item, mut rest) = self.0.split_at(item_length(self.0));
+        write!(f, "{}", Item(item))?;
+        while !rest.is_empty() {
+            let (item, later) = rest.split_at(item_length(rest));
+            let separator = if later.is_empty() { " or " } else { ", " };
+            write!(f, "{separator}{}", Item(item))?;
+            rest = later;
+        }
+        Ok(())
+    }
+}
+
+/// The token that was found, or the end of the input.
+#[derive_where(Clone, Copy)]
+struct Found<'a, T>(Option<&'a T>);
+
+impl<T: Symbol> Display for Found<'_, T> {
+    ghost output = { λ s. Some (found_text T.number T.text (option_copied s.0)) };
+
+    fn fmt<W: fmt::Write>(&self, f: &mut Formatter<W>) -> fmt::Result {
+        match self.0 {
+            Some(token) => token.write(f),
+            None => write!(f, "end of input"),
+        }
+    }
+}
+
+/// What an error says, without its place: what was expected and what was found, or its own message.
+#[derive_where(Clone, Copy)]
+pub struct Message<'a, T>(pub &'a Rich<T>);
+
+impl<T: Symbol> Display for Message<'_, T> {
+    ghost output = { λ e. Some (message_text T.number T.text e.0.now) };
+
+    fn fmt<W: fmt::Write>(&self, f: &mut Formatter<W>) -> fmt::Result {
+        match self.0.reason() {
+            Some(message) => write!(f, "{message}"),
+            None => {
+                let patterns = Patterns(self.0.expected().as_slice());
+                write!(f, "expected {patterns}, found {}", Found(self.0.found()))
+            }
+        }
+    }
+}
