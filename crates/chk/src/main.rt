@@ -9,6 +9,7 @@ use std::process::ExitCode;
 use std::{env, io};
 
 mod ab;
+mod list;
 mod run;
 mod show;
 #[cfg(test)]

@@ -3,11 +3,12 @@ ghost use Rattle.std.specs.Prelude.{◌≡◌, ◌⊎◌, ◌≤◌, [], ◌∷�
 ghost use Rattle.std.specs.Option.{option_copied};
 ghost use Rattle.std.specs.Io.KnownBytes.{Appends};
 ghost use Rattle.chk.specs.Lines.{error_lines, alone, pair_text, Tells, TellsSome};
-ghost use Rattle.chk.specs.Show.{stop_text};
+ghost use Rattle.chk.specs.Show.{items_text, stop_text};
 ghost use Rattle.chk.specs.declared.run.Failure.TheVariants.{Refused, Unwritable};
 
 use crate::ab::{check_ab, parse_ab};
-use crate::show::{ErrorLine, stop_name};
+use crate::list::{check_list, parse_list};
+use crate::show::{ErrorLine, Items, stop_name};
 use chumsky::error::Rich;
 use chumsky::{ParseResult, Stop};
 use std::alloc::Global;
@@ -33,6 +34,7 @@ enum Command {
 #[derive(Clone, Copy)]
 enum Grammar {
     Ab,
+    List,
 }
 
 /// Why a run gives no answer.
@@ -125,6 +127,7 @@ fn request(words: &[String]) -> Option<(Command, Grammar)> {
     };
     let grammar = match name.as_str() {
         "ab" => Grammar::Ab,
+        "list" => Grammar::List,
         _ => return None,
     };
     Some((command, grammar))
@@ -147,6 +150,7 @@ fn parse<W: Write>(alloc: Global, grammar: Grammar, text: &str, out: &mut W) -> 
 {
     match grammar {
         Grammar::Ab => tell_pair(out, &parse_ab(alloc, text)?),
+        Grammar::List => tell_items(out, &parse_list(alloc, text)?),
     }
 }
 
@@ -157,6 +161,7 @@ fn check<W: Write>(alloc: Global, grammar: Grammar, text: &str, out: &mut W) -> 
 {
     match grammar {
         Grammar::Ab => tell_checked(out, &check_ab(alloc, text)?),
+        Grammar::List => tell_checked(out, &check_list(alloc, text)?),
     }
 }
 
@@ -170,6 +175,20 @@ fn tell_pair<W: Write>(
 {
     match report(out, answer)? {
         Some((first, second)) => accept(out, format_args!("ok {first}{second}")),
+        None => Ok(REJECTED),
+    }
+}
+
+/// Prints the items of an answer, or its errors.
+fn tell_items<W: Write>(
+    out: &mut W,
+    answer: &ParseResult<Vec<String>, Rich<char>>,
+) -> Result<u8, Failure>
+    ensures told { IfOk result (λ status. Tells (W.contents out.old) (W.contents out.new) answer.now.errors.items (option_map (λ items. items_text items.items) answer.now.output) status) }
+    ensures unwritten { IfErr result (λ why. why ≡ Unwritable) }
+{
+    match report(out, answer)? {
+        Some(items) => accept(out, Items(items.as_slice())),
         None => Ok(REJECTED),
     }
 }

@@ -1,8 +1,9 @@
 //! What the program answers, word for word.
 use crate::run::run;
-use std::alloc::{AllocError, Global};
+use std::alloc::{AllocError, AllocGlobal, Global};
 use std::io;
 use std::io::{ErrorKind, Read, Write};
+use std::process::Abort;
 use std::test::Fail;
 
 /// What a run left behind.
@@ -81,6 +82,21 @@ impl Write for Brittle {
     }
 }
 
+/// Asserts what the program prints of each text, and its status.
+fn assert_prints<R: Abort + AllocGlobal>(
+    rt: &R,
+    words: &[&str],
+    rows: &[(&str, u8, &str)],
+) -> Result<(), AllocError> {
+    for (text, status, line) in rows {
+        let got = run_on(rt.alloc(), words, text.as_bytes())?;
+        assert_eq!(rt; got.out.as_slice(), line.as_bytes(), "at {text:?}");
+        assert_eq!(rt; got.status, *status, "at {text:?}");
+        assert_eq!(rt; got.err.len(), 0, "at {text:?}");
+    }
+    Ok(())
+}
+
 #[test]
 fn parses(rt: HostRuntime) -> Result<(), Fail> {
     let rows = [
@@ -98,12 +114,7 @@ fn parses(rt: HostRuntime) -> Result<(), Fail> {
         ("a~", 1, "error 1..2 expected 'b' found '~'\n"),
         ("a\u{7f}", 1, "error 1..2 expected 'b' found U+007F\n"),
     ];
-    for (text, status, line) in rows {
-        let got = run_on(rt.alloc(), &["parse", "ab"], text.as_bytes())?;
-        assert_eq!(rt; got.out.as_slice(), line.as_bytes(), "at {text:?}");
-        assert_eq!(rt; got.status, status, "at {text:?}");
-        assert_eq!(rt; got.err.len(), 0, "at {text:?}");
-    }
+    assert_prints(&rt, &["parse", "ab"], &rows)?;
     Ok(())
 }
 
@@ -116,12 +127,44 @@ fn checks(rt: HostRuntime) -> Result<(), Fail> {
         ("abc", 1, "error 2..3 expected end of input found 'c'\n"),
         ("b", 1, "error 1..1 expected any found end\n"),
     ];
-    for (text, status, line) in rows {
-        let got = run_on(rt.alloc(), &["check", "ab"], text.as_bytes())?;
-        assert_eq!(rt; got.out.as_slice(), line.as_bytes(), "at {text:?}");
-        assert_eq!(rt; got.status, status, "at {text:?}");
-        assert_eq!(rt; got.err.len(), 0, "at {text:?}");
-    }
+    assert_prints(&rt, &["check", "ab"], &rows)?;
+    Ok(())
+}
+
+/// What is printed of `[1,,2]`, by `parse` and by `check`.
+const NO_NUMBER: &str =
+    "error 3..4 expected '0', '1', '2', '3', '4', '5', '6', '7', '8', '9', ']' found ','\n";
+
+/// What is printed of `[1`.
+const NOT_CLOSED: &str =
+    "error 2..2 expected '0', '1', '2', '3', '4', '5', '6', '7', '8', '9', ',', ']' found end\n";
+
+#[test]
+fn parses_lists(rt: HostRuntime) -> Result<(), Fail> {
+    let rows = [
+        ("[12,3,]", 0, "ok 12 3\n"),
+        ("[12,3]", 0, "ok 12 3\n"),
+        ("[007]", 0, "ok 007\n"),
+        ("[]", 0, "ok\n"),
+        ("[1,,2]", 1, NO_NUMBER),
+        ("[1", 1, NOT_CLOSED),
+        ("12", 1, "error 0..1 expected '[' found '1'\n"),
+        ("[]]", 1, "error 2..3 expected end of input found ']'\n"),
+    ];
+    assert_prints(&rt, &["parse", "list"], &rows)?;
+    Ok(())
+}
+
+#[test]
+fn checks_lists(rt: HostRuntime) -> Result<(), Fail> {
+    let rows = [
+        ("[12,3,]", 0, "ok\n"),
+        ("[]", 0, "ok\n"),
+        ("[1,,2]", 1, NO_NUMBER),
+        ("[1", 1, NOT_CLOSED),
+        ("", 1, "error 0..0 expected '[' found end\n"),
+    ];
+    assert_prints(&rt, &["check", "list"], &rows)?;
     Ok(())
 }
 
@@ -142,6 +185,7 @@ fn wrong_words_are_found_before_the_input_is_read(rt: HostRuntime) -> Result<(),
     assert!(rt; is_usage(rt.alloc(), &["parse", "ab", "ab"])?);
     assert!(rt; is_usage(rt.alloc(), &["parse", "abc"])?);
     assert!(rt; is_usage(rt.alloc(), &["parse", "AB"])?);
+    assert!(rt; is_usage(rt.alloc(), &["parse", "lists"])?);
     assert!(rt; is_usage(rt.alloc(), &["Parse", "ab"])?);
     assert!(rt; is_usage(rt.alloc(), &["", "ab"])?);
     assert!(rt; is_usage(rt.alloc(), &["parse", "ab "])?);
@@ -206,11 +250,11 @@ fn a_refusal_that_cannot_be_written_is_a_failure(rt: HostRuntime) -> Result<(), 
 /// How many writes a text takes, where a failure of any of them leaves status 2, no message and the text so far.
 fn writes_needed(
     alloc: Global,
-    command: &str,
+    words: &[&str],
     text: &str,
     line: &str,
 ) -> Result<Option<usize>, AllocError> {
-    let words = owned(alloc, &[command, "ab"])?;
+    let words = owned(alloc, words)?;
     for writes in 0..30 {
         let mut left = text.as_bytes();
         let kept = Vec::new(alloc);
@@ -231,12 +275,16 @@ fn writes_needed(
 #[test]
 fn a_write_that_fails_says_nothing_more(rt: HostRuntime) -> Result<(), Fail> {
     let alloc = rt.alloc();
-    for (command, line) in [("parse", "ok ab\n"), ("check", "ok\n")] {
-        let of_output = writes_needed(alloc, command, "ab", line)?;
-        let error = "error 1..2 expected 'b' found 'c'\n";
-        let of_error = writes_needed(alloc, command, "ac", error)?;
-        assert!(rt; of_output.is_some_and(|writes| writes > 0));
-        assert!(rt; of_error.is_some_and(|writes| writes > 0));
+    let rows = [
+        (["parse", "ab"], "ab", "ok ab\n"),
+        (["check", "ab"], "ab", "ok\n"),
+        (["parse", "ab"], "ac", "error 1..2 expected 'b' found 'c'\n"),
+        (["check", "ab"], "ac", "error 1..2 expected 'b' found 'c'\n"),
+        (["parse", "list"], "[12,3]", "ok 12 3\n"),
+    ];
+    for (words, text, line) in rows {
+        let needed = writes_needed(alloc, &words, text, line)?;
+        assert!(rt; needed.is_some_and(|writes| writes > 0), "at {text:?}");
     }
     Ok(())
 }

@@ -123,6 +123,14 @@ pub mod laws {
     };
     pub use chumsky_group::laws::{group_of_three_is_then_twice, group_of_two_is_then};
     pub use chumsky_group::steady::{group_is_steady, group_of_an_array_is_steady};
+    pub use chumsky_items::laws::{
+        collect_exactly_adds_no_event, count_is_the_length_of_collect,
+        repeated_is_one_more_or_no_more, repeated_never_gives_more_than_its_cap,
+        separated_by_never_ends_with_a_separator,
+    };
+    pub use chumsky_items::steady::{
+        collect_exactly_is_steady, collect_is_steady, repeated_is_steady, separated_by_is_steady,
+    };
     pub use chumsky_parser::steady::{by_reference_is_steady, either_is_steady};
     pub use chumsky_primitive::steady::{
         any_is_steady, any_ref_is_steady, custom_is_steady, end_is_steady, just_is_steady,

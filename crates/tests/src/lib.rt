@@ -11,6 +11,8 @@ mod calls;
 #[cfg(test)]
 mod choices;
 #[cfg(test)]
+mod collecting;
+#[cfg(test)]
 mod containers;
 #[cfg(test)]
 mod copies;
@@ -31,11 +33,15 @@ mod input_ref;
 #[cfg(test)]
 mod members;
 #[cfg(test)]
+mod repeated;
+#[cfg(test)]
 mod results;
 #[cfg(test)]
 mod rounds;
 #[cfg(test)]
 mod select;
+#[cfg(test)]
+mod separated_by;
 #[cfg(test)]
 mod sequences;
 #[cfg(test)]
