@@ -23,6 +23,8 @@ mod first;
 #[cfg(test)]
 mod from_contexts;
 #[cfg(test)]
+mod from_examples;
+#[cfg(test)]
 mod from_guide;
 #[cfg(test)]
 mod groups;
