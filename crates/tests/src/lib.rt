@@ -25,6 +25,8 @@ mod first;
 #[cfg(test)]
 mod from_contexts;
 #[cfg(test)]
+mod from_examples;
+#[cfg(test)]
 mod from_guide;
 #[cfg(test)]
 mod groups;
