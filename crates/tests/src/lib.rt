@@ -11,9 +11,13 @@ mod calls;
 #[cfg(test)]
 mod choices;
 #[cfg(test)]
+mod clones;
+#[cfg(test)]
 mod containers;
 #[cfg(test)]
 mod copies;
+#[cfg(test)]
+mod counted;
 #[cfg(test)]
 mod custom;
 #[cfg(test)]
@@ -30,6 +34,10 @@ mod groups;
 mod input_ref;
 #[cfg(test)]
 mod members;
+#[cfg(test)]
+mod refusals;
+#[cfg(test)]
+mod report;
 #[cfg(test)]
 mod results;
 #[cfg(test)]
