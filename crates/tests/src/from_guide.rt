@@ -117,6 +117,10 @@ fn a_level_is_told_or_what_is_wrong_with_it(rt: HostRuntime) {
     let rows = [
         ("level=info", "Info\n"),
         (
+            "level=wart",
+            "settings:1:10: expected 'n', found 't'\nlevel=wart\n         ^\n",
+        ),
+        (
             "level=loud",
             "settings:1:7: expected 'e', 'w', 'i' or 'd', found 'l'\nlevel=loud\n      ^\n",
         ),

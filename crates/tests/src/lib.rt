@@ -11,11 +11,15 @@ mod calls;
 #[cfg(test)]
 mod choices;
 #[cfg(test)]
+mod clones;
+#[cfg(test)]
 mod collecting;
 #[cfg(test)]
 mod containers;
 #[cfg(test)]
 mod copies;
+#[cfg(test)]
+mod counted;
 #[cfg(test)]
 mod custom;
 #[cfg(test)]
@@ -35,7 +39,11 @@ mod input_ref;
 #[cfg(test)]
 mod members;
 #[cfg(test)]
+mod refusals;
+#[cfg(test)]
 mod repeated;
+#[cfg(test)]
+mod report;
 #[cfg(test)]
 mod results;
 #[cfg(test)]
