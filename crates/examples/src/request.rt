@@ -1,11 +1,14 @@
 //! The first line of an HTTP request, as `GET /index.html HTTP/1.1`.
 use crate::words::{Word, word};
-use chumsky::Stop;
+use chumsky::combinator::{Part, part_of, run_part};
+use chumsky::extra::RichText;
+use chumsky::input::InputRef;
 use chumsky::prelude::*;
 use chumsky::primitive::Choice;
+use chumsky::{PResult, Stop};
 use std::alloc::Global;
 
-/// What is asked for.
+/// What is to be done.
 #[derive(Clone, Copy, Debug, PartialEq)]
 pub enum Method {
     Get,
@@ -49,13 +52,29 @@ fn known_version<'src>() -> Choice<[Word<'src, Version>; 2]> {
     ])
 }
 
-/// The first line of a request, with its line end. The target is what stands between two spaces.
+/// What is asked for, as it stands between two spaces.
+#[derive(Clone, Copy)]
+struct Target;
+
+impl<'src> IsParser<&'src str, String, RichText> for Target {}
+
+impl<'src> Part<'src, &'src str, String, RichText> for Target {
+    fn run(
+        &self,
+        wanted: bool,
+        inp: &mut InputRef<'src, '_, &'src str, RichText>,
+    ) -> PResult<Option<String>> {
+        let target = none_of(" \r\n").repeated().at_least(1).collect::<String>();
+        run_part(&target, wanted, inp)
+    }
+}
+
+/// The first line of a request, with its line end.
 pub fn parse_request(alloc: Global, text: &str) -> Result<ParseResult<Request, Rich<char>>, Stop> {
-    let target = none_of(" \r\n").repeated().at_least(1).collect::<String>();
     group((
         known_method(),
         just(' '),
-        target,
+        part_of(Target),
         just(' '),
         known_version(),
         just("\r\n"),

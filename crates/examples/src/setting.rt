@@ -1,8 +1,11 @@
 //! A line of settings, as `port = 8080`.
 use crate::words::{Word, word};
-use chumsky::Stop;
+use chumsky::combinator::{Part, part_of, run_part};
+use chumsky::extra::RichText;
+use chumsky::input::InputRef;
 use chumsky::prelude::*;
 use chumsky::primitive::Choice;
+use chumsky::{PResult, Stop};
 use std::alloc::Global;
 
 /// What may be set.
@@ -62,20 +65,36 @@ fn switch<'src>() -> Choice<[Word<'src, Value>; 2]> {
     ])
 }
 
+/// A number of four digits at most.
+#[derive(Clone, Copy)]
+struct Digits;
+
+impl<'src> IsParser<&'src str, Value, RichText> for Digits {}
+
+impl<'src> Part<'src, &'src str, Value, RichText> for Digits {
+    fn run(
+        &self,
+        wanted: bool,
+        inp: &mut InputRef<'src, '_, &'src str, RichText>,
+    ) -> PResult<Option<Value>> {
+        let number = one_of('0'..='9')
+            .repeated()
+            .at_least(1)
+            .at_most(4)
+            .collect::<String>()
+            .map(number_of);
+        run_part(&number, wanted, inp)
+    }
+}
+
 /// The number of some digits, of which there are four at most.
 fn number_of(digits: String) -> Value {
     Value::Number(digits.as_str().parse().unwrap_or(u16::MAX))
 }
 
-/// A line such as `port = 8080` or `verbose = true`. A number has four digits at most.
+/// A line such as `port = 8080` or `verbose = true`.
 pub fn parse_setting(alloc: Global, text: &str) -> Result<ParseResult<Setting, Rich<char>>, Stop> {
-    let number = one_of('0'..='9')
-        .repeated()
-        .at_least(1)
-        .at_most(4)
-        .collect::<String>()
-        .map(number_of);
-    group((keyword(), just(" = "), switch().or(number)))
+    group((keyword(), just(" = "), switch().or(part_of(Digits))))
         .map(|(key, _, value)| Setting { key, value })
         .parse(alloc, text)
 }
