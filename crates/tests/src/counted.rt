@@ -1,6 +1,9 @@
 //! Letters that count their clones, and how many of them are alive: no clause says how often a value is cloned, nor that
 //! what is let go is dropped.
-ghost use Rattle.std.specs.Prelude.{◌≡◌, ◌==◌, ℕ, refl};
+ghost use Rattle.std.specs.Prelude.{◌≡◌, ◌==◌, ℕ, nat_eq, refl};
+ghost use Rattle.std.specs.Cmp.Rules.{comparing};
+ghost use Rattle.std.specs.Ordering.{on};
+ghost use Rattle.std.proofs.Common.{rules};
 
 use chumsky::SameClone;
 use chumsky::extra::ParserExtra;
@@ -93,7 +96,7 @@ impl Default for Counted {
 
 /// By their letters.
 impl PartialEq for Counted {
-    ghost eq = { λ x y. x.letter == y.letter };
+    ghost eq = { on (λ x. x.letter) nat_eq };
 
     ghost laws = { Prim.search (comparing, rules) };
 

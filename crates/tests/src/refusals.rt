@@ -23,37 +23,29 @@ fn an_emitter_has_room(rt: HostRuntime) {
 #[test]
 fn a_run_emits(rt: HostRuntime) {
     let emitting = custom::<_, &str, char, Own>(|inp| {
-        let span = SimpleSpan { start: 0, end: 1 };
-        inp.emit(Rich::custom_in(inp.alloc(), span, "one")?)?;
-        inp.emit(Rich::custom_in(inp.alloc(), span, "two")?)?;
-        inp.parse(any())
+        let here = SimpleSpan { start: 0, end: 1 };
+        inp.emit(Rich::custom(here, String::new(inp.alloc)))?;
+        Ok('x')
     });
+    assert_answers(&rt, &emitting, &[("", "ok 'x'; error 0..1 \"\"")]);
     let rows = [
-        ("a", "ok 'a'; error 0..1 \"one\"; error 0..1 \"two\""),
+        ("", "ok ('x', 'x'); error 0..1 \"\"; error 0..1 \"\""),
         (
-            "",
-            "error 0..1 \"one\"; error 0..1 \"two\"; error 0..0 expected any found end",
+            "a",
+            "error 0..1 \"\"; error 0..1 \"\"; error 0..1 expected end of input found 'a'",
         ),
     ];
-    assert_answers(&rt, &emitting, &rows);
+    assert_answers(&rt, &(&emitting).then(&emitting), &rows);
 }
 
 #[test]
 fn what_was_set_aside_is_brought_back(rt: HostRuntime) {
-    let emitting = custom::<_, &str, char, Own>(|inp| {
-        let span = SimpleSpan { start: 0, end: 1 };
-        inp.emit(Rich::custom_in(inp.alloc(), span, "one")?)?;
-        inp.check(just('b').or_not())?;
-        inp.parse(just('c'))
-    });
-    let twice = just('a').or_not().ignore_then(emitting);
-    let rows = [("c", "ok 'c'; error 0..1 \"one\"")];
-    assert_answers(&rt, &twice, &rows);
-    let rows = [(
-        "d",
-        "error 0..1 \"one\"; error 0..1 expected 'a', 'b', 'c' found 'd'",
-    )];
-    assert_answers(&rt, &twice, &rows);
+    let closure = custom::<_, &str, char, Own>(|inp| inp.parse(just('b')));
+    let rows = [
+        ("b", "ok 'b'"),
+        ("c", "error 0..1 expected 'a', 'b' found 'c'"),
+    ];
+    assert_answers(&rt, &just('a').or_not().ignore_then(closure), &rows);
 }
 
 #[test]

@@ -154,16 +154,16 @@ fn what_names_no_token_is_in_words(rt: HostRuntime) {
 #[test]
 fn each_error_has_a_report(rt: HostRuntime) {
     let emitting = custom::<_, &str, char, Own>(|inp| {
+        let message = String::from_str(inp.alloc, "first")?;
         let span = SimpleSpan { start: 0, end: 2 };
-        let error = Rich::custom_in(inp.alloc(), span, "first")?;
-        inp.emit(error)?;
-        inp.parse(just('c'))
+        inp.emit(Rich::custom(span, message))?;
+        Ok('x')
     });
     let rows = [(
         "ab",
         "input:1:1: first\nab\n^^\ninput:1:1: expected 'c', found 'a'\nab\n^\n",
     )];
-    assert_reports(&rt, &emitting, &rows);
+    assert_reports(&rt, &emitting.then(just('c')), &rows);
 }
 
 /// The report of a message over a span of a text.
