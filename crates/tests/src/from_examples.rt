@@ -13,10 +13,16 @@ fn a_date_has_a_month_and_a_day(rt: HostRuntime) {
         ("9999-12-09", "ok Date { year: 9999, month: 12, day: 9 }"),
         ("2026-13-01", "error 6..7 expected '0', '1', '2' found '3'"),
         ("2026-20-01", "error 5..6 expected '0', '1' found '2'"),
-        ("2026-00-01", "error 6..7 expected '1', '2', '3', '4', '5', '6', '7', '8', '9' found '0'"),
+        (
+            "2026-00-01",
+            "error 6..7 expected '1', '2', '3', '4', '5', '6', '7', '8', '9' found '0'",
+        ),
         ("2026-01-32", "error 9..10 expected '0', '1' found '2'"),
         ("2026-01", "error 7..7 expected '-' found end"),
-        ("2026-01-011", "error 10..11 expected end of input found '1'"),
+        (
+            "2026-01-011",
+            "error 10..11 expected end of input found '1'",
+        ),
     ];
     for (text, line) in rows {
         assert_line(&rt, parse_date(rt.alloc(), text), line);
@@ -26,13 +32,22 @@ fn a_date_has_a_month_and_a_day(rt: HostRuntime) {
 #[test]
 fn a_setting_has_a_key_and_a_value(rt: HostRuntime) {
     let rows = [
-        ("port = 8080", "ok Setting { key: Port, value: Number(8080) }"),
+        (
+            "port = 8080",
+            "ok Setting { key: Port, value: Number(8080) }",
+        ),
         ("level = 7", "ok Setting { key: Level, value: Number(7) }"),
-        ("verbose = false", "ok Setting { key: Verbose, value: Switch(false) }"),
+        (
+            "verbose = false",
+            "ok Setting { key: Verbose, value: Switch(false) }",
+        ),
         ("log = true", "ok Setting { key: Log, value: Switch(true) }"),
         ("port=8080", "error 4..5 expected ' ' found '='"),
         ("port = truth", "error 10..11 expected 'e' found 't'"),
-        ("port = 80800", "error 11..12 expected end of input found '0'"),
+        (
+            "port = 80800",
+            "error 11..12 expected end of input found '0'",
+        ),
         ("colour = 1", "error 1..2 expected 'a' found 'o'"),
     ];
     for (text, line) in rows {
@@ -43,7 +58,11 @@ fn a_setting_has_a_key_and_a_value(rt: HostRuntime) {
 #[test]
 fn a_header_has_its_length_with_the_high_byte_first(rt: HostRuntime) {
     let right = parse_header(rt.alloc(), &[b'P', b'K', b'T', 2, 0x81, 1, 2]);
-    assert_line(&rt, right, "ok Header { version: 2, flags: 129, length: 258 }");
+    assert_line(
+        &rt,
+        right,
+        "ok Header { version: 2, flags: 129, length: 258 }",
+    );
     let other = parse_header(rt.alloc(), b"PKD");
     assert_line(&rt, other, "error 2..3 expected 84 found 68");
     let newer = parse_header(rt.alloc(), &[b'P', b'K', b'T', 3, 0x81, 1, 2]);
@@ -63,8 +82,14 @@ fn a_request_has_a_method_and_a_target(rt: HostRuntime) {
             "PUT /é HTTP/1.0\r\n",
             "ok Request { method: Put, target: \"/é\", version: Http10 }",
         ),
-        ("PATCH / HTTP/1.1\r\n", "error 1..2 expected 'O', 'U' found 'A'"),
-        ("GET  HTTP/1.1\r\n", "error 4..5 expected something else found ' '"),
+        (
+            "PATCH / HTTP/1.1\r\n",
+            "error 1..2 expected 'O', 'U' found 'A'",
+        ),
+        (
+            "GET  HTTP/1.1\r\n",
+            "error 4..5 expected something else found ' '",
+        ),
         ("GET / HTTP/2.0\r\n", "error 11..12 expected '1' found '2'"),
         ("GET / HTTP/1.1", "error 14..14 expected '\\r' found end"),
     ];

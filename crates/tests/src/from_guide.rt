@@ -77,7 +77,11 @@ fn an_error_has_a_message_of_its_own(rt: HostRuntime) {
 fn a_number_is_made_of_its_digits(rt: HostRuntime) {
     assert_line(&rt, percent(rt.alloc(), "07%"), "ok 7");
     assert_line(&rt, percent(rt.alloc(), "93%"), "ok 93");
-    assert_line(&rt, percent(rt.alloc(), "9x%"), "error 1..2 expected '0', '1', '2', '3', '4', '5', '6', '7', '8', '9' found 'x'");
+    assert_line(
+        &rt,
+        percent(rt.alloc(), "9x%"),
+        "error 1..2 expected '0', '1', '2', '3', '4', '5', '6', '7', '8', '9' found 'x'",
+    );
 }
 
 #[test]
@@ -85,7 +89,10 @@ fn a_part_keeps_the_furthest_failure(rt: HostRuntime) {
     let rows = [
         ("07:30 4.50", "ok ((7, 30), 450)"),
         ("23:05 9.99", "ok ((23, 5), 999)"),
-        ("24:05 9.99", "error 1..2 expected '0', '1', '2', '3' found '4'"),
+        (
+            "24:05 9.99",
+            "error 1..2 expected '0', '1', '2', '3' found '4'",
+        ),
         ("07.30 4.50", "error 2..3 expected ':' found '.'"),
         ("07:30 4,50", "error 7..8 expected '.' found ','"),
     ];
@@ -93,8 +100,13 @@ fn a_part_keeps_the_furthest_failure(rt: HostRuntime) {
         assert_line(&rt, ticket(rt.alloc(), text), line);
     }
     let parser = time_of_day().to('t').or(just("07:3a").to('a'));
-    let line = "error 4..5 expected '0', '1', '2', '3', '4', '5', '6', '7', '8', '9', 'a' found 'x'";
-    assert_answers(&rt, &parser, &[("07:30", "ok 't'"), ("07:3a", "ok 'a'"), ("07:3x", line)]);
+    let line =
+        "error 4..5 expected '0', '1', '2', '3', '4', '5', '6', '7', '8', '9', 'a' found 'x'";
+    assert_answers(
+        &rt,
+        &parser,
+        &[("07:30", "ok 't'"), ("07:3a", "ok 'a'"), ("07:3x", line)],
+    );
 }
 
 /// What a law says stands in its contract; at run time it does nothing.
@@ -109,7 +121,14 @@ fn laws_are_called_at_parsers(rt: HostRuntime) {
     let switch = on_or_off();
     switch_is_steady(&switch);
     assert_answers(&rt, &parser, &[("xé", "ok 'é'")]);
-    assert_answers(&rt, &switch, &[("off", "ok false"), ("of", "error 2..2 expected 'f' found end")]);
+    assert_answers(
+        &rt,
+        &switch,
+        &[
+            ("off", "ok false"),
+            ("of", "error 2..2 expected 'f' found end"),
+        ],
+    );
 }
 
 #[test]
@@ -122,7 +141,9 @@ fn a_level_is_told_or_what_is_wrong_with_it(rt: HostRuntime) {
         ),
     ];
     for (text, told) in rows {
-        let line = tell_level(rt.alloc(), text).ok().expect(&rt, "the run was refused");
+        let line = tell_level(rt.alloc(), text)
+            .ok()
+            .expect(&rt, "the run was refused");
         assert_eq!(rt; line.as_str(), told);
     }
 }
