@@ -8,11 +8,12 @@
 typedef uint64_t job_function(const uint8_t *bytes, size_t length);
 
 job_function bench_dates_parse, bench_dates_check, bench_words_parse, bench_words_check, bench_headers_parse,
-    bench_headers_check, bench_fail_empty, bench_fail_rich;
+    bench_headers_check, bench_digits_parse, bench_digits_check, bench_lists_parse, bench_lists_check, bench_fail_empty,
+    bench_fail_rich;
 
 #ifdef WITH_RUST
 job_function rust_dates_parse, rust_dates_check, rust_words_parse, rust_words_check, rust_headers_parse,
-    rust_headers_check, rust_fail;
+    rust_headers_check, rust_digits_parse, rust_digits_check, rust_lists_parse, rust_lists_check, rust_fail;
 #define RUST(name) rust_##name
 #else
 #define RUST(name) NULL
@@ -133,6 +134,102 @@ static uint64_t headers_check(const uint8_t *bytes, size_t length) {
     return times;
 }
 
+/* How many digits stand at a place. */
+static inline size_t digits_at(const uint8_t *at, const uint8_t *end) {
+    const uint8_t *from = at;
+    while (at != end && is_digit(*at)) at += 1;
+    return (size_t)(at - from);
+}
+
+static uint64_t digits_parse(const uint8_t *bytes, size_t length) {
+    const uint8_t *at = bytes, *end = bytes + length;
+    uint64_t total = 0;
+    for (;;) {
+        size_t count = digits_at(at, end);
+        at += count;
+        if (!count || at == end || *at != '\n') return total;
+        at += 1;
+        total += count;
+    }
+}
+
+static uint64_t digits_check(const uint8_t *bytes, size_t length) {
+    const uint8_t *at = bytes, *end = bytes + length;
+    uint64_t times = 0;
+    for (;;) {
+        size_t count = digits_at(at, end);
+        at += count;
+        if (!count || at == end || *at != '\n') return times;
+        at += 1;
+        times += 1;
+    }
+}
+
+/* The numbers of a list, each a text of its own. */
+struct texts {
+    struct text {
+        char *bytes;
+        size_t length;
+    } * items;
+    size_t count, room;
+};
+
+static void push(struct texts *texts, const uint8_t *at, size_t length) {
+    if (texts->count == texts->room) {
+        texts->room = texts->room ? 2 * texts->room : 4;
+        texts->items = realloc(texts->items, texts->room * sizeof *texts->items);
+        if (!texts->items) exit(2);
+    }
+    char *copy = malloc(length);
+    if (!copy) exit(2);
+    memcpy(copy, at, length);
+    texts->items[texts->count++] = (struct text){copy, length};
+}
+
+/* How many digits the numbers have together. They are let go. */
+static uint64_t digits_of(struct texts *texts) {
+    uint64_t total = 0;
+    for (size_t each = 0; each < texts->count; each++) {
+        total += texts->items[each].length;
+        free(texts->items[each].bytes);
+    }
+    free(texts->items);
+    return total;
+}
+
+/* Where a list and the end of its line end, or null. Its numbers go to texts, if there are any to fill. */
+static inline const uint8_t *list(const uint8_t *at, const uint8_t *end, struct texts *texts) {
+    if (at == end || *at++ != '[') return NULL;
+    size_t count = digits_at(at, end);
+    while (count) {
+        if (texts) push(texts, at, count);
+        at += count;
+        count = at != end && *at == ',' ? digits_at(at + 1, end) : 0;
+        at += count != 0;
+    }
+    if (at == end || *at++ != ']') return NULL;
+    return at == end || *at++ != '\n' ? NULL : at;
+}
+
+static uint64_t lists_parse(const uint8_t *bytes, size_t length) {
+    const uint8_t *at = bytes, *end = bytes + length;
+    uint64_t total = 0;
+    for (;;) {
+        struct texts texts = {0};
+        at = list(at, end, &texts);
+        uint64_t digits = digits_of(&texts);
+        if (!at) return total;
+        total += digits;
+    }
+}
+
+static uint64_t lists_check(const uint8_t *bytes, size_t length) {
+    const uint8_t *at = bytes, *end = bytes + length;
+    uint64_t times = 0;
+    while ((at = list(at, end, NULL))) times += 1;
+    return times;
+}
+
 /* Inputs, of a fixed seed. */
 
 static uint64_t seed = 1;
@@ -183,6 +280,42 @@ static struct input make_headers(unsigned count) {
         uint8_t header[HEADER] = {0x7f, 0x45, 0x4c, 0x46, 1 + below(2), 1, below(256), below(256)};
         memcpy(made.bytes + (size_t)each * HEADER, header, HEADER);
     }
+    return made;
+}
+
+enum { DIGITS = 20, NUMBERS = 8 };
+
+/* Up to so many digits. Returns how many bytes it wrote. */
+static size_t write_digits(uint8_t *at, unsigned most) {
+    size_t count = 1 + below(most);
+    for (size_t each = 0; each < count; each++) at[each] = (uint8_t)('0' + below(10));
+    return count;
+}
+
+static struct input make_digits(unsigned count) {
+    struct input made = room((size_t)count * (DIGITS + 1));
+    uint8_t *at = made.bytes;
+    for (unsigned line = 0; line < count; line++) {
+        at += write_digits(at, DIGITS);
+        *at++ = '\n';
+    }
+    made.length = (size_t)(at - made.bytes);
+    return made;
+}
+
+static struct input make_lists(unsigned count) {
+    struct input made = room((size_t)count * (NUMBERS * 6 + 3));
+    uint8_t *at = made.bytes;
+    for (unsigned line = 0; line < count; line++) {
+        *at++ = '[';
+        for (unsigned left = below(NUMBERS + 1); left; left--) {
+            at += write_digits(at, 5);
+            if (left > 1) *at++ = ',';
+        }
+        *at++ = ']';
+        *at++ = '\n';
+    }
+    made.length = (size_t)(at - made.bytes);
     return made;
 }
 
@@ -243,7 +376,7 @@ int main(int count, char **arguments) {
     double seconds = count > 1 ? atof(arguments[1]) : 1;
     const char *only = count > 2 ? arguments[2] : "";
     struct input dates = make_dates(5000), words = make_words(10000), headers = make_headers(10000);
-    struct input failing = make_failing(2000);
+    struct input digits = make_digits(5000), lists = make_lists(2000), failing = make_failing(2000);
     struct job jobs[] = {
         {"dates parse", {bench_dates_parse, dates_parse, RUST(dates_parse)}, dates, {0}},
         {"dates check", {bench_dates_check, dates_check, RUST(dates_check)}, dates, {0}},
@@ -251,6 +384,10 @@ int main(int count, char **arguments) {
         {"words check", {bench_words_check, words_check, RUST(words_check)}, words, {0}},
         {"headers parse", {bench_headers_parse, headers_parse, RUST(headers_parse)}, headers, {0}},
         {"headers check", {bench_headers_check, headers_check, RUST(headers_check)}, headers, {0}},
+        {"digits parse", {bench_digits_parse, digits_parse, RUST(digits_parse)}, digits, {0}},
+        {"digits check", {bench_digits_check, digits_check, RUST(digits_check)}, digits, {0}},
+        {"lists parse", {bench_lists_parse, lists_parse, RUST(lists_parse)}, lists, {0}},
+        {"lists check", {bench_lists_check, lists_check, RUST(lists_check)}, lists, {0}},
         {"fail EmptyErr", {bench_fail_empty, fail, RUST(fail)}, failing, {0}},
         {"fail Rich", {bench_fail_rich, fail, RUST(fail)}, failing, {0}},
     };

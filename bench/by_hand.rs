@@ -26,6 +26,10 @@ jobs! {
     rust_words_check = words_check;
     rust_headers_parse = headers_parse;
     rust_headers_check = headers_check;
+    rust_digits_parse = digits_parse;
+    rust_digits_check = digits_check;
+    rust_lists_parse = lists_parse;
+    rust_lists_check = lists_check;
     rust_fail = fail;
 }
 
@@ -107,6 +111,69 @@ fn headers_parse(mut bytes: &[u8]) -> u64 {
 fn headers_check(mut bytes: &[u8]) -> u64 {
     let mut times = 0;
     while let [0x7f, b'E', b'L', b'F', 1 | 2, 1, _, _, rest @ ..] = bytes {
+        times += 1;
+        bytes = rest;
+    }
+    times
+}
+
+/// The digits at the start, and what follows them.
+fn split_digits(bytes: &[u8]) -> Option<(&[u8], &[u8])> {
+    let count = bytes.iter().take_while(|byte| byte.is_ascii_digit()).count();
+    (count > 0).then(|| bytes.split_at(count))
+}
+
+fn line_of_digits(bytes: &[u8]) -> Option<(u64, &[u8])> {
+    let (digits, rest) = split_digits(bytes)?;
+    Some((digits.len() as u64, rest.strip_prefix(b"\n")?))
+}
+
+fn digits_parse(mut bytes: &[u8]) -> u64 {
+    let mut total = 0;
+    while let Some((count, rest)) = line_of_digits(bytes) {
+        total += count;
+        bytes = rest;
+    }
+    total
+}
+
+fn digits_check(mut bytes: &[u8]) -> u64 {
+    let mut times = 0;
+    while let Some((_, rest)) = line_of_digits(bytes) {
+        times += 1;
+        bytes = rest;
+    }
+    times
+}
+
+/// What follows a list and the end of its line; `each` is handed its numbers.
+fn list<'a>(bytes: &'a [u8], mut each: impl FnMut(&'a [u8])) -> Option<&'a [u8]> {
+    let mut rest = bytes.strip_prefix(b"[")?;
+    let mut next = split_digits(rest);
+    while let Some((digits, after)) = next {
+        each(digits);
+        rest = after;
+        next = rest.strip_prefix(b",").and_then(split_digits);
+    }
+    rest.strip_prefix(b"]\n")
+}
+
+fn lists_parse(mut bytes: &[u8]) -> u64 {
+    let mut total = 0;
+    loop {
+        let mut numbers: Vec<String> = Vec::new();
+        let push = |digits: &[u8]| numbers.push(digits.iter().map(|&byte| byte as char).collect());
+        let Some(rest) = list(bytes, push) else {
+            return total;
+        };
+        total += numbers.iter().map(|number| number.len() as u64).sum::<u64>();
+        bytes = rest;
+    }
+}
+
+fn lists_check(mut bytes: &[u8]) -> u64 {
+    let mut times = 0;
+    while let Some(rest) = list(bytes, |_| ()) {
         times += 1;
         bytes = rest;
     }

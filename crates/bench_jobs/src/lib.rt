@@ -4,5 +4,6 @@
 
 mod dates;
 mod headers;
+mod lists;
 mod run;
 mod words;

@@ -47,12 +47,12 @@ impl<
 
     ghost agrees = { λ p s. collects-agree _ _ C.holds C.takes_no_memory (A.same p.parser) (A.alike p.parser) (A.agrees p.parser s (record { nonconsumption_is_ok = false })) };
 
-    #[inline]
+    #[inline(always)]
     fn go_emit(&self, inp: &mut InputRef<'src, '_, I, E>) -> PResult<C> {
         collect_all::<I, O, E, A, C>(&self.parser, inp)
     }
 
-    #[inline]
+    #[inline(always)]
     fn go_check(&self, inp: &mut InputRef<'src, '_, I, E>) -> PResult<()> {
         pass_all::<C, I, O, E, A>(&self.parser, inp)
     }

@@ -45,12 +45,12 @@ impl<'src, I: Input<'src>, O, E: ParserExtra<I>, A: IterParser<'src, I, O, E>> P
 
     ghost agrees = { λ p s. counts-agree _ _ (A.same p.parser) (A.alike p.parser) (A.agrees p.parser s (record { nonconsumption_is_ok = false })) };
 
-    #[inline]
+    #[inline(always)]
     fn go_emit(&self, inp: &mut InputRef<'src, '_, I, E>) -> PResult<usize> {
         count_all::<I, O, E, A>(&self.parser, inp)
     }
 
-    #[inline]
+    #[inline(always)]
     fn go_check(&self, inp: &mut InputRef<'src, '_, I, E>) -> PResult<()> {
         pass_all::<usize, I, O, E, A>(&self.parser, inp)
     }

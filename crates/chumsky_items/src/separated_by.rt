@@ -30,7 +30,7 @@ pub struct SeparatedBy<A, B, O, U, I, E> {
 }
 
 /// Whether progress is asked: not of the first item.
-#[inline]
+#[inline(always)]
 fn asks_after(debug: IterParserDebug, at_most: Option<usize>, first: bool) -> bool
     ensures { result ≡ (asks debug.nonconsumption_is_ok at_most && not first) }
 {
@@ -42,7 +42,7 @@ fn asks_after(debug: IterParserDebug, at_most: Option<usize>, first: bool) -> bo
 }
 
 /// Whether a separator stays though no item follows it.
-#[inline]
+#[inline(always)]
 fn stays_behind(trailing: bool, least: usize, count: usize) -> bool
     ensures { result ≡ (trailing && nat_le least count) }
 {
@@ -50,7 +50,7 @@ fn stays_behind(trailing: bool, least: usize, count: usize) -> bool
 }
 
 /// Runs the separator before an item, where one is tried. A missing one is gone back from before the first item alone.
-#[inline]
+#[inline(always)]
 fn lead<'src, U, I: Input<'src>, E: ParserExtra<I>, B: Parser<'src, I, U, E>>(
     separator: &B,
     inp: &mut InputRef<'src, '_, I, E>,
@@ -119,12 +119,12 @@ impl<
 
     ghost agrees = { λ p s d. separates-agree _ _ _ _ _ (record { least = p.at_least; most = p.at_most; leading = p.allow_leading; trailing = p.allow_trailing; free = d.nonconsumption_is_ok }) (B.same p.separator) (A.same p.parser) (B.agrees p.separator s.1) (A.agrees p.parser s.0) };
 
-    #[inline]
+    #[inline(always)]
     fn make_iter(&self, _inp: &mut InputRef<'src, '_, I, E>) -> PResult<usize> {
         Ok(0)
     }
 
-    #[inline]
+    #[inline(always)]
     fn next_emit(
         &self,
         inp: &mut InputRef<'src, '_, I, E>,
@@ -140,7 +140,7 @@ impl<
         end_instead(inp, &before, few, answer)
     }
 
-    #[inline]
+    #[inline(always)]
     fn next_check(
         &self,
         inp: &mut InputRef<'src, '_, I, E>,
@@ -159,7 +159,7 @@ impl<
 
 impl<A, B, O, U, I, E> SeparatedBy<A, B, O, U, I, E> {
     /// A separator and then an item, for its value.
-    #[inline]
+    #[inline(always)]
     fn round_emit<'src>(
         &self,
         inp: &mut InputRef<'src, '_, I, E>,
@@ -192,7 +192,7 @@ impl<A, B, O, U, I, E> SeparatedBy<A, B, O, U, I, E> {
     }
 
     /// A separator and then an item, without its value.
-    #[inline]
+    #[inline(always)]
     fn round_check<'src>(
         &self,
         inp: &mut InputRef<'src, '_, I, E>,

@@ -1,5 +1,6 @@
-//! That a part under the output of another is steady, and one within it, each the contract of a function that does
-//! nothing.
+//! That a part under the output of another is steady, and one within it, and what is known of two outputs that count as the
+//! same: each the contract of a function that does nothing.
+ghost use Rattle.std.specs.Prelude.{◌≡◌, ℕ};
 ghost use Rattle.contexts.specs.Under.{SameAreEqual};
 ghost use Rattle.contexts.specs.Within.{SameCount};
 
@@ -14,7 +15,8 @@ use chumsky::primitive::Any;
 use chumsky::span::SimpleSpan;
 use chumsky_input::input::TextCursor;
 
-/// It is steady where both parts are, and outputs of the first that are the same are equal.
+/// It is steady where both parts are, and outputs of the first that are the same are equal. Its outputs that are the same
+/// are so to the second.
 pub fn under_output_is_steady<'src, I, O, U, E, A, B>(parser: &UnderOutput<A, B, O>)
 where
     I: Input<'src>,
@@ -23,10 +25,11 @@ where
     E: ParserExtra<I>,
     A: Parser<'src, I, O, E>,
     B: Parser<'src, I, U, Full<E::Error, E::State, O>>,
-    ensures { A.steady parser.now.first → B.steady parser.now.second → SameAreEqual (A.same parser.now.first) → ⟦<UnderOutput<A, B, O> as Parser<'src, I, U, E>>⟧.steady parser.now }
+    ensures steady { A.steady parser.now.first → B.steady parser.now.second → SameAreEqual (A.same parser.now.first) → ⟦<UnderOutput<A, B, O> as Parser<'src, I, U, E>>⟧.steady parser.now }
+    ensures same { (x y : U) → ⟦<UnderOutput<A, B, O> as Parser<'src, I, U, E>>⟧.same parser.now x y → B.same parser.now.second x y }
 {}
 
-/// The outputs of `any()` over a text are such outputs.
+/// The outputs of `any()` over a text are such outputs, and those of the whole that are the same are equal.
 pub fn any_under_any_is_steady<'src>(
     parser: &UnderOutput<
         Any<&'src str, Err<EmptyErr>>,
@@ -34,11 +37,13 @@ pub fn any_under_any_is_steady<'src>(
         char,
     >,
 )
-    ensures { ⟦<UnderOutput<Any<&'src str, Err<EmptyErr>>, Any<&'src str, Full<EmptyErr, (), char>>, char> as Parser<'src, &'src str, char, Err<EmptyErr>>>⟧.steady parser.now }
+    ensures steady { ⟦<UnderOutput<Any<&'src str, Err<EmptyErr>>, Any<&'src str, Full<EmptyErr, (), char>>, char> as Parser<'src, &'src str, char, Err<EmptyErr>>>⟧.steady parser.now }
+    ensures same { (x y : ℕ) → ⟦<UnderOutput<Any<&'src str, Err<EmptyErr>>, Any<&'src str, Full<EmptyErr, (), char>>, char> as Parser<'src, &'src str, char, Err<EmptyErr>>>⟧.same parser.now x y → x ≡ y }
 {}
 
 /// A parser within the output of another is steady where both are, errors and states that count as the same over one
-/// of the inputs do over the other, and outputs of the outer parser that are the same have the same tokens.
+/// of the inputs do over the other, and outputs of the outer parser that are the same have the same tokens. Its outputs
+/// that are the same are so to the inner parser.
 pub fn within_output_is_steady<'src, I, J, U, E, A, B, C, T, S, M>(
     parser: &WithinOutput<A, B, J, C, T, S, M>,
 )
@@ -56,10 +61,12 @@ where
     M: Drop,
     A: Parser<'src, J, U, Full<E::Error, E::State, E::Context>>,
     B: Parser<'src, I, J, E>,
-    ensures { A.steady parser.now.inner → B.steady parser.now.outer → SameCount J.Input ⟦<E::Error as Error<J>>⟧ ⟦<E::State as Inspector<J>>⟧ ⟦<E::Error as Error<I>>⟧ ⟦<E::State as Inspector<I>>⟧ (B.same parser.now.outer) → ⟦<WithinOutput<A, B, J, C, T, S, M> as Parser<'src, I, U, E>>⟧.steady parser.now }
+    ensures steady { A.steady parser.now.inner → B.steady parser.now.outer → SameCount J.Input ⟦<E::Error as Error<J>>⟧ ⟦<E::State as Inspector<J>>⟧ ⟦<E::Error as Error<I>>⟧ ⟦<E::State as Inspector<I>>⟧ (B.same parser.now.outer) → ⟦<WithinOutput<A, B, J, C, T, S, M> as Parser<'src, I, U, E>>⟧.steady parser.now }
+    ensures same { (x y : U) → ⟦<WithinOutput<A, B, J, C, T, S, M> as Parser<'src, I, U, E>>⟧.same parser.now x y → A.same parser.now.inner x y }
 {}
 
-/// Texts that are tokens are such outputs of `any()`, with an error that says where it stands.
+/// Texts that are tokens are such outputs of `any()`, with an error that says where it stands, and characters of theirs
+/// that are the same are equal.
 pub fn any_within_any_is_steady<'src>(
     parser: &WithinOutput<
         Any<&'src str, Err<Cheap>>,
@@ -71,5 +78,6 @@ pub fn any_within_any_is_steady<'src>(
         (),
     >,
 )
-    ensures { ⟦<WithinOutput<Any<&'src str, Err<Cheap>>, Any<&'src [&'src str], Err<Cheap>>, &'src str, TextCursor<'src>, char, SimpleSpan, ()> as Parser<'src, &'src [&'src str], char, Err<Cheap>>>⟧.steady parser.now }
+    ensures steady { ⟦<WithinOutput<Any<&'src str, Err<Cheap>>, Any<&'src [&'src str], Err<Cheap>>, &'src str, TextCursor<'src>, char, SimpleSpan, ()> as Parser<'src, &'src [&'src str], char, Err<Cheap>>>⟧.steady parser.now }
+    ensures same { (x y : ℕ) → ⟦<WithinOutput<Any<&'src str, Err<Cheap>>, Any<&'src [&'src str], Err<Cheap>>, &'src str, TextCursor<'src>, char, SimpleSpan, ()> as Parser<'src, &'src [&'src str], char, Err<Cheap>>>⟧.same parser.now x y → x ≡ y }
 {}

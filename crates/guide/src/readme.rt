@@ -1,12 +1,44 @@
 //! The parser that README.md begins with.
 use chumsky::Stop;
+use chumsky::extra::RichText;
 use chumsky::prelude::*;
+use chumsky::report::Report;
 use std::alloc::Global;
 
-/// An `a` and a `b` in either order; the `a` comes out first.
-pub fn pair(alloc: Global, text: &str) -> Result<ParseResult<(char, char), Rich<char>>, Stop> {
-    let parser = just::<_, _, extra::Err<Rich<char>>>('a')
-        .then(just('b'))
-        .or(just('b').then(just('a')).map(|(b, a)| (a, b)));
-    parser.parse(alloc, text)
+/// How much a program tells of itself.
+#[derive(Clone, Copy, Debug, PartialEq)]
+pub enum Level {
+    Error,
+    Warn,
+    Info,
+    Debug,
+}
+
+/// A setting, as `level=info`.
+pub fn parse_level(alloc: Global, text: &str) -> Result<ParseResult<Level, Rich<char>>, Stop> {
+    let level = choice((
+        just::<_, &str, RichText>("error").to(Level::Error),
+        just("warn").to(Level::Warn),
+        just("info").to(Level::Info),
+        just("debug").to(Level::Debug),
+    ));
+    just("level=").ignore_then(level).parse(alloc, text)
+}
+
+/// What a text sets, or each error, as it is shown to people.
+pub fn tell_level(alloc: Global, text: &str) -> Result<String, Stop> {
+    let parsed = parse_level(alloc, text)?;
+    let mut told = String::new(alloc);
+    if let Some(level) = parsed.output() {
+        writeln!(told, "{level:?}")?;
+    }
+    for error in parsed.errors() {
+        let report = Report {
+            name: "settings",
+            text,
+            error,
+        };
+        writeln!(told, "{report}")?;
+    }
+    Ok(told)
 }

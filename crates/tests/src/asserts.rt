@@ -1,6 +1,7 @@
 //! Asserts what parsers answer.
-use answers::answer::{answer, answer_from};
+use answers::answer::{answer, answer_from, line_of};
 use answers::says::Says;
+use chumsky::Stop;
 use chumsky::extra::ParserExtra;
 use chumsky::prelude::*;
 use std::alloc::AllocGlobal;
@@ -49,4 +50,14 @@ where
         let line = answer_from(parser, rt.alloc(), *input, state).expect(rt, "want of memory");
         assert_eq!(rt; line.as_str(), *expected);
     }
+}
+
+/// Asserts what a run answered.
+pub(crate) fn assert_line<O: Debug + Drop, E: Says, R: Abort + AllocGlobal>(
+    rt: &R,
+    answer: Result<ParseResult<O, E>, Stop>,
+    expected: &str,
+) {
+    let line = line_of(rt.alloc(), &answer).expect(rt, "want of memory");
+    assert_eq!(rt; line.as_str(), expected);
 }

@@ -1,8 +1,5 @@
 //! The items of docs/GUIDE.md, and the parser that README.md begins with, run as they say; and laws called at parsers.
-use crate::asserts::assert_answers;
-use answers::answer::line_of;
-use answers::says::Says;
-use chumsky::Stop;
+use crate::asserts::{assert_answers, assert_line};
 use chumsky::laws::{end_is_steady, just_is_steady, or_not_never_says_no, then_is_associative};
 use chumsky::prelude::*;
 use guide::closure::{day, foo_or_nothing};
@@ -10,22 +7,11 @@ use guide::conclusion::two;
 use guide::extras::Plain;
 use guide::handed::{check_two_tokens, each};
 use guide::laws::token_past;
-use guide::own_type::Two;
+use guide::mapping::percent;
+use guide::parts::{on_or_off, switch_is_steady, ticket, time_of_day};
 use guide::picking::span_past_x;
+use guide::readme::tell_level;
 use guide::running::{keyword, one_two, pair};
-use std::alloc::AllocGlobal;
-use std::fmt::Debug;
-use std::process::Abort;
-
-/// Asserts what a run answered.
-fn assert_line<O: Debug + Drop, E: Says, R: Abort + AllocGlobal>(
-    rt: &R,
-    answer: Result<ParseResult<O, E>, Stop>,
-    expected: &str,
-) {
-    let line = line_of(rt.alloc(), &answer).expect(rt, "want of memory");
-    assert_eq!(rt; line.as_str(), expected);
-}
 
 #[test]
 fn a_pair_is_taken(rt: HostRuntime) {
@@ -88,14 +74,38 @@ fn an_error_has_a_message_of_its_own(rt: HostRuntime) {
 }
 
 #[test]
-fn a_type_of_ones_own_has_builders_and_run_forms(rt: HostRuntime) {
-    let two = Two {
-        parts: any().then(any()),
-    };
+fn a_number_is_made_of_its_digits(rt: HostRuntime) {
+    assert_line(&rt, percent(rt.alloc(), "07%"), "ok 7");
+    assert_line(&rt, percent(rt.alloc(), "93%"), "ok 93");
+    assert_line(
+        &rt,
+        percent(rt.alloc(), "9x%"),
+        "error 1..2 expected '0', '1', '2', '3', '4', '5', '6', '7', '8', '9' found 'x'",
+    );
+}
+
+#[test]
+fn a_part_keeps_the_furthest_failure(rt: HostRuntime) {
+    let rows = [
+        ("07:30 4.50", "ok ((7, 30), 450)"),
+        ("23:05 9.99", "ok ((23, 5), 999)"),
+        (
+            "24:05 9.99",
+            "error 1..2 expected '0', '1', '2', '3' found '4'",
+        ),
+        ("07.30 4.50", "error 2..3 expected ':' found '.'"),
+        ("07:30 4,50", "error 7..8 expected '.' found ','"),
+    ];
+    for (text, line) in rows {
+        assert_line(&rt, ticket(rt.alloc(), text), line);
+    }
+    let parser = time_of_day().to('t').or(just("07:3a").to('a'));
+    let line =
+        "error 4..5 expected '0', '1', '2', '3', '4', '5', '6', '7', '8', '9', 'a' found 'x'";
     assert_answers(
         &rt,
-        &two.then(just('c')),
-        &[("ébc", "ok (('é', 'b'), 'c')")],
+        &parser,
+        &[("07:30", "ok 't'"), ("07:3a", "ok 'a'"), ("07:3x", line)],
     );
 }
 
@@ -108,17 +118,36 @@ fn laws_are_called_at_parsers(rt: HostRuntime) {
     or_not_never_says_no(&parser);
     then_is_associative(&parser, &any(), &parser);
     end_is_steady::<&str, extra::Err<EmptyErr>>(&end(), &empty());
+    let switch = on_or_off();
+    switch_is_steady(&switch);
     assert_answers(&rt, &parser, &[("xé", "ok 'é'")]);
+    assert_answers(
+        &rt,
+        &switch,
+        &[
+            ("off", "ok false"),
+            ("of", "error 2..2 expected 'f' found end"),
+        ],
+    );
 }
 
 #[test]
-fn the_a_comes_out_first(rt: HostRuntime) {
+fn a_level_is_told_or_what_is_wrong_with_it(rt: HostRuntime) {
     let rows = [
-        ("ab", "ok ('a', 'b')"),
-        ("ba", "ok ('a', 'b')"),
-        ("ac", "error 1..2 expected 'b' found 'c'"),
+        ("level=info", "Info\n"),
+        (
+            "level=wart",
+            "settings:1:10: expected 'n', found 't'\nlevel=wart\n         ^\n",
+        ),
+        (
+            "level=loud",
+            "settings:1:7: expected 'e', 'w', 'i' or 'd', found 'l'\nlevel=loud\n      ^\n",
+        ),
     ];
-    for (text, line) in rows {
-        assert_line(&rt, guide::readme::pair(rt.alloc(), text), line);
+    for (text, told) in rows {
+        let line = tell_level(rt.alloc(), text)
+            .ok()
+            .expect(&rt, "the run was refused");
+        assert_eq!(rt; line.as_str(), told);
     }
 }

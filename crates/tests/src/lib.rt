@@ -11,11 +11,15 @@ mod calls;
 #[cfg(test)]
 mod choices;
 #[cfg(test)]
+mod clones;
+#[cfg(test)]
 mod collecting;
 #[cfg(test)]
 mod containers;
 #[cfg(test)]
 mod copies;
+#[cfg(test)]
+mod counted;
 #[cfg(test)]
 mod custom;
 #[cfg(test)]
@@ -25,6 +29,8 @@ mod first;
 #[cfg(test)]
 mod from_contexts;
 #[cfg(test)]
+mod from_examples;
+#[cfg(test)]
 mod from_guide;
 #[cfg(test)]
 mod groups;
@@ -33,7 +39,11 @@ mod input_ref;
 #[cfg(test)]
 mod members;
 #[cfg(test)]
+mod refusals;
+#[cfg(test)]
 mod repeated;
+#[cfg(test)]
+mod report;
 #[cfg(test)]
 mod results;
 #[cfg(test)]

@@ -1,0 +1,289 @@
+//! What errors look like to people: whole reports of texts and of bytes, and the places that they name.
+use answers::extras::Own;
+use chumsky::prelude::*;
+use chumsky::report::{ByteReport, Report, place_of};
+use std::alloc::{AllocError, AllocGlobal, Global};
+use std::fmt::Debug;
+use std::process::Abort;
+
+/// The reports of some errors of a text, each with a line end after it.
+fn reports(alloc: Global, text: &str, errors: &[Rich<char>]) -> Result<String, AllocError> {
+    let mut printed = String::new(alloc);
+    for error in errors {
+        let report = Report {
+            name: "input",
+            text,
+            error,
+        };
+        writeln!(printed, "{report}")?;
+    }
+    Ok(printed)
+}
+
+/// Asserts how the errors of a parser are reported, of each text as its row says.
+fn assert_reports<
+    'src,
+    O: Debug + Drop,
+    P: IsParser<&'src str, O, Own> + Parser<'src, &'src str, O, Own>,
+    R: Abort + AllocGlobal,
+>(rt: &R, parser: &P, rows: &[(&'src str, &str)])
+    requires { P.ready parser.now }
+{
+    for (text, expected) in rows {
+        let parsed = parser
+            .parse(rt.alloc(), *text)
+            .ok()
+            .expect(rt, "want of memory");
+        let printed = reports(rt.alloc(), text, parsed.errors.as_slice()).expect(
+            rt,
+            "want of memory",
+        );
+        assert_eq!(rt; printed.as_str(), *expected);
+    }
+}
+
+#[test]
+fn a_report_shows_the_line_alone(rt: HostRuntime) {
+    let three_lines = just::<_, _, Own>("one\ntwo\n").then(just("three"));
+    let rows = [
+        ("one\ntwo\nthree", ""),
+        (
+            "one\ntwo\nthxee\nfour",
+            "input:3:3: expected 'r', found 'x'\nthxee\n  ^\n",
+        ),
+        (
+            "one two\nthree",
+            "input:1:4: expected '\\n', found ' '\none two\n   ^\n",
+        ),
+        (
+            "one\n\nthree",
+            "input:2:1: expected 't', found '\\n'\n\n^\n",
+        ),
+    ];
+    assert_reports(&rt, &three_lines, &rows);
+}
+
+#[test]
+fn carets_align_below_tabs_and_wide_characters(rt: HostRuntime) {
+    let tabs = just::<_, _, Own>("\té\tb");
+    let rows = [
+        (
+            "\té\tc",
+            "input:1:4: expected 'b', found 'c'\n\té\tc\n\t \t^\n",
+        ),
+        (
+            "\té\tö",
+            "input:1:4: expected 'b', found 'ö'\n\té\tö\n\t \t^\n",
+        ),
+        ("\te", "input:1:2: expected 'é', found 'e'\n\te\n\t^\n"),
+    ];
+    assert_reports(&rt, &tabs, &rows);
+}
+
+#[test]
+fn the_end_of_input_has_a_caret(rt: HostRuntime) {
+    let two_lines = just::<_, _, Own>("ab\ncd");
+    let rows = [
+        ("a", "input:1:2: expected 'b', found end of input\na\n ^\n"),
+        ("ab\n", "input:2:1: expected 'c', found end of input\n\n^\n"),
+        ("", "input:1:1: expected 'a', found end of input\n\n^\n"),
+        (
+            "ab\ncde",
+            "input:2:3: expected end of input, found 'e'\ncde\n  ^\n",
+        ),
+    ];
+    assert_reports(&rt, &two_lines, &rows);
+}
+
+/// Asserts how the first character of a text is reported that is none of some.
+fn assert_none_of<R: Abort + AllocGlobal>(rt: &R, letters: &'static str, expected: &str) {
+    assert_reports(rt, &one_of::<_, _, Own>(letters), &[("~", expected)]);
+}
+
+#[test]
+fn three_that_follow_one_another_are_a_range(rt: HostRuntime) {
+    let rows = [
+        ("a", "input:1:1: expected 'a', found '~'\n~\n^\n"),
+        ("ab", "input:1:1: expected 'a' or 'b', found '~'\n~\n^\n"),
+        ("abc", "input:1:1: expected 'a'..='c', found '~'\n~\n^\n"),
+        (
+            "ace",
+            "input:1:1: expected 'a', 'c' or 'e', found '~'\n~\n^\n",
+        ),
+        (
+            "xabcdyz",
+            "input:1:1: expected 'x', 'a'..='d', 'y' or 'z', found '~'\n~\n^\n",
+        ),
+        (
+            "_abcxyz",
+            "input:1:1: expected '_', 'a'..='c' or 'x'..='z', found '~'\n~\n^\n",
+        ),
+        (
+            "cba",
+            "input:1:1: expected 'c', 'b' or 'a', found '~'\n~\n^\n",
+        ),
+        (
+            "\n\r\t'\\\"\u{85}",
+            "input:1:1: expected '\\n', '\\r', '\\t', '\\'', '\\\\', '\"' or '\\u{85}', found '~'\n~\n^\n",
+        ),
+    ];
+    for (letters, expected) in rows {
+        assert_none_of(&rt, letters, expected);
+    }
+}
+
+#[test]
+fn what_names_no_token_is_in_words(rt: HostRuntime) {
+    let rows = [(
+        "",
+        "input:1:1: expected anything, found end of input\n\n^\n",
+    )];
+    assert_reports(&rt, &any::<_, Own>(), &rows);
+    let rows = [(
+        "\u{7f}",
+        "input:1:1: expected something else, found '\\u{7f}'\n\u{7f}\n^\n",
+    )];
+    assert_reports(&rt, &none_of::<_, _, Own>(['\u{7f}']), &rows);
+    let rows = [(
+        "x",
+        "input:1:1: expected '0'..='9' or end of input, found 'x'\nx\n^\n",
+    )];
+    assert_reports(&rt, &one_of::<_, _, Own>('0'..='9').or_not(), &rows);
+}
+
+#[test]
+fn each_error_has_a_report(rt: HostRuntime) {
+    let emitting = custom::<_, &str, char, Own>(|inp| {
+        let span = SimpleSpan { start: 0, end: 2 };
+        let error = Rich::custom_in(inp.alloc(), span, "first")?;
+        inp.emit(error)?;
+        inp.parse(just('c'))
+    });
+    let rows = [(
+        "ab",
+        "input:1:1: first\nab\n^^\ninput:1:1: expected 'c', found 'a'\nab\n^\n",
+    )];
+    assert_reports(&rt, &emitting, &rows);
+}
+
+/// The report of a message over a span of a text.
+fn report_of_message(
+    alloc: Global,
+    text: &str,
+    start: usize,
+    end: usize,
+) -> Result<String, AllocError> {
+    let error = Rich::custom_in(alloc, SimpleSpan { start, end }, "no such day")?;
+    let report = Report {
+        name: "days.txt",
+        text,
+        error: &error,
+    };
+    format!(in alloc; "{report}")
+}
+
+#[test]
+fn a_caret_stands_below_each_character_of_the_span(rt: HostRuntime) {
+    let text = "let x\n\tlet y = é1;\nend";
+    let rows = [
+        (0, 3, "days.txt:1:1: no such day\nlet x\n^^^"),
+        (5, 6, "days.txt:1:6: no such day\nlet x\n     ^"),
+        (
+            15,
+            18,
+            "days.txt:2:10: no such day\n\tlet y = é1;\n\t        ^^",
+        ),
+        (
+            11,
+            23,
+            "days.txt:2:6: no such day\n\tlet y = é1;\n\t    ^^^^^^^",
+        ),
+        (9, 7, "days.txt:2:4: no such day\n\tlet y = é1;\n\t  ^"),
+        (20, 20, "days.txt:3:1: no such day\nend\n^"),
+        (23, 23, "days.txt:3:4: no such day\nend\n   ^"),
+        (30, 40, "days.txt:3:4: no such day\nend\n   ^"),
+    ];
+    for (start, end, expected) in rows {
+        let printed = report_of_message(rt.alloc(), text, start, end).expect(&rt, "want of memory");
+        assert_eq!(rt; printed.as_str(), expected);
+    }
+}
+
+/// The report of the first error of two bytes, `RT`.
+fn report_of_bytes(alloc: Global, bytes: &[u8]) -> Result<Option<String>, AllocError> {
+    let parser = just::<_, _, Own>(b"RT").then(one_of([1u8, 2, 3, 9]));
+    let parsed = match parser.parse(alloc, bytes) {
+        Ok(parsed) => parsed,
+        Err(_) => return Err(AllocError),
+    };
+    match parsed.errors.as_slice() {
+        [error, ..] => Ok(Some(format!(in alloc;
+            "{}",
+            ByteReport {
+                name: "blob",
+                error
+            }
+        )?)),
+        [] => Ok(None),
+    }
+}
+
+#[test]
+fn bytes_are_reported_in_hexadecimal(rt: HostRuntime) {
+    let rows: [(&[u8], Option<&str>); 5] = [
+        (b"RT\x03", None),
+        (b"RZ", Some("blob:1 (0x1): expected 0x54, found 0x5a")),
+        (b"", Some("blob:0 (0x0): expected 0x52, found end of input")),
+        (
+            b"RT\x00",
+            Some("blob:2 (0x2): expected 0x01..=0x03 or 0x09, found 0x00"),
+        ),
+        (
+            b"RT\x09\xff",
+            Some("blob:3 (0x3): expected end of input, found 0xff"),
+        ),
+    ];
+    for (bytes, expected) in rows {
+        let printed = report_of_bytes(rt.alloc(), bytes).expect(&rt, "want of memory");
+        assert!(rt;
+            printed.as_ref().map(|it| it.as_str()) == expected,
+            "of {bytes:?}"
+        );
+    }
+    let span = SimpleSpan { start: 26, end: 30 };
+    let error: Rich<u8> = Rich::custom_in(rt.alloc(), span, "no such block").expect(
+        &rt,
+        "want of memory",
+    );
+    let report = ByteReport {
+        name: "blob",
+        error: &error,
+    };
+    let printed = format!(in rt.alloc(); "{report}").expect(&rt, "want of memory");
+    assert_eq!(rt; printed.as_str(), "blob:26 (0x1a): no such block");
+}
+
+#[test]
+fn lines_and_columns_count_from_one(rt: HostRuntime) {
+    let rows = [
+        ("", 0, 1, 1),
+        ("", 5, 1, 1),
+        ("ab\nc", 1, 1, 2),
+        ("ab\nc", 2, 1, 3),
+        ("ab\nc", 3, 2, 1),
+        ("ab\nc", 4, 2, 2),
+        ("ab\nc", 9, 2, 2),
+        ("é\r\n", 2, 1, 2),
+        ("é\r\n", 3, 1, 3),
+        ("é\r\n", 4, 2, 1),
+        ("\n\n\n", 2, 3, 1),
+    ];
+    for (text, offset, line, column) in rows {
+        let place = place_of(text, offset);
+        assert_eq!(rt;
+            (place.line, place.column),
+            (line, column),
+            "at {offset} of {text:?}"
+        );
+    }
+}
