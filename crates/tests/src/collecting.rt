@@ -196,7 +196,7 @@ impl Container<char> for Two {
     }
 
     fn push(&mut self, _item: char) -> Result<(), AllocError> {
-        if self.taken == 2 {
+        if self.taken >= 2 {
             return Err(AllocError);
         }
         self.taken += 1;
