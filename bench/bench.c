@@ -8,12 +8,13 @@
 typedef uint64_t job_function(const uint8_t *bytes, size_t length);
 
 job_function bench_dates_parse, bench_dates_check, bench_words_parse, bench_words_check, bench_headers_parse,
-    bench_headers_check, bench_digits_parse, bench_digits_check, bench_lists_parse, bench_lists_check, bench_fail_empty,
-    bench_fail_rich;
+    bench_headers_check, bench_digits_parse, bench_digits_check, bench_lists_parse, bench_lists_check,
+    bench_settings_parse, bench_settings_check, bench_fail_empty, bench_fail_rich;
 
 #ifdef WITH_RUST
 job_function rust_dates_parse, rust_dates_check, rust_words_parse, rust_words_check, rust_headers_parse,
-    rust_headers_check, rust_digits_parse, rust_digits_check, rust_lists_parse, rust_lists_check, rust_fail;
+    rust_headers_check, rust_digits_parse, rust_digits_check, rust_lists_parse, rust_lists_check,
+    rust_settings_parse, rust_settings_check, rust_fail;
 #define RUST(name) rust_##name
 #else
 #define RUST(name) NULL
@@ -230,6 +231,49 @@ static uint64_t lists_check(const uint8_t *bytes, size_t length) {
     return times;
 }
 
+static const char *const keywords[] = {"host", "port", "user", "group", "root", "index",
+                                       "log", "level", "cache", "timeout", "retries", "verbose"};
+enum { KEYWORDS = sizeof keywords / sizeof *keywords };
+
+/* The number of a value at a place, or 0, and its length. */
+static inline unsigned value(const uint8_t *at, const uint8_t *end, size_t *length) {
+    if (BEGINS("true")) return *length = 4, 1;
+    if (BEGINS("false")) return *length = 5, 2;
+    *length = 0;
+    while (*length < 4 && at + *length != end && is_digit(at[*length])) *length += 1;
+    return (unsigned)*length;
+}
+
+/* Where a setting and the end of its line end, or null, and what it counts. */
+static inline const uint8_t *setting(const uint8_t *at, const uint8_t *end, uint64_t *counts) {
+    for (unsigned key = 0; key < KEYWORDS; key++) {
+        size_t length = strlen(keywords[key]);
+        if ((size_t)(end - at) < length || memcmp(at, keywords[key], length)) continue;
+        at += length;
+        if (!BEGINS(" = ")) return NULL;
+        at += 3;
+        unsigned number = value(at, end, &length);
+        at += length;
+        *counts = (uint64_t)(key + 1) * number;
+        return !number || at == end || *at != '\n' ? NULL : at + 1;
+    }
+    return NULL;
+}
+
+static uint64_t settings_parse(const uint8_t *bytes, size_t length) {
+    const uint8_t *at = bytes, *end = bytes + length;
+    uint64_t total = 0, counts = 0;
+    while ((at = setting(at, end, &counts))) total += counts;
+    return total;
+}
+
+static uint64_t settings_check(const uint8_t *bytes, size_t length) {
+    const uint8_t *at = bytes, *end = bytes + length;
+    uint64_t times = 0, counts = 0;
+    while ((at = setting(at, end, &counts))) times += 1;
+    return times;
+}
+
 /* Inputs, of a fixed seed. */
 
 static uint64_t seed = 1;
@@ -319,6 +363,22 @@ static struct input make_lists(unsigned count) {
     return made;
 }
 
+static struct input make_settings(unsigned count) {
+    struct input made = room((size_t)count * 16);
+    uint8_t *at = made.bytes;
+    for (unsigned line = 0; line < count; line++) {
+        at += sprintf((char *)at, "%s = ", keywords[below(KEYWORDS)]);
+        switch (below(3)) {
+        case 0: at += sprintf((char *)at, "true"); break;
+        case 1: at += sprintf((char *)at, "false"); break;
+        default: at += write_digits(at, 4);
+        }
+        *at++ = '\n';
+    }
+    made.length = (size_t)(at - made.bytes);
+    return made;
+}
+
 /* Rounds. */
 
 static double now(void) {
@@ -376,7 +436,8 @@ int main(int count, char **arguments) {
     double seconds = count > 1 ? atof(arguments[1]) : 1;
     const char *only = count > 2 ? arguments[2] : "";
     struct input dates = make_dates(5000), words = make_words(10000), headers = make_headers(10000);
-    struct input digits = make_digits(5000), lists = make_lists(2000), failing = make_failing(2000);
+    struct input digits = make_digits(5000), lists = make_lists(2000), settings = make_settings(5000);
+    struct input failing = make_failing(2000);
     struct job jobs[] = {
         {"dates parse", {bench_dates_parse, dates_parse, RUST(dates_parse)}, dates, {0}},
         {"dates check", {bench_dates_check, dates_check, RUST(dates_check)}, dates, {0}},
@@ -388,6 +449,8 @@ int main(int count, char **arguments) {
         {"digits check", {bench_digits_check, digits_check, RUST(digits_check)}, digits, {0}},
         {"lists parse", {bench_lists_parse, lists_parse, RUST(lists_parse)}, lists, {0}},
         {"lists check", {bench_lists_check, lists_check, RUST(lists_check)}, lists, {0}},
+        {"settings parse", {bench_settings_parse, settings_parse, RUST(settings_parse)}, settings, {0}},
+        {"settings check", {bench_settings_check, settings_check, RUST(settings_check)}, settings, {0}},
         {"fail EmptyErr", {bench_fail_empty, fail, RUST(fail)}, failing, {0}},
         {"fail Rich", {bench_fail_rich, fail, RUST(fail)}, failing, {0}},
     };

@@ -30,6 +30,8 @@ jobs! {
     rust_digits_check = digits_check;
     rust_lists_parse = lists_parse;
     rust_lists_check = lists_check;
+    rust_settings_parse = settings_parse;
+    rust_settings_check = settings_check;
     rust_fail = fail;
 }
 
@@ -174,6 +176,46 @@ fn lists_parse(mut bytes: &[u8]) -> u64 {
 fn lists_check(mut bytes: &[u8]) -> u64 {
     let mut times = 0;
     while let Some(rest) = list(bytes, |_| ()) {
+        times += 1;
+        bytes = rest;
+    }
+    times
+}
+
+const KEYWORDS: [&[u8]; 12] = [
+    b"host", b"port", b"user", b"group", b"root", b"index", b"log", b"level", b"cache", b"timeout", b"retries", b"verbose",
+];
+
+fn value(bytes: &[u8]) -> Option<(u64, &[u8])> {
+    if let Some(rest) = bytes.strip_prefix(b"true") {
+        return Some((1, rest));
+    }
+    if let Some(rest) = bytes.strip_prefix(b"false") {
+        return Some((2, rest));
+    }
+    let (digits, _) = split_digits(&bytes[..bytes.len().min(4)])?;
+    Some((digits.len() as u64, &bytes[digits.len()..]))
+}
+
+fn setting(bytes: &[u8]) -> Option<(u64, &[u8])> {
+    let mut numbered = (1..).zip(KEYWORDS);
+    let (key, rest) = numbered.find_map(|(key, word)| Some((key, bytes.strip_prefix(word)?)))?;
+    let (value, rest) = value(rest.strip_prefix(b" = ")?)?;
+    Some((key * value, rest.strip_prefix(b"\n")?))
+}
+
+fn settings_parse(mut bytes: &[u8]) -> u64 {
+    let mut total = 0;
+    while let Some((counts, rest)) = setting(bytes) {
+        total += counts;
+        bytes = rest;
+    }
+    total
+}
+
+fn settings_check(mut bytes: &[u8]) -> u64 {
+    let mut times = 0;
+    while let Some((_, rest)) = setting(bytes) {
         times += 1;
         bytes = rest;
     }

@@ -6,4 +6,5 @@ mod dates;
 mod headers;
 mod lists;
 mod run;
+mod settings;
 mod words;

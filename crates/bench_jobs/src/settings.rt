@@ -1,0 +1,64 @@
+//! A setting on each line, as `port = 8080` or `verbose = true`.
+use crate::run::again;
+use chumsky::combinator::To;
+use chumsky::extra::EmptyText;
+use chumsky::prelude::*;
+use chumsky::primitive::{Choice, Just};
+use std::alloc::Global;
+
+/// The sum, over all lines, of the keyword's number times the value's: 1 of `true`, 2 of `false`, and of a number how many
+/// digits it has.
+#[unsafe(no_mangle)]
+pub extern "C" fn bench_settings_parse(alloc: Global, bytes: &[u8]) -> u64 {
+    settings(alloc, bytes, true)
+}
+
+/// The number of lines.
+#[unsafe(no_mangle)]
+pub extern "C" fn bench_settings_check(alloc: Global, bytes: &[u8]) -> u64 {
+    settings(alloc, bytes, false)
+}
+
+type Word<'src> = To<Just<&'static str, &'src str, EmptyText>, &'static str, u64>;
+
+fn word<'src>(text: &'static str, number: u64) -> Word<'src> {
+    just(text).to(number)
+}
+
+fn keyword<'src>() -> Choice<[Word<'src>; 12]> {
+    choice([
+        word("host", 1),
+        word("port", 2),
+        word("user", 3),
+        word("group", 4),
+        word("root", 5),
+        word("index", 6),
+        word("log", 7),
+        word("level", 8),
+        word("cache", 9),
+        word("timeout", 10),
+        word("retries", 11),
+        word("verbose", 12),
+    ])
+}
+
+fn switch<'src>() -> Choice<[Word<'src>; 2]> {
+    choice([word("true", 1), word("false", 2)])
+}
+
+fn settings(alloc: Global, bytes: &[u8], wanted: bool) -> u64 {
+    match std::str::from_utf8(bytes) {
+        Ok(text) => {
+            let digits = one_of('0'..='9').repeated().at_least(1).at_most(4);
+            let value = switch().or(digits.count().map(|count| count as u64));
+            let line = group((keyword(), just(" = "), value, just('\n'))).map(|(key, _, value, _): (
+                u64,
+                &str,
+                u64,
+                char,
+            )| key.wrapping_mul(value));
+            again(&line, alloc, text, wanted)
+        }
+        Err(_) => 0,
+    }
+}
