@@ -1,5 +1,5 @@
 //! What a parser answers of an input, as one line of text; errors and states that show what befell them; and extras of
-//! one's own. The crate `tests` stands on it.
+//! one's own. The tests of parsers stand on it.
 #![tactic(auto)]
 
 pub mod answer;

@@ -24,7 +24,7 @@ use std::alloc::Global;
 use std::marker::PhantomData;
 
 /// The builders and run forms of parsers. Every parser has them.
-pub trait ParserExt<'src, I, O, E>: IsParser<I, O, E> + Sized {
+pub trait ParserExt<'src, I, O, E>: Sized {
     /// This parser, then `other` from where it ended; the output is the pair of theirs. The first failure is the
     /// whole's.
     #[inline]

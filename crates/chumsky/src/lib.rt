@@ -98,11 +98,36 @@ pub mod combinator {
     pub use chumsky_combinator::sequence::Then;
     pub use chumsky_combinator::then_ignore::ThenIgnore;
     pub use chumsky_combinator::to::To;
+    pub use chumsky_folds::enumerate::Enumerate;
+    pub use chumsky_folds::fold::Fold;
+    pub use chumsky_folds::folder::{Folder, RightFolder};
+    pub use chumsky_folds::foldl::Foldl;
+    pub use chumsky_folds::foldr::Foldr;
     pub use chumsky_items::collect::Collect;
     pub use chumsky_items::collect_exactly::CollectExactly;
     pub use chumsky_items::count::Count;
     pub use chumsky_items::repeated::Repeated;
     pub use chumsky_items::separated_by::SeparatedBy;
+    pub use chumsky_shield::and_is::AndIs;
+    pub use chumsky_shield::filter::{Filter, Tester};
+    pub use chumsky_shield::filter_map::FilterMap;
+    pub use chumsky_shield::map_err::MapErr;
+    pub use chumsky_shield::not::Not;
+    pub use chumsky_shield::rewind::Rewind;
+    pub use chumsky_shield::try_map::{TryMap, TryMapper};
+    pub use chumsky_shield::try_map_with::TryMapWith;
+}
+
+/// Rules as data: recursive grammars, the parser that runs them, and why a call on them is refused.
+pub mod recursive {
+    pub use chumsky_recursive::actions::Actions;
+    pub use chumsky_recursive::errors::GrammarError;
+    pub use chumsky_recursive::grammar::{Grammar, close};
+    pub use chumsky_recursive::leaves::{Leaves, Values};
+    pub use chumsky_rules::closed::Closed;
+    pub use chumsky_rules::errors::{BuildError, CloseError, DefineError, RecursiveError};
+    pub use chumsky_rules::kinds::{Node, Recursive, SepCfg};
+    pub use chumsky_rules::rules::Rules;
 }
 
 /// Laws of parsers, each the contract of a function that does nothing: which of them mean the same, and which are steady.
@@ -120,6 +145,13 @@ pub mod laws {
     pub use chumsky_combinator::steady::{
         delimited_by_is_steady, ignore_then_is_steady, map_is_steady, or_is_steady, part_is_steady,
         then_is_steady, to_is_steady,
+    };
+    pub use chumsky_folds::laws::{
+        enumerate_numbers_from_zero, fold_is_the_fold_of_what_collect_gives,
+        foldl_is_the_fold_of_what_collect_gives, foldr_is_the_fold_of_the_reverse,
+    };
+    pub use chumsky_folds::steady::{
+        enumerate_is_steady, fold_is_steady, foldl_is_steady, foldr_is_steady,
     };
     pub use chumsky_group::laws::{group_of_three_is_then_twice, group_of_two_is_then};
     pub use chumsky_group::steady::{group_is_steady, group_of_an_array_is_steady};
@@ -140,8 +172,17 @@ pub mod laws {
         a_list_takes_at_most_one_round_more, a_set_takes_at_most_one_round_more,
     };
     pub use chumsky_set::steady::{set_is_steady, set_of_a_list_is_steady};
+    pub use chumsky_shield::laws::{
+        and_is_ends_where_its_first_part_ends, filter_of_all_answers_as_its_part,
+        not_ends_where_it_began, rewind_ends_where_it_began, try_map_of_all_answers_as_its_part,
+    };
+    pub use chumsky_shield::steady::{
+        and_is_is_steady, filter_is_steady, filter_map_is_steady, map_err_is_steady, not_is_steady,
+        try_map_is_steady,
+    };
 }
 
+pub use chumsky_folds::ext::{FoldExt, IterFoldExt};
 pub use chumsky_input::same::SameClone;
 pub use chumsky_input::stop::{Failure, Fault, PResult, Stop};
 pub use chumsky_input::util::DefaultExpected;
@@ -150,4 +191,5 @@ pub use chumsky_parser::input_ref_ext::InputRefExt;
 pub use chumsky_parser::iter::{IsIterParser, IterParser, IterParserDebug, Iterates};
 pub use chumsky_parser::parser::{IsParser, Parser};
 pub use chumsky_parser::result::ParseResult;
+pub use chumsky_shield::ext::ShieldExt;
 pub use ext::ParserExt;

@@ -42,7 +42,7 @@ pub trait Error<I: Tokens>: Drop {
 }
 
 /// An error that says nothing.
-#[derive(Clone, Copy, PartialEq, Default)]
+#[derive(Clone, Copy, Debug, PartialEq, Default)]
 pub struct EmptyErr;
 
 impl<I: Tokens> Error<I> for EmptyErr {

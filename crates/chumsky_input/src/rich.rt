@@ -16,7 +16,7 @@ use std::alloc::{AllocError, Global};
 use std::fmt::Display;
 
 /// Something that would have been accepted.
-#[derive(Clone, Drop)]
+#[derive(Clone, Debug, Drop)]
 pub enum RichPattern<T> {
     /// That token.
     Token(T),
@@ -45,7 +45,7 @@ impl<T: PartialEq> PartialEq for RichPattern<T> {
 }
 
 /// What was expected and what was found, or a message.
-#[derive(Clone, PartialEq, Drop)]
+#[derive(Clone, Debug, PartialEq, Drop)]
 enum RichReason<T> {
     Expected(Vec<RichPattern<T>>, Option<T>),
     Custom(String),
@@ -53,7 +53,7 @@ enum RichReason<T> {
 
 /// An error that says where it stands, and what was expected and found there. A custom error has a message in place of
 /// the last two.
-#[derive(Clone, PartialEq, Drop)]
+#[derive(Clone, Debug, PartialEq, Drop)]
 pub struct Rich<T> {
     span: SimpleSpan,
     reason: RichReason<T>,

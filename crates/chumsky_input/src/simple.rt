@@ -12,7 +12,7 @@ use crate::util::{Expectation, MaybeRef, token_of};
 use std::alloc::{AllocError, Global};
 
 /// An error that says where it stands. Of several at one place the first stays.
-#[derive(Clone, Copy, PartialEq, Eq)]
+#[derive(Clone, Copy, Debug, PartialEq, Eq)]
 pub struct Cheap {
     span: SimpleSpan,
 }
@@ -67,7 +67,7 @@ impl<I: Tokens<Span = SimpleSpan>> Error<I> for Cheap {
 /// An error that says where it stands and what was found there. Of several at one place the first stays.
 ///
 /// The found token is cloned where the input only lends it, so memory is asked for only where a clone of a token asks.
-#[derive(Clone, PartialEq, Drop)]
+#[derive(Clone, Debug, PartialEq, Drop)]
 pub struct Simple<T> {
     span: SimpleSpan,
     found: Option<T>,

@@ -4,7 +4,7 @@ ghost use Rattle.std.specs.Prelude.{◌≡◌};
 use std::ops::Range;
 
 /// A range of offsets, from `start` up to `end`. Over a text an offset counts bytes, over a slice it is an index.
-#[derive(Clone, Copy, PartialEq, Eq)]
+#[derive(Clone, Copy, Debug, PartialEq, Eq)]
 pub struct SimpleSpan {
     pub start: usize,
     pub end: usize,
@@ -23,7 +23,7 @@ impl From<Range<usize>> for SimpleSpan {
 }
 
 /// A value, and the span that it was read from.
-#[derive(Clone, Copy, PartialEq, Eq, Drop)]
+#[derive(Clone, Copy, Debug, PartialEq, Eq, Drop)]
 pub struct Spanned<T, S> {
     pub inner: T,
     pub span: S,

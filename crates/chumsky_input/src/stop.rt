@@ -8,7 +8,7 @@ use std::alloc::AllocError;
 
 /// Why a run was refused. No combinator catches one: after a `Stop` the parser is as before, the state is what the
 /// run left, and there is neither an output nor an error.
-#[derive(Clone, Copy, PartialEq, Eq)]
+#[derive(Clone, Copy, Debug, PartialEq, Eq)]
 pub enum Stop {
     /// A request for memory was refused.
     Memory = 1,
@@ -21,7 +21,7 @@ pub enum Stop {
 }
 
 /// Why a parser gives no output: it failed, and its errors are with the input that it was lent; or it was refused.
-#[derive(Clone, Copy, PartialEq, Eq)]
+#[derive(Clone, Copy, Debug, PartialEq, Eq)]
 pub enum Fault {
     Fail,
     Stop(Stop),
@@ -31,7 +31,7 @@ pub enum Fault {
 /// stands; or the run is refused, and the stop is passed on as it is.
 ///
 /// `?` on a refused request for memory answers `Stop(Stop::Memory)`.
-#[derive(PartialEq, Drop)]
+#[derive(Debug, PartialEq, Drop)]
 pub enum Failure<E> {
     Error(E),
     Stop(Stop),

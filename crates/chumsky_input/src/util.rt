@@ -8,7 +8,7 @@ use crate::same::SameClone;
 use std::alloc::AllocError;
 
 /// A token, or a reference to one that lies in the input.
-#[derive(Clone, Drop)]
+#[derive(Clone, Debug, Drop)]
 pub enum MaybeRef<'a, T> {
     Ref(&'a T),
     Val(T),
@@ -52,7 +52,7 @@ pub(crate) fn token_of<'a, T: SameClone>(token: MaybeRef<'a, T>) -> Result<T, Al
 }
 
 /// What a parser expected at a place.
-#[derive(Clone, PartialEq, Drop)]
+#[derive(Clone, Debug, PartialEq, Drop)]
 pub enum DefaultExpected<'a, T> {
     /// That token.
     Token(MaybeRef<'a, T>),
@@ -109,7 +109,7 @@ impl<'a, T> Expectation<T> for DefaultExpected<'a, T> {
 }
 
 /// What was expected, where it is no token.
-#[derive(Clone, Copy)]
+#[derive(Clone, Copy, Debug)]
 pub enum Plain {
     Nothing,
     Any,

@@ -8,7 +8,7 @@ ghost use Rattle.std.specs.Vec.{vec_len};
 /// may be one too, since a parser can emit errors and go on.
 ///
 /// Comparisons look at the output before the errors. A clone may be refused for memory.
-#[derive(Clone, PartialEq, Eq, PartialOrd, Ord, Hash, Drop)]
+#[derive(Clone, Debug, PartialEq, Eq, PartialOrd, Ord, Hash, Drop)]
 pub struct ParseResult<T, E> {
     pub output: Option<T>,
     pub errors: Vec<E>,

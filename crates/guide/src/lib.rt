@@ -2,14 +2,17 @@
 //! parsers.
 #![tactic(auto)]
 
+pub mod checking;
 pub mod closure;
 pub mod conclusion;
 pub mod extras;
+pub mod folding;
 pub mod handed;
 pub mod laws;
 pub mod mapping;
 pub mod parts;
 pub mod picking;
 pub mod readme;
+pub mod recursion;
 pub mod repeating;
 pub mod running;

@@ -1,0 +1,6 @@
+use Rattle.std.proofs.Common.{sym, ◌∙◌}
+use Rattle.chumsky_folds.proofs.ComparedLemmas.{fold-collected}
+use Rattle.chumsky_folds.proofs.laws.fold_is_the_fold_of_what_collect_gives.Goals as goal
+
+pub returns : goal.returns
+returns g c = fold-collected _ _ _ (λ xs ys v e d. sym e ∙ d) _ _ _ _

@@ -1,0 +1,7 @@
+pub mod Folding
+pub mod FoldingLaws
+pub mod FoldingBack
+pub mod FoldingBackLaws
+pub mod Enumerating
+pub mod EnumeratingLaws
+pub mod Compared

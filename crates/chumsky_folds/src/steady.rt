@@ -1,0 +1,76 @@
+//! When folds and items with their numbers are steady, each the contract of a function that does nothing: where their parts
+//! are, and their folders are functions. And what is known of two outputs that count as the same.
+ghost use Rattle.std.specs.Prelude.{ℕ};
+ghost use Rattle.chumsky_parser.specs.Copied.{BothCopies};
+ghost use Rattle.chumsky_folds.specs.Enumerating.{SameNumbered};
+ghost use Rattle.chumsky_folds.specs.Folding.{IsFunction, SameFolded};
+ghost use Rattle.chumsky_folds.specs.FoldingBack.{SameFoldedBack};
+
+use crate::enumerate::Enumerate;
+use crate::fold::Fold;
+use crate::folder::{Folder, RightFolder};
+use crate::foldl::Foldl;
+use crate::foldr::Foldr;
+use chumsky_input::extra::ParserExtra;
+use chumsky_input::input::Input;
+use chumsky_parser::iter::IterParser;
+use chumsky_parser::parser::Parser;
+
+/// `a.fold(init, f)` and `a.fold_by(init, f)`. Two outputs are the same where they are left folds, from clones of `init`, of
+/// as many items that are the same.
+pub fn fold_is_steady<
+    'src,
+    I: Input<'src>,
+    O: Drop,
+    E: ParserExtra<I>,
+    A: IterParser<'src, I, O, E>,
+    B: Clone + Drop,
+    F: Folder<B, O>,
+>(fold: &Fold<F, A, B, O>)
+    ensures steady { A.steady fold.now.parser → IsFunction (F.gives fold.now.folder) → ⟦<Fold<F, A, B, O> as Parser<'src, I, B, E>>⟧.steady fold.now }
+    ensures same { (x y : B) → ⟦<Fold<F, A, B, O> as Parser<'src, I, B, E>>⟧.same fold.now x y → SameFolded (BothCopies (B.is_clone fold.now.init)) (A.same fold.now.parser) (F.gives fold.now.folder) x y }
+{}
+
+/// `a.foldl(b, f)` and `a.foldl_by(b, f)`. Two outputs are the same where they are left folds, from outputs of `a` that are
+/// the same, of as many items that are.
+pub fn foldl_is_steady<
+    'src,
+    I: Input<'src>,
+    O: Drop,
+    U: Drop,
+    E: ParserExtra<I>,
+    A: Parser<'src, I, O, E>,
+    B: IterParser<'src, I, U, E>,
+    F: Folder<O, U>,
+>(foldl: &Foldl<F, A, B, U>)
+    ensures steady { A.steady foldl.now.parser → B.steady foldl.now.items → IsFunction (F.gives foldl.now.folder) → ⟦<Foldl<F, A, B, U> as Parser<'src, I, O, E>>⟧.steady foldl.now }
+    ensures same { (x y : O) → ⟦<Foldl<F, A, B, U> as Parser<'src, I, O, E>>⟧.same foldl.now x y → SameFolded (A.same foldl.now.parser) (B.same foldl.now.items) (F.gives foldl.now.folder) x y }
+{}
+
+/// `a.foldr(b, f)` and `a.foldr_by(b, f)`. Two outputs are the same where they are right folds, from outputs of `b` that are
+/// the same, of as many items that are.
+pub fn foldr_is_steady<
+    'src,
+    I: Input<'src>,
+    O: Drop,
+    U: Drop,
+    E: ParserExtra<I>,
+    A: IterParser<'src, I, O, E>,
+    B: Parser<'src, I, U, E>,
+    F: RightFolder<O, U>,
+>(foldr: &Foldr<F, A, B, O>)
+    ensures steady { A.steady foldr.now.items.parser → B.steady foldr.now.parser → IsFunction (F.gives foldr.now.folder) → ⟦<Foldr<F, A, B, O> as Parser<'src, I, U, E>>⟧.steady foldr.now }
+    ensures same { (x y : U) → ⟦<Foldr<F, A, B, O> as Parser<'src, I, U, E>>⟧.same foldr.now x y → SameFoldedBack (B.same foldr.now.parser) (A.same foldr.now.items.parser) (F.gives foldr.now.folder) x y }
+{}
+
+/// `a.enumerate()`. Two of its items are the same where their numbers are equal, and the items of `a` in them are the same.
+pub fn enumerate_is_steady<
+    'src,
+    I: Input<'src>,
+    O: Drop,
+    E: ParserExtra<I>,
+    A: IterParser<'src, I, O, E>,
+>(enumerate: &Enumerate<A, O>)
+    ensures steady { A.steady enumerate.now.parser → ⟦<Enumerate<A, O> as IterParser<'src, I, (usize, O), E>>⟧.steady enumerate.now }
+    ensures same { (x y : ℕ × O) → ⟦<Enumerate<A, O> as IterParser<'src, I, (usize, O), E>>⟧.same enumerate.now x y → SameNumbered (A.same enumerate.now.parser) x y }
+{}

@@ -1,0 +1,160 @@
+use Rattle.std.proofs.Common.{rules, ◌<◌, length, Some, ◌∙◌, ap, sym}
+use Rattle.chumsky_input.specs.Held.{held}
+use Rattle.chumsky_recursive.specs.Frames.{IsKnown}
+use Rattle.chumsky_recursive.proofs.Parts.{not_run, runs_at, parts_below, calls_within, alternative_below}
+use Rattle.chumsky_recursive.proofs.Begins.{leaf_left, deep_left, rule_left, then_left, map_left, none_left, one_left, many_left, unmarked_left, waits_all, waits_there, less, tokens_of}
+use Rattle.chumsky_recursive.proofs.Weights.{waits_lighter, part_level, body_level, two_lighter, one_lighter, first_lighter, below_lighter, answer_lighter, waits_bounded, fits_below, fits_under, fits_over, fits_none}
+use Rattle.chumsky_recursive.proofs.steps.begin.Goals as goal
+
+pub returns-then-more-eq0-clause-left : goal.returns-then-more-eq0-clause-left
+returns-then-more-eq0-clause-left g c = deep_left _ _ _ _ _ c.requires.closed.built _ _ _ _ _ _ (c.kind_of.ensures ∙ ap Some c.in-Rule.is) c.if-more-eq0.true
+
+pub returns-then-more-eq0-clause-lighter : goal.returns-then-more-eq0-clause-lighter
+returns-then-more-eq0-clause-lighter g c = answer_lighter _ _
+
+pub body_of-requires-clause-rule : goal.body_of-requires-clause-rule
+body_of-requires-clause-rule g c = (calls_within c.args.rules.now c.args.node _ _ c.requires.closed.built c.kind_of.ensures c.in-Rule.is).0
+
+pub returns-in_default-clause-left : goal.returns-in_default-clause-left
+returns-in_default-clause-left g c = none_left _ _ _ _ _ c.requires.closed.built _ _ _ _ _ _ (c.kind_of.ensures ∙ ap Some c.in-Choice.is) _ (sym c.alternative.ensures.is ∙ c.in_default.is) c.nothing.ensures.fails
+
+pub returns-in_default-clause-lighter : goal.returns-in_default-clause-lighter
+returns-in_default-clause-lighter g c = answer_lighter _ _
+
+pub returns-in_default-alternative-clause-left : goal.returns-in_default-alternative-clause-left
+returns-in_default-alternative-clause-left g c = one_left _ _ _ _ _ c.requires.closed.built _ _ _ _ _ _ (c.kind_of.ensures ∙ ap Some c.in-Choice.is) _ (sym c.alternative.ensures.is ∙ c.in-Some.is) (sym c.alternative-in-Choice.ensures.is ∙ c.in_default-alternative.is)
+
+pub returns-in_default-alternative-clause-there : goal.returns-in_default-alternative-clause-there
+returns-in_default-alternative-clause-there g c =
+    let l : c.in-Some.first < c.args.node = alternative_below c.args.rules.now c.args.node 0 c.in-Some.first c.requires.closed.built (sym c.alternative.ensures.is ∙ c.in-Some.is) in
+    search (rules, l, c.requires.node)
+
+pub returns-in_default-alternative-clause-lighter : goal.returns-in_default-alternative-clause-lighter
+returns-in_default-alternative-clause-lighter g c = below_lighter _ _ _ (part_level (length c.args.rules.now.nodes) c.args.more c.in-Some.first c.args.node (alternative_below c.args.rules.now c.args.node 0 c.in-Some.first c.requires.closed.built (sym c.alternative.ensures.is ∙ c.in-Some.is)))
+
+pub returns-in-Leaf-clause-left : goal.returns-in-Leaf-clause-left
+returns-in-Leaf-clause-left g c = leaf_left _ _ _ _ _ c.requires.closed.built _ _ _ _ _ _ (c.kind_of.ensures ∙ ap Some c.in-Leaf.is) c.leaf.ensures.ran c.leaf.ensures.there
+
+pub returns-in-Leaf-clause-lighter : goal.returns-in-Leaf-clause-lighter
+returns-in-Leaf-clause-lighter g c = answer_lighter _ _
+
+pub returns-else-more-eq0-clause-left : goal.returns-else-more-eq0-clause-left
+returns-else-more-eq0-clause-left g c = rule_left _ _ _ _ _ c.requires.closed.built _ _ _ _ _ _ _ (c.kind_of.ensures ∙ ap Some c.in-Rule.is) c.if-more-eq0.false c.body_of.ensures
+
+pub returns-else-more-eq0-clause-lighter : goal.returns-else-more-eq0-clause-lighter
+returns-else-more-eq0-clause-lighter g c = below_lighter _ _ _ (body_level _ _ _ _ c.if-more-eq0.false (c.requires.closed.built.bodies _ _ c.body_of.ensures))
+
+pub returns-in-Then-clause-left : goal.returns-in-Then-clause-left
+returns-in-Then-clause-left g c =
+    let b = parts_below c.args.rules.now c.args.node _ _ c.requires.closed.built c.kind_of.ensures c.in-Then.is in
+    then_left _ _ _ _ _ c.requires.closed.built _ _ _ _ _ _ _ (c.kind_of.ensures ∙ ap Some c.in-Then.is) (less b.0 c.requires.node) c.wait.ensures
+
+pub returns-in-Then-clause-known : goal.returns-in-Then-clause-known
+returns-in-Then-clause-known g c =
+    let b = parts_below c.args.rules.now c.args.node _ _ c.requires.closed.built c.kind_of.ensures c.in-Then.is in
+    λ all. waits_all (IsKnown g.I.Input g.E.State.Inspector (length c.args.rules.now.nodes) (held g.I.Input g.E.Error.Error g.E.State.Inspector c.args.inp.now).tokens) c.wait.ensures (less b.1.0 c.requires.node) all
+
+pub returns-in-Then-clause-there : goal.returns-in-Then-clause-there
+returns-in-Then-clause-there g c =
+    let b = parts_below c.args.rules.now c.args.node _ _ c.requires.closed.built c.kind_of.ensures c.in-Then.is in
+    waits_there (length c.args.rules.now.nodes) c.wait.ensures (less b.0 c.requires.node)
+
+pub returns-in-Then-clause-lighter : goal.returns-in-Then-clause-lighter
+returns-in-Then-clause-lighter g c =
+    let b = parts_below c.args.rules.now c.args.node _ _ c.requires.closed.built c.kind_of.ensures c.in-Then.is in
+    waits_lighter (length c.args.rules.now.nodes) _ c.wait.ensures (two_lighter _ _ _ (part_level (length c.args.rules.now.nodes) c.args.more c.in-Then.a c.args.node b.0) (part_level (length c.args.rules.now.nodes) c.args.more c.in-Then.b c.args.node b.1.0))
+
+pub returns-in-Map-clause-left : goal.returns-in-Map-clause-left
+returns-in-Map-clause-left g c =
+    let b = parts_below c.args.rules.now c.args.node _ _ c.requires.closed.built c.kind_of.ensures c.in-Map.is in
+    map_left _ _ _ _ _ c.requires.closed.built _ _ _ _ _ _ _ (c.kind_of.ensures ∙ ap Some c.in-Map.is) (less b.0 c.requires.node) c.wait-in-Map.ensures
+
+pub returns-in-Map-clause-known : goal.returns-in-Map-clause-known
+returns-in-Map-clause-known g c = λ all. waits_all (IsKnown g.I.Input g.E.State.Inspector (length c.args.rules.now.nodes) (held g.I.Input g.E.Error.Error g.E.State.Inspector c.args.inp.now).tokens) c.wait-in-Map.ensures tt all
+
+pub returns-in-Map-clause-there : goal.returns-in-Map-clause-there
+returns-in-Map-clause-there g c =
+    let b = parts_below c.args.rules.now c.args.node _ _ c.requires.closed.built c.kind_of.ensures c.in-Map.is in
+    waits_there (length c.args.rules.now.nodes) c.wait-in-Map.ensures (less b.0 c.requires.node)
+
+pub returns-in-Map-clause-lighter : goal.returns-in-Map-clause-lighter
+returns-in-Map-clause-lighter g c =
+    let b = parts_below c.args.rules.now c.args.node _ _ c.requires.closed.built c.kind_of.ensures c.in-Map.is in
+    waits_lighter (length c.args.rules.now.nodes) _ c.wait-in-Map.ensures (one_lighter _ _ (part_level (length c.args.rules.now.nodes) c.args.more c.in-Map.a c.args.node b.0))
+
+pub returns-in-Ok-clause-left : goal.returns-in-Ok-clause-left
+returns-in-Ok-clause-left g c = many_left _ _ _ _ _ c.requires.closed.built _ _ _ _ _ _ (c.kind_of.ensures ∙ ap Some c.in-Choice.is) _ _ c.in-Ok.before (sym c.alternative.ensures.is ∙ c.in-Some.is) (sym c.alternative-in-Choice.ensures.is ∙ c.in-Some-alternative.is) (less (alternative_below c.args.rules.now c.args.node 0 c.in-Some.first c.requires.closed.built (sym c.alternative.ensures.is ∙ c.in-Some.is)) c.requires.node) c.in-Ok.ensures c.wait-in-Ok.ensures
+
+pub returns-in-Ok-clause-known : goal.returns-in-Ok-clause-known
+returns-in-Ok-clause-known g c = λ all. waits_all (IsKnown g.I.Input g.E.State.Inspector (length c.args.rules.now.nodes) (held g.I.Input g.E.Error.Error g.E.State.Inspector c.args.inp.now).tokens) c.wait-in-Ok.ensures (c.requires.node, ap tokens_of c.in-Ok.ensures) all
+
+pub returns-in-Ok-clause-there : goal.returns-in-Ok-clause-there
+returns-in-Ok-clause-there g c = waits_there (length c.args.rules.now.nodes) c.wait-in-Ok.ensures (less (alternative_below c.args.rules.now c.args.node 0 c.in-Some.first c.requires.closed.built (sym c.alternative.ensures.is ∙ c.in-Some.is)) c.requires.node)
+
+pub returns-in-Ok-clause-lighter : goal.returns-in-Ok-clause-lighter
+returns-in-Ok-clause-lighter g c = waits_lighter (length c.args.rules.now.nodes) _ c.wait-in-Ok.ensures (first_lighter _ _ (part_level (length c.args.rules.now.nodes) c.args.more c.in-Some.first c.args.node (alternative_below c.args.rules.now c.args.node 0 c.in-Some.first c.requires.closed.built (sym c.alternative.ensures.is ∙ c.in-Some.is))))
+
+pub returns-in-Err-clause-left : goal.returns-in-Err-clause-left
+returns-in-Err-clause-left g c = unmarked_left _ _ _ _ _ c.requires.closed.built _ _ _ _ _ _ (c.kind_of.ensures ∙ ap Some c.in-Choice.is) _ _ (sym c.alternative.ensures.is ∙ c.in-Some.is) (sym c.alternative-in-Choice.ensures.is ∙ c.in-Some-alternative.is) c.in-Err.ensures
+
+pub returns-in-Err-clause-lighter : goal.returns-in-Err-clause-lighter
+returns-in-Err-clause-lighter g c = answer_lighter _ _
+
+pub unreachable-requires : goal.unreachable-requires
+unreachable-requires g c = not_run (runs_at c.args.rules.now c.args.node _ _ c.requires.runs c.kind_of.ensures c.in-Repeated.is)
+
+pub unreachable-requires-in-SeparatedBy : goal.unreachable-requires-in-SeparatedBy
+unreachable-requires-in-SeparatedBy g c = not_run (runs_at c.args.rules.now c.args.node _ _ c.requires.runs c.kind_of.ensures c.in-SeparatedBy.is)
+
+pub unreachable-requires-in-OrNot : goal.unreachable-requires-in-OrNot
+unreachable-requires-in-OrNot g c = not_run (runs_at c.args.rules.now c.args.node _ _ c.requires.runs c.kind_of.ensures c.in-OrNot.is)
+
+pub unreachable-requires-in-Not : goal.unreachable-requires-in-Not
+unreachable-requires-in-Not g c = not_run (runs_at c.args.rules.now c.args.node _ _ c.requires.runs c.kind_of.ensures c.in-Not.is)
+
+pub unreachable-requires-in-AndIs : goal.unreachable-requires-in-AndIs
+unreachable-requires-in-AndIs g c = not_run (runs_at c.args.rules.now c.args.node _ _ c.requires.runs c.kind_of.ensures c.in-AndIs.is)
+
+pub unreachable-requires-in-Rewind : goal.unreachable-requires-in-Rewind
+unreachable-requires-in-Rewind g c = not_run (runs_at c.args.rules.now c.args.node _ _ c.requires.runs c.kind_of.ensures c.in-Rewind.is)
+
+pub unreachable-requires-in-TryMap : goal.unreachable-requires-in-TryMap
+unreachable-requires-in-TryMap g c = not_run (runs_at c.args.rules.now c.args.node _ _ c.requires.runs c.kind_of.ensures c.in-TryMap.is)
+
+pub returns-then-more-eq0-clause-bounded : goal.returns-then-more-eq0-clause-bounded
+returns-then-more-eq0-clause-bounded g c =
+    λ bound b l. (b, tt)
+
+pub returns-in_default-clause-bounded : goal.returns-in_default-clause-bounded
+returns-in_default-clause-bounded g c =
+    λ bound b l. (b, tt)
+
+pub returns-in-Leaf-clause-bounded : goal.returns-in-Leaf-clause-bounded
+returns-in-Leaf-clause-bounded g c =
+    λ bound b l. (b, tt)
+
+pub returns-in-Err-clause-bounded : goal.returns-in-Err-clause-bounded
+returns-in-Err-clause-bounded g c =
+    λ bound b l. (b, tt)
+
+pub returns-in_default-alternative-clause-bounded : goal.returns-in_default-alternative-clause-bounded
+returns-in_default-alternative-clause-bounded g c =
+    λ bound b l. (b, fits_below _ _ _ _ (part_level (length c.args.rules.now.nodes) c.args.more c.in-Some.first c.args.node (alternative_below c.args.rules.now c.args.node 0 c.in-Some.first c.requires.closed.built (sym c.alternative.ensures.is ∙ c.in-Some.is))) l)
+
+pub returns-else-more-eq0-clause-bounded : goal.returns-else-more-eq0-clause-bounded
+returns-else-more-eq0-clause-bounded g c =
+    λ bound b l. (b, fits_below _ _ _ _ (body_level (length c.args.rules.now.nodes) c.args.more _ c.args.node c.if-more-eq0.false (c.requires.closed.built.bodies _ _ c.body_of.ensures)) l)
+
+pub returns-in-Then-clause-bounded : goal.returns-in-Then-clause-bounded
+returns-in-Then-clause-bounded g c =
+    let b = parts_below c.args.rules.now c.args.node _ _ c.requires.closed.built c.kind_of.ensures c.in-Then.is in
+    λ bound m l. waits_bounded (length c.args.rules.now.nodes) bound c.wait.ensures (fits_over _ _ _ _ (part_level (length c.args.rules.now.nodes) c.args.more c.in-Then.b c.args.node b.1.0) l) (fits_under _ _ _ _ (part_level (length c.args.rules.now.nodes) c.args.more c.in-Then.a c.args.node b.0) l) m
+
+pub returns-in-Ok-clause-bounded : goal.returns-in-Ok-clause-bounded
+returns-in-Ok-clause-bounded g c =
+    λ bound m l. waits_bounded (length c.args.rules.now.nodes) bound c.wait-in-Ok.ensures l (fits_under _ _ _ _ (part_level (length c.args.rules.now.nodes) c.args.more c.in-Some.first c.args.node (alternative_below c.args.rules.now c.args.node 0 c.in-Some.first c.requires.closed.built (sym c.alternative.ensures.is ∙ c.in-Some.is))) l) m
+
+pub returns-in-Map-clause-bounded : goal.returns-in-Map-clause-bounded
+returns-in-Map-clause-bounded g c =
+    let b = parts_below c.args.rules.now c.args.node _ _ c.requires.closed.built c.kind_of.ensures c.in-Map.is in
+    λ bound m l. waits_bounded (length c.args.rules.now.nodes) bound c.wait-in-Map.ensures (fits_none _ _ _ l) (fits_under _ _ _ _ (part_level (length c.args.rules.now.nodes) c.args.more c.in-Map.a c.args.node b.0) l) m

@@ -1,0 +1,134 @@
+use Rattle.std.proofs.Common.{arith, ◌≡◌, ◌<◌, ◌^◌, length, Err, ◌∙◌, ap, sym}
+use Rattle.chumsky_input.specs.declared.stop.Fault.TheVariants as fault
+use Rattle.chumsky_input.specs.Held.{held, marks}
+use Rattle.chumsky_recursive.specs.Frames.{IsKnown}
+use Rattle.chumsky_recursive.proofs.Parts.{alternative_below}
+use Rattle.chumsky_recursive.proofs.Begins.{waits_all, waits_there, less}
+use Rattle.chumsky_recursive.proofs.Resumes.{first_fails, second_fails, mapped_fails, second_made, mapped_made, alternative_stands, alternative_ends, alternative_unrestored, second_left, next_left}
+use Rattle.chumsky_recursive.proofs.Weights.{waits_lighter, part_level, next_lighter, choice_lighter, next_small, waits_bounded, fits_under, fits_first, fits_none}
+use Rattle.chumsky_recursive.proofs.steps.resume.Goals as goal
+
+pub returns-in-Ok-clause-left : goal.returns-in-Ok-clause-left
+returns-in-Ok-clause-left g c =
+    let k : c.in-First.second < length c.args.rules.now.nodes = rw c.in-First.is at c.requires.known in
+    rw c.in-First.is (second_left _ _ _ _ _ _ _ _ c.requires.closed.built _ _ _ _ c.in-Ok.is k c.wait.ensures)
+
+pub returns-in-Ok-clause-known : goal.returns-in-Ok-clause-known
+returns-in-Ok-clause-known g c = λ all. waits_all (IsKnown g.I.Input g.E.State.Inspector (length c.args.rules.now.nodes) (held g.I.Input g.E.Error.Error g.E.State.Inspector c.args.inp.now).tokens) c.wait.ensures tt all
+
+pub returns-in-Ok-clause-lighter : goal.returns-in-Ok-clause-lighter
+returns-in-Ok-clause-lighter g c = rw c.in-First.is (waits_lighter (length c.args.rules.now.nodes) _ c.wait.ensures (omega arith))
+
+pub returns-in-Err-clause-left : goal.returns-in-Err-clause-left
+returns-in-Err-clause-left g c = rw c.in-First.is (first_fails _ _ _ _ _ _ _ _ _ _ _ _ c.in-Err.is)
+
+pub returns-in-Ok-answer-clause-left : goal.returns-in-Ok-answer-clause-left
+returns-in-Ok-answer-clause-left g c = rw c.in-Second.is (second_made _ _ _ _ _ _ _ _ _ _ _ c.in-Ok-answer.is c.pair.ensures)
+
+pub returns-in-Err-answer-clause-left : goal.returns-in-Err-answer-clause-left
+returns-in-Err-answer-clause-left g c = rw c.in-Second.is (second_fails _ _ _ _ _ _ _ _ _ _ c.in-Err-answer.is)
+
+pub returns-in-Ok-answer-2-clause-left : goal.returns-in-Ok-answer-2-clause-left
+returns-in-Ok-answer-2-clause-left g c = rw c.in-Alternative.is (alternative_stands _ _ _ _ _ _ _ _ _ _ _ _ _ _ c.in-Ok-answer-2.is (λ q. cc))
+
+pub returns-in-Ok-answer-2-clause-lighter : goal.returns-in-Ok-answer-2-clause-lighter
+returns-in-Ok-answer-2-clause-lighter g c = rw c.in-Alternative.is (choice_lighter _ _ _)
+
+pub returns-in-Stop-clause-left : goal.returns-in-Stop-clause-left
+returns-in-Stop-clause-left g c =
+    let e : c.args.answer ≡ Err (fault.Stop c.in-Stop.stop) = c.in-Err-answer-2.is ∙ ap Err c.in-Stop.is in
+    rw c.in-Alternative.is (alternative_stands _ _ _ _ _ _ _ _ _ _ _ _ _ _ e (λ q. cc))
+
+pub returns-in-Stop-clause-lighter : goal.returns-in-Stop-clause-lighter
+returns-in-Stop-clause-lighter g c = rw c.in-Alternative.is (choice_lighter _ _ _)
+
+pub returns-in_default-clause-left : goal.returns-in_default-clause-left
+returns-in_default-clause-left g c =
+    let e : c.args.answer ≡ Err fault.Fail = c.in-Err-answer-2.is ∙ ap Err c.in-Fail.is in
+    rw c.in-Alternative.is (alternative_ends _ _ _ _ _ _ _ _ _ _ _ _ _ e (sym c.alternative.ensures.is ∙ c.in_default.is))
+
+pub returns-in_default-clause-lighter : goal.returns-in_default-clause-lighter
+returns-in_default-clause-lighter g c = rw c.in-Alternative.is (choice_lighter _ _ _)
+
+pub returns-in-Ok-rewind-clause-left : goal.returns-in-Ok-rewind-clause-left
+returns-in-Ok-rewind-clause-left g c =
+    let e : c.args.answer ≡ Err fault.Fail = c.in-Err-answer-2.is ∙ ap Err c.in-Fail.is in
+    let k : (c.in-Alternative.node < length c.args.rules.now.nodes) × ((marks g.I.Input g.E.State.Inspector c.in-Alternative.before).tokens ≡ (held g.I.Input g.E.Error.Error g.E.State.Inspector c.args.inp.now).tokens) = rw c.in-Alternative.is at c.requires.known in
+    let l : c.in-Some.part < c.in-Alternative.node = alternative_below c.args.rules.now c.in-Alternative.node c.in-Alternative.next c.in-Some.part c.requires.closed.built (sym c.alternative.ensures.is ∙ c.in-Some.is) in
+    rw c.in-Alternative.is (next_left _ _ _ _ _ _ _ _ c.requires.closed.built _ _ _ _ _ _ e (sym c.alternative.ensures.is ∙ c.in-Some.is) (less l k.0) c.in-Ok-rewind.ensures.back c.wait-in-Ok-rewind.ensures)
+
+pub returns-in-Ok-rewind-clause-known : goal.returns-in-Ok-rewind-clause-known
+returns-in-Ok-rewind-clause-known g c =
+    let k : (c.in-Alternative.node < length c.args.rules.now.nodes) × ((marks g.I.Input g.E.State.Inspector c.in-Alternative.before).tokens ≡ (held g.I.Input g.E.Error.Error g.E.State.Inspector c.args.inp.now).tokens) = rw c.in-Alternative.is at c.requires.known in
+    λ all. waits_all (IsKnown g.I.Input g.E.State.Inspector (length c.args.rules.now.nodes) (held g.I.Input g.E.Error.Error g.E.State.Inspector c.args.inp.now).tokens) c.wait-in-Ok-rewind.ensures k all
+
+pub returns-in-Ok-rewind-clause-there : goal.returns-in-Ok-rewind-clause-there
+returns-in-Ok-rewind-clause-there g c =
+    let k : (c.in-Alternative.node < length c.args.rules.now.nodes) × ((marks g.I.Input g.E.State.Inspector c.in-Alternative.before).tokens ≡ (held g.I.Input g.E.Error.Error g.E.State.Inspector c.args.inp.now).tokens) = rw c.in-Alternative.is at c.requires.known in
+    let l : c.in-Some.part < c.in-Alternative.node = alternative_below c.args.rules.now c.in-Alternative.node c.in-Alternative.next c.in-Some.part c.requires.closed.built (sym c.alternative.ensures.is ∙ c.in-Some.is) in
+    waits_there (length c.args.rules.now.nodes) c.wait-in-Ok-rewind.ensures (less l k.0)
+
+pub returns-in-Ok-rewind-clause-lighter : goal.returns-in-Ok-rewind-clause-lighter
+returns-in-Ok-rewind-clause-lighter g c =
+    let l : c.in-Some.part < c.in-Alternative.node = alternative_below c.args.rules.now c.in-Alternative.node c.in-Alternative.next c.in-Some.part c.requires.closed.built (sym c.alternative.ensures.is ∙ c.in-Some.is) in
+    let small : c.in-Alternative.next < 2 ^ 64 = next_small c.alternative.result c.in-Some.part c.in-Some.is c.alternative.ensures.small in
+    rw c.in-Alternative.is (waits_lighter (length c.args.rules.now.nodes) _ c.wait-in-Ok-rewind.ensures (next_lighter _ _ c.in-Alternative.next small (part_level (length c.args.rules.now.nodes) c.in-Alternative.more c.in-Some.part c.in-Alternative.node l)))
+
+pub returns-in-Err-rewind-clause-left : goal.returns-in-Err-rewind-clause-left
+returns-in-Err-rewind-clause-left g c =
+    let e : c.args.answer ≡ Err fault.Fail = c.in-Err-answer-2.is ∙ ap Err c.in-Fail.is in
+    rw c.in-Alternative.is (alternative_unrestored _ _ _ _ _ _ _ _ _ _ _ _ _ _ e (sym c.alternative.ensures.is ∙ c.in-Some.is) c.in-Err-rewind.ensures.back)
+
+pub returns-in-Err-rewind-clause-lighter : goal.returns-in-Err-rewind-clause-lighter
+returns-in-Err-rewind-clause-lighter g c = rw c.in-Alternative.is (choice_lighter _ _ _)
+
+pub returns-in-Ok-answer-3-clause-left : goal.returns-in-Ok-answer-3-clause-left
+returns-in-Ok-answer-3-clause-left g c = rw c.in-Mapped.is (mapped_made _ _ _ _ _ _ _ _ _ _ _ c.in-Ok-answer-3.is c.map.ensures)
+
+pub returns-in-Err-answer-3-clause-left : goal.returns-in-Err-answer-3-clause-left
+returns-in-Err-answer-3-clause-left g c = rw c.in-Mapped.is (mapped_fails _ _ _ _ _ _ _ _ _ _ c.in-Err-answer-3.is)
+
+pub returns-in_default-clause-bounded : goal.returns-in_default-clause-bounded
+returns-in_default-clause-bounded g c =
+    λ bound b l. (b, tt)
+
+pub returns-in-Err-clause-bounded : goal.returns-in-Err-clause-bounded
+returns-in-Err-clause-bounded g c =
+    λ bound b l. (b, tt)
+
+pub returns-in-Ok-answer-clause-bounded : goal.returns-in-Ok-answer-clause-bounded
+returns-in-Ok-answer-clause-bounded g c =
+    λ bound b l. (b, tt)
+
+pub returns-in-Err-answer-clause-bounded : goal.returns-in-Err-answer-clause-bounded
+returns-in-Err-answer-clause-bounded g c =
+    λ bound b l. (b, tt)
+
+pub returns-in-Ok-answer-2-clause-bounded : goal.returns-in-Ok-answer-2-clause-bounded
+returns-in-Ok-answer-2-clause-bounded g c =
+    λ bound b l. (b, tt)
+
+pub returns-in-Stop-clause-bounded : goal.returns-in-Stop-clause-bounded
+returns-in-Stop-clause-bounded g c =
+    λ bound b l. (b, tt)
+
+pub returns-in-Err-rewind-clause-bounded : goal.returns-in-Err-rewind-clause-bounded
+returns-in-Err-rewind-clause-bounded g c =
+    λ bound b l. (b, tt)
+
+pub returns-in-Ok-answer-3-clause-bounded : goal.returns-in-Ok-answer-3-clause-bounded
+returns-in-Ok-answer-3-clause-bounded g c =
+    λ bound b l. (b, tt)
+
+pub returns-in-Err-answer-3-clause-bounded : goal.returns-in-Err-answer-3-clause-bounded
+returns-in-Err-answer-3-clause-bounded g c =
+    λ bound b l. (b, tt)
+
+pub returns-in-Ok-clause-bounded : goal.returns-in-Ok-clause-bounded
+returns-in-Ok-clause-bounded g c =
+    λ bound b l. (let m = rw c.in-First.is at l in waits_bounded (length c.args.rules.now.nodes) bound c.wait.ensures (fits_none _ _ _ m) (fits_first _ _ _ m) b)
+
+pub returns-in-Ok-rewind-clause-bounded : goal.returns-in-Ok-rewind-clause-bounded
+returns-in-Ok-rewind-clause-bounded g c =
+    let p : c.in-Some.part < c.in-Alternative.node = alternative_below c.args.rules.now c.in-Alternative.node c.in-Alternative.next c.in-Some.part c.requires.closed.built (sym c.alternative.ensures.is ∙ c.in-Some.is) in
+    λ bound b l. (let m = rw c.in-Alternative.is at l in waits_bounded (length c.args.rules.now.nodes) bound c.wait-in-Ok-rewind.ensures m (fits_under _ _ _ _ (part_level (length c.args.rules.now.nodes) c.in-Alternative.more c.in-Some.part c.in-Alternative.node p) m) b)

@@ -1,0 +1,106 @@
+-- What waits while a part runs, and what is left to do.
+use Rattle.std.specs.Prelude.{◌≡◌, ℕ, ◌<◌, Bool, List, [], ◌∷◌, ◌++◌, map, drop, Option, Some, None, Result, Ok, Err, IfOk, is_some, slice_get, ◌⊎◌, ⊤}
+use Rattle.chumsky_input.specs.declared.error.Error as error_trait
+use Rattle.chumsky_input.specs.declared.inspector.Inspector as inspector_trait
+use Rattle.chumsky_input.specs.declared.input.Input as input_trait
+use Rattle.chumsky_input.specs.declared.input_ref.Checkpoint.{Checkpoint}
+use Rattle.chumsky_input.specs.declared.stop.Fault.{Fault}
+use Rattle.chumsky_input.specs.declared.stop.Fault.TheVariants as fault
+use Rattle.chumsky_input.specs.declared.stop.Stop.TheVariants.{Memory}
+use Rattle.chumsky_input.specs.Held.{Held, marks}
+use Rattle.chumsky_input.specs.Outcome.{Meaning}
+use Rattle.chumsky_input.specs.Run.{Ran}
+use Rattle.chumsky_parser.specs.Chained.{Chained, both}
+use Rattle.chumsky_parser.specs.Choice.{FirstFrom, StandsAt}
+use Rattle.chumsky_recursive.specs.declared.frames.Frame.{Frame}
+use Rattle.chumsky_recursive.specs.declared.frames.Frame.TheVariants.{First, Second, Alternative, Mapped}
+use Rattle.chumsky_recursive.specs.declared.frames.Todo.{Todo}
+use Rattle.chumsky_recursive.specs.declared.frames.Todo.TheVariants.{Begin, Answer}
+use Rattle.chumsky_rules.specs.declared.kinds.NodeKind.{NodeKind}
+use Rattle.chumsky_rules.specs.declared.kinds.NodeKind.TheVariants.{Leaf, Rule, Then, Choice, Repeated, SeparatedBy, OrNot, Not, AndIs, Rewind, Map, TryMap}
+use Rattle.chumsky_rules.specs.Tables.{Tables}
+use Rattle.chumsky_recursive.specs.Means.{Acts, Made, part_means}
+
+module _ {V W : Type 0} (gives : V → W → Type 0) where
+  -- of a value one that is given, unless memory is wanting; of none, none
+  abbrev pub Makes : Option V → Result (Option W) Fault → Type 0
+  Makes (Some v) (Ok (Some w)) = gives v w
+  Makes (Some v) (Ok None) = ⊥
+  Makes (Some v) (Err f) = f ≡ fault.Stop Memory
+  Makes None r = r ≡ Ok None
+
+module _ {V C : Type 0} where
+  -- a frame more, which waits for this part; or there is no memory for it
+  pub record Waits (old new : List (Frame V C)) (f : Frame V C) (part more : ℕ) (wanted : Bool) (todo : Todo V) : Type 0 where
+    pub cases : ((todo ≡ Begin part more wanted) × (new ≡ old ++ f ∷ [])) ⊎ ((todo ≡ Answer (Err (fault.Stop Memory))) × (new ≡ old))
+
+-- the alternatives of a node that is a choice
+abbrev pub alternatives_of : Option NodeKind → List ℕ
+alternatives_of None = []
+alternatives_of (Some (Leaf n)) = []
+alternatives_of (Some (Rule r)) = []
+alternatives_of (Some (Then a b)) = []
+alternatives_of (Some (Choice v)) = v.items
+alternatives_of (Some (Map a f)) = []
+alternatives_of (Some (Repeated a least most)) = []
+alternatives_of (Some (SeparatedBy a b cfg)) = []
+alternatives_of (Some (OrNot a)) = []
+alternatives_of (Some (Not a)) = []
+alternatives_of (Some (AndIs a b)) = []
+alternatives_of (Some (Rewind a)) = []
+alternatives_of (Some (TryMap a f)) = []
+
+-- where a node began: under calls that may open so many more rules, for its value or without it, and what was held
+pub record Begun (Tok Cx St Er : Type 0) : Type 0 where
+  pub more : ℕ
+  pub node : ℕ
+  pub wanted : Bool
+  pub held : Held Tok Cx St Er
+
+module _ {I Tok Sp Cu Er St Mk Cx V : Type 0} (source : input_trait.Ghosts I Cu Tok Sp) (errors : error_trait.Ghosts Er I Tok Sp) (states : inspector_trait.Ghosts St I Mk Tok Sp) (a : Acts Tok Cx states.Seen errors.Seen V) (g : Tables) where
+  -- a node that began there answers this, and leaves that
+  abbrev pub Answers : Begun Tok Cx states.Seen errors.Seen → Held Tok Cx states.Seen errors.Seen → Result (Option V) Fault → Type 0
+  Answers s new r = Ran errors.merged errors.takes_no_memory (part_means source errors states a g s.more s.node) s.wanted s.held new r
+
+  -- what a frame does with its part, from where the part begins
+  abbrev pub with_part : Frame V (Checkpoint Cu Mk) → Meaning Tok Cx states.Seen errors.Seen V → Meaning Tok Cx states.Seen errors.Seen V
+  with_part (First second more wanted) m = Chained m (λ v. Chained (part_means source errors states a g more second) (λ w. Made a.pairs (both v w)))
+  with_part (Second v) m = Chained m (λ w. Made a.pairs (both v w))
+  with_part (Alternative node more wanted next before) m = FirstFrom states.back states.takes_no_memory (marks source states before).mark m (map (part_means source errors states a g more) (drop next (alternatives_of (slice_get g.nodes node))))
+  with_part (Mapped f) m = Chained m (Made (a.maps f))
+
+  -- what a frame keeps is that of its node, which runs for its value or without it, and of its part, which began at t
+  abbrev pub Keeps : Frame V (Checkpoint Cu Mk) → Bool → Begun Tok Cx states.Seen errors.Seen → Type 0
+  Keeps (First second more wanted) asked t = wanted ≡ asked
+  Keeps (Second v) asked t = is_some v ≡ asked
+  Keeps (Alternative node more wanted next before) asked t = (wanted ≡ asked) × StandsAt (marks source states before) t.held
+  Keeps (Mapped f) asked t = ⊤
+
+  -- the frame of the node that began at s waits for the part that began at t: what it does with the part, the node does
+  pub record WaitsFor (f : Frame V (Checkpoint Cu Mk)) (s t : Begun Tok Cx states.Seen errors.Seen) : Type 0 where
+    pub asks : t.wanted ≡ s.wanted
+    pub keeps : Keeps f s.wanted t
+    pub goes : (new : Held Tok Cx states.Seen errors.Seen) (r : Result (Option V) Fault) → Ran errors.merged errors.takes_no_memory (with_part f (part_means source errors states a g t.more t.node)) s.wanted t.held new r → Answers s new r
+
+  -- frames, the last on top, of nodes of which the first began at s, and each waits for the next; the last waits for the part that began at t
+  abbrev pub Wait : List (Frame V (Checkpoint Cu Mk)) → Begun Tok Cx states.Seen errors.Seen → Begun Tok Cx states.Seen errors.Seen → Type 0
+  Wait [] s t = (t.wanted ≡ s.wanted) × ((new : Held Tok Cx states.Seen errors.Seen) (r : Result (Option V) Fault) → Answers t new r → Answers s new r)
+  Wait (f ∷ fs) s t = (u : Begun Tok Cx states.Seen errors.Seen) × WaitsFor f s u × Wait fs u t
+
+  -- what is left to do, with these frames and held so: a part begins, or one has answered
+  abbrev pub Left : List (Frame V (Checkpoint Cu Mk)) → Begun Tok Cx states.Seen errors.Seen → Held Tok Cx states.Seen errors.Seen → Todo V → Type 0
+  Left fs s now (Begin node more wanted) = Wait fs s (record { more = more; node = node; wanted = wanted; held = now })
+  Left fs s now (Answer r) = (t : Begun Tok Cx states.Seen errors.Seen) × Wait fs s t × Answers t now r × IfOk r (λ v. is_some v ≡ t.wanted)
+
+-- the nodes that a frame names are there, and its checkpoint is one of this input
+module _ {I Tok Sp Cu St Mk V : Type 0} (source : input_trait.Ghosts I Cu Tok Sp) (states : inspector_trait.Ghosts St I Mk Tok Sp) where
+  abbrev pub IsKnown : ℕ → List Tok → Frame V (Checkpoint Cu Mk) → Type 0
+  IsKnown nodes tokens (First second more wanted) = second < nodes
+  IsKnown nodes tokens (Second v) = ⊤
+  IsKnown nodes tokens (Alternative node more wanted next before) = (node < nodes) × ((marks source states before).tokens ≡ tokens)
+  IsKnown nodes tokens (Mapped f) = ⊤
+
+-- a node that begins is there
+abbrev pub IsThere : {V : Type 0} → ℕ → Todo V → Type 0
+IsThere nodes (Begin node more wanted) = node < nodes
+IsThere nodes (Answer r) = ⊤

@@ -1,0 +1,110 @@
+-- Answers under different limits.
+use Rattle.std.proofs.Common.{◌≡◌, ℕ, zero, suc, ◌+◌, ◌≤◌, List, [], ◌∷◌, map, length, Option, Some, None, slice_get, refl, sym, ap, subst, arith, inl, inr}
+use Rattle.chumsky_input.specs.declared.error.Error as error_trait
+use Rattle.chumsky_input.specs.declared.inspector.Inspector as inspector_trait
+use Rattle.chumsky_input.specs.declared.input.Input as input_trait
+use Rattle.chumsky_input.specs.Outcome.{Event, Meaning, Beginning, Outcome, Verdict, Yes, No, Halt, Clash, Agreeing, IsAnswer}
+use Rattle.chumsky_parser.specs.Chained.{from, Follows, Chained}
+use Rattle.chumsky_parser.specs.Choice.{Stands, OneOrFirst}
+use Rattle.chumsky_choice.specs.Among.{NoneOrFirst, FirstAmong}
+use Rattle.chumsky_rules.specs.declared.kinds.NodeKind.{NodeKind}
+use Rattle.chumsky_rules.specs.declared.kinds.NodeKind.TheVariants.{Leaf, Rule, Then, Choice, Repeated, SeparatedBy, OrNot, Not, AndIs, Rewind, Map, TryMap}
+use Rattle.chumsky_rules.specs.Tables.{Tables}
+use Rattle.chumsky_recursive.specs.Means.{Acts, kind_means, known_means, node_means, body_means, call_means}
+use Rattle.chumsky_recursive.specs.MeansLaws.{ActsAgree, call-agrees}
+
+module _ {Tok Cx St Er V : Type 0} where
+  -- each answer of the one is an answer of the other
+  abbrev pub HasAnswers : Meaning Tok Cx St Er V → Meaning Tok Cx St Er V → Type 0
+  HasAnswers m n = (b : Beginning Tok Cx St) (o : Outcome V Er St) → IsAnswer o.verdict → m b o → n b o
+
+module _ {Tok Cx St Er V W : Type 0} (part part' : Meaning Tok Cx St Er V) (next next' : Option V → Meaning Tok Cx St Er W) where
+  chained_has : HasAnswers part part' → ((v : Option V) → HasAnswers (next v) (next' v)) → (b : Beginning Tok Cx St) (o : Outcome W Er St) (v : Verdict V Er) (end : ℕ) (state : St) (events : List (Event Er)) (emitted : List Er)
+      → let p : Outcome V Er St = record { verdict = v; end = end; state = state; events = events; emitted = emitted } in
+      IsAnswer o.verdict → part b p → Follows v next b p o → Chained part' next' b o
+  chained_has hp hn b o (Yes v) end state events emitted a m f =
+      let p : Outcome V Er St = record { verdict = Yes v; end = end; state = state; events = events; emitted = emitted } in
+      let e : IsAnswer f.0.verdict = subst IsAnswer (ap (λ (x : Outcome W Er St). x.verdict) f.2) a in
+      record { first = p; meant = hp b p tt m; follows = (f.0, hn v (from b p) f.0 e f.1, f.2) }
+  chained_has hp hn b o No end state events emitted a m f =
+      let p : Outcome V Er St = record { verdict = No; end = end; state = state; events = events; emitted = emitted } in
+      record { first = p; meant = hp b p tt m; follows = f }
+  chained_has hp hn b o (Halt s) end state events emitted a m f = absurd (subst IsAnswer (ap (λ (x : Outcome W Er St). x.verdict) f) a)
+  chained_has hp hn b o (Clash e) end state events emitted a m f = absurd (subst IsAnswer (ap (λ (x : Outcome W Er St). x.verdict) f) a)
+
+  chained-has : HasAnswers part part' → ((v : Option V) → HasAnswers (next v) (next' v)) → HasAnswers (Chained part next) (Chained part' next')
+  chained-has hp hn b o a m = chained_has hp hn b o m.first.verdict m.first.end m.first.state m.first.events m.first.emitted a m.meant m.follows
+
+module _ {Tok Cx St Mk Er V : Type 0} (back : St → Mk → St) (safe : Type 0) (mark : Mk) (part part' : ℕ → Meaning Tok Cx St Er V) (h : (n : ℕ) → HasAnswers (part n) (part' n)) where
+  as_many : (ns : List ℕ) → length (map part ns) ≡ 0 → length (map part' ns) ≡ 0
+  as_many [] e = refl
+  as_many (n ∷ ns) e = absurd (omega (arith, e))
+
+  stands_has : (k n : ℕ) (ns : List ℕ) (b : Beginning Tok Cx St) (o : Outcome V Er St) → IsAnswer o.verdict → Stands back safe mark k (part n) (map part ns) b o → Stands back safe mark k (part' n) (map part' ns) b o
+  stands_has zero n ns b o a s = (h n b o a s.0, λ e. as_many ns (s.1 e))
+  stands_has (suc k) n [] b o a s = absurd s
+  stands_has (suc k) n (x ∷ xs) b o a s =
+      let no : IsAnswer s.0.verdict = subst IsAnswer (sym s.2) tt in (
+        s.0,
+        h n b s.0 no s.1,
+        s.2,
+        elim s.3 [
+          | inl r ↦ inl r
+          | inr t ↦ inr (t.0, stands_has k x xs (record b { state = back s.0.state mark }) t.0 (subst IsAnswer (ap (λ (y : Outcome V Er St). y.verdict) t.2) a) t.1, t.2)
+        ],
+      )
+
+module _ {I Tok Sp Cu Er St Mk Cx V : Type 0} (source : input_trait.Ghosts I Cu Tok Sp) (errors : error_trait.Ghosts Er I Tok Sp) (states : inspector_trait.Ghosts St I Mk Tok Sp) where
+  module _ (part part' : ℕ → Meaning Tok Cx states.Seen errors.Seen V) (h : (n : ℕ) → HasAnswers (part n) (part' n)) where
+    one_has : (n : ℕ) (ns : List ℕ) → HasAnswers (OneOrFirst states.mark states.back states.takes_no_memory (part n) (map part ns)) (OneOrFirst states.mark states.back states.takes_no_memory (part' n) (map part' ns))
+    one_has n [] = h n
+    one_has n (x ∷ xs) = λ b o a m. elim m [ inl r ↦ inl r | inr t ↦ inr (record { k = t.k; stands = stands_has states.back states.takes_no_memory (states.mark b.state) part part' h t.k n (x ∷ xs) b o a t.stands }) ]
+
+    none_has : (ns : List ℕ) → HasAnswers (NoneOrFirst source errors states (map part ns)) (NoneOrFirst source errors states (map part' ns))
+    none_has [] b o a m = m
+    none_has (n ∷ ns) b o a m = record { cases = one_has n ns b o a m.cases }
+
+    among-has : (ns : List ℕ) → HasAnswers (FirstAmong source errors states (map part ns)) (FirstAmong source errors states (map part' ns))
+    among-has ns b o a m = record { cases = none_has ns b o a m.cases }
+
+  module _ (a : Acts Tok Cx states.Seen errors.Seen V) where
+    module _ (call call' : ℕ → Meaning Tok Cx states.Seen errors.Seen V) (hc : (r : ℕ) → HasAnswers (call r) (call' r)) where
+      kind_has : (part part' : ℕ → Meaning Tok Cx states.Seen errors.Seen V) → ((n : ℕ) → HasAnswers (part n) (part' n)) → (k : NodeKind) → HasAnswers (kind_means source errors states a call part k) (kind_means source errors states a call' part' k)
+      kind_has part part' hp (Leaf n) = λ b o y m. m
+      kind_has part part' hp (Rule r) = hc r
+      kind_has part part' hp (Then n k) = chained-has (part n) (part' n) _ _ (hp n) (λ v. chained-has (part k) (part' k) _ _ (hp k) (λ w b o y m. m))
+      kind_has part part' hp (Choice v) = among-has part part' hp v.items
+      kind_has part part' hp (Map n f) = chained-has (part n) (part' n) _ _ (hp n) (λ v b o y m. m)
+      kind_has part part' hp (Repeated n least most) = λ b o y m. m
+      kind_has part part' hp (SeparatedBy n k cfg) = λ b o y m. m
+      kind_has part part' hp (OrNot n) = λ b o y m. m
+      kind_has part part' hp (Not n) = λ b o y m. m
+      kind_has part part' hp (AndIs n k) = λ b o y m. m
+      kind_has part part' hp (Rewind n) = λ b o y m. m
+      kind_has part part' hp (TryMap n f) = λ b o y m. m
+
+      known_has : (part part' : ℕ → Meaning Tok Cx states.Seen errors.Seen V) → ((n : ℕ) → HasAnswers (part n) (part' n)) → (k : Option NodeKind) → HasAnswers (known_means source errors states a call part k) (known_means source errors states a call' part' k)
+      known_has part part' hp None b o y m = m
+      known_has part part' hp (Some k) b o y m = record { cases = elim m.cases [ inl r ↦ inl r | inr x ↦ inr (kind_has part part' hp k b o y x) ] }
+
+      node_has : (nodes : List NodeKind) (bound n : ℕ) → HasAnswers (node_means source errors states a call nodes bound n) (node_means source errors states a call' nodes bound n)
+      unfolding node_means
+      node_has nodes zero n b o y m = absurd m
+      node_has nodes (suc bound) n b o y m = known_has (node_means source errors states a call nodes bound) (node_means source errors states a call' nodes bound) (node_has nodes bound) (slice_get nodes n) b o y m
+
+      body_has : (nodes : List NodeKind) (body : Option (Option ℕ)) → HasAnswers (body_means source errors states a call nodes body) (body_means source errors states a call' nodes body)
+      body_has nodes None b o y m = m
+      body_has nodes (Some None) b o y m = m
+      body_has nodes (Some (Some n)) b o y m = node_has nodes (suc n) n b o y m
+
+    -- an answer under a limit is one under each greater limit
+    pub call-has : (g : Tables) (less more r : ℕ) → less ≤ more → HasAnswers (call_means source errors states a g less r) (call_means source errors states a g more r)
+    unfolding call_means
+    call-has g zero more r l b o y m = absurd (subst IsAnswer (ap (λ (x : Outcome V errors.Seen states.Seen). x.verdict) m) y)
+    call-has g (suc less) zero r l b o y m = absurd (omega (arith, l))
+    call-has g (suc less) (suc more) r l b o y m = body_has (call_means source errors states a g less) (call_means source errors states a g more) (λ s. call-has g less more s (omega (arith, l))) g.nodes (slice_get g.bodies r) b o y m
+
+    -- answers under two limits agree
+    pub limits-agree : (same : V → V → Type 0) → ActsAgree same a → (g : Tables) (one other r : ℕ) → Agreeing same (call_means source errors states a g one r) (call_means source errors states a g other r)
+    limits-agree same h g one other r b c o q alike m n y z =
+        call-agrees source errors states a same h g (one + other) r b c o q alike (call-has g one (one + other) r (omega arith) b o y m) (call-has g other (one + other) r (omega arith) c q z n) y z

@@ -1,0 +1,46 @@
+//! What waits while a part of it runs.
+ghost use Rattle.std.specs.Prelude.{◌≡◌, IfOk};
+ghost use Rattle.chumsky_recursive.specs.Frames.{Waits};
+
+use chumsky_input::stop::{Fault, PResult, Stop};
+use chumsky_rules::kinds::Node;
+
+/// A node that waits for one of its parts. A part runs under calls that may open so many more rules, and for its value
+/// or without it.
+#[derive(Drop)]
+pub(crate) enum Frame<V, C> {
+    /// Of `then`, its first part runs: the second, how many more rules, whether for its value.
+    First(Node, usize, bool),
+    /// Of `then`, its second part runs: the value of the first.
+    Second(Option<V>),
+    /// Of `choice`, an alternative runs: the node, how many more rules, whether for its value, the place of the
+    /// alternative after it, and the checkpoint to go back to.
+    Alternative(Node, usize, bool, usize, C),
+    /// Of `map`, its part runs: the number of the mapper.
+    Mapped(usize),
+}
+
+/// What comes next: a node begins, under calls that may open so many more rules, for its value or without it; or the
+/// node that ran last answers.
+#[derive(Drop)]
+pub(crate) enum Todo<V> {
+    Begin(Node, usize, bool),
+    Answer(PResult<Option<V>>),
+}
+
+/// Has a frame wait for a part, or answers that there is no memory for it.
+#[inline]
+pub(crate) fn wait<V: Drop, C: Drop>(
+    frames: &mut Vec<Frame<V, C>>,
+    frame: Frame<V, C>,
+    part: Node,
+    more: usize,
+    wanted: bool,
+) -> Todo<V>
+    ensures { Waits frames.old.items frames.new.items frame part more wanted result }
+{
+    match frames.push(frame) {
+        Ok(_) => Todo::Begin(part, more, wanted),
+        Err(_) => Todo::Answer(Err(Fault::Stop(Stop::Memory))),
+    }
+}

@@ -1,0 +1,103 @@
+//! Actions of leaves that stand in a list.
+ghost use Rattle.std.specs.Prelude.{◌≡◌, ℕ, ⊤, IfOk};
+ghost use Rattle.chumsky_input.specs.Held.{held};
+ghost use Rattle.chumsky_input.specs.Run.{Ran, with_value, without_value};
+
+use crate::actions::Actions;
+use chumsky_input::extra::ParserExtra;
+use chumsky_input::input::Input;
+use chumsky_input::input_ref::InputRef;
+use chumsky_input::stop::PResult;
+use chumsky_parser::parser::Parser;
+use std::alloc::{AllocError, Global};
+
+/// How a grammar makes values of values. An impl may say in `pair_gives` and `map_gives` what is later known of them; where
+/// it says nothing, nothing is known.
+pub trait Values {
+    type Value: Drop;
+
+    /// What it may make of two values.
+    ghost pair_gives: { Self → Self.Value × Self.Value → Self.Value → Type 0 } = { λ _ _ _. ⊤ };
+
+    /// What a mapper may make of a value.
+    ghost map_gives: { Self → ℕ → Self.Value → Self.Value → Type 0 } = { λ _ _ _ _. ⊤ };
+
+    /// The value of two parts.
+    fn pair(&self, alloc: Global, a: Self::Value, b: Self::Value) -> Result<Self::Value, AllocError>
+        ensures { IfOk result (λ v. pair_gives self.now (a, b) v) };
+
+    /// A value through the mapper of this number.
+    fn map(&self, alloc: Global, mapper: usize, v: Self::Value) -> Result<Self::Value, AllocError>
+        ensures { IfOk result (λ w. map_gives self.now mapper v w) };
+}
+
+/// Actions whose leaves are parsers of one type: the leaf of a number is the parser at that index.
+#[derive(Drop)]
+pub struct Leaves<'a, P, W> {
+    pub leaves: &'a [P],
+    pub values: W,
+}
+
+impl<
+    'a,
+    'src,
+    I: Input<'src>,
+    E: ParserExtra<I>,
+    W: Values,
+    P: Parser<'src, I, W::Value, E>,
+> Actions<'src, I, E> for Leaves<'a, P, W> {
+    type Value = W::Value;
+
+    ghost use Rattle.std.specs.Prelude.{slice_get, length, ◌≡◌};
+    ghost use Rattle.std.specs.List.{All};
+    ghost use Rattle.chumsky_recursive.specs.Leaves.{listed_leaf, AnswersAlike};
+    ghost use Rattle.chumsky_recursive.specs.LeavesLaws.{listed_leaf-ends};
+
+    ghost ready = { λ p. All P.ready p.leaves.now };
+
+    ghost leaf_count = { λ p. length p.leaves.now };
+
+    ghost leaf_meaning = { λ p n errors states. listed_leaf (λ q. P.meaning q errors states) (slice_get p.leaves.now n) };
+
+    ghost pair_gives = { λ p. W.pair_gives p.values };
+
+    ghost map_gives = { λ p. W.map_gives p.values };
+
+    ghost steady = { λ p. AnswersAlike (λ n. listed_leaf (λ q. P.meaning q E.Error.Error E.State.Inspector) (slice_get p.leaves.now n)) (W.pair_gives p.values) (W.map_gives p.values) };
+
+    ghost same = { λ _ v w. v ≡ w };
+
+    fn leaves(&self) -> usize {
+        self.leaves.len()
+    }
+
+    fn leaf_emit(&self, n: usize, inp: &mut InputRef<'src, '_, I, E>) -> PResult<W::Value> {
+        match self.leaves.get(n) {
+            Some(leaf) => leaf.go_emit(inp),
+            None => unreachable!(),
+        }
+    }
+
+    fn leaf_check(&self, n: usize, inp: &mut InputRef<'src, '_, I, E>) -> PResult<()> {
+        match self.leaves.get(n) {
+            Some(leaf) => leaf.go_check(inp),
+            None => unreachable!(),
+        }
+    }
+
+    fn pair(&self, alloc: Global, a: W::Value, b: W::Value) -> Result<W::Value, AllocError> {
+        self.values.pair(alloc, a, b)
+    }
+
+    fn map(&self, alloc: Global, f: usize, v: W::Value) -> Result<W::Value, AllocError> {
+        self.values.map(alloc, f, v)
+    }
+
+    ghost leaves_end_after_start = { λ p n. listed_leaf-ends _ P.ends_after_start (slice_get p.leaves.now n) };
+
+    ghost leaves_agree = { λ _ s n. s.answers n };
+
+    ghost pairs_agree = { λ _ s v w x y e d g. s.paired v w x y e d g };
+
+    ghost maps_agree = { λ _ s f v w x y e d g. s.mapped f v w x y e d g };
+}

@@ -1,0 +1,206 @@
+//! One step of a run: a node begins, or one that waits hears of its part.
+ghost use Rattle.std.specs.Prelude.{◌≡◌, true, ℕ, ◌<◌, ◌≤◌, ◌+◌, length, Some, slice_get, [], All, IfOk, IfErr, is_some, MatchOption, ⊤};
+ghost use Rattle.chumsky_input.specs.Held.{Held, held, marks};
+ghost use Rattle.chumsky_rules.specs.Closed.{IsClosed};
+ghost use Rattle.chumsky_recursive.specs.Means.{acts_of, each_runs};
+ghost use Rattle.chumsky_recursive.specs.Frames.{Begun, Answers, WaitsFor, Wait, Left, IsKnown, IsThere, alternatives_of};
+ghost use Rattle.chumsky_recursive.specs.Weight.{level, weight, weight_of, total, reach, IsBounded, Fits};
+
+use crate::actions::Actions;
+use crate::frames::{Frame, Todo, wait};
+use crate::values::{leaf, map, nothing, pair};
+use chumsky_input::extra::ParserExtra;
+use chumsky_input::input::Input;
+use chumsky_input::input_ref::{Checkpoint, InputRef};
+use chumsky_input::inspector::Inspector;
+use chumsky_input::stop::{Fault, PResult, Stop};
+use chumsky_rules::kinds::{Node, NodeKind, Recursive};
+use chumsky_rules::rules::Rules;
+
+/// What a node does.
+#[inline]
+fn kind_of(rules: &Rules, node: Node) -> &NodeKind
+    requires { node < length rules.now.nodes }
+    ensures { slice_get rules.now.nodes node ≡ Some result.now }
+{
+    let kinds = rules.nodes();
+    &kinds[node.number()]
+}
+
+/// The body of a rule.
+#[inline]
+pub(crate) fn body_of(rules: &Rules, rule: Recursive) -> Node
+    requires defined { (r : ℕ) → r < length rules.now.bodies → (b : ℕ) × (slice_get rules.now.bodies r ≡ Some (Some b)) }
+    requires rule { rule < length rules.now.bodies }
+    ensures { slice_get rules.now.bodies rule ≡ Some (Some result) }
+{
+    let bodies = rules.bodies();
+    match bodies[rule.number()] {
+        Some(body) => body,
+        None => unreachable!(),
+    }
+}
+
+/// The alternative of a choice at a place, if there is one.
+#[inline]
+fn alternative(rules: &Rules, node: Node, place: usize) -> Option<Node>
+    requires { node < length rules.now.nodes }
+    ensures is { result ≡ slice_get (alternatives_of (slice_get rules.now.nodes node)) place }
+    ensures small { MatchOption result ⊤ (λ _. place + 1 < 18446744073709551616) }
+{
+    match kind_of(rules, node) {
+        NodeKind::Leaf(_) => None,
+        NodeKind::Rule(_) => None,
+        NodeKind::Then(_, _) => None,
+        NodeKind::Choice(v) => v.as_slice().get(place).copied(),
+        NodeKind::Map(_, _) => None,
+        NodeKind::Repeated(_, _, _) => None,
+        NodeKind::SeparatedBy(_, _, _) => None,
+        NodeKind::OrNot(_) => None,
+        NodeKind::Not(_) => None,
+        NodeKind::AndIs(_, _) => None,
+        NodeKind::Rewind(_) => None,
+        NodeKind::TryMap(_, _) => None,
+    }
+}
+
+/// Begins a node.
+pub(crate) fn begin<'src, I: Input<'src>, E: ParserExtra<I>, A: Actions<'src, I, E>>(
+    actions: &A,
+    rules: &Rules,
+    frames: &mut Vec<Frame<A::Value, Checkpoint<I::Cursor, <E::State as Inspector<I>>::Mark>>>,
+    node: Node,
+    more: usize,
+    wanted: bool,
+    inp: &mut InputRef<'src, '_, I, E>,
+) -> Todo<A::Value>
+    requires closed { IsClosed rules.now (A.leaf_count actions.now) }
+    requires ready { A.ready actions.now }
+    requires node { node < length rules.now.nodes }
+    requires runs { each_runs rules.now ≡ true }
+    ensures left { (s : Begun I.Token E.Context E.State.Seen E.Error.Seen) → Wait I.Input E.Error.Error E.State.Inspector (acts_of I.Input E.Error.Error E.State.Inspector (A.leaf_meaning actions.now) (A.pair_gives actions.now) (A.map_gives actions.now)) rules.now frames.old.items s (record { more = more; node = node; wanted = wanted; held = held I.Input E.Error.Error E.State.Inspector inp.old }) → Left I.Input E.Error.Error E.State.Inspector (acts_of I.Input E.Error.Error E.State.Inspector (A.leaf_meaning actions.now) (A.pair_gives actions.now) (A.map_gives actions.now)) rules.now frames.new.items s (held I.Input E.Error.Error E.State.Inspector inp.new) result }
+    ensures known { All (IsKnown I.Input E.State.Inspector (length rules.now.nodes) (held I.Input E.Error.Error E.State.Inspector inp.old).tokens) frames.old.items → All (IsKnown I.Input E.State.Inspector (length rules.now.nodes) (held I.Input E.Error.Error E.State.Inspector inp.old).tokens) frames.new.items }
+    ensures there { IsThere (length rules.now.nodes) result }
+    ensures lighter { total (length rules.now.nodes) frames.new.items result < total (length rules.now.nodes) frames.old.items (Todo.Begin node more wanted) }
+    ensures bounded { (bound : ℕ) → IsBounded (length rules.now.nodes) bound 0 frames.old.items → level (length rules.now.nodes) more node + length frames.old.items ≤ bound → IsBounded (length rules.now.nodes) bound 0 frames.new.items × Fits (length rules.now.nodes) bound (length frames.new.items) result }
+    ensures tokens { (held I.Input E.Error.Error E.State.Inspector inp.new).tokens ≡ (held I.Input E.Error.Error E.State.Inspector inp.old).tokens }
+    ensures lent { inp.new.state.ghost_name ≡ inp.old.state.ghost_name }
+{
+    match kind_of(rules, node) {
+        NodeKind::Leaf(n) => Todo::Answer(leaf(actions, *n, wanted, inp)),
+        NodeKind::Rule(r) => {
+            if more == 0 {
+                return Todo::Answer(Err(Fault::Stop(Stop::TooDeep)));
+            }
+            Todo::Begin(body_of(rules, *r), more - 1, wanted)
+        }
+        NodeKind::Then(a, b) => wait(frames, Frame::First(*b, more, wanted), *a, more, wanted),
+        NodeKind::Choice(_) => {
+            let Some(first) = alternative(rules, node, 0) else {
+                return Todo::Answer(Err(nothing(inp)));
+            };
+            let Some(_) = alternative(rules, node, 1) else {
+                return Todo::Begin(first, more, wanted);
+            };
+            match inp.save() {
+                Ok(before) => wait(
+                    frames,
+                    Frame::Alternative(node, more, wanted, 1, before),
+                    first,
+                    more,
+                    wanted,
+                ),
+                Err(_) => Todo::Answer(Err(Fault::Stop(Stop::Memory))),
+            }
+        }
+        NodeKind::Map(a, f) => wait(frames, Frame::Mapped(*f), *a, more, wanted),
+        NodeKind::Repeated(_, _, _) => unreachable!(),
+        NodeKind::SeparatedBy(_, _, _) => unreachable!(),
+        NodeKind::OrNot(_) => unreachable!(),
+        NodeKind::Not(_) => unreachable!(),
+        NodeKind::AndIs(_, _) => unreachable!(),
+        NodeKind::Rewind(_) => unreachable!(),
+        NodeKind::TryMap(_, _) => unreachable!(),
+    }
+}
+
+/// Lets a node that waits hear what its part answered.
+fn resume<'src, I: Input<'src>, E: ParserExtra<I>, A: Actions<'src, I, E>>(
+    actions: &A,
+    rules: &Rules,
+    frames: &mut Vec<Frame<A::Value, Checkpoint<I::Cursor, <E::State as Inspector<I>>::Mark>>>,
+    frame: Frame<A::Value, Checkpoint<I::Cursor, <E::State as Inspector<I>>::Mark>>,
+    answer: PResult<Option<A::Value>>,
+    inp: &mut InputRef<'src, '_, I, E>,
+) -> Todo<A::Value>
+    requires closed { IsClosed rules.now (A.leaf_count actions.now) }
+    requires known { IsKnown I.Input E.State.Inspector (length rules.now.nodes) (held I.Input E.Error.Error E.State.Inspector inp.old).tokens frame }
+    ensures left { (s u t : Begun I.Token E.Context E.State.Seen E.Error.Seen) → Wait I.Input E.Error.Error E.State.Inspector (acts_of I.Input E.Error.Error E.State.Inspector (A.leaf_meaning actions.now) (A.pair_gives actions.now) (A.map_gives actions.now)) rules.now frames.old.items s u → WaitsFor I.Input E.Error.Error E.State.Inspector (acts_of I.Input E.Error.Error E.State.Inspector (A.leaf_meaning actions.now) (A.pair_gives actions.now) (A.map_gives actions.now)) rules.now frame u t → Answers I.Input E.Error.Error E.State.Inspector (acts_of I.Input E.Error.Error E.State.Inspector (A.leaf_meaning actions.now) (A.pair_gives actions.now) (A.map_gives actions.now)) rules.now t (held I.Input E.Error.Error E.State.Inspector inp.old) answer → IfOk answer (λ v. is_some v ≡ t.wanted) → Left I.Input E.Error.Error E.State.Inspector (acts_of I.Input E.Error.Error E.State.Inspector (A.leaf_meaning actions.now) (A.pair_gives actions.now) (A.map_gives actions.now)) rules.now frames.new.items s (held I.Input E.Error.Error E.State.Inspector inp.new) result }
+    ensures known { All (IsKnown I.Input E.State.Inspector (length rules.now.nodes) (held I.Input E.Error.Error E.State.Inspector inp.old).tokens) frames.old.items → All (IsKnown I.Input E.State.Inspector (length rules.now.nodes) (held I.Input E.Error.Error E.State.Inspector inp.old).tokens) frames.new.items }
+    ensures there { IsThere (length rules.now.nodes) result }
+    ensures lighter { total (length rules.now.nodes) frames.new.items result < weight (length rules.now.nodes) frames.old.items + weight_of (length rules.now.nodes) frame }
+    ensures bounded { (bound : ℕ) → IsBounded (length rules.now.nodes) bound 0 frames.old.items → reach (length rules.now.nodes) frame + length frames.old.items ≤ bound → IsBounded (length rules.now.nodes) bound 0 frames.new.items × Fits (length rules.now.nodes) bound (length frames.new.items) result }
+    ensures tokens { (held I.Input E.Error.Error E.State.Inspector inp.new).tokens ≡ (held I.Input E.Error.Error E.State.Inspector inp.old).tokens }
+    ensures lent { inp.new.state.ghost_name ≡ inp.old.state.ghost_name }
+{
+    match frame {
+        Frame::First(second, more, wanted) => match answer {
+            Ok(first) => wait(frames, Frame::Second(first), second, more, wanted),
+            Err(fault) => Todo::Answer(Err(fault)),
+        },
+        Frame::Second(first) => match answer {
+            Ok(second) => Todo::Answer(pair(actions, inp.alloc, first, second)),
+            Err(fault) => Todo::Answer(Err(fault)),
+        },
+        Frame::Alternative(node, more, wanted, next, before) => match answer {
+            Ok(value) => Todo::Answer(Ok(value)),
+            Err(fault) => match fault {
+                Fault::Stop(stop) => Todo::Answer(Err(Fault::Stop(stop))),
+                Fault::Fail => {
+                    let Some(part) = alternative(rules, node, next) else {
+                        return Todo::Answer(Err(Fault::Fail));
+                    };
+                    match inp.rewind(&before) {
+                        Ok(_) => wait(
+                            frames,
+                            Frame::Alternative(node, more, wanted, next + 1, before),
+                            part,
+                            more,
+                            wanted,
+                        ),
+                        Err(_) => Todo::Answer(Err(Fault::Stop(Stop::Memory))),
+                    }
+                }
+            },
+        },
+        Frame::Mapped(f) => match answer {
+            Ok(value) => Todo::Answer(map(actions, inp.alloc, f, value)),
+            Err(fault) => Todo::Answer(Err(fault)),
+        },
+    }
+}
+
+/// Lets the node that waits last hear of its part; where none waits, the answer is that of the run.
+pub(crate) fn hear<'src, I: Input<'src>, E: ParserExtra<I>, A: Actions<'src, I, E>>(
+    actions: &A,
+    rules: &Rules,
+    frames: &mut Vec<Frame<A::Value, Checkpoint<I::Cursor, <E::State as Inspector<I>>::Mark>>>,
+    answer: PResult<Option<A::Value>>,
+    inp: &mut InputRef<'src, '_, I, E>,
+) -> Result<Todo<A::Value>, PResult<Option<A::Value>>>
+    requires closed { IsClosed rules.now (A.leaf_count actions.now) }
+    requires known { All (IsKnown I.Input E.State.Inspector (length rules.now.nodes) (held I.Input E.Error.Error E.State.Inspector inp.old).tokens) frames.old.items }
+    ensures left { IfOk result (λ todo. (s : Begun I.Token E.Context E.State.Seen E.Error.Seen) → Left I.Input E.Error.Error E.State.Inspector (acts_of I.Input E.Error.Error E.State.Inspector (A.leaf_meaning actions.now) (A.pair_gives actions.now) (A.map_gives actions.now)) rules.now frames.old.items s (held I.Input E.Error.Error E.State.Inspector inp.old) (Todo.Answer answer) → Left I.Input E.Error.Error E.State.Inspector (acts_of I.Input E.Error.Error E.State.Inspector (A.leaf_meaning actions.now) (A.pair_gives actions.now) (A.map_gives actions.now)) rules.now frames.new.items s (held I.Input E.Error.Error E.State.Inspector inp.new) todo) }
+    ensures known { All (IsKnown I.Input E.State.Inspector (length rules.now.nodes) (held I.Input E.Error.Error E.State.Inspector inp.old).tokens) frames.new.items }
+    ensures there { IfOk result (IsThere (length rules.now.nodes)) }
+    ensures lighter { IfOk result (λ todo. total (length rules.now.nodes) frames.new.items todo < weight (length rules.now.nodes) frames.old.items) }
+    ensures ends { IfErr result (λ r. (r ≡ answer) × (frames.old.items ≡ []) × (held I.Input E.Error.Error E.State.Inspector inp.new ≡ held I.Input E.Error.Error E.State.Inspector inp.old)) }
+    ensures bounded { IfOk result (λ todo. (bound : ℕ) → IsBounded (length rules.now.nodes) bound 0 frames.old.items → IsBounded (length rules.now.nodes) bound 0 frames.new.items × Fits (length rules.now.nodes) bound (length frames.new.items) todo) }
+    ensures tokens { (held I.Input E.Error.Error E.State.Inspector inp.new).tokens ≡ (held I.Input E.Error.Error E.State.Inspector inp.old).tokens }
+    ensures lent { inp.new.state.ghost_name ≡ inp.old.state.ghost_name }
+{
+    match frames.pop() {
+        Some(frame) => Ok(resume(actions, rules, frames, frame, answer, inp)),
+        None => Err(answer),
+    }
+}

@@ -1,0 +1,5 @@
+pub mod ShieldLemmas
+pub mod NotLemmas
+pub mod VettedLemmas
+pub mod AndIsLemmas
+pub mod MapErrLemmas

@@ -1,0 +1,16 @@
+pub mod Shielded
+pub mod ShieldedLaws
+pub mod Not
+pub mod NotLaws
+pub mod Vetted
+pub mod VettedLaws
+pub mod Tried
+pub mod TriedLaws
+pub mod Compared
+pub mod ComparedLaws
+pub mod AndIs
+pub mod AndIsLaws
+pub mod MapErr
+pub mod MapErrLaws
+pub mod TriedWith
+pub mod TriedWithLaws

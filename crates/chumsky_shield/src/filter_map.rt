@@ -1,0 +1,101 @@
+//! A mapper that picks what it maps.
+ghost use Rattle.std.specs.Prelude.{◌≡◌, Bool};
+ghost use Rattle.chumsky_input.specs.Held.{held};
+ghost use Rattle.chumsky_input.specs.Run.{Ran};
+ghost use Rattle.chumsky_parser.specs.Failure.{asked};
+ghost use Rattle.chumsky_shield.specs.Vetted.{Vetted};
+ghost use Rattle.chumsky_shield.specs.Tried.{ByPick};
+
+use crate::refuse::{fail_as_one, something_else};
+use chumsky_input::error::Error;
+use chumsky_input::extra::ParserExtra;
+use chumsky_input::input::Input;
+use chumsky_input::input_ref::InputRef;
+use chumsky_input::inspector::Inspector;
+use chumsky_input::stop::{Fault, PResult};
+use chumsky_parser::parser::{IsParser, Parser};
+use std::marker::PhantomData;
+
+/// A parser whose output goes through a closure that answers `Some` to what it takes. See `filter_map`.
+#[derive(Drop)]
+#[derive_where(Clone, Copy; A, F)]
+pub struct FilterMap<A, O, F, U> {
+    pub parser: A,
+    pub filter: F,
+    pub of: PhantomData<(O, U)>,
+}
+
+impl<I, O, U, E, A: IsParser<I, O, E>, F> IsParser<I, U, E> for FilterMap<A, O, F, U> {}
+
+impl<'src, I, O, U, E, A, F> Parser<'src, I, U, E> for FilterMap<A, O, F, U>
+where
+    I: Input<'src>,
+    U: Drop,
+    E: ParserExtra<I>,
+    A: Parser<'src, I, O, E>,
+    F: Fn(O) -> Option<U>,
+{
+    ghost use Rattle.chumsky_shield.specs.Tried.{PicksAlike, SamePicked};
+    ghost use Rattle.chumsky_shield.specs.TriedLaws.{picks-alike};
+    ghost use Rattle.chumsky_shield.specs.VettedLaws.{vetted-ends, vetted-agrees};
+
+    ghost ready = { λ p. A.ready p.parser × F.IsAlwaysCallable p.filter };
+
+    ghost meaning = { λ p errors states. Vetted errors.merged errors.takes_no_memory (ByPick I.Input errors (F.post p.filter)) (A.meaning p.parser errors states) };
+
+    ghost steady = { λ p. A.steady p.parser × PicksAlike (A.same p.parser) (F.post p.filter) };
+
+    ghost same = { λ p. SamePicked (A.same p.parser) (F.post p.filter) };
+
+    ghost ends_after_start = { λ p. vetted-ends _ _ _ _ (A.ends_after_start p.parser) };
+
+    ghost agrees = { λ p s. vetted-agrees _ _ _ _ (A.same p.parser) _ (A.agrees p.parser s.0) (picks-alike _ _ (A.same p.parser) (F.post p.filter) s.1) };
+
+    #[inline]
+    fn go_emit(&self, inp: &mut InputRef<'src, '_, I, E>) -> PResult<U> {
+        pick(self, inp)
+    }
+
+    #[inline]
+    fn go_check(&self, inp: &mut InputRef<'src, '_, I, E>) -> PResult<()> {
+        let output = pick(self, inp)?;
+        drop(output);
+        Ok(())
+    }
+}
+
+/// Runs the part with nothing kept, and calls the closure on its output.
+#[inline]
+fn pick<'src, I, O, U, E, A, F>(
+    filter_map: &FilterMap<A, O, F, U>,
+    inp: &mut InputRef<'src, '_, I, E>,
+) -> PResult<U>
+where
+    I: Input<'src>,
+    U: Drop,
+    E: ParserExtra<I>,
+    A: Parser<'src, I, O, E>,
+    F: Fn(O) -> Option<U>,
+    requires part { A.ready filter_map.now.parser }
+    requires filter { F.IsAlwaysCallable filter_map.now.filter }
+    ensures ran { (w : Bool) → Ran E.Error.merged E.Error.takes_no_memory (Vetted E.Error.merged E.Error.takes_no_memory (ByPick I.Input E.Error.Error (F.post filter_map.now.filter)) (A.meaning filter_map.now.parser E.Error.Error E.State.Inspector)) w (held I.Input E.Error.Error E.State.Inspector inp.old) (held I.Input E.Error.Error E.State.Inspector inp.new) (asked w result) }
+    ensures lent { inp.new.state.ghost_name ≡ inp.old.state.ghost_name }
+{
+    let start = inp.cursor;
+    let older = inp.take_kept();
+    match filter_map.parser.go_emit(inp) {
+        Ok(value) => match (filter_map.filter)(value) {
+            Some(output) => {
+                inp.keep_before(older)?;
+                Ok(output)
+            }
+            None => {
+                inp.kept = older;
+                let past = inp.cursor;
+                Err(something_else(&start, &past, inp))
+            }
+        },
+        Err(Fault::Fail) => Err(fail_as_one(older, inp)),
+        Err(Fault::Stop(stop)) => Err(Fault::Stop(stop)),
+    }
+}

@@ -1,0 +1,15 @@
+//! Parsers that judge what another answers: that it must not be there, that its value must pass, that its errors are others.
+#![tactic(auto)]
+
+pub mod and_is;
+pub mod ext;
+pub mod filter;
+pub mod filter_map;
+pub mod laws;
+pub mod map_err;
+pub mod not;
+mod refuse;
+pub mod rewind;
+pub mod steady;
+pub mod try_map;
+pub mod try_map_with;

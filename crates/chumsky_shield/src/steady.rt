@@ -1,0 +1,93 @@
+//! Which parsers that judge are steady, each the contract of a function that does nothing: those whose parts are, and whose
+//! closures answer alike to values that are the same. And what is known of two outputs that count as the same.
+ghost use Rattle.chumsky_shield.specs.Vetted.{TestsAlike};
+ghost use Rattle.chumsky_shield.specs.MapErr.{MapsSeen, MapsOnce};
+ghost use Rattle.chumsky_shield.specs.Tried.{TriesAlike, SameTried, PicksAlike, SamePicked};
+
+use crate::and_is::AndIs;
+use crate::filter::{Filter, Tester};
+use crate::filter_map::FilterMap;
+use crate::map_err::MapErr;
+use crate::not::Not;
+use crate::rewind::Rewind;
+use crate::try_map::{TryMap, TryMapper};
+use chumsky_input::extra::ParserExtra;
+use chumsky_input::input::Input;
+use chumsky_parser::parser::Parser;
+
+/// `a.not()`.
+pub fn not_is_steady<'src, I: Input<'src>, O, E: ParserExtra<I>, A: Parser<'src, I, O, E>>(
+    not: &Not<A, O>,
+)
+    ensures { A.steady not.now.parser → ⟦<Not<A, O> as Parser<'src, I, (), E>>⟧.steady not.now }
+{}
+
+/// `a.and_is(b)` and `a.rewind()`.
+pub fn and_is_is_steady<
+    'src,
+    I: Input<'src>,
+    O: Drop,
+    U,
+    E: ParserExtra<I>,
+    A: Parser<'src, I, O, E>,
+    B: Parser<'src, I, U, E>,
+>(and_is: &AndIs<A, B, U>, rewind: &Rewind<A>)
+    ensures and_is { A.steady and_is.now.parser → B.steady and_is.now.other → ⟦<AndIs<A, B, U> as Parser<'src, I, O, E>>⟧.steady and_is.now }
+    ensures rewind { A.steady rewind.now.parser → ⟦<Rewind<A> as Parser<'src, I, O, E>>⟧.steady rewind.now }
+    ensures same_and_is { (x y : O) → ⟦<AndIs<A, B, U> as Parser<'src, I, O, E>>⟧.same and_is.now x y → A.same and_is.now.parser x y }
+    ensures same_rewind { (x y : O) → ⟦<Rewind<A> as Parser<'src, I, O, E>>⟧.same rewind.now x y → A.same rewind.now.parser x y }
+{}
+
+/// `a.filter(f)` and `a.filter_by(f)`.
+pub fn filter_is_steady<
+    'src,
+    I: Input<'src>,
+    O: Drop,
+    E: ParserExtra<I>,
+    A: Parser<'src, I, O, E>,
+    F: Tester<O>,
+>(filter: &Filter<A, F>)
+    ensures steady { A.steady filter.now.parser → TestsAlike (A.same filter.now.parser) (F.gives filter.now.tester) → ⟦<Filter<A, F> as Parser<'src, I, O, E>>⟧.steady filter.now }
+    ensures same { (x y : O) → ⟦<Filter<A, F> as Parser<'src, I, O, E>>⟧.same filter.now x y → A.same filter.now.parser x y }
+{}
+
+/// `a.filter_map(f)`.
+pub fn filter_map_is_steady<
+    'src,
+    I: Input<'src>,
+    O,
+    U: Drop,
+    E: ParserExtra<I>,
+    A: Parser<'src, I, O, E>,
+    F: Fn(O) -> Option<U>,
+>(filter_map: &FilterMap<A, O, F, U>)
+    ensures steady { A.steady filter_map.now.parser → PicksAlike (A.same filter_map.now.parser) (F.post filter_map.now.filter) → ⟦<FilterMap<A, O, F, U> as Parser<'src, I, U, E>>⟧.steady filter_map.now }
+    ensures same { (x y : U) → ⟦<FilterMap<A, O, F, U> as Parser<'src, I, U, E>>⟧.same filter_map.now x y → SamePicked (A.same filter_map.now.parser) (F.post filter_map.now.filter) x y }
+{}
+
+/// `a.try_map(f)` and `a.try_map_by(f)`.
+pub fn try_map_is_steady<
+    'src,
+    I: Input<'src>,
+    O,
+    U: Drop,
+    E: ParserExtra<I>,
+    A: Parser<'src, I, O, E>,
+    F: TryMapper<O, I::Span, U, E::Error>,
+>(try_map: &TryMap<A, O, F, U>)
+    ensures steady { A.steady try_map.now.parser → TriesAlike (A.same try_map.now.parser) E.Error.seen (F.gives try_map.now.mapper) → ⟦<TryMap<A, O, F, U> as Parser<'src, I, U, E>>⟧.steady try_map.now }
+    ensures same { (x y : U) → ⟦<TryMap<A, O, F, U> as Parser<'src, I, U, E>>⟧.same try_map.now x y → SameTried (A.same try_map.now.parser) E.Error.seen (F.gives try_map.now.mapper) x y }
+{}
+
+/// `a.map_err(f)`, where `f` gives one error to each, by what counts of them.
+pub fn map_err_is_steady<
+    'src,
+    I: Input<'src>,
+    O: Drop,
+    E: ParserExtra<I>,
+    A: Parser<'src, I, O, E>,
+    F: Fn(E::Error) -> E::Error,
+>(map_err: &MapErr<A, F>)
+    ensures steady { A.steady map_err.now.parser → MapsOnce (MapsSeen E.Error.seen (F.post map_err.now.mapper)) → ⟦<MapErr<A, F> as Parser<'src, I, O, E>>⟧.steady map_err.now }
+    ensures same { (x y : O) → ⟦<MapErr<A, F> as Parser<'src, I, O, E>>⟧.same map_err.now x y → A.same map_err.now.parser x y }
+{}

@@ -1,0 +1,78 @@
+//! A grammar that calls itself: rules as data, closed and run.
+use chumsky::Stop;
+use chumsky::extra::RichText;
+use chumsky::prelude::*;
+use chumsky::recursive::{GrammarError, Leaves, RecursiveError, Values};
+use std::alloc::{AllocError, Global};
+
+/// The leaves, by number.
+const OPENING: usize = 0;
+
+const CLOSING: usize = 1;
+
+const NOTHING: usize = 2;
+
+/// Values are depths: of two parts the greater, and a pair of brackets is one deeper than what it holds.
+#[derive(Drop)]
+struct Depths;
+
+impl Values for Depths {
+    type Value = usize;
+
+    fn pair(&self, _alloc: Global, a: usize, b: usize) -> Result<usize, AllocError> {
+        Ok(a.max(b))
+    }
+
+    fn map(&self, _alloc: Global, _mapper: usize, inside: usize) -> Result<usize, AllocError> {
+        Ok(inside.saturating_add(1))
+    }
+}
+
+/// Any number of brackets, one after another and within one another.
+fn brackets(rules: &mut Rules) -> Result<Recursive, RecursiveError> {
+    rules.recursive(|rules, brackets| {
+        let opening = rules.leaf(OPENING)?;
+        let inside = rules.rule(brackets)?;
+        let closing = rules.leaf(CLOSING)?;
+        let opened = rules.then(opening, inside)?;
+        let closed = rules.then(opened, closing)?;
+        let pair = rules.map(closed, 0)?;
+        let pairs = rules.then(pair, inside)?;
+        let nothing = rules.leaf(NOTHING)?;
+        rules.choice(&[pairs, nothing])
+    })
+}
+
+/// Why no depth is told.
+#[derive(Debug, Drop)]
+pub enum Refused {
+    Building(RecursiveError),
+    Closing(GrammarError),
+    Running(Stop),
+}
+
+/// How deep the brackets of a text go, where no more than `limit` rules are open at once.
+pub fn depth(
+    alloc: Global,
+    text: &str,
+    limit: usize,
+) -> Result<ParseResult<usize, Rich<char>>, Refused> {
+    let mut rules = Rules::new(alloc);
+    let start = match brackets(&mut rules) {
+        Ok(start) => start,
+        Err(error) => return Err(Refused::Building(error)),
+    };
+    let leaves = [
+        just::<_, _, RichText>("[").to(0),
+        just("]").to(0),
+        just("").to(0),
+    ];
+    let actions = Leaves {
+        leaves: &leaves,
+        values: Depths,
+    };
+    match close(&rules, start, &actions, limit) {
+        Ok(grammar) => grammar.parse(alloc, text).map_err(Refused::Running),
+        Err(error) => Err(Refused::Closing(error)),
+    }
+}

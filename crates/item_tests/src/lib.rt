@@ -1,0 +1,15 @@
+//! What lists, and what is made of their items, answer on texts whose answers are known from outside.
+#![tactic(auto)]
+
+#[cfg(test)]
+mod asserts;
+#[cfg(test)]
+mod collecting;
+#[cfg(test)]
+mod containers;
+#[cfg(test)]
+mod folds;
+#[cfg(test)]
+mod repeated;
+#[cfg(test)]
+mod separated_by;

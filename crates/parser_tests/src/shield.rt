@@ -1,0 +1,184 @@
+//! Parsers that judge what another answers.
+use crate::asserts::assert_answers;
+use answers::extras::Own;
+use chumsky::prelude::*;
+
+#[test]
+fn not_succeeds_where_its_part_fails_and_takes_nothing(rt: HostRuntime) {
+    let not_a = just::<_, &str, Own>('a').not().ignore_then(any());
+    let rows = [
+        ("b", "ok 'b'"),
+        ("a", "error 0..1 expected something else found 'a'"),
+        ("", "error 0..0 expected any found end"),
+    ];
+    assert_answers(&rt, &not_a, &rows);
+    let nothing = any::<&str, Own>().not();
+    let rows = [
+        ("b", "error 0..1 expected something else found 'b'"),
+        ("", "ok ()"),
+    ];
+    assert_answers(&rt, &nothing, &rows);
+}
+
+#[test]
+fn not_spans_what_its_part_took(rt: HostRuntime) {
+    let not_ab = just::<_, &str, Own>("ab").not().ignore_then(any());
+    let rows = [
+        ("ab", "error 0..2 expected something else found 'a'"),
+        ("ac", "error 1..2 expected end of input found 'c'"),
+    ];
+    assert_answers(&rt, &not_ab, &rows);
+}
+
+#[test]
+fn filter_takes_what_passes(rt: HostRuntime) {
+    let low = any::<&str, Own>().filter(|c| *c < 'm');
+    let rows = [
+        ("a", "ok 'a'"),
+        ("z", "error 0..1 expected something else found 'z'"),
+        ("", "error 0..0 expected any found end"),
+    ];
+    assert_answers(&rt, &low, &rows);
+}
+
+#[test]
+fn a_filter_that_refuses_stands_at_its_start(rt: HostRuntime) {
+    let alike = any::<&str, Own>()
+        .then(any())
+        .filter(|pair| pair.0 == pair.1)
+        .or(just('x').then(just('y')));
+    let rows = [
+        ("aa", "ok ('a', 'a')"),
+        ("ab", "error 0..2 expected something else, 'x' found 'a'"),
+        ("xz", "error 1..2 expected 'y' found 'z'"),
+    ];
+    assert_answers(&rt, &alike, &rows);
+}
+
+#[test]
+fn filter_map_picks(rt: HostRuntime) {
+    let digit = any::<&str, Own>().filter_map(|c| c.to_digit(10));
+    let rows = [
+        ("7", "ok 7"),
+        ("x", "error 0..1 expected something else found 'x'"),
+    ];
+    assert_answers(&rt, &digit, &rows);
+}
+
+#[test]
+fn try_map_refuses_with_the_error_of_its_closure(rt: HostRuntime) {
+    let alloc = rt.alloc();
+    let even = any::<&str, Own>().try_map(move |c, span| match c.to_digit(10) {
+        Some(digit) if digit % 2 == 0 => Ok(digit),
+        _ => Err(Rich::custom(span, String::new(alloc))),
+    });
+    let rows = [
+        ("4", "ok 4"),
+        ("5", "error 0..1 \"\""),
+        ("", "error 0..0 expected any found end"),
+    ];
+    assert_answers(&rt, &even, &rows);
+}
+
+#[test]
+fn an_error_of_try_map_stands_at_its_start(rt: HostRuntime) {
+    let alloc = rt.alloc();
+    let same = any::<&str, Own>().then(any()).try_map(move |(one, two), span| {
+        if one == two {
+            return Ok(one);
+        }
+        Err(Rich::custom(span, String::new(alloc)))
+    });
+    let same_or_xy = same.or(just('x').ignore_then(just('y')));
+    let rows = [
+        ("aa", "ok 'a'"),
+        ("ab", "error 0..2 \"\""),
+        ("xz", "error 1..2 expected 'y' found 'z'"),
+    ];
+    assert_answers(&rt, &same_or_xy, &rows);
+}
+
+#[test]
+fn what_a_part_that_passes_expected_is_merged(rt: HostRuntime) {
+    let perhaps_a = just::<_, &str, Own>('a').or_not().filter(|_| true);
+    let then_c = perhaps_a.ignore_then(just('c'));
+    let rows = [
+        ("ac", "ok 'c'"),
+        ("c", "ok 'c'"),
+        ("b", "error 0..1 expected 'a', 'c' found 'b'"),
+    ];
+    assert_answers(&rt, &then_c, &rows);
+    let refused = just::<_, &str, Own>('a').or_not().filter(|_| false);
+    let or_c = refused.ignore_then(just('a')).or(just('c'));
+    let rows = [
+        ("c", "ok 'c'"),
+        ("b", "error 0..0 expected something else, 'c' found 'b'"),
+    ];
+    assert_answers(&rt, &or_c, &rows);
+}
+
+#[test]
+fn and_is_wants_both_and_stands_where_the_first_ended(rt: HostRuntime) {
+    let a_not_before_b = any::<&str, Own>().and_is(just("ab").not()).then(any());
+    let rows = [
+        ("ac", "ok ('a', 'c')"),
+        ("bb", "ok ('b', 'b')"),
+        ("ab", "error 0..2 expected something else found 'a'"),
+    ];
+    assert_answers(&rt, &a_not_before_b, &rows);
+    let longer = just::<_, &str, Own>('a').and_is(just("ab")).then(any());
+    let rows = [
+        ("ab", "ok ('a', 'b')"),
+        ("ac", "error 1..2 expected 'b' found 'c'"),
+        ("b", "error 0..1 expected 'a' found 'b'"),
+    ];
+    assert_answers(&rt, &longer, &rows);
+}
+
+#[test]
+fn rewind_takes_nothing(rt: HostRuntime) {
+    let seen = just::<_, &str, Own>("ab")
+        .rewind()
+        .then(any())
+        .then_ignore(any());
+    let rows = [
+        ("ab", "ok (\"ab\", 'a')"),
+        ("ac", "error 1..2 expected 'b' found 'c'"),
+        ("abc", "error 2..3 expected end of input found 'c'"),
+    ];
+    assert_answers(&rt, &seen, &rows);
+}
+
+#[test]
+fn rewind_forgets_failures_past_its_start(rt: HostRuntime) {
+    let perhaps = just::<_, &str, Own>('a').then(just('b').or_not()).rewind();
+    let rows = [
+        ("ac", "error 0..1 expected 'x' found 'a'"),
+        ("x", "error 0..1 expected 'a' found 'x'"),
+    ];
+    assert_answers(&rt, &perhaps.then(just('x')), &rows);
+}
+
+#[test]
+fn map_err_maps_the_error_that_is_reported(rt: HostRuntime) {
+    let alloc = rt.alloc();
+    let mapped = just::<_, &str, Own>("ab").map_err(move |error: Rich<char>| {
+        Rich::custom(*error.span(), String::new(alloc))
+    });
+    let rows = [
+        ("ab", "ok \"ab\""),
+        ("ac", "error 1..2 \"\""),
+        ("abc", "error 2..3 expected end of input found 'c'"),
+    ];
+    assert_answers(&rt, &mapped, &rows);
+}
+
+#[test]
+fn map_err_leaves_older_errors_as_they_are(rt: HostRuntime) {
+    let alloc = rt.alloc();
+    let mapped = just::<_, &str, Own>('x').map_err(move |error: Rich<char>| {
+        Rich::custom(*error.span(), String::new(alloc))
+    });
+    let rows = [("ac", "error 1..2 expected 'b' found 'c'"), ("x", "ok 'x'")];
+    assert_answers(&rt, &just('a').ignore_then(just('b')).or(mapped), &rows);
+}
