@@ -5,3 +5,4 @@ pub mod Weights
 pub mod Begins
 pub mod Resumes
 pub mod Searched
+pub mod Options

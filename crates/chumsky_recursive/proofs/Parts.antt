@@ -13,6 +13,7 @@ use Rattle.chumsky_input.specs.Run.{Ran}
 use Rattle.chumsky_parser.specs.Chained.{Chained}
 use Rattle.chumsky_parser.proofs.ChainedLemmas.{ran-weaker}
 use Rattle.chumsky_parser.proofs.FailureLemmas.{ran-halts, ran-stops}
+use Rattle.chumsky_combinator.specs.Optional.{OrNone}
 use Rattle.chumsky_choice.specs.Among.{FirstAmong}
 use Rattle.chumsky_rules.specs.declared.kinds.NodeKind.{NodeKind}
 use Rattle.chumsky_rules.specs.declared.kinds.NodeKind.TheVariants.{Leaf, Rule, Then, Choice, Repeated, SeparatedBy, OrNot, Not, AndIs, Rewind, Map, TryMap}
@@ -37,7 +38,7 @@ module _ {I Tok Sp Cu Er St Mk Cx V : Type 0} (source : input_trait.Ghosts I Cu 
   kind_same call p q bound h (Map n f) all = ap (λ x. Chained x (Made (a.maps f))) (h n all.0)
   kind_same call p q bound h (Repeated a least most) all = refl
   kind_same call p q bound h (SeparatedBy a b cfg) all = refl
-  kind_same call p q bound h (OrNot a) all = refl
+  kind_same call p q bound h (OrNot n) all = ap (λ x. Chained (OrNone states.mark states.back states.takes_no_memory x) (Made a.options)) (h n all.0)
   kind_same call p q bound h (Not a) all = refl
   kind_same call p q bound h (AndIs a b) all = refl
   kind_same call p q bound h (Rewind a) all = refl

@@ -26,7 +26,7 @@ use Rattle.chumsky_recursive.proofs.Tries.{tries-stand, tries-end, tries-next, t
 use Rattle.chumsky_recursive.proofs.Waiting.{waits, heard, makes-ran, makes-there, both-there}
 
 module _ {I Tok Sp Cu Er St Mk Cx V : Type 0} (source : input_trait.Ghosts I Cu Tok Sp) (errors : error_trait.Ghosts Er I Tok Sp) (states : inspector_trait.Ghosts St I Mk Tok Sp) (a : Acts Tok Cx states.Seen errors.Seen V) (g : Tables) (fs : List (Frame V (Checkpoint Cu Mk))) (now : Held Tok Cx states.Seen errors.Seen) (answer : Result (Option V) Fault) where
-  abbrev Heard : Frame V (Checkpoint Cu Mk) → List (Frame V (Checkpoint Cu Mk)) → Held Tok Cx states.Seen errors.Seen → Todo V → Type 0
+  abbrev pub Heard : Frame V (Checkpoint Cu Mk) → List (Frame V (Checkpoint Cu Mk)) → Held Tok Cx states.Seen errors.Seen → Todo V → Type 0
   Heard f new then todo = (s u t : Begun Tok Cx states.Seen errors.Seen) → Wait source errors states a g fs s u → WaitsFor source errors states a g f u t → Answers source errors states a g t now answer → IfOk answer (λ v. is_some v ≡ t.wanted) → Left source errors states a g new s then todo
 
   ok_there : {v : Option V} {b : Bool} → answer ≡ Ok v → IfOk answer (λ w. is_some w ≡ b) → is_some v ≡ b

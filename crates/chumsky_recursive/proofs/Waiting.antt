@@ -14,9 +14,10 @@ use Rattle.chumsky_input.specs.Held.{Held, marks}
 use Rattle.chumsky_input.specs.Run.{Ran}
 use Rattle.chumsky_parser.specs.Chained.{Given, both}
 use Rattle.chumsky_parser.proofs.ChainedLemmas.{ran-chained_err, ran-given, ran-weaker}
+use Rattle.chumsky_parser.proofs.ChoiceLemmas.{attempt-stands}
 use Rattle.chumsky_parser.proofs.FailureLemmas.{ran-halts}
 use Rattle.chumsky_recursive.specs.declared.frames.Frame.{Frame}
-use Rattle.chumsky_recursive.specs.declared.frames.Frame.TheVariants.{First, Second, Alternative, Mapped}
+use Rattle.chumsky_recursive.specs.declared.frames.Frame.TheVariants.{First, Second, Alternative, Mapped, Optional}
 use Rattle.chumsky_recursive.specs.declared.frames.Todo.{Todo}
 use Rattle.chumsky_recursive.specs.declared.frames.Todo.TheVariants.{Begin, Answer}
 use Rattle.chumsky_rules.specs.declared.kinds.NodeKind.{NodeKind}
@@ -54,6 +55,7 @@ module _ {I Tok Sp Cu Er St Mk Cx V : Type 0} (source : input_trait.Ghosts I Cu 
   passes s (Second v) h = ran-chained_err _ _ _ _ _ _ _ _ h
   passes {m} {wanted} {old} {new} s (Alternative node more w next before) h = tries-stand errors.merged errors.takes_no_memory states.back states.takes_no_memory (marks source states before).mark wanted m old new (Err (fault.Stop s)) _ (λ q. cc) h
   passes s (Mapped f) h = ran-chained_err _ _ _ _ _ _ _ _ h
+  passes {m} {wanted} {old} {new} s (Optional w before) h = ran-chained_err _ _ _ _ _ _ _ _ (attempt-stands errors.merged errors.takes_no_memory states.back states.takes_no_memory (marks source states before).mark _ _ wanted old new (Err (fault.Stop s)) (ran-chained_err _ _ _ _ _ _ _ _ h) (λ q. cc))
 
   -- another node in the place of the one that runs
   pub instead : (fs : List (Frame V (Checkpoint Cu Mk))) (s u t : Begun Tok Cx states.Seen errors.Seen) → Wait source errors states a g fs s u → t.wanted ≡ u.wanted → ((new : Held Tok Cx states.Seen errors.Seen) (r : Result (Option V) Fault) → Answers source errors states a g t new r → Answers source errors states a g u new r) → Wait source errors states a g fs s t

@@ -1,5 +1,5 @@
 -- What waits while a part runs, and what is left to do.
-use Rattle.std.specs.Prelude.{◌≡◌, ℕ, ◌<◌, Bool, List, [], ◌∷◌, ◌++◌, map, drop, Option, Some, None, Result, Ok, Err, IfOk, is_some, slice_get, ◌⊎◌, ⊤}
+use Rattle.std.specs.Prelude.{◌≡◌, ℕ, ◌<◌, Bool, List, [], ◌∷◌, ◌++◌, map, drop, Option, Some, None, option_map, Result, Ok, Err, IfOk, is_some, slice_get, ◌⊎◌, ⊤}
 use Rattle.chumsky_input.specs.declared.error.Error as error_trait
 use Rattle.chumsky_input.specs.declared.inspector.Inspector as inspector_trait
 use Rattle.chumsky_input.specs.declared.input.Input as input_trait
@@ -7,13 +7,15 @@ use Rattle.chumsky_input.specs.declared.input_ref.Checkpoint.{Checkpoint}
 use Rattle.chumsky_input.specs.declared.stop.Fault.{Fault}
 use Rattle.chumsky_input.specs.declared.stop.Fault.TheVariants as fault
 use Rattle.chumsky_input.specs.declared.stop.Stop.TheVariants.{Memory}
-use Rattle.chumsky_input.specs.Held.{Held, marks}
+use Rattle.chumsky_input.specs.Held.{Held, Marks, marks}
 use Rattle.chumsky_input.specs.Outcome.{Meaning}
-use Rattle.chumsky_input.specs.Run.{Ran}
-use Rattle.chumsky_parser.specs.Chained.{Chained, both}
-use Rattle.chumsky_parser.specs.Choice.{FirstFrom, StandsAt}
+use Rattle.chumsky_input.specs.Run.{Ran, marked_here, gone_back}
+use Rattle.chumsky_parser.specs.Chained.{Chained, Given, both}
+use Rattle.chumsky_parser.specs.Choice.{AttemptFrom, FirstFrom, StandsAt}
+use Rattle.chumsky_parser.specs.Failure.{wanting}
+use Rattle.chumsky_parser.specs.Ignoring.{Gives}
 use Rattle.chumsky_recursive.specs.declared.frames.Frame.{Frame}
-use Rattle.chumsky_recursive.specs.declared.frames.Frame.TheVariants.{First, Second, Alternative, Mapped}
+use Rattle.chumsky_recursive.specs.declared.frames.Frame.TheVariants.{First, Second, Alternative, Mapped, Optional}
 use Rattle.chumsky_recursive.specs.declared.frames.Todo.{Todo}
 use Rattle.chumsky_recursive.specs.declared.frames.Todo.TheVariants.{Begin, Answer}
 use Rattle.chumsky_rules.specs.declared.kinds.NodeKind.{NodeKind}
@@ -33,6 +35,19 @@ module _ {V C : Type 0} where
   -- a frame more, which waits for this part; or there is no memory for it
   pub record Waits (old new : List (Frame V C)) (f : Frame V C) (part more : ℕ) (wanted : Bool) (todo : Todo V) : Type 0 where
     pub cases : ((todo ≡ Begin part more wanted) × (new ≡ old ++ f ∷ [])) ⊎ ((todo ≡ Answer (Err (fault.Stop Memory))) × (new ≡ old))
+
+module _ {I Tok Sp Cu St Mk Cx Er V : Type 0} (source : input_trait.Ghosts I Cu Tok Sp) (states : inspector_trait.Ghosts St I Mk Tok Sp) where
+  -- a frame more, with a checkpoint of what is held; or there is no memory for the one or the other
+  pub record WaitsMarked (old new : List (Frame V (Checkpoint Cu Mk))) (f : Checkpoint Cu Mk → Frame V (Checkpoint Cu Mk)) (part more : ℕ) (wanted : Bool) (now : Held Tok Cx states.Seen Er) (todo : Todo V) : Type 0 where
+    pub cases : ((before : Checkpoint Cu Mk) × (marks source states before ≡ marked_here states.mark now) × Waits old new (f before) part more wanted todo) ⊎ ((states.takes_no_memory → ⊥) × (todo ≡ Answer (Err (fault.Stop Memory))) × (new ≡ old))
+
+module _ {Tok Cx St Mk Er V : Type 0} (back : St → Mk → St) (quiet : Type 0) (options : Option V → V → Type 0) (wanted : Bool) (m : Marks Tok Mk) where
+  -- after this answer of its part, `or_not` answers that: a value of the part's; after a no, gone back, one of none; and a
+  -- stop stands
+  abbrev pub OrAbsent : Result (Option V) Fault → Held Tok Cx St Er → Held Tok Cx St Er → Result (Option V) Fault → Type 0
+  OrAbsent (Ok v) old new r = (new ≡ old) × Makes options (option_map Some v) r
+  OrAbsent (Err fault.Fail) old new r = ((new ≡ gone_back back old m) × Makes options (wanting wanted None) r) ⊎ ((quiet → ⊥) × (new ≡ old) × (r ≡ Err (fault.Stop Memory)))
+  OrAbsent (Err (fault.Stop s)) old new r = (new ≡ old) × (r ≡ Err (fault.Stop s))
 
 -- the alternatives of a node that is a choice
 abbrev pub alternatives_of : Option NodeKind → List ℕ
@@ -68,6 +83,7 @@ module _ {I Tok Sp Cu Er St Mk Cx V : Type 0} (source : input_trait.Ghosts I Cu 
   with_part (Second v) m = Chained m (λ w. Made a.pairs (both v w))
   with_part (Alternative node more wanted next before) m = FirstFrom states.back states.takes_no_memory (marks source states before).mark m (map (part_means source errors states a g more) (drop next (alternatives_of (slice_get g.nodes node))))
   with_part (Mapped f) m = Chained m (Made (a.maps f))
+  with_part (Optional wanted before) m = Chained (AttemptFrom states.back states.takes_no_memory (marks source states before).mark (Chained m (λ v. Given (option_map Some v))) (Gives None)) (Made a.options)
 
   -- what a frame keeps is that of its node, which runs for its value or without it, and of its part, which began at t
   abbrev pub Keeps : Frame V (Checkpoint Cu Mk) → Bool → Begun Tok Cx states.Seen errors.Seen → Type 0
@@ -75,6 +91,7 @@ module _ {I Tok Sp Cu Er St Mk Cx V : Type 0} (source : input_trait.Ghosts I Cu 
   Keeps (Second v) asked t = is_some v ≡ asked
   Keeps (Alternative node more wanted next before) asked t = (wanted ≡ asked) × StandsAt (marks source states before) t.held
   Keeps (Mapped f) asked t = ⊤
+  Keeps (Optional wanted before) asked t = (wanted ≡ asked) × StandsAt (marks source states before) t.held
 
   -- the frame of the node that began at s waits for the part that began at t: what it does with the part, the node does
   pub record WaitsFor (f : Frame V (Checkpoint Cu Mk)) (s t : Begun Tok Cx states.Seen errors.Seen) : Type 0 where
@@ -99,6 +116,7 @@ module _ {I Tok Sp Cu St Mk V : Type 0} (source : input_trait.Ghosts I Cu Tok Sp
   IsKnown nodes tokens (Second v) = ⊤
   IsKnown nodes tokens (Alternative node more wanted next before) = (node < nodes) × ((marks source states before).tokens ≡ tokens)
   IsKnown nodes tokens (Mapped f) = ⊤
+  IsKnown nodes tokens (Optional wanted before) = (marks source states before).tokens ≡ tokens
 
 -- a node that begins is there
 abbrev pub IsThere : {V : Type 0} → ℕ → Todo V → Type 0

@@ -5,7 +5,9 @@ use Rattle.chumsky_input.specs.declared.inspector.Inspector as inspector_trait
 use Rattle.chumsky_input.specs.declared.input.Input as input_trait
 use Rattle.chumsky_input.specs.Outcome.{Event, Meaning, Beginning, Outcome, Verdict, Yes, No, Halt, Clash, Agreeing, IsAnswer}
 use Rattle.chumsky_parser.specs.Chained.{from, Follows, Chained}
-use Rattle.chumsky_parser.specs.Choice.{Stands, OneOrFirst}
+use Rattle.chumsky_parser.specs.Choice.{Stands, OneOrFirst, ElseFrom, OrElse}
+use Rattle.chumsky_parser.specs.Ignoring.{Gives}
+use Rattle.chumsky_combinator.specs.Optional.{OrNone}
 use Rattle.chumsky_choice.specs.Among.{NoneOrFirst, FirstAmong}
 use Rattle.chumsky_rules.specs.declared.kinds.NodeKind.{NodeKind}
 use Rattle.chumsky_rules.specs.declared.kinds.NodeKind.TheVariants.{Leaf, Rule, Then, Choice, Repeated, SeparatedBy, OrNot, Not, AndIs, Rewind, Map, TryMap}
@@ -34,6 +36,26 @@ module _ {Tok Cx St Er V W : Type 0} (part part' : Meaning Tok Cx St Er V) (next
 
   chained-has : HasAnswers part part' → ((v : Option V) → HasAnswers (next v) (next' v)) → HasAnswers (Chained part next) (Chained part' next')
   chained-has hp hn b o a m = chained_has hp hn b o m.first.verdict m.first.end m.first.state m.first.events m.first.emitted a m.meant m.follows
+
+module _ {Tok Cx St Mk Er V : Type 0} (back : St → Mk → St) (safe : Type 0) (mark : Mk) (second second' : Meaning Tok Cx St Er V) (h : HasAnswers second second') (b : Beginning Tok Cx St) (p o : Outcome V Er St) (a : IsAnswer o.verdict) where
+  else_has : (v : Verdict V Er) → p.verdict ≡ v → ElseFrom back safe mark v second b p o → IsAnswer p.verdict × ElseFrom back safe mark v second' b p o
+  else_has (Yes v) e m = (rw e tt, m)
+  else_has No e (inl r) = (rw e tt, inl r)
+  else_has No e (inr t) = (rw e tt, inr (t.0, h (record b { state = back p.state mark }) t.0 (subst IsAnswer (ap (λ (y : Outcome V Er St). y.verdict) t.2) a) t.1, t.2))
+  else_has (Halt s) e m = (subst IsAnswer (ap (λ (y : Outcome V Er St). y.verdict) m) a, m)
+  else_has (Clash c) e m = (subst IsAnswer (ap (λ (y : Outcome V Er St). y.verdict) m) a, m)
+
+module _ {Tok Cx St Mk Er V : Type 0} (mark : St → Mk) (back : St → Mk → St) (safe : Type 0) where
+  or_else-has : (first first' second second' : Meaning Tok Cx St Er V) → HasAnswers first first' → HasAnswers second second' → HasAnswers (OrElse mark back safe first second) (OrElse mark back safe first' second')
+  or_else-has first first' second second' hf hs b o a m =
+      elim m.cases [
+        | inl r ↦ record { cases = inl r }
+        | inr t ↦ let z = else_has back safe (mark b.state) second second' hs b t.attempt o a t.attempt.verdict refl t.then_else in record { cases = inr (record { attempt = t.attempt; meant = hf b t.attempt z.0 t.meant; then_else = z.1 }) }
+      ]
+
+module _ {Tok Cx St Mk Er V : Type 0} (mark : St → Mk) (back : St → Mk → St) (safe : Type 0) where
+  or_none-has : (part part' : Meaning Tok Cx St Er V) → HasAnswers part part' → HasAnswers (OrNone mark back safe part) (OrNone mark back safe part')
+  or_none-has part part' h = or_else-has mark back safe _ _ (Gives None) (Gives None) (chained-has part part' _ _ h (λ v b o a m. m)) (λ b o a m. m)
 
 module _ {Tok Cx St Mk Er V : Type 0} (back : St → Mk → St) (safe : Type 0) (mark : Mk) (part part' : ℕ → Meaning Tok Cx St Er V) (h : (n : ℕ) → HasAnswers (part n) (part' n)) where
   as_many : (ns : List ℕ) → length (map part ns) ≡ 0 → length (map part' ns) ≡ 0
@@ -77,7 +99,7 @@ module _ {I Tok Sp Cu Er St Mk Cx V : Type 0} (source : input_trait.Ghosts I Cu 
       kind_has part part' hp (Map n f) = chained-has (part n) (part' n) _ _ (hp n) (λ v b o y m. m)
       kind_has part part' hp (Repeated n least most) = λ b o y m. m
       kind_has part part' hp (SeparatedBy n k cfg) = λ b o y m. m
-      kind_has part part' hp (OrNot n) = λ b o y m. m
+      kind_has part part' hp (OrNot n) = chained-has (OrNone states.mark states.back states.takes_no_memory (part n)) (OrNone states.mark states.back states.takes_no_memory (part' n)) _ _ (or_none-has states.mark states.back states.takes_no_memory (part n) (part' n) (hp n)) (λ v b o y m. m)
       kind_has part part' hp (Not n) = λ b o y m. m
       kind_has part part' hp (AndIs n k) = λ b o y m. m
       kind_has part part' hp (Rewind n) = λ b o y m. m

@@ -1,7 +1,7 @@
 -- A whole number that falls at each step.
 use Rattle.std.specs.Prelude.{ℕ, zero, suc, ◌+◌, ◌-◌, ◌*◌, ◌^◌, ◌≤◌, List, [], ◌∷◌, ⊤}
 use Rattle.chumsky_recursive.specs.declared.frames.Frame.{Frame}
-use Rattle.chumsky_recursive.specs.declared.frames.Frame.TheVariants.{First, Second, Alternative, Mapped}
+use Rattle.chumsky_recursive.specs.declared.frames.Frame.TheVariants.{First, Second, Alternative, Mapped, Optional}
 use Rattle.chumsky_recursive.specs.declared.frames.Todo.{Todo}
 use Rattle.chumsky_recursive.specs.declared.frames.Todo.TheVariants.{Begin, Answer}
 
@@ -23,6 +23,7 @@ module _ {V C : Type 0} where
   weight_of nodes (Second v) = 1
   weight_of nodes (Alternative node more wanted next before) = share next * power (level nodes more node)
   weight_of nodes (Mapped f) = 1
+  weight_of nodes (Optional wanted before) = 1
 
   abbrev pub weight : ℕ → List (Frame V C) → ℕ
   weight nodes [] = 0
@@ -42,6 +43,7 @@ module _ {V C : Type 0} where
   reach nodes (Second v) = 0
   reach nodes (Alternative node more wanted next before) = level nodes more node
   reach nodes (Mapped f) = 0
+  reach nodes (Optional wanted before) = 0
 
   -- frames, of which so many others lie below the first, leave room for those parts
   abbrev pub IsBounded : ℕ → ℕ → ℕ → List (Frame V C) → Type 0

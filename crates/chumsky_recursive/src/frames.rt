@@ -18,6 +18,8 @@ pub(crate) enum Frame<V, C> {
     Alternative(Node, usize, bool, usize, C),
     /// Of `map`, its part runs: the number of the mapper.
     Mapped(usize),
+    /// Of `or_not`, its part runs: whether for its value, and the checkpoint to go back to.
+    Optional(bool, C),
 }
 
 /// What comes next: a node begins, under calls that may open so many more rules, for its value or without it; or the

@@ -8,6 +8,7 @@ mod frames;
 pub mod grammar;
 pub mod laws;
 pub mod leaves;
+mod optional;
 mod runs;
 pub mod steady;
 mod steps;

@@ -33,7 +33,7 @@ fn runs_kind(kind: &NodeKind) -> bool
         NodeKind::Map(_, _) => true,
         NodeKind::Repeated(_, _, _) => false,
         NodeKind::SeparatedBy(_, _, _) => false,
-        NodeKind::OrNot(_) => false,
+        NodeKind::OrNot(_) => true,
         NodeKind::Not(_) => false,
         NodeKind::AndIs(_, _) => false,
         NodeKind::Rewind(_) => false,

@@ -8,6 +8,7 @@ ghost use Rattle.chumsky_recursive.specs.Weight.{level, weight, weight_of, total
 
 use crate::actions::Actions;
 use crate::frames::{Frame, Todo, wait};
+use crate::optional::{begin_part, or_absent};
 use crate::values::{leaf, map, nothing, pair};
 use chumsky_input::extra::ParserExtra;
 use chumsky_input::input::Input;
@@ -78,7 +79,7 @@ pub(crate) fn begin<'src, I: Input<'src>, E: ParserExtra<I>, A: Actions<'src, I,
     requires ready { A.ready actions.now }
     requires node { node < length rules.now.nodes }
     requires runs { each_runs rules.now ≡ true }
-    ensures left { (s : Begun I.Token E.Context E.State.Seen E.Error.Seen) → Wait I.Input E.Error.Error E.State.Inspector (acts_of I.Input E.Error.Error E.State.Inspector (A.leaf_meaning actions.now) (A.pair_gives actions.now) (A.map_gives actions.now)) rules.now frames.old.items s (record { more = more; node = node; wanted = wanted; held = held I.Input E.Error.Error E.State.Inspector inp.old }) → Left I.Input E.Error.Error E.State.Inspector (acts_of I.Input E.Error.Error E.State.Inspector (A.leaf_meaning actions.now) (A.pair_gives actions.now) (A.map_gives actions.now)) rules.now frames.new.items s (held I.Input E.Error.Error E.State.Inspector inp.new) result }
+    ensures left { (s : Begun I.Token E.Context E.State.Seen E.Error.Seen) → Wait I.Input E.Error.Error E.State.Inspector (acts_of I.Input E.Error.Error E.State.Inspector (A.leaf_meaning actions.now) (A.pair_gives actions.now) (A.option_gives actions.now) (A.map_gives actions.now)) rules.now frames.old.items s (record { more = more; node = node; wanted = wanted; held = held I.Input E.Error.Error E.State.Inspector inp.old }) → Left I.Input E.Error.Error E.State.Inspector (acts_of I.Input E.Error.Error E.State.Inspector (A.leaf_meaning actions.now) (A.pair_gives actions.now) (A.option_gives actions.now) (A.map_gives actions.now)) rules.now frames.new.items s (held I.Input E.Error.Error E.State.Inspector inp.new) result }
     ensures known { All (IsKnown I.Input E.State.Inspector (length rules.now.nodes) (held I.Input E.Error.Error E.State.Inspector inp.old).tokens) frames.old.items → All (IsKnown I.Input E.State.Inspector (length rules.now.nodes) (held I.Input E.Error.Error E.State.Inspector inp.old).tokens) frames.new.items }
     ensures there { IsThere (length rules.now.nodes) result }
     ensures lighter { total (length rules.now.nodes) frames.new.items result < total (length rules.now.nodes) frames.old.items (Todo.Begin node more wanted) }
@@ -116,7 +117,7 @@ pub(crate) fn begin<'src, I: Input<'src>, E: ParserExtra<I>, A: Actions<'src, I,
         NodeKind::Map(a, f) => wait(frames, Frame::Mapped(*f), *a, more, wanted),
         NodeKind::Repeated(_, _, _) => unreachable!(),
         NodeKind::SeparatedBy(_, _, _) => unreachable!(),
-        NodeKind::OrNot(_) => unreachable!(),
+        NodeKind::OrNot(a) => begin_part(frames, *a, more, wanted, inp),
         NodeKind::Not(_) => unreachable!(),
         NodeKind::AndIs(_, _) => unreachable!(),
         NodeKind::Rewind(_) => unreachable!(),
@@ -135,7 +136,7 @@ fn resume<'src, I: Input<'src>, E: ParserExtra<I>, A: Actions<'src, I, E>>(
 ) -> Todo<A::Value>
     requires closed { IsClosed rules.now (A.leaf_count actions.now) }
     requires known { IsKnown I.Input E.State.Inspector (length rules.now.nodes) (held I.Input E.Error.Error E.State.Inspector inp.old).tokens frame }
-    ensures left { (s u t : Begun I.Token E.Context E.State.Seen E.Error.Seen) → Wait I.Input E.Error.Error E.State.Inspector (acts_of I.Input E.Error.Error E.State.Inspector (A.leaf_meaning actions.now) (A.pair_gives actions.now) (A.map_gives actions.now)) rules.now frames.old.items s u → WaitsFor I.Input E.Error.Error E.State.Inspector (acts_of I.Input E.Error.Error E.State.Inspector (A.leaf_meaning actions.now) (A.pair_gives actions.now) (A.map_gives actions.now)) rules.now frame u t → Answers I.Input E.Error.Error E.State.Inspector (acts_of I.Input E.Error.Error E.State.Inspector (A.leaf_meaning actions.now) (A.pair_gives actions.now) (A.map_gives actions.now)) rules.now t (held I.Input E.Error.Error E.State.Inspector inp.old) answer → IfOk answer (λ v. is_some v ≡ t.wanted) → Left I.Input E.Error.Error E.State.Inspector (acts_of I.Input E.Error.Error E.State.Inspector (A.leaf_meaning actions.now) (A.pair_gives actions.now) (A.map_gives actions.now)) rules.now frames.new.items s (held I.Input E.Error.Error E.State.Inspector inp.new) result }
+    ensures left { (s u t : Begun I.Token E.Context E.State.Seen E.Error.Seen) → Wait I.Input E.Error.Error E.State.Inspector (acts_of I.Input E.Error.Error E.State.Inspector (A.leaf_meaning actions.now) (A.pair_gives actions.now) (A.option_gives actions.now) (A.map_gives actions.now)) rules.now frames.old.items s u → WaitsFor I.Input E.Error.Error E.State.Inspector (acts_of I.Input E.Error.Error E.State.Inspector (A.leaf_meaning actions.now) (A.pair_gives actions.now) (A.option_gives actions.now) (A.map_gives actions.now)) rules.now frame u t → Answers I.Input E.Error.Error E.State.Inspector (acts_of I.Input E.Error.Error E.State.Inspector (A.leaf_meaning actions.now) (A.pair_gives actions.now) (A.option_gives actions.now) (A.map_gives actions.now)) rules.now t (held I.Input E.Error.Error E.State.Inspector inp.old) answer → IfOk answer (λ v. is_some v ≡ t.wanted) → Left I.Input E.Error.Error E.State.Inspector (acts_of I.Input E.Error.Error E.State.Inspector (A.leaf_meaning actions.now) (A.pair_gives actions.now) (A.option_gives actions.now) (A.map_gives actions.now)) rules.now frames.new.items s (held I.Input E.Error.Error E.State.Inspector inp.new) result }
     ensures known { All (IsKnown I.Input E.State.Inspector (length rules.now.nodes) (held I.Input E.Error.Error E.State.Inspector inp.old).tokens) frames.old.items → All (IsKnown I.Input E.State.Inspector (length rules.now.nodes) (held I.Input E.Error.Error E.State.Inspector inp.old).tokens) frames.new.items }
     ensures there { IsThere (length rules.now.nodes) result }
     ensures lighter { total (length rules.now.nodes) frames.new.items result < weight (length rules.now.nodes) frames.old.items + weight_of (length rules.now.nodes) frame }
@@ -177,6 +178,9 @@ fn resume<'src, I: Input<'src>, E: ParserExtra<I>, A: Actions<'src, I, E>>(
             Ok(value) => Todo::Answer(map(actions, inp.alloc, f, value)),
             Err(fault) => Todo::Answer(Err(fault)),
         },
+        Frame::Optional(wanted, before) => {
+            Todo::Answer(or_absent(actions, wanted, &before, answer, inp))
+        }
     }
 }
 
@@ -190,7 +194,7 @@ pub(crate) fn hear<'src, I: Input<'src>, E: ParserExtra<I>, A: Actions<'src, I, 
 ) -> Result<Todo<A::Value>, PResult<Option<A::Value>>>
     requires closed { IsClosed rules.now (A.leaf_count actions.now) }
     requires known { All (IsKnown I.Input E.State.Inspector (length rules.now.nodes) (held I.Input E.Error.Error E.State.Inspector inp.old).tokens) frames.old.items }
-    ensures left { IfOk result (λ todo. (s : Begun I.Token E.Context E.State.Seen E.Error.Seen) → Left I.Input E.Error.Error E.State.Inspector (acts_of I.Input E.Error.Error E.State.Inspector (A.leaf_meaning actions.now) (A.pair_gives actions.now) (A.map_gives actions.now)) rules.now frames.old.items s (held I.Input E.Error.Error E.State.Inspector inp.old) (Todo.Answer answer) → Left I.Input E.Error.Error E.State.Inspector (acts_of I.Input E.Error.Error E.State.Inspector (A.leaf_meaning actions.now) (A.pair_gives actions.now) (A.map_gives actions.now)) rules.now frames.new.items s (held I.Input E.Error.Error E.State.Inspector inp.new) todo) }
+    ensures left { IfOk result (λ todo. (s : Begun I.Token E.Context E.State.Seen E.Error.Seen) → Left I.Input E.Error.Error E.State.Inspector (acts_of I.Input E.Error.Error E.State.Inspector (A.leaf_meaning actions.now) (A.pair_gives actions.now) (A.option_gives actions.now) (A.map_gives actions.now)) rules.now frames.old.items s (held I.Input E.Error.Error E.State.Inspector inp.old) (Todo.Answer answer) → Left I.Input E.Error.Error E.State.Inspector (acts_of I.Input E.Error.Error E.State.Inspector (A.leaf_meaning actions.now) (A.pair_gives actions.now) (A.option_gives actions.now) (A.map_gives actions.now)) rules.now frames.new.items s (held I.Input E.Error.Error E.State.Inspector inp.new) todo) }
     ensures known { All (IsKnown I.Input E.State.Inspector (length rules.now.nodes) (held I.Input E.Error.Error E.State.Inspector inp.old).tokens) frames.new.items }
     ensures there { IfOk result (IsThere (length rules.now.nodes)) }
     ensures lighter { IfOk result (λ todo. total (length rules.now.nodes) frames.new.items todo < weight (length rules.now.nodes) frames.old.items) }

@@ -6,6 +6,7 @@ use Rattle.chumsky_recursive.proofs.Parts.{alternative_below}
 use Rattle.chumsky_recursive.proofs.Begins.{waits_all, waits_there, less}
 use Rattle.chumsky_recursive.proofs.Resumes.{first_fails, second_fails, mapped_fails, second_made, mapped_made, alternative_stands, alternative_ends, alternative_unrestored, second_left, next_left}
 use Rattle.chumsky_recursive.proofs.Weights.{waits_lighter, part_level, next_lighter, choice_lighter, next_small, waits_bounded, fits_under, fits_first, fits_none}
+use Rattle.chumsky_recursive.proofs.Options.{or_absent_left}
 use Rattle.chumsky_recursive.proofs.steps.resume.Goals as goal
 
 pub returns-in-Ok-clause-left : goal.returns-in-Ok-clause-left
@@ -132,3 +133,10 @@ pub returns-in-Ok-rewind-clause-bounded : goal.returns-in-Ok-rewind-clause-bound
 returns-in-Ok-rewind-clause-bounded g c =
     let p : c.in-Some.part < c.in-Alternative.node = alternative_below c.args.rules.now c.in-Alternative.node c.in-Alternative.next c.in-Some.part c.requires.closed.built (sym c.alternative.ensures.is ∙ c.in-Some.is) in
     λ bound b l. (let m = rw c.in-Alternative.is at l in waits_bounded (length c.args.rules.now.nodes) bound c.wait-in-Ok-rewind.ensures m (fits_under _ _ _ _ (part_level (length c.args.rules.now.nodes) c.in-Alternative.more c.in-Some.part c.in-Alternative.node p) m) b)
+
+pub returns-in-Optional-clause-left : goal.returns-in-Optional-clause-left
+returns-in-Optional-clause-left g c = rw c.in-Optional.is (or_absent_left _ _ _ _ _ _ _ _ _ _ _ _ c.or_absent.ensures.is)
+
+pub returns-in-Optional-clause-bounded : goal.returns-in-Optional-clause-bounded
+returns-in-Optional-clause-bounded g c =
+    λ bound b l. (b, tt)
