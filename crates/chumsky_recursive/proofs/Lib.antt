@@ -6,3 +6,5 @@ pub mod Begins
 pub mod Resumes
 pub mod Searched
 pub mod Options
+pub mod AheadBegins
+pub mod AheadResumes

@@ -1,6 +1,6 @@
 -- Nodes whose part may be absent.
-use Rattle.std.specs.Prelude.{is_some}
-use Rattle.std.proofs.Common.{◌≡◌, ℕ, ◌+◌, ◌<◌, ◌≤◌, Bool, true, false, Option, Some, None, option_map, List, slice_get, length, refl, ◌∙◌, subst, Result, Ok, Err, inl, inr}
+use Rattle.std.specs.Prelude.{IfOk, is_some}
+use Rattle.std.proofs.Common.{◌≡◌, ℕ, ◌+◌, ◌<◌, ◌≤◌, Bool, true, false, Option, Some, None, option_map, List, slice_get, length, refl, ◌∙◌, ap, subst, Result, Ok, Err, inl, inr}
 use Rattle.std.specs.List.{All}
 use Rattle.chumsky_input.specs.declared.error.Error as error_trait
 use Rattle.chumsky_input.specs.declared.inspector.Inspector as inspector_trait
@@ -11,7 +11,7 @@ use Rattle.chumsky_input.specs.declared.stop.Fault.TheVariants as fault
 use Rattle.chumsky_input.specs.declared.stop.Stop.TheVariants.{Memory}
 use Rattle.chumsky_input.specs.Outcome.{Meaning}
 use Rattle.chumsky_input.specs.Held.{Held, Marks, marks}
-use Rattle.chumsky_input.specs.Run.{Ran, begin, marked_here}
+use Rattle.chumsky_input.specs.Run.{Ran, begin, gone_back, marked_here}
 use Rattle.chumsky_parser.specs.Chained.{Chained, Given}
 use Rattle.chumsky_parser.specs.Choice.{AttemptFrom, OrElse}
 use Rattle.chumsky_parser.specs.Failure.{wanting}
@@ -27,7 +27,7 @@ use Rattle.chumsky_rules.specs.declared.kinds.NodeKind.TheVariants.{OrNot}
 use Rattle.chumsky_rules.specs.Tables.{Tables}
 use Rattle.chumsky_rules.specs.Built.{IsBuilt}
 use Rattle.chumsky_recursive.specs.Means.{Acts, Made, part_means}
-use Rattle.chumsky_recursive.specs.Frames.{Makes, WaitsMarked, OrAbsent, Begun, Wait, Left, IsThere}
+use Rattle.chumsky_recursive.specs.Frames.{Makes, Waits, WaitsMarked, OrAbsent, Begun, Wait, Left, IsThere}
 use Rattle.chumsky_recursive.specs.Weight.{level, power, weight, weight_of, total, reach, IsBounded, Fits}
 use Rattle.chumsky_recursive.proofs.Begins.{node_at, waits_all, waits_there}
 use Rattle.chumsky_recursive.proofs.Parts.{does}
@@ -49,12 +49,12 @@ some-there : {V : Type 0} (b : Bool) (v : Option V) → is_some v ≡ b → is_s
 some-there b (Some v) e = e
 some-there b None e = e
 
-wanting-there : {V : Type 0} (b : Bool) (v : V) → is_some (wanting b v) ≡ b
+pub wanting-there : {V : Type 0} (b : Bool) (v : V) → is_some (wanting b v) ≡ b
 wanting-there true v = refl
 wanting-there false v = refl
 
-module _ {I Tok Sp Cu St Mk Cx Er V : Type 0} (source : input_trait.Ghosts I Cu Tok Sp) (states : inspector_trait.Ghosts St I Mk Tok Sp) {old new : List (Frame V (Checkpoint Cu Mk))} {f : Checkpoint Cu Mk → Frame V (Checkpoint Cu Mk)} {part more : ℕ} {wanted : Bool} {now : Held Tok Cx states.Seen Er} {todo : Todo V} where
-  pub marked_all : (P : Frame V (Checkpoint Cu Mk) → Type 0) → WaitsMarked source states old new f part more wanted now todo → ((c : Checkpoint Cu Mk) → marks source states c ≡ marked_here states.mark now → P (f c)) → All P old → All P new
+module _ {I Tok Sp Cu Er Es St Mk Cx V : Type 0} (source : input_trait.Ghosts I Cu Tok Sp) (states : inspector_trait.Ghosts St I Mk Tok Sp) {old new : List (Frame V Cu Mk Er)} {f : Checkpoint Cu Mk → Frame V Cu Mk Er} {part more : ℕ} {wanted : Bool} {now : Held Tok Cx states.Seen Es} {todo : Todo V} where
+  pub marked_all : (P : Frame V Cu Mk Er → Type 0) → WaitsMarked source states old new f part more wanted now todo → ((c : Checkpoint Cu Mk) → marks source states c ≡ marked_here states.mark now → P (f c)) → All P old → All P new
   marked_all P h k all = elim h.cases [ inl e ↦ waits_all P e.2 (k e.0 e.1) all | inr e ↦ rw e.2 all ]
 
   pub marked_there : (nodes : ℕ) → WaitsMarked source states old new f part more wanted now todo → part < nodes → IsThere nodes todo
@@ -68,7 +68,7 @@ module _ {I Tok Sp Cu St Mk Cx Er V : Type 0} (source : input_trait.Ghosts I Cu 
 
 module _ {I Tok Sp Cu Er St Mk Cx V : Type 0} (source : input_trait.Ghosts I Cu Tok Sp) (errors : error_trait.Ghosts Er I Tok Sp) (states : inspector_trait.Ghosts St I Mk Tok Sp) (a : Acts Tok Cx states.Seen errors.Seen V) (g : Tables) where
   -- the node begins
-  pub or_not_left : (built : IsBuilt g) (fs : List (Frame V (Checkpoint Cu Mk))) (more n : ℕ) (wanted : Bool) (now : Held Tok Cx states.Seen errors.Seen) {new : List (Frame V (Checkpoint Cu Mk))} {todo : Todo V} (p : ℕ) → slice_get g.nodes n ≡ Some (OrNot p) → p < length g.nodes
+  pub or_not_left : (built : IsBuilt g) (fs : List (Frame V Cu Mk Er)) (more n : ℕ) (wanted : Bool) (now : Held Tok Cx states.Seen errors.Seen) {new : List (Frame V Cu Mk Er)} {todo : Todo V} (p : ℕ) → slice_get g.nodes n ≡ Some (OrNot p) → p < length g.nodes
       → WaitsMarked source states fs new (Optional wanted) p more wanted now todo → (s : Begun Tok Cx states.Seen errors.Seen) → Wait source errors states a g fs s (record { more = more; node = n; wanted = wanted; held = now }) → Left source errors states a g new s now todo
   or_not_left built fs more n wanted now {new} {todo} p e l h s w =
       let here : Begun Tok Cx states.Seen errors.Seen = record { more = more; node = n; wanted = wanted; held = now } in
@@ -85,7 +85,7 @@ module _ {I Tok Sp Cu Er St Mk Cx V : Type 0} (source : input_trait.Ghosts I Cu 
       ]
 
   -- its part has answered
-  module _ (fs : List (Frame V (Checkpoint Cu Mk))) (now new : Held Tok Cx states.Seen errors.Seen) (wanted : Bool) (before : Checkpoint Cu Mk) (r : Result (Option V) Fault) where
+  module _ (fs : List (Frame V Cu Mk Er)) (now new : Held Tok Cx states.Seen errors.Seen) (wanted : Bool) (before : Checkpoint Cu Mk) (r : Result (Option V) Fault) where
     pub or_absent_left : (answer : Result (Option V) Fault) → OrAbsent states.back states.takes_no_memory a.options wanted (marks source states before) answer now new r → Heard source errors states a g fs now answer (Optional wanted before) fs new (Answer r)
     or_absent_left (Ok v) k s u t w x h there =
         let part : Ran errors.merged errors.takes_no_memory (part_means source errors states a g t.more t.node) u.wanted t.held now (Ok v) = heard source errors states a g x h in (

@@ -2,6 +2,7 @@
 #![tactic(auto)]
 
 pub mod actions;
+mod ahead;
 pub mod errors;
 mod evaluator;
 mod frames;

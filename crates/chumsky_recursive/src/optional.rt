@@ -17,7 +17,7 @@ use chumsky_rules::kinds::Node;
 /// Has the part begin, from a checkpoint of here.
 #[inline]
 pub(crate) fn begin_part<'src, I: Input<'src>, E: ParserExtra<I>, V: Drop>(
-    frames: &mut Vec<Frame<V, Checkpoint<I::Cursor, <E::State as Inspector<I>>::Mark>>>,
+    frames: &mut Vec<Frame<V, I::Cursor, <E::State as Inspector<I>>::Mark, E::Error>>,
     part: Node,
     more: usize,
     wanted: bool,

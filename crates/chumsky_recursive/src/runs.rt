@@ -34,9 +34,9 @@ fn runs_kind(kind: &NodeKind) -> bool
         NodeKind::Repeated(_, _, _) => false,
         NodeKind::SeparatedBy(_, _, _) => false,
         NodeKind::OrNot(_) => true,
-        NodeKind::Not(_) => false,
-        NodeKind::AndIs(_, _) => false,
-        NodeKind::Rewind(_) => false,
+        NodeKind::Not(_) => true,
+        NodeKind::AndIs(_, _) => true,
+        NodeKind::Rewind(_) => true,
         NodeKind::TryMap(_, _) => false,
     }
 }

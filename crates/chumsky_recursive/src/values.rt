@@ -103,6 +103,23 @@ pub(crate) fn absent<'src, I: Input<'src>, E: ParserExtra<I>, A: Actions<'src, I
     }
 }
 
+/// The value of nothing, where one is wanted.
+pub(crate) fn unit<'src, I: Input<'src>, E: ParserExtra<I>, A: Actions<'src, I, E>>(
+    actions: &A,
+    alloc: Global,
+    wanted: bool,
+) -> PResult<Option<A::Value>>
+    ensures { Makes (λ (_ : Unit {0}). A.unit_gives actions.now) (wanting wanted tt) result }
+{
+    if !wanted {
+        return Ok(None);
+    }
+    match actions.unit(alloc) {
+        Ok(value) => Ok(Some(value)),
+        Err(_) => Err(Fault::Stop(Stop::Memory)),
+    }
+}
+
 /// A value through a mapper, where there is one.
 pub(crate) fn map<'src, I: Input<'src>, E: ParserExtra<I>, A: Actions<'src, I, E>>(
     actions: &A,
