@@ -168,6 +168,10 @@ pub mod laws {
         any_is_steady, any_ref_is_steady, custom_is_steady, end_is_steady, just_is_steady,
         one_of_is_steady, select_is_steady, select_ref_is_steady,
     };
+    pub use chumsky_recursive::laws::{
+        answers_agree_under_any_limit, answers_stand_under_a_greater_limit,
+    };
+    pub use chumsky_recursive::steady::grammar_is_steady;
     pub use chumsky_set::laws::{
         a_list_takes_at_most_one_round_more, a_set_takes_at_most_one_round_more,
     };

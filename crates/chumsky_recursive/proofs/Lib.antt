@@ -5,3 +5,6 @@ pub mod Weights
 pub mod Begins
 pub mod Resumes
 pub mod Searched
+pub mod Options
+pub mod AheadBegins
+pub mod AheadResumes

@@ -13,6 +13,9 @@ use Rattle.chumsky_input.specs.Run.{Ran}
 use Rattle.chumsky_parser.specs.Chained.{Chained}
 use Rattle.chumsky_parser.proofs.ChainedLemmas.{ran-weaker}
 use Rattle.chumsky_parser.proofs.FailureLemmas.{ran-halts, ran-stops}
+use Rattle.chumsky_combinator.specs.Optional.{OrNone}
+use Rattle.chumsky_shield.specs.Not.{MeansNot}
+use Rattle.chumsky_shield.specs.AndIs.{MeansRewind}
 use Rattle.chumsky_choice.specs.Among.{FirstAmong}
 use Rattle.chumsky_rules.specs.declared.kinds.NodeKind.{NodeKind}
 use Rattle.chumsky_rules.specs.declared.kinds.NodeKind.TheVariants.{Leaf, Rule, Then, Choice, Repeated, SeparatedBy, OrNot, Not, AndIs, Rewind, Map, TryMap}
@@ -37,10 +40,13 @@ module _ {I Tok Sp Cu Er St Mk Cx V : Type 0} (source : input_trait.Ghosts I Cu 
   kind_same call p q bound h (Map n f) all = ap (λ x. Chained x (Made (a.maps f))) (h n all.0)
   kind_same call p q bound h (Repeated a least most) all = refl
   kind_same call p q bound h (SeparatedBy a b cfg) all = refl
-  kind_same call p q bound h (OrNot a) all = refl
-  kind_same call p q bound h (Not a) all = refl
-  kind_same call p q bound h (AndIs a b) all = refl
-  kind_same call p q bound h (Rewind a) all = refl
+  kind_same call p q bound h (OrNot n) all = ap (λ x. Chained (OrNone states.mark states.back states.takes_no_memory x) (Made a.options)) (h n all.0)
+  kind_same call p q bound h (Not n) all = ap (λ x. Chained (MeansNot source errors states x) (Made a.units)) (h n all.0)
+  kind_same call p q bound h (AndIs n m) all =
+      let e : p n ≡ q n = h n all.0 in
+      let d : p m ≡ q m = h m all.1.0 in
+      rw (e, d) refl
+  kind_same call p q bound h (Rewind n) all = ap (MeansRewind errors.merged) (h n all.0)
   kind_same call p q bound h (TryMap a f) all = refl
 
   known_same : (call p q : ℕ → Meaning Tok Cx states.Seen errors.Seen V) (bound : ℕ) → ((n : ℕ) → n < bound → p n ≡ q n) → (k : Option NodeKind) → ((x : NodeKind) → k ≡ Some x → AllByRecursion (λ m. m < bound) (parts_of x)) → known_means source errors states a call p k ≡ known_means source errors states a call q k

@@ -25,8 +25,8 @@ use Rattle.chumsky_recursive.proofs.Begins.{node_at}
 use Rattle.chumsky_recursive.proofs.Tries.{tries-stand, tries-end, tries-next, tries-unrestored}
 use Rattle.chumsky_recursive.proofs.Waiting.{waits, heard, makes-ran, makes-there, both-there}
 
-module _ {I Tok Sp Cu Er St Mk Cx V : Type 0} (source : input_trait.Ghosts I Cu Tok Sp) (errors : error_trait.Ghosts Er I Tok Sp) (states : inspector_trait.Ghosts St I Mk Tok Sp) (a : Acts Tok Cx states.Seen errors.Seen V) (g : Tables) (fs : List (Frame V (Checkpoint Cu Mk))) (now : Held Tok Cx states.Seen errors.Seen) (answer : Result (Option V) Fault) where
-  abbrev Heard : Frame V (Checkpoint Cu Mk) → List (Frame V (Checkpoint Cu Mk)) → Held Tok Cx states.Seen errors.Seen → Todo V → Type 0
+module _ {I Tok Sp Cu Er St Mk Cx V : Type 0} (source : input_trait.Ghosts I Cu Tok Sp) (errors : error_trait.Ghosts Er I Tok Sp) (states : inspector_trait.Ghosts St I Mk Tok Sp) (a : Acts Tok Cx states.Seen errors.Seen V) (g : Tables) (fs : List (Frame V Cu Mk Er)) (now : Held Tok Cx states.Seen errors.Seen) (answer : Result (Option V) Fault) where
+  abbrev pub Heard : Frame V Cu Mk Er → List (Frame V Cu Mk Er) → Held Tok Cx states.Seen errors.Seen → Todo V → Type 0
   Heard f new then todo = (s u t : Begun Tok Cx states.Seen errors.Seen) → Wait source errors states a g fs s u → WaitsFor source errors states a g f u t → Answers source errors states a g t now answer → IfOk answer (λ v. is_some v ≡ t.wanted) → Left source errors states a g new s then todo
 
   ok_there : {v : Option V} {b : Bool} → answer ≡ Ok v → IfOk answer (λ w. is_some w ≡ b) → is_some v ≡ b
@@ -81,7 +81,7 @@ module _ {I Tok Sp Cu Er St Mk Cx V : Type 0} (source : input_trait.Ghosts I Cu 
 
   module _ (built : IsBuilt g) where
     -- the second part, after the first
-    pub second_left : {new : List (Frame V (Checkpoint Cu Mk))} {todo : Todo V} (second more : ℕ) (wanted : Bool) (v : Option V) → answer ≡ Ok v → second < length g.nodes → Waits fs new (Second v) second more wanted todo → Heard (First second more wanted) new now todo
+    pub second_left : {new : List (Frame V Cu Mk Er)} {todo : Todo V} (second more : ℕ) (wanted : Bool) (v : Option V) → answer ≡ Ok v → second < length g.nodes → Waits fs new (Second v) second more wanted todo → Heard (First second more wanted) new now todo
     second_left second more wanted v e l k s u t w x h there =
         let n = node_at g.nodes second l in
         waits source errors states a g built now s u n.0 n.1 k w
@@ -92,7 +92,7 @@ module _ {I Tok Sp Cu Er St Mk Cx V : Type 0} (source : input_trait.Ghosts I Cu 
         })
 
     -- the next alternative, gone back from one that failed
-    pub next_left : {new : List (Frame V (Checkpoint Cu Mk))} {todo : Todo V} {bk : Held Tok Cx states.Seen errors.Seen} (n more : ℕ) (wanted : Bool) (next : ℕ) (before : Checkpoint Cu Mk) (p : ℕ) → answer ≡ Err fault.Fail → slice_get (alternatives_of (slice_get g.nodes n)) next ≡ Some p → p < length g.nodes
+    pub next_left : {new : List (Frame V Cu Mk Er)} {todo : Todo V} {bk : Held Tok Cx states.Seen errors.Seen} (n more : ℕ) (wanted : Bool) (next : ℕ) (before : Checkpoint Cu Mk) (p : ℕ) → answer ≡ Err fault.Fail → slice_get (alternatives_of (slice_get g.nodes n)) next ≡ Some p → p < length g.nodes
         → bk ≡ gone_back states.back now (marks source states before) → Waits fs new (Alternative n more wanted (next + 1) before) p more wanted todo → Heard (Alternative n more wanted next before) new bk todo
     next_left {new} {todo} {bk} n more wanted next before p e z l b k s u t w x h there =
         let m = node_at g.nodes p l in

@@ -1,6 +1,6 @@
 -- What is left to do after a step.
 use Rattle.std.specs.Prelude.{IfOk, is_some}
-use Rattle.std.proofs.Common.{◌≡◌, ℕ, Bool, Option, Some, None, List, [], ◌∷◌, ◌++◌, slice_get, refl, sym, ◌∙◌, subst, Result, Ok, Err, inl, inr}
+use Rattle.std.proofs.Common.{◌≡◌, ℕ, Bool, false, Option, Some, None, option_map, ap, List, [], ◌∷◌, ◌++◌, slice_get, refl, sym, ◌∙◌, subst, Result, Ok, Err, inl, inr}
 use Rattle.chumsky_input.specs.declared.error.Error as error_trait
 use Rattle.chumsky_input.specs.declared.inspector.Inspector as inspector_trait
 use Rattle.chumsky_input.specs.declared.input.Input as input_trait
@@ -10,20 +10,23 @@ use Rattle.chumsky_input.specs.declared.stop.Fault.TheVariants as fault
 use Rattle.chumsky_input.specs.declared.stop.Stop.{Stop}
 use Rattle.chumsky_input.specs.declared.stop.Stop.TheVariants.{Memory}
 use Rattle.chumsky_input.specs.Outcome.{Meaning}
-use Rattle.chumsky_input.specs.Held.{Held, marks}
+use Rattle.chumsky_input.specs.Held.{Held, located, marks}
 use Rattle.chumsky_input.specs.Run.{Ran}
 use Rattle.chumsky_parser.specs.Chained.{Given, both}
-use Rattle.chumsky_parser.proofs.ChainedLemmas.{ran-chained_err, ran-given, ran-weaker}
+use Rattle.chumsky_parser.proofs.ChainedLemmas.{ran-chained_err, ran-given, ran-weaker, ran-asked, failed}
+use Rattle.chumsky_parser.proofs.ChoiceLemmas.{attempt-stands}
 use Rattle.chumsky_parser.proofs.FailureLemmas.{ran-halts}
 use Rattle.chumsky_recursive.specs.declared.frames.Frame.{Frame}
-use Rattle.chumsky_recursive.specs.declared.frames.Frame.TheVariants.{First, Second, Alternative, Mapped}
+use Rattle.chumsky_recursive.specs.declared.frames.Frame.TheVariants.{First, Second, Alternative, Mapped, Optional, Denied, Both, Looked, Rewound}
 use Rattle.chumsky_recursive.specs.declared.frames.Todo.{Todo}
 use Rattle.chumsky_recursive.specs.declared.frames.Todo.TheVariants.{Begin, Answer}
 use Rattle.chumsky_rules.specs.declared.kinds.NodeKind.{NodeKind}
 use Rattle.chumsky_rules.specs.Tables.{Tables}
 use Rattle.chumsky_rules.specs.Built.{IsBuilt}
 use Rattle.chumsky_recursive.specs.Means.{Acts, Made, part_means}
-use Rattle.chumsky_recursive.specs.Frames.{Makes, Waits, Begun, Answers, with_part, Keeps, WaitsFor, Wait, Left}
+use Rattle.chumsky_recursive.specs.Frames.{Makes, Waits, Begun, Answers, asked_of, outside, with_part, Keeps, WaitsFor, Wait, Left}
+use Rattle.chumsky_shield.proofs.AndIsLemmas.{and_is_stops, rewind_stops}
+use Rattle.chumsky_shield.proofs.NotLemmas.{not_stops}
 use Rattle.chumsky_recursive.proofs.Tries.{tries-stand}
 use Rattle.chumsky_recursive.proofs.Parts.{lacks}
 
@@ -47,55 +50,69 @@ both-there b (Some v) (Some w) e f = e
 both-there b (Some v) None e f = f
 both-there b None w e f = e
 
+module _ {Tok Cx St Er V : Type 0} {merged : Er → Er → Er} {safe : Type 0} (m : Meaning Tok Cx St Er V) (wanted : Bool) (old new : Held Tok Cx St Er) (r : Result (Option V) Fault) where
+  -- a run with nothing kept before
+  pub bared : old.kept ≡ None → Ran merged safe m wanted old new r → Ran merged safe m wanted (record old { kept = None }) new r
+  bared e h = subst (λ k. Ran merged safe m wanted (record old { kept = k }) new r) e h
+
 module _ {I Tok Sp Cu Er St Mk Cx V : Type 0} (source : input_trait.Ghosts I Cu Tok Sp) (errors : error_trait.Ghosts Er I Tok Sp) (states : inspector_trait.Ghosts St I Mk Tok Sp) (a : Acts Tok Cx states.Seen errors.Seen V) (g : Tables) where
   -- a stop of its part is one of the node that waits
-  passes : {m : Meaning Tok Cx states.Seen errors.Seen V} {wanted : Bool} {old new : Held Tok Cx states.Seen errors.Seen} (s : Stop) (f : Frame V (Checkpoint Cu Mk)) → Ran errors.merged errors.takes_no_memory m wanted old new (Err (fault.Stop s)) → Ran errors.merged errors.takes_no_memory (with_part source errors states a g f m) wanted old new (Err (fault.Stop s))
-  passes s (First second more w) h = ran-chained_err _ _ _ _ _ _ _ _ h
-  passes s (Second v) h = ran-chained_err _ _ _ _ _ _ _ _ h
-  passes {m} {wanted} {old} {new} s (Alternative node more w next before) h = tries-stand errors.merged errors.takes_no_memory states.back states.takes_no_memory (marks source states before).mark wanted m old new (Err (fault.Stop s)) _ (λ q. cc) h
-  passes s (Mapped f) h = ran-chained_err _ _ _ _ _ _ _ _ h
+  passes : {m : Meaning Tok Cx states.Seen errors.Seen V} {wanted : Bool} (t : Begun Tok Cx states.Seen errors.Seen) {new : Held Tok Cx states.Seen errors.Seen} (s : Stop) (f : Frame V Cu Mk Er) → Keeps source errors states a g f wanted t → Ran errors.merged errors.takes_no_memory m (asked_of f wanted) t.held new (Err (fault.Stop s))
+      → Ran errors.merged errors.takes_no_memory (with_part source errors states a g f m) wanted (outside source errors states a g f t.held) new (Err (fault.Stop s))
+  passes t s (First second more w) k h = ran-chained_err _ _ _ _ _ _ _ _ h
+  passes t s (Second v) k h = ran-chained_err _ _ _ _ _ _ _ _ h
+  passes {m} {wanted} t {new} s (Alternative node more w next before) k h = tries-stand errors.merged errors.takes_no_memory states.back states.takes_no_memory (marks source states before).mark wanted m t.held new (Err (fault.Stop s)) _ (λ q. cc) h
+  passes t s (Mapped f) k h = ran-chained_err _ _ _ _ _ _ _ _ h
+  passes {m} {wanted} t {new} s (Optional w before) k h = ran-chained_err _ _ _ _ _ _ _ _ (attempt-stands errors.merged errors.takes_no_memory states.back states.takes_no_memory (marks source states before).mark _ _ wanted t.held new (Err (fault.Stop s)) (ran-chained_err _ _ _ _ _ _ _ _ h) (λ q. cc))
+  passes {m} {wanted} t {new} s (Denied w before older) k h =
+      failed (not_stops source errors states m wanted (record t.held { kept = option_map (located errors.seen) older }) (marks source states before) k.1 new (bared m false t.held new (Err (fault.Stop s)) k.2 h)) refl refl
+  passes {m} {wanted} t {new} s (Both other more before) k h =
+      and_is_stops errors.merged errors.takes_no_memory states.mark states.back states.takes_no_memory m (part_means source errors states a g more other) wanted t.held new s h
+  passes t s (Looked v end) k h = failed (ran-asked h) refl refl
+  passes {m} {wanted} t {new} s (Rewound start older) k h =
+      rewind_stops errors.merged errors.takes_no_memory m wanted (record t.held { kept = option_map (located errors.seen) older }) new (bared m wanted t.held new (Err (fault.Stop s)) k.2 h)
 
   -- another node in the place of the one that runs
-  pub instead : (fs : List (Frame V (Checkpoint Cu Mk))) (s u t : Begun Tok Cx states.Seen errors.Seen) → Wait source errors states a g fs s u → t.wanted ≡ u.wanted → ((new : Held Tok Cx states.Seen errors.Seen) (r : Result (Option V) Fault) → Answers source errors states a g t new r → Answers source errors states a g u new r) → Wait source errors states a g fs s t
+  pub instead : (fs : List (Frame V Cu Mk Er)) (s u t : Begun Tok Cx states.Seen errors.Seen) → Wait source errors states a g fs s u → t.wanted ≡ u.wanted → ((new : Held Tok Cx states.Seen errors.Seen) (r : Result (Option V) Fault) → Answers source errors states a g t new r → Answers source errors states a g u new r) → Wait source errors states a g fs s t
   instead [] s u t (q, h) w k = (w ∙ q, λ new r x. h new r (k new r x))
   instead (f ∷ fs) s u t (v, x, y) w k = (v, x, instead fs v u t y w k)
 
-  lifted : (f : Frame V (Checkpoint Cu Mk)) (s u t : Begun Tok Cx states.Seen errors.Seen) → u.wanted ≡ s.wanted → ((new : Held Tok Cx states.Seen errors.Seen) (r : Result (Option V) Fault) → Answers source errors states a g u new r → Answers source errors states a g s new r) → WaitsFor source errors states a g f u t → WaitsFor source errors states a g f s t
+  lifted : (f : Frame V Cu Mk Er) (s u t : Begun Tok Cx states.Seen errors.Seen) → u.wanted ≡ s.wanted → ((new : Held Tok Cx states.Seen errors.Seen) (r : Result (Option V) Fault) → Answers source errors states a g u new r → Answers source errors states a g s new r) → WaitsFor source errors states a g f u t → WaitsFor source errors states a g f s t
   lifted f s u t q h k =
       record {
-        asks = k.asks ∙ q;
+        asks = k.asks ∙ ap (asked_of f) q;
         keeps = subst (λ b. Keeps source errors states a g f b t) q k.keeps;
-        goes = λ new r x. h new r (k.goes new r (subst (λ b. Ran errors.merged errors.takes_no_memory (with_part source errors states a g f (part_means source errors states a g t.more t.node)) b t.held new r) (sym q) x));
+        goes = λ new r x. h new r (k.goes new r (subst (λ b. Ran errors.merged errors.takes_no_memory (with_part source errors states a g f (part_means source errors states a g t.more t.node)) b (outside source errors states a g f t.held) new r) (sym q) x));
       }
 
   -- one frame more
-  pub pushed : (fs : List (Frame V (Checkpoint Cu Mk))) (f : Frame V (Checkpoint Cu Mk)) (s u t : Begun Tok Cx states.Seen errors.Seen) → Wait source errors states a g fs s u → WaitsFor source errors states a g f u t → Wait source errors states a g (fs ++ f ∷ []) s t
+  pub pushed : (fs : List (Frame V Cu Mk Er)) (f : Frame V Cu Mk Er) (s u t : Begun Tok Cx states.Seen errors.Seen) → Wait source errors states a g fs s u → WaitsFor source errors states a g f u t → Wait source errors states a g (fs ++ f ∷ []) s t
   pushed [] f s u t (q, h) k = (t, lifted f s u t q h k, (refl, λ new r x. x))
   pushed (x ∷ fs) f s u t (v, y, z) k = (v, y, pushed fs f v u t z k)
 
   -- the last frame taken off: its node, and the part that it waits for
-  pub popped : (fs : List (Frame V (Checkpoint Cu Mk))) (f : Frame V (Checkpoint Cu Mk)) (s t : Begun Tok Cx states.Seen errors.Seen) → Wait source errors states a g (fs ++ f ∷ []) s t
+  pub popped : (fs : List (Frame V Cu Mk Er)) (f : Frame V Cu Mk Er) (s t : Begun Tok Cx states.Seen errors.Seen) → Wait source errors states a g (fs ++ f ∷ []) s t
       → (u : Begun Tok Cx states.Seen errors.Seen) × (v : Begun Tok Cx states.Seen errors.Seen) × Wait source errors states a g fs s u × WaitsFor source errors states a g f u v × (t.wanted ≡ v.wanted) × ((new : Held Tok Cx states.Seen errors.Seen) (r : Result (Option V) Fault) → Answers source errors states a g t new r → Answers source errors states a g v new r)
   popped [] f s t (v, x, (q, h)) = (s, v, (refl, λ new r y. y), x, q, h)
   popped (y ∷ fs) f s t (w, x, z) = let p = popped fs f w t z in (p.0, p.1, (w, x, p.2), p.3, p.4, p.5)
 
   module _ (built : IsBuilt g) where
     -- a node waits for a part that is there, or there is no memory for it
-    pub waits : {old new : List (Frame V (Checkpoint Cu Mk))} {f : Frame V (Checkpoint Cu Mk)} {part more : ℕ} {wanted : Bool} {todo : Todo V} (now : Held Tok Cx states.Seen errors.Seen) (s u : Begun Tok Cx states.Seen errors.Seen) (k : NodeKind) → slice_get g.nodes part ≡ Some k → Waits old new f part more wanted todo
+    pub waits : {old new : List (Frame V Cu Mk Er)} {f : Frame V Cu Mk Er} {part more : ℕ} {wanted : Bool} {todo : Todo V} (now : Held Tok Cx states.Seen errors.Seen) (s u : Begun Tok Cx states.Seen errors.Seen) (k : NodeKind) → slice_get g.nodes part ≡ Some k → Waits old new f part more wanted todo
         → Wait source errors states a g old s u → WaitsFor source errors states a g f u (record { more = more; node = part; wanted = wanted; held = now }) → Left source errors states a g new s now todo
     waits {old} {new} {f} {part} {more} {wanted} {todo} now s u k e h w x =
         elim h.cases [
           | inl l ↦ rw (l.0, l.1) (pushed old f s u (record { more = more; node = part; wanted = wanted; held = now }) w x)
-          | inr l ↦ rw (l.0, l.1) (u, w, x.goes now (Err (fault.Stop Memory)) (passes Memory f (subst (λ b. Ran errors.merged errors.takes_no_memory (part_means source errors states a g more part) b now now (Err (fault.Stop Memory))) x.asks (lacks source errors states a g built more wanted now part k e))), tt)
+          | inr l ↦ rw (l.0, l.1) (u, w, x.goes now (Err (fault.Stop Memory)) (passes (record { more = more; node = part; wanted = wanted; held = now }) Memory f x.keeps (subst (λ b. Ran errors.merged errors.takes_no_memory (part_means source errors states a g more part) b now now (Err (fault.Stop Memory))) x.asks (lacks source errors states a g built more wanted now part k e))), tt)
         ]
 
   -- what the part of a frame answered, for a value or without one as its node runs
-  pub heard : {f : Frame V (Checkpoint Cu Mk)} {u t : Begun Tok Cx states.Seen errors.Seen} {new : Held Tok Cx states.Seen errors.Seen} {r : Result (Option V) Fault} → WaitsFor source errors states a g f u t → Answers source errors states a g t new r → Ran errors.merged errors.takes_no_memory (part_means source errors states a g t.more t.node) u.wanted t.held new r
+  pub heard : {f : Frame V Cu Mk Er} {u t : Begun Tok Cx states.Seen errors.Seen} {new : Held Tok Cx states.Seen errors.Seen} {r : Result (Option V) Fault} → WaitsFor source errors states a g f u t → Answers source errors states a g t new r → Ran errors.merged errors.takes_no_memory (part_means source errors states a g t.more t.node) (asked_of f u.wanted) t.held new r
   heard {f} {u} {t} {new} {r} x h = subst (λ b. Ran errors.merged errors.takes_no_memory (part_means source errors states a g t.more t.node) b t.held new r) x.asks h
 
 module _ {I Tok Sp Cu Er St Mk Cx V : Type 0} (source : input_trait.Ghosts I Cu Tok Sp) (errors : error_trait.Ghosts Er I Tok Sp) (states : inspector_trait.Ghosts St I Mk Tok Sp) (a : Acts Tok Cx states.Seen errors.Seen V) (g : Tables) where
   -- the last frame hears of its part
-  pub hears : {old : List (Frame V (Checkpoint Cu Mk))} (fs new : List (Frame V (Checkpoint Cu Mk))) (f : Frame V (Checkpoint Cu Mk)) {todo : Todo V} (next : Todo V) {r : Result (Option V) Fault} (now then : Held Tok Cx states.Seen errors.Seen) (s : Begun Tok Cx states.Seen errors.Seen) → old ≡ fs ++ f ∷ [] → todo ≡ Answer r → Left source errors states a g old s now todo
+  pub hears : {old : List (Frame V Cu Mk Er)} (fs new : List (Frame V Cu Mk Er)) (f : Frame V Cu Mk Er) {todo : Todo V} (next : Todo V) {r : Result (Option V) Fault} (now then : Held Tok Cx states.Seen errors.Seen) (s : Begun Tok Cx states.Seen errors.Seen) → old ≡ fs ++ f ∷ [] → todo ≡ Answer r → Left source errors states a g old s now todo
       → ((s u t : Begun Tok Cx states.Seen errors.Seen) → Wait source errors states a g fs s u → WaitsFor source errors states a g f u t → Answers source errors states a g t now r → IfOk r (λ v. is_some v ≡ t.wanted) → Left source errors states a g new s then next)
       → Left source errors states a g new s then next
   hears {old} fs new f {todo} next {r} now then s e d h k =
@@ -104,13 +121,13 @@ module _ {I Tok Sp Cu Er St Mk Cx V : Type 0} (source : input_trait.Ghosts I Cu 
       k s p.0 p.1 p.2 p.3 (p.5 now r l.2) (subst (λ b. IfOk r (λ v. is_some v ≡ b)) p.4 l.3)
 
   -- with no frame left, the node that began first has answered
-  pub answers : {old : List (Frame V (Checkpoint Cu Mk))} {todo : Todo V} {r : Result (Option V) Fault} (now : Held Tok Cx states.Seen errors.Seen) (s : Begun Tok Cx states.Seen errors.Seen) → old ≡ [] → todo ≡ Answer r → Left source errors states a g old s now todo → Answers source errors states a g s now r × IfOk r (λ v. is_some v ≡ s.wanted)
+  pub answers : {old : List (Frame V Cu Mk Er)} {todo : Todo V} {r : Result (Option V) Fault} (now : Held Tok Cx states.Seen errors.Seen) (s : Begun Tok Cx states.Seen errors.Seen) → old ≡ [] → todo ≡ Answer r → Left source errors states a g old s now todo → Answers source errors states a g s now r × IfOk r (λ v. is_some v ≡ s.wanted)
   answers {old} {todo} {r} now s e d h =
       let l : Left source errors states a g [] s now (Answer r) = rw (e, d) at h in
       (l.1.1 now r l.2, subst (λ b. IfOk r (λ v. is_some v ≡ b)) l.1.0 l.3)
 
-  pub of_answer : {todo : Todo V} {r : Result (Option V) Fault} (fs : List (Frame V (Checkpoint Cu Mk))) (now : Held Tok Cx states.Seen errors.Seen) (s : Begun Tok Cx states.Seen errors.Seen) → todo ≡ Answer r → Left source errors states a g fs s now todo → Left source errors states a g fs s now (Answer r)
+  pub of_answer : {todo : Todo V} {r : Result (Option V) Fault} (fs : List (Frame V Cu Mk Er)) (now : Held Tok Cx states.Seen errors.Seen) (s : Begun Tok Cx states.Seen errors.Seen) → todo ≡ Answer r → Left source errors states a g fs s now todo → Left source errors states a g fs s now (Answer r)
   of_answer {todo} {r} fs now s e h = rw e at h
 
-  pub of_begin : {todo : Todo V} {node more : ℕ} {wanted : Bool} (fs : List (Frame V (Checkpoint Cu Mk))) (now : Held Tok Cx states.Seen errors.Seen) (s : Begun Tok Cx states.Seen errors.Seen) → todo ≡ Begin node more wanted → Left source errors states a g fs s now todo → Wait source errors states a g fs s (record { more = more; node = node; wanted = wanted; held = now })
+  pub of_begin : {todo : Todo V} {node more : ℕ} {wanted : Bool} (fs : List (Frame V Cu Mk Er)) (now : Held Tok Cx states.Seen errors.Seen) (s : Begun Tok Cx states.Seen errors.Seen) → todo ≡ Begin node more wanted → Left source errors states a g fs s now todo → Wait source errors states a g fs s (record { more = more; node = node; wanted = wanted; held = now })
   of_begin {todo} {node} {more} {wanted} fs now s e h = rw e at h

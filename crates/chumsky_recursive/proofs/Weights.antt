@@ -24,13 +24,13 @@ power_mono zero n h = power_pos n
 power_mono (suc m) zero h = absurd (omega arith)
 power_mono (suc m) (suc n) h = let e = power_mono m n (omega arith) in omega (arith, e)
 
-module _ {V C : Type 0} where
-  pub weight-push : (nodes : ℕ) (fs : List (Frame V C)) (f : Frame V C) → weight nodes (fs ++ f ∷ []) ≡ weight nodes fs + weight_of nodes f
+module _ {V Cu Mk Er : Type 0} where
+  pub weight-push : (nodes : ℕ) (fs : List (Frame V Cu Mk Er)) (f : Frame V Cu Mk Er) → weight nodes (fs ++ f ∷ []) ≡ weight nodes fs + weight_of nodes f
   weight-push nodes [] f = omega arith
   weight-push nodes (h ∷ fs) f = let e = weight-push nodes fs f in omega arith
 
   -- a frame more and its part weigh less than what they stand for
-  pub waits_lighter : (nodes bound : ℕ) {part more : ℕ} {wanted : Bool} {old new : List (Frame V C)} {f : Frame V C} {todo : Todo V} → Waits old new f part more wanted todo → weight_of nodes f + power (level nodes more part + 1) < bound → total nodes new todo < weight nodes old + bound
+  pub waits_lighter : (nodes bound : ℕ) {part more : ℕ} {wanted : Bool} {old new : List (Frame V Cu Mk Er)} {f : Frame V Cu Mk Er} {todo : Todo V} → Waits old new f part more wanted todo → weight_of nodes f + power (level nodes more part + 1) < bound → total nodes new todo < weight nodes old + bound
   waits_lighter nodes bound {part} {more} {wanted} {old} {new} {f} {todo} h l =
       elim h.cases [
         | inl e ↦ rw (e.0, e.1, weight-push nodes old f) (omega (arith, l))
@@ -96,12 +96,12 @@ cut_done r x w k = omega arith
 pub choice_lighter : (w n next : ℕ) → w + 0 < w + share next * power n
 choice_lighter w n next = cut_done (2 ^ 64 - next) (power n) w (power_pos n)
 
-module _ {V C : Type 0} where
+module _ {V Cu Mk Er : Type 0} where
   -- with the last frame taken off
-  pub falls : (nodes n : ℕ) {old : List (Frame V C)} (fs : List (Frame V C)) (f : Frame V C) → old ≡ fs ++ f ∷ [] → n < weight nodes fs + weight_of nodes f → n < weight nodes old
+  pub falls : (nodes n : ℕ) {old : List (Frame V Cu Mk Er)} (fs : List (Frame V Cu Mk Er)) (f : Frame V Cu Mk Er) → old ≡ fs ++ f ∷ [] → n < weight nodes fs + weight_of nodes f → n < weight nodes old
   falls nodes n {old} fs f h l = rw (h, weight-push nodes fs f) l
 
-  pub heard_lighter : (nodes n : ℕ) (fs : List (Frame V C)) {todo : Todo V} {r : Result (Option V) Fault} → todo ≡ Answer r → n < weight nodes fs → n < total nodes fs todo
+  pub heard_lighter : (nodes n : ℕ) (fs : List (Frame V Cu Mk Er)) {todo : Todo V} {r : Result (Option V) Fault} → todo ≡ Answer r → n < weight nodes fs → n < total nodes fs todo
   heard_lighter nodes n fs {todo} {r} e l = rw e (omega (arith, l))
 
 pub next_small : {next : ℕ} (o : Option ℕ) (n : ℕ) → o ≡ Some n → MatchOption o ⊤ (λ _. next + 1 < 2 ^ 64) → next < 2 ^ 64
@@ -109,32 +109,32 @@ next_small {next} o n e h =
     let k : next + 1 < 2 ^ 64 = rw e at h in
     omega (arith, k)
 
-module _ {V C : Type 0} where
-  room_pushed : (nodes bound count : ℕ) (fs : List (Frame V C)) (f : Frame V C) → IsBounded nodes bound count fs → reach nodes f + (count + length fs) ≤ bound → IsBounded nodes bound count (fs ++ f ∷ [])
+module _ {V Cu Mk Er : Type 0} where
+  room_pushed : (nodes bound count : ℕ) (fs : List (Frame V Cu Mk Er)) (f : Frame V Cu Mk Er) → IsBounded nodes bound count fs → reach nodes f + (count + length fs) ≤ bound → IsBounded nodes bound count (fs ++ f ∷ [])
   room_pushed nodes bound count [] f b h = (omega arith, tt)
   room_pushed nodes bound count (e ∷ fs) f b h = (b.0, room_pushed nodes bound (suc count) fs f b.1 (omega arith))
 
-  room_popped : (nodes bound count : ℕ) (fs : List (Frame V C)) (f : Frame V C) → IsBounded nodes bound count (fs ++ f ∷ []) → IsBounded nodes bound count fs × (reach nodes f + (count + length fs) ≤ bound)
+  room_popped : (nodes bound count : ℕ) (fs : List (Frame V Cu Mk Er)) (f : Frame V Cu Mk Er) → IsBounded nodes bound count (fs ++ f ∷ []) → IsBounded nodes bound count fs × (reach nodes f + (count + length fs) ≤ bound)
   room_popped nodes bound count [] f b = (tt, omega (arith, b.0))
   room_popped nodes bound count (e ∷ fs) f b = let z = room_popped nodes bound (suc count) fs f b.1 in ((b.0, z.0), omega (arith, z.1))
 
-  few_from : (nodes bound count : ℕ) (fs : List (Frame V C)) → count ≤ bound + 1 → IsBounded nodes bound count fs → count + length fs ≤ bound + 1
+  few_from : (nodes bound count : ℕ) (fs : List (Frame V Cu Mk Er)) → count ≤ bound + 1 → IsBounded nodes bound count fs → count + length fs ≤ bound + 1
   few_from nodes bound count [] h b = omega arith
   few_from nodes bound count (f ∷ fs) h b = let l : suc count ≤ bound + 1 = omega (arith, b.0) in let z = few_from nodes bound (suc count) fs l b.1 in omega arith
 
   -- never more frames than levels
-  pub few_frames : (nodes bound : ℕ) (fs : List (Frame V C)) → IsBounded nodes bound 0 fs → length fs ≤ bound + 1
+  pub few_frames : (nodes bound : ℕ) (fs : List (Frame V Cu Mk Er)) → IsBounded nodes bound 0 fs → length fs ≤ bound + 1
   few_frames nodes bound fs b = let z = few_from nodes bound 0 fs (omega arith) b in omega arith
 
   -- a frame more and its part
-  pub waits_bounded : (nodes bound : ℕ) {part more : ℕ} {wanted : Bool} {old new : List (Frame V C)} {f : Frame V C} {todo : Todo V} → Waits old new f part more wanted todo → reach nodes f + length old ≤ bound → level nodes more part + length old < bound → IsBounded nodes bound 0 old → IsBounded nodes bound 0 new × Fits nodes bound (length new) todo
+  pub waits_bounded : (nodes bound : ℕ) {part more : ℕ} {wanted : Bool} {old new : List (Frame V Cu Mk Er)} {f : Frame V Cu Mk Er} {todo : Todo V} → Waits old new f part more wanted todo → reach nodes f + length old ≤ bound → level nodes more part + length old < bound → IsBounded nodes bound 0 old → IsBounded nodes bound 0 new × Fits nodes bound (length new) todo
   waits_bounded nodes bound {part} {more} {wanted} {old} {new} {f} {todo} h r l b =
       elim h.cases [
         | inl e ↦ rw (e.0, e.1) (room_pushed nodes bound 0 old f b (omega (arith, r)), rw length_push (omega (arith, l)))
         | inr e ↦ rw (e.0, e.1) (b, tt)
       ]
 
-  pub heard_bounded : (nodes bound : ℕ) {old : List (Frame V C)} (fs : List (Frame V C)) (f : Frame V C) → old ≡ fs ++ f ∷ [] → IsBounded nodes bound 0 old → IsBounded nodes bound 0 fs × (reach nodes f + length fs ≤ bound)
+  pub heard_bounded : (nodes bound : ℕ) {old : List (Frame V Cu Mk Er)} (fs : List (Frame V Cu Mk Er)) (f : Frame V Cu Mk Er) → old ≡ fs ++ f ∷ [] → IsBounded nodes bound 0 old → IsBounded nodes bound 0 fs × (reach nodes f + length fs ≤ bound)
   heard_bounded nodes bound {old} fs f e b =
       let c : IsBounded nodes bound 0 (fs ++ f ∷ []) = rw e at b in
       let z = room_popped nodes bound 0 fs f c in

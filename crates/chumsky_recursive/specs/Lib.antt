@@ -1,6 +1,7 @@
 pub mod Means
 pub mod MeansLaws
 pub mod Frames
+pub mod Ahead
 pub mod Weight
 pub mod Closing
 pub mod LimitLaws

@@ -1,11 +1,17 @@
 -- Answers under different limits.
-use Rattle.std.proofs.Common.{◌≡◌, ℕ, zero, suc, ◌+◌, ◌≤◌, List, [], ◌∷◌, map, length, Option, Some, None, slice_get, refl, sym, ap, subst, arith, inl, inr}
+use Rattle.std.proofs.Common.{false, ◌≡◌, ℕ, zero, suc, ◌+◌, ◌≤◌, List, [], ◌∷◌, map, length, Option, Some, None, slice_get, refl, sym, ap, subst, arith, inl, inr}
 use Rattle.chumsky_input.specs.declared.error.Error as error_trait
 use Rattle.chumsky_input.specs.declared.inspector.Inspector as inspector_trait
 use Rattle.chumsky_input.specs.declared.input.Input as input_trait
 use Rattle.chumsky_input.specs.Outcome.{Event, Meaning, Beginning, Outcome, Verdict, Yes, No, Halt, Clash, Agreeing, IsAnswer}
-use Rattle.chumsky_parser.specs.Chained.{from, Follows, Chained}
-use Rattle.chumsky_parser.specs.Choice.{Stands, OneOrFirst}
+use Rattle.chumsky_parser.specs.Chained.{from, Follows, Chained, Asked, retold}
+use Rattle.chumsky_parser.specs.Failure.{SaysNo}
+use Rattle.chumsky_parser.specs.Choice.{Stands, OneOrFirst, ElseFrom, OrElse}
+use Rattle.chumsky_parser.specs.Ignoring.{Gives}
+use Rattle.chumsky_combinator.specs.Optional.{OrNone}
+use Rattle.chumsky_shield.specs.Shielded.{OfYes, OfNo, Judges, Shielded, NoAsOne}
+use Rattle.chumsky_shield.specs.Not.{Denies, Allows, MeansNot}
+use Rattle.chumsky_shield.specs.AndIs.{GivenAt, LooksFrom, MeansAndIs, Rewinds, MeansRewind}
 use Rattle.chumsky_choice.specs.Among.{NoneOrFirst, FirstAmong}
 use Rattle.chumsky_rules.specs.declared.kinds.NodeKind.{NodeKind}
 use Rattle.chumsky_rules.specs.declared.kinds.NodeKind.TheVariants.{Leaf, Rule, Then, Choice, Repeated, SeparatedBy, OrNot, Not, AndIs, Rewind, Map, TryMap}
@@ -34,6 +40,69 @@ module _ {Tok Cx St Er V W : Type 0} (part part' : Meaning Tok Cx St Er V) (next
 
   chained-has : HasAnswers part part' → ((v : Option V) → HasAnswers (next v) (next' v)) → HasAnswers (Chained part next) (Chained part' next')
   chained-has hp hn b o a m = chained_has hp hn b o m.first.verdict m.first.end m.first.state m.first.events m.first.emitted a m.meant m.follows
+
+module _ {Tok Cx St Mk Er V : Type 0} (back : St → Mk → St) (safe : Type 0) (mark : Mk) (second second' : Meaning Tok Cx St Er V) (h : HasAnswers second second') (b : Beginning Tok Cx St) (p o : Outcome V Er St) (a : IsAnswer o.verdict) where
+  else_has : (v : Verdict V Er) → p.verdict ≡ v → ElseFrom back safe mark v second b p o → IsAnswer p.verdict × ElseFrom back safe mark v second' b p o
+  else_has (Yes v) e m = (rw e tt, m)
+  else_has No e (inl r) = (rw e tt, inl r)
+  else_has No e (inr t) = (rw e tt, inr (t.0, h (record b { state = back p.state mark }) t.0 (subst IsAnswer (ap (λ (y : Outcome V Er St). y.verdict) t.2) a) t.1, t.2))
+  else_has (Halt s) e m = (subst IsAnswer (ap (λ (y : Outcome V Er St). y.verdict) m) a, m)
+  else_has (Clash c) e m = (subst IsAnswer (ap (λ (y : Outcome V Er St). y.verdict) m) a, m)
+
+module _ {Tok Cx St Mk Er V : Type 0} (mark : St → Mk) (back : St → Mk → St) (safe : Type 0) where
+  or_else-has : (first first' second second' : Meaning Tok Cx St Er V) → HasAnswers first first' → HasAnswers second second' → HasAnswers (OrElse mark back safe first second) (OrElse mark back safe first' second')
+  or_else-has first first' second second' hf hs b o a m =
+      elim m.cases [
+        | inl r ↦ record { cases = inl r }
+        | inr t ↦ let z = else_has back safe (mark b.state) second second' hs b t.attempt o a t.attempt.verdict refl t.then_else in record { cases = inr (record { attempt = t.attempt; meant = hf b t.attempt z.0 t.meant; then_else = z.1 }) }
+      ]
+
+module _ {Tok Cx St Mk Er V : Type 0} (mark : St → Mk) (back : St → Mk → St) (safe : Type 0) where
+  or_none-has : (part part' : Meaning Tok Cx St Er V) → HasAnswers part part' → HasAnswers (OrNone mark back safe part) (OrNone mark back safe part')
+  or_none-has part part' h = or_else-has mark back safe _ _ (Gives None) (Gives None) (chained-has part part' _ _ h (λ v b o a m. m)) (λ b o a m. m)
+
+module _ {Tok Cx St Er V W : Type 0} (part part' : Meaning Tok Cx St Er V) (on_yes : OfYes Tok Cx St Er V W) (on_no : OfNo Tok Cx St Er V W) where
+  shielded_has : HasAnswers part part' → (b : Beginning Tok Cx St) (o : Outcome W Er St) (v : Verdict V Er) (end : ℕ) (state : St) (events : List (Event Er)) (emitted : List Er)
+      → let p : Outcome V Er St = record { verdict = v; end = end; state = state; events = events; emitted = emitted } in
+      IsAnswer o.verdict → part b p → Judges v on_yes on_no b p o → Shielded part' on_yes on_no b o
+  shielded_has h b o (Yes v) end state events emitted a m j =
+      let p : Outcome V Er St = record { verdict = Yes v; end = end; state = state; events = events; emitted = emitted } in
+      record { first = p; meant = h b p tt m; judges = j }
+  shielded_has h b o No end state events emitted a m j =
+      let p : Outcome V Er St = record { verdict = No; end = end; state = state; events = events; emitted = emitted } in
+      record { first = p; meant = h b p tt m; judges = j }
+  shielded_has h b o (Halt s) end state events emitted a m j = absurd (subst IsAnswer (ap (λ (x : Outcome W Er St). x.verdict) j) a)
+  shielded_has h b o (Clash e) end state events emitted a m j = absurd (subst IsAnswer (ap (λ (x : Outcome W Er St). x.verdict) j) a)
+
+  shielded-has : HasAnswers part part' → HasAnswers (Shielded part on_yes on_no) (Shielded part' on_yes on_no)
+  shielded-has h b o a m = shielded_has h b o m.first.verdict m.first.end m.first.state m.first.events m.first.emitted a m.meant m.judges
+
+module _ {Tok Cx St Er V : Type 0} (part part' : Meaning Tok Cx St Er V) (h : HasAnswers part part') where
+  asked-has : HasAnswers (Asked false part) (Asked false part')
+  asked-has b o a m = record { run = h (record b { wanted = false }) o a m.run }
+
+  rewind-has : (merged : Er → Er → Er) → HasAnswers (MeansRewind merged part) (MeansRewind merged part')
+  rewind-has merged b o a m = record { run = shielded-has part part' (Rewinds merged) (NoAsOne merged) h b o a m.run }
+
+module _ {I Tok Sp Cu Er St Mk Cx V : Type 0} (source : input_trait.Ghosts I Cu Tok Sp) (errors : error_trait.Ghosts Er I Tok Sp) (states : inspector_trait.Ghosts St I Mk Tok Sp) (part part' : Meaning Tok Cx states.Seen errors.Seen V) (h : HasAnswers part part') where
+  not-has : HasAnswers (MeansNot source errors states part) (MeansNot source errors states part')
+  not-has b o a m =
+      record {
+        cases = elim m.cases [
+          | inl r ↦ inl r
+          | inr k ↦ inr (shielded-has (Asked false part) (Asked false part') (Denies source errors states (states.mark b.state)) (Allows source errors states (states.mark b.state)) (asked-has part part' h) b o a k)
+        ];
+      }
+
+module _ {Tok Cx St Mk Er V W : Type 0} (mark : St → Mk) (back : St → Mk → St) (safe : Type 0) (part part' : Meaning Tok Cx St Er V) (other other' : Meaning Tok Cx St Er W) (h : HasAnswers part part') (k : HasAnswers other other') where
+  looks_has : (place : ℕ) (v : Option V) → HasAnswers (LooksFrom place other v) (LooksFrom place other' v)
+  looks_has place v b o a m = chained-has (Asked false other) (Asked false other') (λ _. GivenAt v b.start) (λ _. GivenAt v b.start) (asked-has other other' k) (λ x c q y z. z) (record b { start = place }) o a m
+
+  and_is-has : HasAnswers (MeansAndIs mark back safe part other) (MeansAndIs mark back safe part' other')
+  and_is-has b o a m =
+      record {
+        run = chained-has (OrElse mark back safe part SaysNo) (OrElse mark back safe part' SaysNo) (LooksFrom b.start other) (LooksFrom b.start other') (or_else-has mark back safe part part' SaysNo SaysNo h (λ c q y z. z)) (looks_has b.start) b o a m.run;
+      }
 
 module _ {Tok Cx St Mk Er V : Type 0} (back : St → Mk → St) (safe : Type 0) (mark : Mk) (part part' : ℕ → Meaning Tok Cx St Er V) (h : (n : ℕ) → HasAnswers (part n) (part' n)) where
   as_many : (ns : List ℕ) → length (map part ns) ≡ 0 → length (map part' ns) ≡ 0
@@ -77,10 +146,10 @@ module _ {I Tok Sp Cu Er St Mk Cx V : Type 0} (source : input_trait.Ghosts I Cu 
       kind_has part part' hp (Map n f) = chained-has (part n) (part' n) _ _ (hp n) (λ v b o y m. m)
       kind_has part part' hp (Repeated n least most) = λ b o y m. m
       kind_has part part' hp (SeparatedBy n k cfg) = λ b o y m. m
-      kind_has part part' hp (OrNot n) = λ b o y m. m
-      kind_has part part' hp (Not n) = λ b o y m. m
-      kind_has part part' hp (AndIs n k) = λ b o y m. m
-      kind_has part part' hp (Rewind n) = λ b o y m. m
+      kind_has part part' hp (OrNot n) = chained-has (OrNone states.mark states.back states.takes_no_memory (part n)) (OrNone states.mark states.back states.takes_no_memory (part' n)) _ _ (or_none-has states.mark states.back states.takes_no_memory (part n) (part' n) (hp n)) (λ v b o y m. m)
+      kind_has part part' hp (Not n) = chained-has (MeansNot source errors states (part n)) (MeansNot source errors states (part' n)) _ _ (not-has source errors states (part n) (part' n) (hp n)) (λ v b o y m. m)
+      kind_has part part' hp (AndIs n k) = and_is-has states.mark states.back states.takes_no_memory (part n) (part' n) (part k) (part' k) (hp n) (hp k)
+      kind_has part part' hp (Rewind n) = rewind-has (part n) (part' n) (hp n) errors.merged
       kind_has part part' hp (TryMap n f) = λ b o y m. m
 
       known_has : (part part' : ℕ → Meaning Tok Cx states.Seen errors.Seen V) → ((n : ℕ) → HasAnswers (part n) (part' n)) → (k : Option NodeKind) → HasAnswers (known_means source errors states a call part k) (known_means source errors states a call' part' k)

@@ -9,7 +9,10 @@ use Rattle.chumsky_input.specs.Outcome.{Meaning, Beginning, Outcome}
 use Rattle.chumsky_input.specs.Words.{Does}
 use Rattle.chumsky_parser.specs.Chained.{Chained, Given, both}
 use Rattle.chumsky_parser.specs.Failure.{Refuses, Stops}
+use Rattle.chumsky_combinator.specs.Optional.{OrNone}
 use Rattle.chumsky_choice.specs.Among.{FirstAmong}
+use Rattle.chumsky_shield.specs.Not.{MeansNot}
+use Rattle.chumsky_shield.specs.AndIs.{MeansAndIs, MeansRewind}
 use Rattle.chumsky_rules.specs.declared.kinds.NodeKind.{NodeKind}
 use Rattle.chumsky_rules.specs.declared.kinds.NodeKind.TheVariants.{Leaf, Rule, Then, Choice, Repeated, SeparatedBy, OrNot, Not, AndIs, Rewind, Map, TryMap}
 use Rattle.chumsky_rules.specs.Tables.{Tables}
@@ -23,10 +26,10 @@ is_run (Choice v) = true
 is_run (Map a f) = true
 is_run (Repeated a least most) = false
 is_run (SeparatedBy a b cfg) = false
-is_run (OrNot a) = false
-is_run (Not a) = false
-is_run (AndIs a b) = false
-is_run (Rewind a) = false
+is_run (OrNot a) = true
+is_run (Not a) = true
+is_run (AndIs a b) = true
+is_run (Rewind a) = true
 is_run (TryMap a f) = false
 
 -- each node is of one of them
@@ -47,16 +50,19 @@ module _ {Tok Cx St Er V : Type 0} where
   pub record OrNoMemory (meant : Meaning Tok Cx St Er V) (b : Beginning Tok Cx St) (o : Outcome V Er St) : Type 0 where
     pub cases : Refuses ⊤ b.state o ⊎ meant b o
 
--- what a grammar stands on: what its leaves mean, and what is made of two values and by each mapper
+-- what a grammar stands on: what its leaves mean, and what is made of two values, of one that may be absent, of none, and
+-- by each mapper
 pub record Acts (Tok Cx St Er V : Type 0) : Type 1 where
   pub leaf : ℕ → Meaning Tok Cx St Er V
   pub pairs : V × V → V → Type 0
+  pub options : Option V → V → Type 0
+  pub units : Unit {0} → V → Type 0
   pub maps : ℕ → V → V → Type 0
 
 module _ {I Tok Sp Cu Er St Mk Cx V : Type 0} (source : input_trait.Ghosts I Cu Tok Sp) (errors : error_trait.Ghosts Er I Tok Sp) (states : inspector_trait.Ghosts St I Mk Tok Sp) where
   -- leaves and value functions, in the words of errors and of states
-  abbrev pub acts_of : (ℕ → Does I Tok Sp Er St Mk Cx V) → (V × V → V → Type 0) → (ℕ → V → V → Type 0) → Acts Tok Cx states.Seen errors.Seen V
-  acts_of leaf pairs maps = record { leaf = λ n. leaf n errors states; pairs = pairs; maps = maps }
+  abbrev pub acts_of : (ℕ → Does I Tok Sp Er St Mk Cx V) → (V × V → V → Type 0) → (Option V → V → Type 0) → (V → Type 0) → (ℕ → V → V → Type 0) → Acts Tok Cx states.Seen errors.Seen V
+  acts_of leaf pairs options unit maps = record { leaf = λ n. leaf n errors states; pairs = pairs; options = options; units = λ _. unit; maps = maps }
 
   module _ (a : Acts Tok Cx states.Seen errors.Seen V) where
     -- a node of each kind that is run is the operation of its name, where the rules and its parts mean this
@@ -68,10 +74,10 @@ module _ {I Tok Sp Cu Er St Mk Cx V : Type 0} (source : input_trait.Ghosts I Cu 
     kind_means call part (Map n f) = Chained (part n) (Made (a.maps f))
     kind_means call part (Repeated a least most) = λ b o. ⊥
     kind_means call part (SeparatedBy a b cfg) = λ b o. ⊥
-    kind_means call part (OrNot a) = λ b o. ⊥
-    kind_means call part (Not a) = λ b o. ⊥
-    kind_means call part (AndIs a b) = λ b o. ⊥
-    kind_means call part (Rewind a) = λ b o. ⊥
+    kind_means call part (OrNot n) = Chained (OrNone states.mark states.back states.takes_no_memory (part n)) (Made a.options)
+    kind_means call part (Not n) = Chained (MeansNot source errors states (part n)) (Made a.units)
+    kind_means call part (AndIs n m) = MeansAndIs states.mark states.back states.takes_no_memory (part n) (part m)
+    kind_means call part (Rewind n) = MeansRewind errors.merged (part n)
     kind_means call part (TryMap a f) = λ b o. ⊥
 
     -- a node that begins may lack the memory to wait for its parts

@@ -11,6 +11,12 @@ use Rattle.chumsky_parser.specs.Choice.{SameByOne}
 use Rattle.chumsky_parser.specs.ChoiceLaws.{agree-weaker}
 use Rattle.chumsky_parser.specs.FailureLaws.{stops-ends}
 use Rattle.chumsky_parser.specs.Laws.{chained-ends, chained-agrees, given-ends, given-agrees}
+use Rattle.chumsky_combinator.specs.Optional.{OrNone, SameOption}
+use Rattle.chumsky_combinator.specs.OptionalLaws.{or_none-ends, or_none-agrees}
+use Rattle.chumsky_parser.specs.FailureLaws.{SameUnit}
+use Rattle.chumsky_shield.specs.Not.{MeansNot}
+use Rattle.chumsky_shield.specs.NotLaws.{not-ends, not-agrees}
+use Rattle.chumsky_shield.specs.AndIsLaws.{and_is-ends, and_is-agrees, rewind-ends, rewind-agrees}
 use Rattle.chumsky_choice.specs.Among.{FirstAmong, SameByAny}
 use Rattle.chumsky_choice.specs.AmongLaws.{first_among-ends, first_among-agrees}
 use Rattle.chumsky_input.specs.declared.stop.Stop.TheVariants.{TooDeep}
@@ -79,6 +85,8 @@ pub record ActsEnd {Tok Cx St Er V : Type 0} (a : Acts Tok Cx St Er V) : Type 0 
 pub record ActsAgree {Tok Cx St Er V : Type 0} (same : V → V → Type 0) (a : Acts Tok Cx St Er V) : Type 0 where
   pub leaf : (n : ℕ) → Agreeing same (a.leaf n) (a.leaf n)
   pub pairs : (v w : V × V) (x y : V) → SamePair same same v w → a.pairs v x → a.pairs w y → same x y
+  pub options : (v w : Option V) (x y : V) → SameOption same v w → a.options v x → a.options w y → same x y
+  pub units : (v w : Unit {0}) (x y : V) → SameUnit v w → a.units v x → a.units w y → same x y
   pub maps : (f : ℕ) (v w x y : V) → same v w → a.maps f v x → a.maps f w y → same x y
 
 module _ {I Tok Sp Cu Er St Mk Cx V : Type 0} (source : input_trait.Ghosts I Cu Tok Sp) (errors : error_trait.Ghosts Er I Tok Sp) (states : inspector_trait.Ghosts St I Mk Tok Sp) (a : Acts Tok Cx states.Seen errors.Seen V) where
@@ -91,10 +99,10 @@ module _ {I Tok Sp Cu Er St Mk Cx V : Type 0} (source : input_trait.Ghosts I Cu 
     kind-ends call part hc hp (Map n f) = chained-ends (part n) _ (hp n) (made-ends (a.maps f))
     kind-ends call part hc hp (Repeated a least most) = λ t o m x. absurd m
     kind-ends call part hc hp (SeparatedBy a b cfg) = λ t o m x. absurd m
-    kind-ends call part hc hp (OrNot a) = λ t o m x. absurd m
-    kind-ends call part hc hp (Not a) = λ t o m x. absurd m
-    kind-ends call part hc hp (AndIs a b) = λ t o m x. absurd m
-    kind-ends call part hc hp (Rewind a) = λ t o m x. absurd m
+    kind-ends call part hc hp (OrNot n) = chained-ends (OrNone states.mark states.back states.takes_no_memory (part n)) _ (or_none-ends states.mark states.back states.takes_no_memory (part n) (hp n)) (made-ends a.options)
+    kind-ends call part hc hp (Not n) = chained-ends (MeansNot source errors states (part n)) _ (not-ends source errors states (part n) (hp n)) (made-ends a.units)
+    kind-ends call part hc hp (AndIs n m) = and_is-ends states.mark states.back states.takes_no_memory (part n) (part m) (hp n) (hp m)
+    kind-ends call part hc hp (Rewind n) = rewind-ends errors.merged (part n) (hp n)
     kind-ends call part hc hp (TryMap a f) = λ t o m x. absurd m
 
     known-ends : (call part : ℕ → Meaning Tok Cx states.Seen errors.Seen V) → ((r : ℕ) → EndsAfterStart (call r)) → ((n : ℕ) → EndsAfterStart (part n)) → (k : Option NodeKind) → EndsAfterStart (known_means source errors states a call part k)
@@ -133,10 +141,14 @@ module _ {I Tok Sp Cu Er St Mk Cx V : Type 0} (source : input_trait.Ghosts I Cu 
     kind-agrees call part hc hp (Map n f) = chained-agrees (part n) (part n) _ _ same same (hp n) (made-agrees (a.maps f) same same (h.maps f))
     kind-agrees call part hc hp (Repeated a least most) = λ t c o q alike m n x z. absurd m
     kind-agrees call part hc hp (SeparatedBy a b cfg) = λ t c o q alike m n x z. absurd m
-    kind-agrees call part hc hp (OrNot a) = λ t c o q alike m n x z. absurd m
-    kind-agrees call part hc hp (Not a) = λ t c o q alike m n x z. absurd m
-    kind-agrees call part hc hp (AndIs a b) = λ t c o q alike m n x z. absurd m
-    kind-agrees call part hc hp (Rewind a) = λ t c o q alike m n x z. absurd m
+    kind-agrees call part hc hp (OrNot n) =
+        let whole = OrNone states.mark states.back states.takes_no_memory (part n) in
+        chained-agrees whole whole _ _ (SameOption same) same (or_none-agrees states.mark states.back states.takes_no_memory (part n) same (hp n)) (made-agrees a.options (SameOption same) same h.options)
+    kind-agrees call part hc hp (Not n) =
+        let whole = MeansNot source errors states (part n) in
+        chained-agrees whole whole _ _ SameUnit same (not-agrees source errors states (part n) same (hp n)) (made-agrees a.units SameUnit same h.units)
+    kind-agrees call part hc hp (AndIs n m) = and_is-agrees states.mark states.back states.takes_no_memory (part n) (part m) same same (hp n) (hp m)
+    kind-agrees call part hc hp (Rewind n) = rewind-agrees errors.merged (part n) same (hp n)
     kind-agrees call part hc hp (TryMap a f) = λ t c o q alike m n x z. absurd m
 
     known-agrees : (call part : ℕ → Meaning Tok Cx states.Seen errors.Seen V) → ((r : ℕ) → Agreeing same (call r) (call r)) → ((n : ℕ) → Agreeing same (part n) (part n)) → (k : Option NodeKind) → Agreeing same (known_means source errors states a call part k) (known_means source errors states a call part k)

@@ -1,7 +1,7 @@
 -- A whole number that falls at each step.
 use Rattle.std.specs.Prelude.{ℕ, zero, suc, ◌+◌, ◌-◌, ◌*◌, ◌^◌, ◌≤◌, List, [], ◌∷◌, ⊤}
 use Rattle.chumsky_recursive.specs.declared.frames.Frame.{Frame}
-use Rattle.chumsky_recursive.specs.declared.frames.Frame.TheVariants.{First, Second, Alternative, Mapped}
+use Rattle.chumsky_recursive.specs.declared.frames.Frame.TheVariants.{First, Second, Alternative, Mapped, Optional, Denied, Both, Looked, Rewound}
 use Rattle.chumsky_recursive.specs.declared.frames.Todo.{Todo}
 use Rattle.chumsky_recursive.specs.declared.frames.Todo.TheVariants.{Begin, Answer}
 
@@ -17,14 +17,19 @@ power (suc n) = 2 ^ 66 * power n
 abbrev pub share : ℕ → ℕ
 share next = 2 * (2 ^ 64 - next) + 1
 
-module _ {V C : Type 0} where
-  abbrev pub weight_of : ℕ → Frame V C → ℕ
+module _ {V Cu Mk Er : Type 0} where
+  abbrev pub weight_of : ℕ → Frame V Cu Mk Er → ℕ
   weight_of nodes (First second more wanted) = power (level nodes more second + 1) + 2
   weight_of nodes (Second v) = 1
   weight_of nodes (Alternative node more wanted next before) = share next * power (level nodes more node)
   weight_of nodes (Mapped f) = 1
+  weight_of nodes (Optional wanted before) = 1
+  weight_of nodes (Denied wanted before older) = 1
+  weight_of nodes (Both other more before) = power (level nodes more other + 1) + 2
+  weight_of nodes (Looked v end) = 1
+  weight_of nodes (Rewound start older) = 1
 
-  abbrev pub weight : ℕ → List (Frame V C) → ℕ
+  abbrev pub weight : ℕ → List (Frame V Cu Mk Er) → ℕ
   weight nodes [] = 0
   weight nodes (f ∷ fs) = weight_of nodes f + weight nodes fs
 
@@ -32,19 +37,24 @@ abbrev pub load : {V : Type 0} → ℕ → Todo V → ℕ
 load nodes (Begin node more wanted) = power (level nodes more node + 1)
 load nodes (Answer r) = 0
 
-abbrev pub total : {V C : Type 0} → ℕ → List (Frame V C) → Todo V → ℕ
+abbrev pub total : {V Cu Mk Er : Type 0} → ℕ → List (Frame V Cu Mk Er) → Todo V → ℕ
 total nodes fs todo = weight nodes fs + load nodes todo
 
-module _ {V C : Type 0} where
+module _ {V Cu Mk Er : Type 0} where
   -- the levels of the parts that a frame may still begin lie below this
-  abbrev pub reach : ℕ → Frame V C → ℕ
+  abbrev pub reach : ℕ → Frame V Cu Mk Er → ℕ
   reach nodes (First second more wanted) = level nodes more second + 1
   reach nodes (Second v) = 0
   reach nodes (Alternative node more wanted next before) = level nodes more node
   reach nodes (Mapped f) = 0
+  reach nodes (Optional wanted before) = 0
+  reach nodes (Denied wanted before older) = 0
+  reach nodes (Both other more before) = level nodes more other + 1
+  reach nodes (Looked v end) = 0
+  reach nodes (Rewound start older) = 0
 
   -- frames, of which so many others lie below the first, leave room for those parts
-  abbrev pub IsBounded : ℕ → ℕ → ℕ → List (Frame V C) → Type 0
+  abbrev pub IsBounded : ℕ → ℕ → ℕ → List (Frame V Cu Mk Er) → Type 0
   IsBounded nodes bound count [] = ⊤
   IsBounded nodes bound count (f ∷ fs) = (reach nodes f + count ≤ bound) × IsBounded nodes bound (suc count) fs
 

@@ -11,14 +11,16 @@ use std::alloc::{AllocError, Global};
 
 /// The leaves of a grammar, and how values are made of values: what a `Grammar` runs where its rules name numbers.
 ///
-/// All nodes have values of one type. `pair` and `map` are called only where a value is wanted, so never while a grammar
-/// is only checked; where one has no memory, the run is refused with `Stop::Memory`.
+/// All nodes have values of one type. `pair`, `option`, `unit` and `map` are called only where a value is wanted, so never
+/// while a grammar is only checked; where one has no memory, the run is refused with `Stop::Memory`.
 pub trait Actions<'src, I: Input<'src>, E: ParserExtra<I>> {
     type Value: Drop;
 
     ghost use Rattle.chumsky_input.specs.Words.{Does};
     ghost use Rattle.chumsky_input.specs.Outcome.{EndsAfterStart, Agreeing};
     ghost use Rattle.chumsky_parser.specs.Chained.{SamePair};
+    ghost use Rattle.chumsky_combinator.specs.Optional.{SameOption};
+    ghost use Rattle.std.specs.Prelude.{Option};
 
     /// That the leaves may be run: closures that they hold may be called.
     ghost ready: { Self → Type 0 };
@@ -26,8 +28,12 @@ pub trait Actions<'src, I: Input<'src>, E: ParserExtra<I>> {
     ghost leaf_count: { Self → ℕ };
     /// What a run of a leaf may do.
     ghost leaf_meaning: { Self → ℕ → Does I I.Token I.Span E.Error E.State E.State.Mark E.Context Self.Value };
-    /// What may be made of two values, and of one by the mapper of a number.
+    /// What may be made of two values, of one that may be absent, of none, and of one by the mapper of a number.
     ghost pair_gives: { Self → Self.Value × Self.Value → Self.Value → Type 0 };
+
+    ghost option_gives: { Self → Option Self.Value → Self.Value → Type 0 };
+
+    ghost unit_gives: { Self → Self.Value → Type 0 };
 
     ghost map_gives: { Self → ℕ → Self.Value → Self.Value → Type 0 };
     /// That leaves and mappers answer alike each time.
@@ -57,6 +63,14 @@ pub trait Actions<'src, I: Input<'src>, E: ParserExtra<I>> {
     fn pair(&self, alloc: Global, a: Self::Value, b: Self::Value) -> Result<Self::Value, AllocError>
         ensures { IfOk result (λ v. pair_gives self.now (a, b) v) };
 
+    /// The value of `or_not`, of that of its part; of none where its part failed.
+    fn option(&self, alloc: Global, v: Option<Self::Value>) -> Result<Self::Value, AllocError>
+        ensures { IfOk result (λ w. option_gives self.now v w) };
+
+    /// The value of `not`.
+    fn unit(&self, alloc: Global) -> Result<Self::Value, AllocError>
+        ensures { IfOk result (λ v. unit_gives self.now v) };
+
     /// The value of `map`, of that of its part. It answers for every number `f`.
     fn map(&self, alloc: Global, f: usize, v: Self::Value) -> Result<Self::Value, AllocError>
         ensures { IfOk result (λ w. map_gives self.now f v w) };
@@ -69,6 +83,10 @@ pub trait Actions<'src, I: Input<'src>, E: ParserExtra<I>> {
 
     /// Of values that are the same come values that are the same.
     ghost pairs_agree: { (a : Self) → steady a → (v w : Self.Value × Self.Value) (x y : Self.Value) → SamePair (same a) (same a) v w → pair_gives a v x → pair_gives a w y → same a x y };
+
+    ghost options_agree: { (a : Self) → steady a → (v w : Option Self.Value) (x y : Self.Value) → SameOption (same a) v w → option_gives a v x → option_gives a w y → same a x y };
+
+    ghost units_agree: { (a : Self) → steady a → (x y : Self.Value) → unit_gives a x → unit_gives a y → same a x y };
 
     ghost maps_agree: { (a : Self) → steady a → (f : ℕ) (v w x y : Self.Value) → same a v w → map_gives a f v x → map_gives a f w y → same a x y };
 }

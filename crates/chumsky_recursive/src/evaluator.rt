@@ -28,7 +28,7 @@ fn run<'src, I: Input<'src>, E: ParserExtra<I>, A: Actions<'src, I, E>>(
     requires ready { A.ready actions.now }
     requires runs { each_runs rules.now ≡ true }
     requires start { start < length rules.now.nodes }
-    ensures ran { Ran E.Error.merged E.Error.takes_no_memory (part_means I.Input E.Error.Error E.State.Inspector (acts_of I.Input E.Error.Error E.State.Inspector (A.leaf_meaning actions.now) (A.pair_gives actions.now) (A.map_gives actions.now)) rules.now more start) wanted (held I.Input E.Error.Error E.State.Inspector inp.old) (held I.Input E.Error.Error E.State.Inspector inp.new) result }
+    ensures ran { Ran E.Error.merged E.Error.takes_no_memory (part_means I.Input E.Error.Error E.State.Inspector (acts_of I.Input E.Error.Error E.State.Inspector (A.leaf_meaning actions.now) (A.pair_gives actions.now) (A.option_gives actions.now) (A.unit_gives actions.now) (A.map_gives actions.now)) rules.now more start) wanted (held I.Input E.Error.Error E.State.Inspector inp.old) (held I.Input E.Error.Error E.State.Inspector inp.new) result }
     ensures there { IfOk result (λ v. is_some v ≡ wanted) }
     ensures lent { inp.new.state.ghost_name ≡ inp.old.state.ghost_name }
 {
@@ -60,7 +60,7 @@ pub(crate) fn call<'src, I: Input<'src>, E: ParserExtra<I>, A: Actions<'src, I, 
     requires ready { A.ready actions.now }
     requires runs { each_runs rules.now ≡ true }
     requires rule { rule < length rules.now.bodies }
-    ensures ran { Ran E.Error.merged E.Error.takes_no_memory (call_means I.Input E.Error.Error E.State.Inspector (acts_of I.Input E.Error.Error E.State.Inspector (A.leaf_meaning actions.now) (A.pair_gives actions.now) (A.map_gives actions.now)) rules.now more rule) wanted (held I.Input E.Error.Error E.State.Inspector inp.old) (held I.Input E.Error.Error E.State.Inspector inp.new) result }
+    ensures ran { Ran E.Error.merged E.Error.takes_no_memory (call_means I.Input E.Error.Error E.State.Inspector (acts_of I.Input E.Error.Error E.State.Inspector (A.leaf_meaning actions.now) (A.pair_gives actions.now) (A.option_gives actions.now) (A.unit_gives actions.now) (A.map_gives actions.now)) rules.now more rule) wanted (held I.Input E.Error.Error E.State.Inspector inp.old) (held I.Input E.Error.Error E.State.Inspector inp.new) result }
     ensures there { IfOk result (λ v. is_some v ≡ wanted) }
     ensures lent { inp.new.state.ghost_name ≡ inp.old.state.ghost_name }
 {

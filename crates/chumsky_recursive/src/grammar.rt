@@ -82,7 +82,7 @@ impl<'src, 'r, I: Input<'src>, E: ParserExtra<I>, A: Actions<'src, I, E>> Parser
 
     ghost ready = { λ p. (p.rules.leaves ≡ A.leaf_count p.actions.now) × (each_runs p.rules.rules.now ≡ true) × A.ready p.actions.now };
 
-    ghost meaning = { λ p errors states. call_means I.Input errors states (acts_of I.Input errors states (A.leaf_meaning p.actions.now) (A.pair_gives p.actions.now) (A.map_gives p.actions.now)) p.rules.rules.now p.limit p.rules.start };
+    ghost meaning = { λ p errors states. call_means I.Input errors states (acts_of I.Input errors states (A.leaf_meaning p.actions.now) (A.pair_gives p.actions.now) (A.option_gives p.actions.now) (A.unit_gives p.actions.now) (A.map_gives p.actions.now)) p.rules.rules.now p.limit p.rules.start };
 
     ghost steady = { λ p. A.steady p.actions.now };
 
@@ -90,7 +90,7 @@ impl<'src, 'r, I: Input<'src>, E: ParserExtra<I>, A: Actions<'src, I, E>> Parser
 
     ghost ends_after_start = { λ p. call-ends _ _ _ _ (record { leaf = A.leaves_end_after_start p.actions.now }) p.rules.rules.now p.limit p.rules.start };
 
-    ghost agrees = { λ p s. call-agrees _ _ _ _ (A.same p.actions.now) (record { leaf = A.leaves_agree p.actions.now s; pairs = A.pairs_agree p.actions.now s; maps = A.maps_agree p.actions.now s }) p.rules.rules.now p.limit p.rules.start };
+    ghost agrees = { λ p s. call-agrees _ _ _ _ (A.same p.actions.now) (record { leaf = A.leaves_agree p.actions.now s; pairs = A.pairs_agree p.actions.now s; options = A.options_agree p.actions.now s; units = λ u v x y e. A.units_agree p.actions.now s x y; maps = A.maps_agree p.actions.now s }) p.rules.rules.now p.limit p.rules.start };
 
     fn go_emit(&self, inp: &mut InputRef<'src, '_, I, E>) -> PResult<A::Value> {
         match call(

@@ -1,5 +1,5 @@
 //! Actions of leaves that stand in a list.
-ghost use Rattle.std.specs.Prelude.{◌≡◌, ℕ, ⊤, IfOk};
+ghost use Rattle.std.specs.Prelude.{◌≡◌, ℕ, ⊤, IfOk, Option};
 ghost use Rattle.chumsky_input.specs.Held.{held};
 ghost use Rattle.chumsky_input.specs.Run.{Ran, with_value, without_value};
 
@@ -11,13 +11,19 @@ use chumsky_input::stop::PResult;
 use chumsky_parser::parser::Parser;
 use std::alloc::{AllocError, Global};
 
-/// How a grammar makes values of values. An impl may say in `pair_gives` and `map_gives` what is later known of them; where
-/// it says nothing, nothing is known.
+/// How a grammar makes values of values. An impl may say in `pair_gives`, `option_gives`, `unit_gives` and `map_gives`
+/// what is later known of them; where it says nothing, nothing is known.
 pub trait Values {
     type Value: Drop;
 
     /// What it may make of two values.
     ghost pair_gives: { Self → Self.Value × Self.Value → Self.Value → Type 0 } = { λ _ _ _. ⊤ };
+
+    /// What it may make of a value that may be absent.
+    ghost option_gives: { Self → Option Self.Value → Self.Value → Type 0 } = { λ _ _ _. ⊤ };
+
+    /// What it may make of nothing.
+    ghost unit_gives: { Self → Self.Value → Type 0 } = { λ _ _. ⊤ };
 
     /// What a mapper may make of a value.
     ghost map_gives: { Self → ℕ → Self.Value → Self.Value → Type 0 } = { λ _ _ _ _. ⊤ };
@@ -25,6 +31,14 @@ pub trait Values {
     /// The value of two parts.
     fn pair(&self, alloc: Global, a: Self::Value, b: Self::Value) -> Result<Self::Value, AllocError>
         ensures { IfOk result (λ v. pair_gives self.now (a, b) v) };
+
+    /// The value of a part that may be absent: of its value, or of none.
+    fn option(&self, alloc: Global, v: Option<Self::Value>) -> Result<Self::Value, AllocError>
+        ensures { IfOk result (λ w. option_gives self.now v w) };
+
+    /// The value of a part that has none.
+    fn unit(&self, alloc: Global) -> Result<Self::Value, AllocError>
+        ensures { IfOk result (λ v. unit_gives self.now v) };
 
     /// A value through the mapper of this number.
     fn map(&self, alloc: Global, mapper: usize, v: Self::Value) -> Result<Self::Value, AllocError>
@@ -61,9 +75,13 @@ impl<
 
     ghost pair_gives = { λ p. W.pair_gives p.values };
 
+    ghost option_gives = { λ p. W.option_gives p.values };
+
+    ghost unit_gives = { λ p. W.unit_gives p.values };
+
     ghost map_gives = { λ p. W.map_gives p.values };
 
-    ghost steady = { λ p. AnswersAlike (λ n. listed_leaf (λ q. P.meaning q E.Error.Error E.State.Inspector) (slice_get p.leaves.now n)) (W.pair_gives p.values) (W.map_gives p.values) };
+    ghost steady = { λ p. AnswersAlike (λ n. listed_leaf (λ q. P.meaning q E.Error.Error E.State.Inspector) (slice_get p.leaves.now n)) (W.pair_gives p.values) (W.option_gives p.values) (W.unit_gives p.values) (W.map_gives p.values) };
 
     ghost same = { λ _ v w. v ≡ w };
 
@@ -89,6 +107,16 @@ impl<
         self.values.pair(alloc, a, b)
     }
 
+    fn option(&self, alloc: Global, v: Option<W::Value>) -> Result<W::Value, AllocError>
+        ensures { IfOk result (λ w. W.option_gives self.now.values v w) }
+    {
+        self.values.option(alloc, v)
+    }
+
+    fn unit(&self, alloc: Global) -> Result<W::Value, AllocError> {
+        self.values.unit(alloc)
+    }
+
     fn map(&self, alloc: Global, f: usize, v: W::Value) -> Result<W::Value, AllocError> {
         self.values.map(alloc, f, v)
     }
@@ -98,6 +126,10 @@ impl<
     ghost leaves_agree = { λ _ s n. s.answers n };
 
     ghost pairs_agree = { λ _ s v w x y e d g. s.paired v w x y e d g };
+
+    ghost options_agree = { λ _ s v w x y e d g. s.chosen v w x y e d g };
+
+    ghost units_agree = { λ _ s x y d g. s.made x y d g };
 
     ghost maps_agree = { λ _ s f v w x y e d g. s.mapped f v w x y e d g };
 }

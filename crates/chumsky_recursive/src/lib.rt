@@ -2,12 +2,14 @@
 #![tactic(auto)]
 
 pub mod actions;
+mod ahead;
 pub mod errors;
 mod evaluator;
 mod frames;
 pub mod grammar;
 pub mod laws;
 pub mod leaves;
+mod optional;
 mod runs;
 pub mod steady;
 mod steps;

@@ -33,10 +33,10 @@ fn runs_kind(kind: &NodeKind) -> bool
         NodeKind::Map(_, _) => true,
         NodeKind::Repeated(_, _, _) => false,
         NodeKind::SeparatedBy(_, _, _) => false,
-        NodeKind::OrNot(_) => false,
-        NodeKind::Not(_) => false,
-        NodeKind::AndIs(_, _) => false,
-        NodeKind::Rewind(_) => false,
+        NodeKind::OrNot(_) => true,
+        NodeKind::Not(_) => true,
+        NodeKind::AndIs(_, _) => true,
+        NodeKind::Rewind(_) => true,
         NodeKind::TryMap(_, _) => false,
     }
 }

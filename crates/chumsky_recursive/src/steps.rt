@@ -7,11 +7,13 @@ ghost use Rattle.chumsky_recursive.specs.Frames.{Begun, Answers, WaitsFor, Wait,
 ghost use Rattle.chumsky_recursive.specs.Weight.{level, weight, weight_of, total, reach, IsBounded, Fits};
 
 use crate::actions::Actions;
+use crate::ahead::{begin_and_is, begin_not, begin_rewind, go_back, look, stand, turn};
 use crate::frames::{Frame, Todo, wait};
+use crate::optional::{begin_part, or_absent};
 use crate::values::{leaf, map, nothing, pair};
 use chumsky_input::extra::ParserExtra;
 use chumsky_input::input::Input;
-use chumsky_input::input_ref::{Checkpoint, InputRef};
+use chumsky_input::input_ref::InputRef;
 use chumsky_input::inspector::Inspector;
 use chumsky_input::stop::{Fault, PResult, Stop};
 use chumsky_rules::kinds::{Node, NodeKind, Recursive};
@@ -68,7 +70,7 @@ fn alternative(rules: &Rules, node: Node, place: usize) -> Option<Node>
 pub(crate) fn begin<'src, I: Input<'src>, E: ParserExtra<I>, A: Actions<'src, I, E>>(
     actions: &A,
     rules: &Rules,
-    frames: &mut Vec<Frame<A::Value, Checkpoint<I::Cursor, <E::State as Inspector<I>>::Mark>>>,
+    frames: &mut Vec<Frame<A::Value, I::Cursor, <E::State as Inspector<I>>::Mark, E::Error>>,
     node: Node,
     more: usize,
     wanted: bool,
@@ -78,7 +80,7 @@ pub(crate) fn begin<'src, I: Input<'src>, E: ParserExtra<I>, A: Actions<'src, I,
     requires ready { A.ready actions.now }
     requires node { node < length rules.now.nodes }
     requires runs { each_runs rules.now ≡ true }
-    ensures left { (s : Begun I.Token E.Context E.State.Seen E.Error.Seen) → Wait I.Input E.Error.Error E.State.Inspector (acts_of I.Input E.Error.Error E.State.Inspector (A.leaf_meaning actions.now) (A.pair_gives actions.now) (A.map_gives actions.now)) rules.now frames.old.items s (record { more = more; node = node; wanted = wanted; held = held I.Input E.Error.Error E.State.Inspector inp.old }) → Left I.Input E.Error.Error E.State.Inspector (acts_of I.Input E.Error.Error E.State.Inspector (A.leaf_meaning actions.now) (A.pair_gives actions.now) (A.map_gives actions.now)) rules.now frames.new.items s (held I.Input E.Error.Error E.State.Inspector inp.new) result }
+    ensures left { (s : Begun I.Token E.Context E.State.Seen E.Error.Seen) → Wait I.Input E.Error.Error E.State.Inspector (acts_of I.Input E.Error.Error E.State.Inspector (A.leaf_meaning actions.now) (A.pair_gives actions.now) (A.option_gives actions.now) (A.unit_gives actions.now) (A.map_gives actions.now)) rules.now frames.old.items s (record { more = more; node = node; wanted = wanted; held = held I.Input E.Error.Error E.State.Inspector inp.old }) → Left I.Input E.Error.Error E.State.Inspector (acts_of I.Input E.Error.Error E.State.Inspector (A.leaf_meaning actions.now) (A.pair_gives actions.now) (A.option_gives actions.now) (A.unit_gives actions.now) (A.map_gives actions.now)) rules.now frames.new.items s (held I.Input E.Error.Error E.State.Inspector inp.new) result }
     ensures known { All (IsKnown I.Input E.State.Inspector (length rules.now.nodes) (held I.Input E.Error.Error E.State.Inspector inp.old).tokens) frames.old.items → All (IsKnown I.Input E.State.Inspector (length rules.now.nodes) (held I.Input E.Error.Error E.State.Inspector inp.old).tokens) frames.new.items }
     ensures there { IsThere (length rules.now.nodes) result }
     ensures lighter { total (length rules.now.nodes) frames.new.items result < total (length rules.now.nodes) frames.old.items (Todo.Begin node more wanted) }
@@ -116,10 +118,10 @@ pub(crate) fn begin<'src, I: Input<'src>, E: ParserExtra<I>, A: Actions<'src, I,
         NodeKind::Map(a, f) => wait(frames, Frame::Mapped(*f), *a, more, wanted),
         NodeKind::Repeated(_, _, _) => unreachable!(),
         NodeKind::SeparatedBy(_, _, _) => unreachable!(),
-        NodeKind::OrNot(_) => unreachable!(),
-        NodeKind::Not(_) => unreachable!(),
-        NodeKind::AndIs(_, _) => unreachable!(),
-        NodeKind::Rewind(_) => unreachable!(),
+        NodeKind::OrNot(a) => begin_part(frames, *a, more, wanted, inp),
+        NodeKind::Not(a) => begin_not(frames, *a, more, wanted, inp),
+        NodeKind::AndIs(a, b) => begin_and_is(frames, *a, *b, more, wanted, inp),
+        NodeKind::Rewind(a) => begin_rewind(frames, *a, more, wanted, inp),
         NodeKind::TryMap(_, _) => unreachable!(),
     }
 }
@@ -128,14 +130,14 @@ pub(crate) fn begin<'src, I: Input<'src>, E: ParserExtra<I>, A: Actions<'src, I,
 fn resume<'src, I: Input<'src>, E: ParserExtra<I>, A: Actions<'src, I, E>>(
     actions: &A,
     rules: &Rules,
-    frames: &mut Vec<Frame<A::Value, Checkpoint<I::Cursor, <E::State as Inspector<I>>::Mark>>>,
-    frame: Frame<A::Value, Checkpoint<I::Cursor, <E::State as Inspector<I>>::Mark>>,
+    frames: &mut Vec<Frame<A::Value, I::Cursor, <E::State as Inspector<I>>::Mark, E::Error>>,
+    frame: Frame<A::Value, I::Cursor, <E::State as Inspector<I>>::Mark, E::Error>,
     answer: PResult<Option<A::Value>>,
     inp: &mut InputRef<'src, '_, I, E>,
 ) -> Todo<A::Value>
     requires closed { IsClosed rules.now (A.leaf_count actions.now) }
     requires known { IsKnown I.Input E.State.Inspector (length rules.now.nodes) (held I.Input E.Error.Error E.State.Inspector inp.old).tokens frame }
-    ensures left { (s u t : Begun I.Token E.Context E.State.Seen E.Error.Seen) → Wait I.Input E.Error.Error E.State.Inspector (acts_of I.Input E.Error.Error E.State.Inspector (A.leaf_meaning actions.now) (A.pair_gives actions.now) (A.map_gives actions.now)) rules.now frames.old.items s u → WaitsFor I.Input E.Error.Error E.State.Inspector (acts_of I.Input E.Error.Error E.State.Inspector (A.leaf_meaning actions.now) (A.pair_gives actions.now) (A.map_gives actions.now)) rules.now frame u t → Answers I.Input E.Error.Error E.State.Inspector (acts_of I.Input E.Error.Error E.State.Inspector (A.leaf_meaning actions.now) (A.pair_gives actions.now) (A.map_gives actions.now)) rules.now t (held I.Input E.Error.Error E.State.Inspector inp.old) answer → IfOk answer (λ v. is_some v ≡ t.wanted) → Left I.Input E.Error.Error E.State.Inspector (acts_of I.Input E.Error.Error E.State.Inspector (A.leaf_meaning actions.now) (A.pair_gives actions.now) (A.map_gives actions.now)) rules.now frames.new.items s (held I.Input E.Error.Error E.State.Inspector inp.new) result }
+    ensures left { (s u t : Begun I.Token E.Context E.State.Seen E.Error.Seen) → Wait I.Input E.Error.Error E.State.Inspector (acts_of I.Input E.Error.Error E.State.Inspector (A.leaf_meaning actions.now) (A.pair_gives actions.now) (A.option_gives actions.now) (A.unit_gives actions.now) (A.map_gives actions.now)) rules.now frames.old.items s u → WaitsFor I.Input E.Error.Error E.State.Inspector (acts_of I.Input E.Error.Error E.State.Inspector (A.leaf_meaning actions.now) (A.pair_gives actions.now) (A.option_gives actions.now) (A.unit_gives actions.now) (A.map_gives actions.now)) rules.now frame u t → Answers I.Input E.Error.Error E.State.Inspector (acts_of I.Input E.Error.Error E.State.Inspector (A.leaf_meaning actions.now) (A.pair_gives actions.now) (A.option_gives actions.now) (A.unit_gives actions.now) (A.map_gives actions.now)) rules.now t (held I.Input E.Error.Error E.State.Inspector inp.old) answer → IfOk answer (λ v. is_some v ≡ t.wanted) → Left I.Input E.Error.Error E.State.Inspector (acts_of I.Input E.Error.Error E.State.Inspector (A.leaf_meaning actions.now) (A.pair_gives actions.now) (A.option_gives actions.now) (A.unit_gives actions.now) (A.map_gives actions.now)) rules.now frames.new.items s (held I.Input E.Error.Error E.State.Inspector inp.new) result }
     ensures known { All (IsKnown I.Input E.State.Inspector (length rules.now.nodes) (held I.Input E.Error.Error E.State.Inspector inp.old).tokens) frames.old.items → All (IsKnown I.Input E.State.Inspector (length rules.now.nodes) (held I.Input E.Error.Error E.State.Inspector inp.old).tokens) frames.new.items }
     ensures there { IsThere (length rules.now.nodes) result }
     ensures lighter { total (length rules.now.nodes) frames.new.items result < weight (length rules.now.nodes) frames.old.items + weight_of (length rules.now.nodes) frame }
@@ -177,6 +179,15 @@ fn resume<'src, I: Input<'src>, E: ParserExtra<I>, A: Actions<'src, I, E>>(
             Ok(value) => Todo::Answer(map(actions, inp.alloc, f, value)),
             Err(fault) => Todo::Answer(Err(fault)),
         },
+        Frame::Optional(wanted, before) => {
+            Todo::Answer(or_absent(actions, wanted, &before, answer, inp))
+        }
+        Frame::Denied(wanted, before, older) => {
+            Todo::Answer(turn(actions, wanted, &before, older, answer, inp))
+        }
+        Frame::Both(other, more, before) => look(frames, other, more, &before, answer, inp),
+        Frame::Looked(value, end) => Todo::Answer(stand(value, end, answer, inp)),
+        Frame::Rewound(start, older) => Todo::Answer(go_back(start, older, answer, inp)),
     }
 }
 
@@ -184,13 +195,13 @@ fn resume<'src, I: Input<'src>, E: ParserExtra<I>, A: Actions<'src, I, E>>(
 pub(crate) fn hear<'src, I: Input<'src>, E: ParserExtra<I>, A: Actions<'src, I, E>>(
     actions: &A,
     rules: &Rules,
-    frames: &mut Vec<Frame<A::Value, Checkpoint<I::Cursor, <E::State as Inspector<I>>::Mark>>>,
+    frames: &mut Vec<Frame<A::Value, I::Cursor, <E::State as Inspector<I>>::Mark, E::Error>>,
     answer: PResult<Option<A::Value>>,
     inp: &mut InputRef<'src, '_, I, E>,
 ) -> Result<Todo<A::Value>, PResult<Option<A::Value>>>
     requires closed { IsClosed rules.now (A.leaf_count actions.now) }
     requires known { All (IsKnown I.Input E.State.Inspector (length rules.now.nodes) (held I.Input E.Error.Error E.State.Inspector inp.old).tokens) frames.old.items }
-    ensures left { IfOk result (λ todo. (s : Begun I.Token E.Context E.State.Seen E.Error.Seen) → Left I.Input E.Error.Error E.State.Inspector (acts_of I.Input E.Error.Error E.State.Inspector (A.leaf_meaning actions.now) (A.pair_gives actions.now) (A.map_gives actions.now)) rules.now frames.old.items s (held I.Input E.Error.Error E.State.Inspector inp.old) (Todo.Answer answer) → Left I.Input E.Error.Error E.State.Inspector (acts_of I.Input E.Error.Error E.State.Inspector (A.leaf_meaning actions.now) (A.pair_gives actions.now) (A.map_gives actions.now)) rules.now frames.new.items s (held I.Input E.Error.Error E.State.Inspector inp.new) todo) }
+    ensures left { IfOk result (λ todo. (s : Begun I.Token E.Context E.State.Seen E.Error.Seen) → Left I.Input E.Error.Error E.State.Inspector (acts_of I.Input E.Error.Error E.State.Inspector (A.leaf_meaning actions.now) (A.pair_gives actions.now) (A.option_gives actions.now) (A.unit_gives actions.now) (A.map_gives actions.now)) rules.now frames.old.items s (held I.Input E.Error.Error E.State.Inspector inp.old) (Todo.Answer answer) → Left I.Input E.Error.Error E.State.Inspector (acts_of I.Input E.Error.Error E.State.Inspector (A.leaf_meaning actions.now) (A.pair_gives actions.now) (A.option_gives actions.now) (A.unit_gives actions.now) (A.map_gives actions.now)) rules.now frames.new.items s (held I.Input E.Error.Error E.State.Inspector inp.new) todo) }
     ensures known { All (IsKnown I.Input E.State.Inspector (length rules.now.nodes) (held I.Input E.Error.Error E.State.Inspector inp.old).tokens) frames.new.items }
     ensures there { IfOk result (IsThere (length rules.now.nodes)) }
     ensures lighter { IfOk result (λ todo. total (length rules.now.nodes) frames.new.items todo < weight (length rules.now.nodes) frames.old.items) }

@@ -1,9 +1,9 @@
 //! The steps of a run that the caller's actions take.
-ghost use Rattle.std.specs.Prelude.{◌≡◌, ℕ, ◌<◌, IfOk, is_some, [], None};
+ghost use Rattle.std.specs.Prelude.{◌≡◌, ℕ, ◌<◌, IfOk, is_some, [], Some, None, option_map};
 ghost use Rattle.chumsky_input.specs.Held.{held};
 ghost use Rattle.chumsky_input.specs.Run.{Ran, Fails};
 ghost use Rattle.chumsky_parser.specs.Chained.{both};
-ghost use Rattle.chumsky_parser.specs.Failure.{expects};
+ghost use Rattle.chumsky_parser.specs.Failure.{expects, wanting};
 ghost use Rattle.chumsky_recursive.specs.Frames.{Makes};
 
 use crate::actions::Actions;
@@ -66,6 +66,57 @@ pub(crate) fn pair<'src, I: Input<'src>, E: ParserExtra<I>, A: Actions<'src, I, 
                 Err(_) => Err(Fault::Stop(Stop::Memory)),
             },
         },
+    }
+}
+
+/// The value of a part that is there, where it has one.
+pub(crate) fn present<'src, I: Input<'src>, E: ParserExtra<I>, A: Actions<'src, I, E>>(
+    actions: &A,
+    alloc: Global,
+    value: Option<A::Value>,
+) -> PResult<Option<A::Value>>
+    ensures { Makes (A.option_gives actions.now) (option_map Some value) result }
+{
+    match value {
+        None => Ok(None),
+        Some(value) => match actions.option(alloc, Some(value)) {
+            Ok(value) => Ok(Some(value)),
+            Err(_) => Err(Fault::Stop(Stop::Memory)),
+        },
+    }
+}
+
+/// The value of a part that is absent, where one is wanted.
+pub(crate) fn absent<'src, I: Input<'src>, E: ParserExtra<I>, A: Actions<'src, I, E>>(
+    actions: &A,
+    alloc: Global,
+    wanted: bool,
+) -> PResult<Option<A::Value>>
+    ensures { Makes (A.option_gives actions.now) (wanting wanted None) result }
+{
+    if !wanted {
+        return Ok(None);
+    }
+    match actions.option(alloc, None) {
+        Ok(value) => Ok(Some(value)),
+        Err(_) => Err(Fault::Stop(Stop::Memory)),
+    }
+}
+
+/// The value of nothing, where one is wanted.
+pub(crate) fn unit<'src, I: Input<'src>, E: ParserExtra<I>, A: Actions<'src, I, E>>(
+    actions: &A,
+    alloc: Global,
+    wanted: bool,
+) -> PResult<Option<A::Value>>
+    ensures { Makes (λ (_ : Unit {0}). A.unit_gives actions.now) (wanting wanted tt) result }
+{
+    if !wanted {
+        return Ok(None);
+    }
+    match actions.unit(alloc) {
+        Ok(value) => Ok(Some(value)),
+        Err(_) => Err(Fault::Stop(Stop::Memory)),
     }
 }
 

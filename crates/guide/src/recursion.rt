@@ -1,4 +1,6 @@
 //! A grammar that calls itself: rules as data, closed and run.
+ghost use Rattle.std.specs.Prelude.{IfOk, ⊤};
+
 use chumsky::Stop;
 use chumsky::extra::RichText;
 use chumsky::prelude::*;
@@ -10,9 +12,7 @@ const OPENING: usize = 0;
 
 const CLOSING: usize = 1;
 
-const NOTHING: usize = 2;
-
-/// Values are depths: of two parts the greater, and a pair of brackets is one deeper than what it holds.
+/// Values are depths: of two parts the greater, of nothing none, and a pair of brackets is one deeper than what it holds.
 #[derive(Drop)]
 struct Depths;
 
@@ -21,6 +21,16 @@ impl Values for Depths {
 
     fn pair(&self, _alloc: Global, a: usize, b: usize) -> Result<usize, AllocError> {
         Ok(a.max(b))
+    }
+
+    fn option(&self, _alloc: Global, depth: Option<usize>) -> Result<usize, AllocError>
+        ensures { IfOk result (λ _. ⊤) }
+    {
+        Ok(depth.unwrap_or(0))
+    }
+
+    fn unit(&self, _alloc: Global) -> Result<usize, AllocError> {
+        Ok(0)
     }
 
     fn map(&self, _alloc: Global, _mapper: usize, inside: usize) -> Result<usize, AllocError> {
@@ -38,8 +48,7 @@ fn brackets(rules: &mut Rules) -> Result<Recursive, RecursiveError> {
         let closed = rules.then(opened, closing)?;
         let pair = rules.map(closed, 0)?;
         let pairs = rules.then(pair, inside)?;
-        let nothing = rules.leaf(NOTHING)?;
-        rules.choice(&[pairs, nothing])
+        rules.or_not(pairs)
     })
 }
 
@@ -62,11 +71,7 @@ pub fn depth(
         Ok(start) => start,
         Err(error) => return Err(Refused::Building(error)),
     };
-    let leaves = [
-        just::<_, _, RichText>("[").to(0),
-        just("]").to(0),
-        just("").to(0),
-    ];
+    let leaves = [just::<_, _, RichText>("[").to(0), just("]").to(0)];
     let actions = Leaves {
         leaves: &leaves,
         values: Depths,

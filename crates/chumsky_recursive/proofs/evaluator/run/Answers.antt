@@ -32,3 +32,6 @@ steps-preserved g c =
 
 pub returns-in-Err-clause-ran : goal.returns-in-Err-clause-ran
 returns-in-Err-clause-ran g c = rw (c.in-Err.ensures.ends.0, c.in-Err.ensures.ends.2) (answers _ _ _ _ _ _ _ c.in-Err.ensures.ends.1 c.in-Answer.is c.steps.invariant.left).0
+
+pub returns-in-Err-clause-there : goal.returns-in-Err-clause-there
+returns-in-Err-clause-there g c = rw c.in-Err.ensures.ends.0 (answers _ _ _ _ _ _ _ c.in-Err.ensures.ends.1 c.in-Answer.is c.steps.invariant.left).1

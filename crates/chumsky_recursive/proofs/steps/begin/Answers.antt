@@ -4,6 +4,8 @@ use Rattle.chumsky_recursive.specs.Frames.{IsKnown}
 use Rattle.chumsky_recursive.proofs.Parts.{not_run, runs_at, parts_below, calls_within, alternative_below}
 use Rattle.chumsky_recursive.proofs.Begins.{leaf_left, deep_left, rule_left, then_left, map_left, none_left, one_left, many_left, unmarked_left, waits_all, waits_there, less, tokens_of}
 use Rattle.chumsky_recursive.proofs.Weights.{waits_lighter, part_level, body_level, two_lighter, one_lighter, first_lighter, below_lighter, answer_lighter, waits_bounded, fits_below, fits_under, fits_over, fits_none}
+use Rattle.chumsky_recursive.proofs.Options.{marked_all, marked_there, marked_lighter, marked_bounded, or_not_left}
+use Rattle.chumsky_recursive.proofs.AheadBegins.{denied_all, denied_there, denied_lighter, denied_bounded, not_left, and_is_left, rewind_left}
 use Rattle.chumsky_recursive.proofs.steps.begin.Goals as goal
 
 pub returns-then-more-eq0-clause-left : goal.returns-then-more-eq0-clause-left
@@ -106,18 +108,6 @@ unreachable-requires g c = not_run (runs_at c.args.rules.now c.args.node _ _ c.r
 pub unreachable-requires-in-SeparatedBy : goal.unreachable-requires-in-SeparatedBy
 unreachable-requires-in-SeparatedBy g c = not_run (runs_at c.args.rules.now c.args.node _ _ c.requires.runs c.kind_of.ensures c.in-SeparatedBy.is)
 
-pub unreachable-requires-in-OrNot : goal.unreachable-requires-in-OrNot
-unreachable-requires-in-OrNot g c = not_run (runs_at c.args.rules.now c.args.node _ _ c.requires.runs c.kind_of.ensures c.in-OrNot.is)
-
-pub unreachable-requires-in-Not : goal.unreachable-requires-in-Not
-unreachable-requires-in-Not g c = not_run (runs_at c.args.rules.now c.args.node _ _ c.requires.runs c.kind_of.ensures c.in-Not.is)
-
-pub unreachable-requires-in-AndIs : goal.unreachable-requires-in-AndIs
-unreachable-requires-in-AndIs g c = not_run (runs_at c.args.rules.now c.args.node _ _ c.requires.runs c.kind_of.ensures c.in-AndIs.is)
-
-pub unreachable-requires-in-Rewind : goal.unreachable-requires-in-Rewind
-unreachable-requires-in-Rewind g c = not_run (runs_at c.args.rules.now c.args.node _ _ c.requires.runs c.kind_of.ensures c.in-Rewind.is)
-
 pub unreachable-requires-in-TryMap : goal.unreachable-requires-in-TryMap
 unreachable-requires-in-TryMap g c = not_run (runs_at c.args.rules.now c.args.node _ _ c.requires.runs c.kind_of.ensures c.in-TryMap.is)
 
@@ -158,3 +148,97 @@ pub returns-in-Map-clause-bounded : goal.returns-in-Map-clause-bounded
 returns-in-Map-clause-bounded g c =
     let b = parts_below c.args.rules.now c.args.node _ _ c.requires.closed.built c.kind_of.ensures c.in-Map.is in
     λ bound m l. waits_bounded (length c.args.rules.now.nodes) bound c.wait-in-Map.ensures (fits_none _ _ _ l) (fits_under _ _ _ _ (part_level (length c.args.rules.now.nodes) c.args.more c.in-Map.a c.args.node b.0) l) m
+
+pub returns-in-OrNot-clause-left : goal.returns-in-OrNot-clause-left
+returns-in-OrNot-clause-left g c =
+    let b = parts_below c.args.rules.now c.args.node _ _ c.requires.closed.built c.kind_of.ensures c.in-OrNot.is in
+    or_not_left _ _ _ _ _ c.requires.closed.built _ _ _ _ _ _ (c.kind_of.ensures ∙ ap Some c.in-OrNot.is) (less b.0 c.requires.node) c.begin_part.ensures
+
+pub returns-in-OrNot-clause-known : goal.returns-in-OrNot-clause-known
+returns-in-OrNot-clause-known g c = λ all. marked_all _ _ (IsKnown g.I.Input g.E.State.Inspector (length c.args.rules.now.nodes) (held g.I.Input g.E.Error.Error g.E.State.Inspector c.args.inp.now).tokens) c.begin_part.ensures (λ d e. ap tokens_of e) all
+
+pub returns-in-OrNot-clause-there : goal.returns-in-OrNot-clause-there
+returns-in-OrNot-clause-there g c =
+    let b = parts_below c.args.rules.now c.args.node _ _ c.requires.closed.built c.kind_of.ensures c.in-OrNot.is in
+    marked_there _ _ (length c.args.rules.now.nodes) c.begin_part.ensures (less b.0 c.requires.node)
+
+pub returns-in-OrNot-clause-lighter : goal.returns-in-OrNot-clause-lighter
+returns-in-OrNot-clause-lighter g c =
+    let b = parts_below c.args.rules.now c.args.node _ _ c.requires.closed.built c.kind_of.ensures c.in-OrNot.is in
+    marked_lighter _ _ (length c.args.rules.now.nodes) _ c.begin_part.ensures (λ d. one_lighter _ _ (part_level (length c.args.rules.now.nodes) c.args.more c.in-OrNot.a c.args.node b.0))
+
+pub returns-in-OrNot-clause-bounded : goal.returns-in-OrNot-clause-bounded
+returns-in-OrNot-clause-bounded g c =
+    let b = parts_below c.args.rules.now c.args.node _ _ c.requires.closed.built c.kind_of.ensures c.in-OrNot.is in
+    λ bound m l. marked_bounded _ _ (length c.args.rules.now.nodes) bound c.begin_part.ensures (λ d. fits_none _ _ _ l) (fits_under _ _ _ _ (part_level (length c.args.rules.now.nodes) c.args.more c.in-OrNot.a c.args.node b.0) l) m
+
+pub returns-in-Not-clause-left : goal.returns-in-Not-clause-left
+returns-in-Not-clause-left g c =
+    let b = parts_below c.args.rules.now c.args.node _ _ c.requires.closed.built c.kind_of.ensures c.in-Not.is in
+    not_left _ _ _ _ _ c.requires.closed.built _ _ _ _ _ _ (c.kind_of.ensures ∙ ap Some c.in-Not.is) (less b.0 c.requires.node) c.begin_not.ensures.waits
+
+pub returns-in-Not-clause-known : goal.returns-in-Not-clause-known
+returns-in-Not-clause-known g c = λ all. denied_all _ _ _ c.begin_not.ensures.waits (IsKnown g.I.Input g.E.State.Inspector (length c.args.rules.now.nodes) (held g.I.Input g.E.Error.Error g.E.State.Inspector c.args.inp.now).tokens) (λ d k e. ap tokens_of e) all
+
+pub returns-in-Not-clause-there : goal.returns-in-Not-clause-there
+returns-in-Not-clause-there g c =
+    let b = parts_below c.args.rules.now c.args.node _ _ c.requires.closed.built c.kind_of.ensures c.in-Not.is in
+    denied_there _ _ _ c.begin_not.ensures.waits (length c.args.rules.now.nodes) (less b.0 c.requires.node)
+
+pub returns-in-Not-clause-lighter : goal.returns-in-Not-clause-lighter
+returns-in-Not-clause-lighter g c =
+    let b = parts_below c.args.rules.now c.args.node _ _ c.requires.closed.built c.kind_of.ensures c.in-Not.is in
+    denied_lighter _ _ _ c.begin_not.ensures.waits (length c.args.rules.now.nodes) _ (one_lighter _ _ (part_level (length c.args.rules.now.nodes) c.args.more c.in-Not.a c.args.node b.0))
+
+pub returns-in-Not-clause-bounded : goal.returns-in-Not-clause-bounded
+returns-in-Not-clause-bounded g c =
+    let b = parts_below c.args.rules.now c.args.node _ _ c.requires.closed.built c.kind_of.ensures c.in-Not.is in
+    λ bound m l. denied_bounded _ _ _ c.begin_not.ensures.waits (length c.args.rules.now.nodes) bound (fits_none _ _ _ l) (fits_under _ _ _ _ (part_level (length c.args.rules.now.nodes) c.args.more c.in-Not.a c.args.node b.0) l) m
+
+pub returns-in-AndIs-clause-left : goal.returns-in-AndIs-clause-left
+returns-in-AndIs-clause-left g c =
+    let b = parts_below c.args.rules.now c.args.node _ _ c.requires.closed.built c.kind_of.ensures c.in-AndIs.is in
+    and_is_left _ _ _ _ _ c.requires.closed.built _ _ _ _ _ _ _ (c.kind_of.ensures ∙ ap Some c.in-AndIs.is) (less b.0 c.requires.node) c.begin_and_is.ensures
+
+pub returns-in-AndIs-clause-known : goal.returns-in-AndIs-clause-known
+returns-in-AndIs-clause-known g c =
+    let b = parts_below c.args.rules.now c.args.node _ _ c.requires.closed.built c.kind_of.ensures c.in-AndIs.is in
+    λ all. marked_all _ _ (IsKnown g.I.Input g.E.State.Inspector (length c.args.rules.now.nodes) (held g.I.Input g.E.Error.Error g.E.State.Inspector c.args.inp.now).tokens) c.begin_and_is.ensures (λ d e. (less b.1.0 c.requires.node, ap tokens_of e)) all
+
+pub returns-in-AndIs-clause-there : goal.returns-in-AndIs-clause-there
+returns-in-AndIs-clause-there g c =
+    let b = parts_below c.args.rules.now c.args.node _ _ c.requires.closed.built c.kind_of.ensures c.in-AndIs.is in
+    marked_there _ _ (length c.args.rules.now.nodes) c.begin_and_is.ensures (less b.0 c.requires.node)
+
+pub returns-in-AndIs-clause-lighter : goal.returns-in-AndIs-clause-lighter
+returns-in-AndIs-clause-lighter g c =
+    let b = parts_below c.args.rules.now c.args.node _ _ c.requires.closed.built c.kind_of.ensures c.in-AndIs.is in
+    marked_lighter _ _ (length c.args.rules.now.nodes) _ c.begin_and_is.ensures (λ d. two_lighter _ _ _ (part_level (length c.args.rules.now.nodes) c.args.more c.in-AndIs.a c.args.node b.0) (part_level (length c.args.rules.now.nodes) c.args.more c.in-AndIs.b c.args.node b.1.0))
+
+pub returns-in-AndIs-clause-bounded : goal.returns-in-AndIs-clause-bounded
+returns-in-AndIs-clause-bounded g c =
+    let b = parts_below c.args.rules.now c.args.node _ _ c.requires.closed.built c.kind_of.ensures c.in-AndIs.is in
+    λ bound m l. marked_bounded _ _ (length c.args.rules.now.nodes) bound c.begin_and_is.ensures (λ d. fits_over _ _ _ _ (part_level (length c.args.rules.now.nodes) c.args.more c.in-AndIs.b c.args.node b.1.0) l) (fits_under _ _ _ _ (part_level (length c.args.rules.now.nodes) c.args.more c.in-AndIs.a c.args.node b.0) l) m
+
+pub returns-in-Rewind-clause-left : goal.returns-in-Rewind-clause-left
+returns-in-Rewind-clause-left g c =
+    let b = parts_below c.args.rules.now c.args.node _ _ c.requires.closed.built c.kind_of.ensures c.in-Rewind.is in
+    rewind_left _ _ _ _ _ c.requires.closed.built _ _ _ _ _ _ (c.kind_of.ensures ∙ ap Some c.in-Rewind.is) (less b.0 c.requires.node) c.begin_rewind.ensures.waits
+
+pub returns-in-Rewind-clause-known : goal.returns-in-Rewind-clause-known
+returns-in-Rewind-clause-known g c = λ all. waits_all (IsKnown g.I.Input g.E.State.Inspector (length c.args.rules.now.nodes) (held g.I.Input g.E.Error.Error g.E.State.Inspector c.args.inp.now).tokens) c.begin_rewind.ensures.waits.waits c.begin_rewind.ensures.waits.tokens all
+
+pub returns-in-Rewind-clause-there : goal.returns-in-Rewind-clause-there
+returns-in-Rewind-clause-there g c =
+    let b = parts_below c.args.rules.now c.args.node _ _ c.requires.closed.built c.kind_of.ensures c.in-Rewind.is in
+    waits_there (length c.args.rules.now.nodes) c.begin_rewind.ensures.waits.waits (less b.0 c.requires.node)
+
+pub returns-in-Rewind-clause-lighter : goal.returns-in-Rewind-clause-lighter
+returns-in-Rewind-clause-lighter g c =
+    let b = parts_below c.args.rules.now c.args.node _ _ c.requires.closed.built c.kind_of.ensures c.in-Rewind.is in
+    waits_lighter (length c.args.rules.now.nodes) _ c.begin_rewind.ensures.waits.waits (one_lighter _ _ (part_level (length c.args.rules.now.nodes) c.args.more c.in-Rewind.a c.args.node b.0))
+
+pub returns-in-Rewind-clause-bounded : goal.returns-in-Rewind-clause-bounded
+returns-in-Rewind-clause-bounded g c =
+    let b = parts_below c.args.rules.now c.args.node _ _ c.requires.closed.built c.kind_of.ensures c.in-Rewind.is in
+    λ bound m l. waits_bounded (length c.args.rules.now.nodes) bound c.begin_rewind.ensures.waits.waits (fits_none _ _ _ l) (fits_under _ _ _ _ (part_level (length c.args.rules.now.nodes) c.args.more c.in-Rewind.a c.args.node b.0) l) m

@@ -6,6 +6,8 @@ use Rattle.chumsky_recursive.proofs.Parts.{alternative_below}
 use Rattle.chumsky_recursive.proofs.Begins.{waits_all, waits_there, less}
 use Rattle.chumsky_recursive.proofs.Resumes.{first_fails, second_fails, mapped_fails, second_made, mapped_made, alternative_stands, alternative_ends, alternative_unrestored, second_left, next_left}
 use Rattle.chumsky_recursive.proofs.Weights.{waits_lighter, part_level, next_lighter, choice_lighter, next_small, waits_bounded, fits_under, fits_first, fits_none}
+use Rattle.chumsky_recursive.proofs.Options.{or_absent_left}
+use Rattle.chumsky_recursive.proofs.AheadResumes.{looks_all, looks_there, looks_lighter, looks_bounded, not_turns, and_is_looks, and_is_stands, rewind_returns}
 use Rattle.chumsky_recursive.proofs.steps.resume.Goals as goal
 
 pub returns-in-Ok-clause-left : goal.returns-in-Ok-clause-left
@@ -132,3 +134,53 @@ pub returns-in-Ok-rewind-clause-bounded : goal.returns-in-Ok-rewind-clause-bound
 returns-in-Ok-rewind-clause-bounded g c =
     let p : c.in-Some.part < c.in-Alternative.node = alternative_below c.args.rules.now c.in-Alternative.node c.in-Alternative.next c.in-Some.part c.requires.closed.built (sym c.alternative.ensures.is ∙ c.in-Some.is) in
     λ bound b l. (let m = rw c.in-Alternative.is at l in waits_bounded (length c.args.rules.now.nodes) bound c.wait-in-Ok-rewind.ensures m (fits_under _ _ _ _ (part_level (length c.args.rules.now.nodes) c.in-Alternative.more c.in-Some.part c.in-Alternative.node p) m) b)
+
+pub returns-in-Optional-clause-left : goal.returns-in-Optional-clause-left
+returns-in-Optional-clause-left g c = rw c.in-Optional.is (or_absent_left _ _ _ _ _ _ _ _ _ _ _ _ c.or_absent.ensures.is)
+
+pub returns-in-Optional-clause-bounded : goal.returns-in-Optional-clause-bounded
+returns-in-Optional-clause-bounded g c =
+    λ bound b l. (b, tt)
+
+pub returns-in-Denied-clause-left : goal.returns-in-Denied-clause-left
+returns-in-Denied-clause-left g c = rw c.in-Denied.is (not_turns _ _ _ _ _ _ _ _ _ _ _ _ _ c.turn.ensures.turns)
+
+pub returns-in-Denied-clause-bounded : goal.returns-in-Denied-clause-bounded
+returns-in-Denied-clause-bounded g c =
+    λ bound b l. (b, tt)
+
+pub returns-in-Both-clause-left : goal.returns-in-Both-clause-left
+returns-in-Both-clause-left g c =
+    let k : (c.in-Both.other < length c.args.rules.now.nodes) × ((marks g.I.Input g.E.State.Inspector c.in-Both.before).tokens ≡ (held g.I.Input g.E.Error.Error g.E.State.Inspector c.args.inp.now).tokens) = rw c.in-Both.is at c.requires.known in
+    rw c.in-Both.is (and_is_looks _ _ _ _ _ _ _ _ c.requires.closed.built _ _ _ _ _ k.0 _ c.look.ensures.looks)
+
+pub returns-in-Both-clause-known : goal.returns-in-Both-clause-known
+returns-in-Both-clause-known g c = λ all. looks_all g.I.Input g.E.Error.Error g.E.State.Inspector c.args.frames.now.items c.look.new.frames.items c.in-Both.other c.in-Both.more (marks g.I.Input g.E.State.Inspector c.in-Both.before) (held g.I.Input g.E.Error.Error g.E.State.Inspector c.args.inp.now) (held g.I.Input g.E.Error.Error g.E.State.Inspector c.look.new.inp) c.look.result c.args.answer c.look.ensures.looks (IsKnown g.I.Input g.E.State.Inspector (length c.args.rules.now.nodes) (held g.I.Input g.E.Error.Error g.E.State.Inspector c.args.inp.now).tokens) (λ v past e. e) all
+
+pub returns-in-Both-clause-there : goal.returns-in-Both-clause-there
+returns-in-Both-clause-there g c =
+    let k : (c.in-Both.other < length c.args.rules.now.nodes) × ((marks g.I.Input g.E.State.Inspector c.in-Both.before).tokens ≡ (held g.I.Input g.E.Error.Error g.E.State.Inspector c.args.inp.now).tokens) = rw c.in-Both.is at c.requires.known in
+    looks_there g.I.Input g.E.Error.Error g.E.State.Inspector c.args.frames.now.items c.look.new.frames.items c.in-Both.other c.in-Both.more (marks g.I.Input g.E.State.Inspector c.in-Both.before) (held g.I.Input g.E.Error.Error g.E.State.Inspector c.args.inp.now) (held g.I.Input g.E.Error.Error g.E.State.Inspector c.look.new.inp) c.look.result c.args.answer c.look.ensures.looks (length c.args.rules.now.nodes) k.0
+
+pub returns-in-Both-clause-lighter : goal.returns-in-Both-clause-lighter
+returns-in-Both-clause-lighter g c = rw c.in-Both.is (looks_lighter g.I.Input g.E.Error.Error g.E.State.Inspector c.args.frames.now.items c.look.new.frames.items c.in-Both.other c.in-Both.more (marks g.I.Input g.E.State.Inspector c.in-Both.before) (held g.I.Input g.E.Error.Error g.E.State.Inspector c.args.inp.now) (held g.I.Input g.E.Error.Error g.E.State.Inspector c.look.new.inp) c.look.result c.args.answer c.look.ensures.looks (length c.args.rules.now.nodes))
+
+pub returns-in-Both-clause-bounded : goal.returns-in-Both-clause-bounded
+returns-in-Both-clause-bounded g c =
+    λ bound b l. (let m = rw c.in-Both.is at l in looks_bounded g.I.Input g.E.Error.Error g.E.State.Inspector c.args.frames.now.items c.look.new.frames.items c.in-Both.other c.in-Both.more (marks g.I.Input g.E.State.Inspector c.in-Both.before) (held g.I.Input g.E.Error.Error g.E.State.Inspector c.args.inp.now) (held g.I.Input g.E.Error.Error g.E.State.Inspector c.look.new.inp) c.look.result c.args.answer c.look.ensures.looks (length c.args.rules.now.nodes) bound m b)
+
+pub returns-in-Looked-clause-left : goal.returns-in-Looked-clause-left
+returns-in-Looked-clause-left g c =
+    let k : g.I.Input.cursor_tokens c.in-Looked.end ≡ (held g.I.Input g.E.Error.Error g.E.State.Inspector c.args.inp.now).tokens = rw c.in-Looked.is at c.requires.known in
+    rw c.in-Looked.is (and_is_stands _ _ _ _ _ _ _ _ _ _ _ k _ c.stand.ensures.stands)
+
+pub returns-in-Looked-clause-bounded : goal.returns-in-Looked-clause-bounded
+returns-in-Looked-clause-bounded g c =
+    λ bound b l. (b, tt)
+
+pub returns-in-Rewound-clause-left : goal.returns-in-Rewound-clause-left
+returns-in-Rewound-clause-left g c = rw c.in-Rewound.is (rewind_returns _ _ _ _ _ _ _ _ _ _ _ _ c.go_back.ensures.returns)
+
+pub returns-in-Rewound-clause-bounded : goal.returns-in-Rewound-clause-bounded
+returns-in-Rewound-clause-bounded g c =
+    λ bound b l. (b, tt)
