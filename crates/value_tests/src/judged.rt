@@ -62,11 +62,9 @@ fn what_a_validator_emitted_stays_where_its_part_is_rewound(rt: HostRuntime) {
 #[test]
 fn map_err_with_state_is_handed_the_span_of_the_part(rt: HostRuntime) {
     let alloc = rt.alloc();
-    let mapped = just::<_, &str, Own>('a').then(just('b')).map_err_with_state(
-        move |_error: Rich<char>, span, _state: &mut ()| {
-            Rich::custom(span, String::new(alloc))
-        },
-    );
+    let mapped = just::<_, &str, Own>('a')
+        .then(just('b'))
+        .map_err_with_state(move |_, span, _| Rich::custom(span, String::new(alloc)));
     let rows = [
         ("ab", "ok ('a', 'b')"),
         ("ac", "error 0..1 \"\""),
@@ -77,14 +75,9 @@ fn map_err_with_state_is_handed_the_span_of_the_part(rt: HostRuntime) {
 
 #[test]
 fn map_err_with_spans_to_where_its_part_was_left(rt: HostRuntime) {
-    let mapped = any::<&str, Own>()
-        .and_is(just("xy"))
-        .map_err_with(|_error: Rich<char>, extra| {
-            Rich::custom(extra.span(), String::new(extra.alloc()))
-        });
-    let rows = [
-        ("xz", "error 0..1 \"\""),
-        ("", "error 0..0 \"\""),
-    ];
+    let mapped = any::<&str, Own>().and_is(just("xy")).map_err_with(|_, extra| {
+        Rich::custom(extra.span(), String::new(extra.alloc()))
+    });
+    let rows = [("xz", "error 0..1 \"\""), ("", "error 0..0 \"\"")];
     assert_answers(&rt, &mapped, &rows);
 }
