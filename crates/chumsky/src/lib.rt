@@ -112,10 +112,13 @@ pub mod combinator {
     pub use chumsky_shield::filter::{Filter, Tester};
     pub use chumsky_shield::filter_map::FilterMap;
     pub use chumsky_shield::map_err::MapErr;
+    pub use chumsky_shield::map_err_with::MapErrWith;
+    pub use chumsky_shield::map_err_with_state::MapErrWithState;
     pub use chumsky_shield::not::Not;
     pub use chumsky_shield::rewind::Rewind;
     pub use chumsky_shield::try_map::{TryMap, TryMapper};
     pub use chumsky_shield::try_map_with::TryMapWith;
+    pub use chumsky_shield::validate::Validate;
 }
 
 /// Rules as data: recursive grammars, the parser that runs them, and why a call on them is refused.
@@ -181,8 +184,9 @@ pub mod laws {
         not_ends_where_it_began, rewind_ends_where_it_began, try_map_of_all_answers_as_its_part,
     };
     pub use chumsky_shield::steady::{
-        and_is_is_steady, filter_is_steady, filter_map_is_steady, map_err_is_steady, not_is_steady,
-        try_map_is_steady,
+        and_is_is_steady, filter_is_steady, filter_map_is_steady, map_err_is_steady,
+        map_err_with_is_steady, map_err_with_state_is_steady, not_is_steady, try_map_is_steady,
+        try_map_with_is_steady, validate_is_steady,
     };
 }
 

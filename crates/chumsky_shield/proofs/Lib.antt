@@ -3,3 +3,4 @@ pub mod NotLemmas
 pub mod VettedLemmas
 pub mod AndIsLemmas
 pub mod MapErrLemmas
+pub mod ValidatedLemmas

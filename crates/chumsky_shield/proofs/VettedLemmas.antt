@@ -62,7 +62,7 @@ module _ {Tok Cx St Er V W : Type 0} (merged : Er → Er → Er) (safe free : Ty
 
 module _ {Tok Cx St Er V : Type 0} {merged : Er → Er → Er} {safe : Type 0} {part : Meaning Tok Cx St Er V} (w : Bool) (old mid : Held Tok Cx St Er) where
   -- what is shown of the part that ran
-  pub shown_same : {x : Option V} → Ran merged safe part true (record old { kept = None }) mid (Ok x) → shown_from old.place mid ≡ shown_of (begin w old) mid.place mid.state
+  pub shown_same : {asked : Bool} {r : Result (Option V) Fault} → Ran merged safe part asked (record old { kept = None }) mid r → shown_from old.place mid ≡ shown_of (begin w old) mid.place mid.state
   shown_same h =
       let tokens : mid.tokens ≡ old.tokens = h.same.tokens in
       let context : mid.context ≡ old.context = h.same.context in

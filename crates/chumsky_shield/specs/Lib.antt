@@ -14,3 +14,5 @@ pub mod MapErr
 pub mod MapErrLaws
 pub mod TriedWith
 pub mod TriedWithLaws
+pub mod Validated
+pub mod ValidatedLaws

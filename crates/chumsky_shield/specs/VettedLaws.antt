@@ -12,7 +12,7 @@ use Rattle.chumsky_shield.specs.ShieldedLaws.{or_clash-whole, or_lacks-whole, sh
 use Rattle.chumsky_shield.specs.Vetted.{Vets, Rules, Vetting, Vetted, SameRuling, VetsAlike, ByTest, TestsAlike, tested}
 
 -- where both are wanted, the same values
-wanting-alike : {W : Type 0} (same : W → W → Type 0) (b c : Bool) (w x : W) → same w x → SameValue same (wanting b w) (wanting c x)
+pub wanting-alike : {W : Type 0} (same : W → W → Type 0) (b c : Bool) (w x : W) → same w x → SameValue same (wanting b w) (wanting c x)
 wanting-alike same true true w x s = s
 wanting-alike same true false w x s = tt
 wanting-alike same false c w x s = tt

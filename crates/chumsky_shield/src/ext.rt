@@ -5,10 +5,14 @@ use crate::and_is::AndIs;
 use crate::filter::{Filter, Tester};
 use crate::filter_map::FilterMap;
 use crate::map_err::MapErr;
+use crate::map_err_with::MapErrWith;
+use crate::map_err_with_state::MapErrWithState;
 use crate::not::Not;
 use crate::rewind::Rewind;
 use crate::try_map::{TryMap, TryMapper};
 use crate::try_map_with::TryMapWith;
+use crate::validate::Validate;
+use chumsky_input::emitter::Emitter;
 use chumsky_input::extra::ParserExtra;
 use chumsky_input::input::{Input, Tokens};
 use chumsky_input::map_extra::MapExtra;
@@ -148,6 +152,39 @@ pub trait ShieldExt<I, O, E>: Sized {
         }
     }
 
+    /// The same with a mapper that is shown the run beside the error: the span from the start to where the part that
+    /// failed left the cursor, the state and the context.
+    #[inline]
+    final fn map_err_with<'src, F>(self, mapper: F) -> MapErrWith<Self, F>
+    where
+        I: Input<'src>,
+        E: ParserExtra<I>,
+        F: Fn(E::Error, &mut MapExtra<'src, '_, I, E>) -> E::Error,
+        ensures parser { result.parser ≡ self }
+        ensures mapper { result.mapper ≡ mapper }
+    {
+        MapErrWith {
+            parser: self,
+            mapper,
+        }
+    }
+
+    /// The same with a mapper that is handed that span and the state.
+    #[inline]
+    final fn map_err_with_state<F>(self, mapper: F) -> MapErrWithState<Self, F>
+    where
+        I: Tokens,
+        E: ParserExtra<I>,
+        F: Fn(E::Error, I::Span, &mut E::State) -> E::Error,
+        ensures parser { result.parser ≡ self }
+        ensures mapper { result.mapper ≡ mapper }
+    {
+        MapErrWithState {
+            parser: self,
+            mapper,
+        }
+    }
+
     /// The same as `try_map` with a mapper that is shown the run beside the output: the span of what was taken, the state
     /// and the context.
     #[inline]
@@ -162,6 +199,26 @@ pub trait ShieldExt<I, O, E>: Sized {
         TryMapWith {
             parser: self,
             mapper,
+            of: PhantomData,
+        }
+    }
+
+    /// This parser, its output put through `validator`, which is shown the run as the mapper of `try_map_with` is, and may
+    /// emit errors by an emitter. They stand after those that this parser emitted, and the output stands too. The validator
+    /// is called where no output is wanted too. Where memory was wanting for one of its errors, the run is refused once it
+    /// has returned.
+    #[inline]
+    final fn validate<'src, U, F>(self, validator: F) -> Validate<Self, O, F, U>
+    where
+        I: Input<'src>,
+        E: ParserExtra<I>,
+        F: Fn(O, &mut MapExtra<'src, '_, I, E>, &mut Emitter<E::Error>) -> U,
+        ensures parser { result.parser ≡ self }
+        ensures validator { result.validator ≡ validator }
+    {
+        Validate {
+            parser: self,
+            validator,
             of: PhantomData,
         }
     }

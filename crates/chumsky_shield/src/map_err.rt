@@ -28,12 +28,12 @@ where
     A: Parser<'src, I, O, E>,
     F: Fn(E::Error) -> E::Error,
 {
-    ghost use Rattle.chumsky_shield.specs.MapErr.{MapsSeen, MapsOnce, MeansMapErr};
-    ghost use Rattle.chumsky_shield.specs.MapErrLaws.{map_err-ends, map_err-agrees};
+    ghost use Rattle.chumsky_shield.specs.MapErr.{MapsSeen, MapsOnce, Alone, MeansMapErr};
+    ghost use Rattle.chumsky_shield.specs.MapErrLaws.{map_err-ends, map_err-agrees, alone-once};
 
     ghost ready = { λ p. A.ready p.parser × F.IsAlwaysCallable p.mapper };
 
-    ghost meaning = { λ p errors states. MeansMapErr errors.merged (MapsSeen errors.seen (F.post p.mapper)) (A.meaning p.parser errors states) };
+    ghost meaning = { λ p errors states. MeansMapErr errors.merged (Alone (MapsSeen errors.seen (F.post p.mapper))) (A.meaning p.parser errors states) };
 
     ghost steady = { λ p. A.steady p.parser × MapsOnce (MapsSeen E.Error.seen (F.post p.mapper)) };
 
@@ -41,7 +41,7 @@ where
 
     ghost ends_after_start = { λ p. map_err-ends _ _ _ (A.ends_after_start p.parser) };
 
-    ghost agrees = { λ p s. map_err-agrees _ _ _ (A.same p.parser) s.1 (A.agrees p.parser s.0) };
+    ghost agrees = { λ p s. map_err-agrees _ _ _ (A.same p.parser) (alone-once s.1) (A.agrees p.parser s.0) };
 
     #[inline]
     fn go_emit(&self, inp: &mut InputRef<'src, '_, I, E>) -> PResult<O> {
@@ -78,7 +78,7 @@ fn map_kept<'src, I: Input<'src>, E: ParserExtra<I>, F: Fn(E::Error) -> E::Error
     inp: &mut InputRef<'src, '_, I, E>,
 ) -> Fault
     requires { F.IsAlwaysCallable mapper.now }
-    ensures maps { MapsKept E.Error.merged E.Error.takes_no_memory (MapsSeen E.Error.seen (F.post mapper.now)) (held I.Input E.Error.Error E.State.Inspector inp.old).kept (option_map (located E.Error.seen) older) (held I.Input E.Error.Error E.State.Inspector inp.old) (held I.Input E.Error.Error E.State.Inspector inp.new) result }
+    ensures maps { MapsKept E.Error.merged E.Error.takes_no_memory (λ e r s. MapsSeen E.Error.seen (F.post mapper.now) e r × (s ≡ (held I.Input E.Error.Error E.State.Inspector inp.old).state)) (held I.Input E.Error.Error E.State.Inspector inp.old).kept (option_map (located E.Error.seen) older) (held I.Input E.Error.Error E.State.Inspector inp.old) (held I.Input E.Error.Error E.State.Inspector inp.new) result }
     ensures lent { inp.new.state.ghost_name ≡ inp.old.state.ghost_name }
 {
     match inp.take_kept() {

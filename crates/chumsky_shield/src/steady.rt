@@ -1,18 +1,27 @@
 //! Which parsers that judge are steady, each the contract of a function that does nothing: those whose parts are, and whose
 //! closures answer alike to values that are the same. And what is known of two outputs that count as the same.
 ghost use Rattle.chumsky_shield.specs.Vetted.{TestsAlike};
-ghost use Rattle.chumsky_shield.specs.MapErr.{MapsSeen, MapsOnce};
+ghost use Rattle.chumsky_input.specs.Extra.{Answers};
+ghost use Rattle.chumsky_shield.specs.MapErr.{MapsSeen, MapsOnce, MapsShown, MapsOnceShown, MapsWithState, MapsOnceFrom};
+ghost use Rattle.chumsky_shield.specs.TriedWith.{TriesWithAlike, SameTriedWith};
+ghost use Rattle.chumsky_shield.specs.Validated.{ByEmitter, EmitsAlike, SameValidated};
 ghost use Rattle.chumsky_shield.specs.Tried.{TriesAlike, SameTried, PicksAlike, SamePicked};
 
 use crate::and_is::AndIs;
 use crate::filter::{Filter, Tester};
 use crate::filter_map::FilterMap;
 use crate::map_err::MapErr;
+use crate::map_err_with::MapErrWith;
+use crate::map_err_with_state::MapErrWithState;
 use crate::not::Not;
 use crate::rewind::Rewind;
 use crate::try_map::{TryMap, TryMapper};
+use crate::try_map_with::TryMapWith;
+use crate::validate::Validate;
+use chumsky_input::emitter::Emitter;
 use chumsky_input::extra::ParserExtra;
 use chumsky_input::input::Input;
+use chumsky_input::map_extra::MapExtra;
 use chumsky_parser::parser::Parser;
 
 /// `a.not()`.
@@ -90,4 +99,58 @@ pub fn map_err_is_steady<
 >(map_err: &MapErr<A, F>)
     ensures steady { A.steady map_err.now.parser → MapsOnce (MapsSeen E.Error.seen (F.post map_err.now.mapper)) → ⟦<MapErr<A, F> as Parser<'src, I, O, E>>⟧.steady map_err.now }
     ensures same { (x y : O) → ⟦<MapErr<A, F> as Parser<'src, I, O, E>>⟧.same map_err.now x y → A.same map_err.now.parser x y }
+{}
+
+/// `a.map_err_with(f)`, where `f` gives one error and leaves one state, to each error and each run that it is shown.
+pub fn map_err_with_is_steady<
+    'src,
+    I: Input<'src>,
+    O: Drop,
+    E: ParserExtra<I>,
+    A: Parser<'src, I, O, E>,
+    F: Fn(E::Error, &mut MapExtra<'src, '_, I, E>) -> E::Error,
+>(map_err: &MapErrWith<A, F>)
+    ensures steady { A.steady map_err.now.parser → MapsOnceShown (MapsShown E.Error.seen (Answers I.Input E.State.Inspector F.Fn map_err.now.mapper)) → ⟦<MapErrWith<A, F> as Parser<'src, I, O, E>>⟧.steady map_err.now }
+    ensures same { (x y : O) → ⟦<MapErrWith<A, F> as Parser<'src, I, O, E>>⟧.same map_err.now x y → A.same map_err.now.parser x y }
+{}
+
+/// `a.map_err_with_state(f)`, where `f` gives one error and leaves one state, to each error, span and state.
+pub fn map_err_with_state_is_steady<
+    'src,
+    I: Input<'src>,
+    O: Drop,
+    E: ParserExtra<I>,
+    A: Parser<'src, I, O, E>,
+    F: Fn(E::Error, I::Span, &mut E::State) -> E::Error,
+>(map_err: &MapErrWithState<A, F>)
+    ensures steady { A.steady map_err.now.parser → ((span : I.Span) → MapsOnceFrom (MapsWithState E.Error.Error E.State.Inspector F.Fn map_err.now.mapper span)) → ⟦<MapErrWithState<A, F> as Parser<'src, I, O, E>>⟧.steady map_err.now }
+    ensures same { (x y : O) → ⟦<MapErrWithState<A, F> as Parser<'src, I, O, E>>⟧.same map_err.now x y → A.same map_err.now.parser x y }
+{}
+
+/// `a.try_map_with(f)`.
+pub fn try_map_with_is_steady<
+    'src,
+    I: Input<'src>,
+    O,
+    U: Drop,
+    E: ParserExtra<I>,
+    A: Parser<'src, I, O, E>,
+    F: Fn(O, &mut MapExtra<'src, '_, I, E>) -> Result<U, E::Error>,
+>(try_map: &TryMapWith<A, O, F, U>)
+    ensures steady { A.steady try_map.now.parser → TriesWithAlike E.Error.seen (Answers I.Input E.State.Inspector F.Fn try_map.now.mapper) (A.same try_map.now.parser) → ⟦<TryMapWith<A, O, F, U> as Parser<'src, I, U, E>>⟧.steady try_map.now }
+    ensures same { (x y : U) → ⟦<TryMapWith<A, O, F, U> as Parser<'src, I, U, E>>⟧.same try_map.now x y → SameTriedWith E.Error.seen (Answers I.Input E.State.Inspector F.Fn try_map.now.mapper) (A.same try_map.now.parser) x y }
+{}
+
+/// `a.validate(f)`.
+pub fn validate_is_steady<
+    'src,
+    I: Input<'src>,
+    O,
+    U: Drop,
+    E: ParserExtra<I>,
+    A: Parser<'src, I, O, E>,
+    F: Fn(O, &mut MapExtra<'src, '_, I, E>, &mut Emitter<E::Error>) -> U,
+>(validate: &Validate<A, O, F, U>)
+    ensures steady { A.steady validate.now.parser → EmitsAlike (ByEmitter I.Input E.State.Inspector F.Fn validate.now.validator E.Error.seen) (A.same validate.now.parser) → ⟦<Validate<A, O, F, U> as Parser<'src, I, U, E>>⟧.steady validate.now }
+    ensures same { (x y : U) → ⟦<Validate<A, O, F, U> as Parser<'src, I, U, E>>⟧.same validate.now x y → SameValidated (ByEmitter I.Input E.State.Inspector F.Fn validate.now.validator E.Error.seen) (A.same validate.now.parser) x y }
 {}

@@ -11,6 +11,8 @@ mod copies;
 #[cfg(test)]
 mod counted;
 #[cfg(test)]
+mod judged;
+#[cfg(test)]
 mod refusals;
 #[cfg(test)]
 mod report;

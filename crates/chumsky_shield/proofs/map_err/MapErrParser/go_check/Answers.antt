@@ -17,7 +17,7 @@ returns-in_ok-keep_before-in-Ok-clause-ran g c =
 
 pub returns-in-Err-Fail-clause-ran : goal.returns-in-Err-Fail-clause-ran
 returns-in-Err-Fail-clause-ran g c =
-    map_err_no g.E.Error.Error.merged g.E.Error.Error.takes_no_memory _ (g.A.Parser.meaning c.args.self.now.parser g.E.Error.Error g.E.State.Inspector) false (held g.I.Input g.E.Error.Error g.E.State.Inspector c.args.inp.now) (held g.I.Input g.E.Error.Error g.E.State.Inspector c.go_check.new.inp) _ _ (rw (c.take_kept-older.ensures.leaves, c.in-Err-Fail.field-0-is) at c.in-Err-Fail.ensures.ran) (rw c.take_kept-older.ensures.kept at c.map_kept.ensures.maps)
+    map_err_no g.E.Error.Error.merged g.E.Error.Error.takes_no_memory _ (g.A.Parser.meaning c.args.self.now.parser g.E.Error.Error g.E.State.Inspector) false (held g.I.Input g.E.Error.Error g.E.State.Inspector c.args.inp.now) (held g.I.Input g.E.Error.Error g.E.State.Inspector c.go_check.new.inp) _ _ _ (rw (c.take_kept-older.ensures.leaves, c.in-Err-Fail.field-0-is) at c.in-Err-Fail.ensures.ran) refl (rw c.take_kept-older.ensures.kept at c.map_kept.ensures.maps)
 
 pub returns-in-Err-Stop-clause-ran : goal.returns-in-Err-Stop-clause-ran
 returns-in-Err-Stop-clause-ran g c =
