@@ -11,8 +11,8 @@ use std::alloc::{AllocError, Global};
 
 /// The leaves of a grammar, and how values are made of values: what a `Grammar` runs where its rules name numbers.
 ///
-/// All nodes have values of one type. `pair`, `option`, `unit` and `map` are called only where a value is wanted, so never while a grammar
-/// is only checked; where one has no memory, the run is refused with `Stop::Memory`.
+/// All nodes have values of one type. `pair`, `option`, `unit` and `map` are called only where a value is wanted, so never
+/// while a grammar is only checked; where one has no memory, the run is refused with `Stop::Memory`.
 pub trait Actions<'src, I: Input<'src>, E: ParserExtra<I>> {
     type Value: Drop;
 

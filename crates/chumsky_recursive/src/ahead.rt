@@ -80,7 +80,8 @@ pub(crate) fn begin_rewind<'src, I: Input<'src>, E: ParserExtra<I>, V: Drop>(
     wait(frames, Frame::Rewound(start, older), part, more, wanted)
 }
 
-/// The answer of `not`, of that of its part: the run goes back, what was kept before is kept again, and a yes is a failure.
+/// The answer of `not`, of that of its part: the run goes back, what was kept before is kept again, and a yes of the part
+/// is a failure.
 pub(crate) fn turn<'src, I: Input<'src>, E: ParserExtra<I>, A: Actions<'src, I, E>>(
     actions: &A,
     wanted: bool,
@@ -118,7 +119,8 @@ pub(crate) fn turn<'src, I: Input<'src>, E: ParserExtra<I>, A: Actions<'src, I, 
     }
 }
 
-/// What `and_is` does after its first part: the second runs without a value from where the first began, or the run goes back.
+/// What `and_is` does after its first part: the second runs without a value from where the first began, or the run goes
+/// back.
 pub(crate) fn look<'src, I: Input<'src>, E: ParserExtra<I>, V: Drop>(
     frames: &mut Vec<Frame<V, I::Cursor, <E::State as Inspector<I>>::Mark, E::Error>>,
     other: Node,

@@ -11,8 +11,8 @@ use chumsky_input::stop::PResult;
 use chumsky_parser::parser::Parser;
 use std::alloc::{AllocError, Global};
 
-/// How a grammar makes values of values. An impl may say in `pair_gives`, `option_gives`, `unit_gives` and `map_gives` what
-/// is later known of them; where it says nothing, nothing is known.
+/// How a grammar makes values of values. An impl may say in `pair_gives`, `option_gives`, `unit_gives` and `map_gives`
+/// what is later known of them; where it says nothing, nothing is known.
 pub trait Values {
     type Value: Drop;
 

@@ -1,4 +1,6 @@
 //! A grammar that calls itself: rules as data, closed and run.
+ghost use Rattle.std.specs.Prelude.{IfOk, ⊤};
+
 use chumsky::Stop;
 use chumsky::extra::RichText;
 use chumsky::prelude::*;
@@ -21,7 +23,9 @@ impl Values for Depths {
         Ok(a.max(b))
     }
 
-    fn option(&self, _alloc: Global, depth: Option<usize>) -> Result<usize, AllocError> {
+    fn option(&self, _alloc: Global, depth: Option<usize>) -> Result<usize, AllocError>
+        ensures { IfOk result (λ _. ⊤) }
+    {
         Ok(depth.unwrap_or(0))
     }
 

@@ -1,4 +1,4 @@
-//! What lists, and what is made of their items, answer on texts whose answers are known from outside.
+//! What lists, what is made of their items, and nodes of grammars answer on texts whose answers are known from outside.
 #![tactic(auto)]
 
 #[cfg(test)]
@@ -9,6 +9,8 @@ mod collecting;
 mod containers;
 #[cfg(test)]
 mod folds;
+#[cfg(test)]
+mod nodes;
 #[cfg(test)]
 mod repeated;
 #[cfg(test)]

@@ -1,5 +1,5 @@
-//! What closures and programs answer: closures that are lent the input, other contexts and inputs, grammars, and what
-//! `guide` and `examples` hold.
+//! What closures and programs answer: closures that are lent the input, other contexts and inputs, and what `guide` and
+//! `examples` hold.
 #![tactic(auto)]
 
 #[cfg(test)]
@@ -18,5 +18,3 @@ mod from_guide;
 mod grammars;
 #[cfg(test)]
 mod input_ref;
-#[cfg(test)]
-mod nodes;

@@ -1,4 +1,6 @@
 //! Nodes of grammars: each answers as the operation of its name.
+ghost use Rattle.std.specs.Prelude.{IfOk, ⊤};
+
 use crate::asserts::assert_answers;
 use answers::extras::Own;
 use chumsky::prelude::*;
@@ -17,7 +19,9 @@ impl Values for Digits {
         Ok(a.wrapping_mul(10).wrapping_add(b))
     }
 
-    fn option(&self, _alloc: Global, v: Option<u32>) -> Result<u32, AllocError> {
+    fn option(&self, _alloc: Global, v: Option<u32>) -> Result<u32, AllocError>
+        ensures { IfOk result (λ _. ⊤) }
+    {
         match v {
             Some(v) => Ok(v.wrapping_add(5)),
             None => Ok(9),
