@@ -2,6 +2,7 @@
 ghost use Rattle.std.specs.Prelude.{◌≡◌, true, false, Some, None};
 ghost use Rattle.chumsky.specs.Answer.{WholeRun, Parses};
 
+use crate::made::{FromStr, Lazy, ReadStr};
 use crate::run;
 use chumsky_combinator::choice::Or;
 use chumsky_combinator::delimited_by::DelimitedBy;
@@ -14,14 +15,17 @@ use chumsky_combinator::sequence::Then;
 use chumsky_combinator::then_ignore::ThenIgnore;
 use chumsky_combinator::to::To;
 use chumsky_input::extra::ParserExtra;
-use chumsky_input::input::Input;
+use chumsky_input::input::{Input, ValueInput};
 use chumsky_input::stop::Stop;
 use chumsky_items::repeated::Repeated;
 use chumsky_items::separated_by::SeparatedBy;
 use chumsky_parser::parser::{IsParser, Parser};
 use chumsky_parser::result::ParseResult;
+use chumsky_primitive::make::any;
 use std::alloc::Global;
+use std::convert::AsStr;
 use std::marker::PhantomData;
+use std::str;
 
 /// The builders and run forms of parsers. Every parser has them.
 pub trait ParserExt<'src, I, O, E>: Sized {
@@ -194,6 +198,44 @@ pub trait ParserExt<'src, I, O, E>: Sized {
         Map {
             parser: self,
             mapper,
+            of: PhantomData,
+        }
+    }
+
+    /// This parser, its text read as a `U` by that type's `FromStr`: the output is what that answers, a value or an error of
+    /// its own. Nothing is read where no output is wanted.
+    #[inline]
+    final fn from_str<U: str::FromStr>(self) -> FromStr<Self, O, U>
+    where
+        O: AsStr + Drop,
+        ensures parser { result.parser ≡ self }
+    {
+        Map {
+            parser: self,
+            mapper: ReadStr { of: PhantomData },
+            of: PhantomData,
+        }
+    }
+
+    /// This parser, and then all that is left of the input, whatever it is; the output is this one's. Each token that is
+    /// left is taken, and told to the state.
+    #[inline]
+    final fn lazy(self) -> Lazy<Self, I, E>
+    where
+        I: ValueInput<'src>,
+        E: ParserExtra<I>,
+        ensures first { result.first ≡ self }
+        ensures at_least { result.second.at_least ≡ 0 }
+        ensures at_most { result.second.at_most ≡ None }
+    {
+        ThenIgnore {
+            first: self,
+            second: Repeated {
+                parser: any(),
+                at_least: 0,
+                at_most: None,
+                of: PhantomData,
+            },
             of: PhantomData,
         }
     }

@@ -5,6 +5,7 @@
 
 mod ext;
 mod macros;
+mod made;
 pub mod prelude;
 mod run;
 
@@ -87,6 +88,7 @@ pub mod primitive {
 
 /// Parsers made of parsers.
 pub mod combinator {
+    pub use crate::made::{FromStr, Lazy, ReadStr};
     pub use chumsky_combinator::choice::Or;
     pub use chumsky_combinator::delimited_by::DelimitedBy;
     pub use chumsky_combinator::ignore_then::IgnoreThen;

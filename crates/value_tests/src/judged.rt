@@ -81,3 +81,26 @@ fn map_err_with_spans_to_where_its_part_was_left(rt: HostRuntime) {
     let rows = [("xz", "error 0..1 \"\""), ("", "error 0..0 \"\"")];
     assert_answers(&rt, &mapped, &rows);
 }
+
+#[test]
+fn lazy_takes_what_is_left(rt: HostRuntime) {
+    let rows = [
+        ("abc", "ok 'a'"),
+        ("a", "ok 'a'"),
+        ("b", "error 0..1 expected 'a' found 'b'"),
+    ];
+    assert_answers(&rt, &just::<_, &str, Own>('a').lazy(), &rows);
+}
+
+#[test]
+fn from_str_reads_the_text_of_its_part(rt: HostRuntime) {
+    let number = just::<_, &str, Own>("12")
+        .or(just("300"))
+        .from_str::<u8>();
+    let rows = [
+        ("12", "ok Ok(12)"),
+        ("300", "ok Err(ParseIntError { kind: PosOverflow })"),
+        ("1", "error 1..1 expected '2' found end"),
+    ];
+    assert_answers(&rt, &number, &rows);
+}
