@@ -94,9 +94,7 @@ fn lazy_takes_what_is_left(rt: HostRuntime) {
 
 #[test]
 fn from_str_reads_the_text_of_its_part(rt: HostRuntime) {
-    let number = just::<_, &str, Own>("12")
-        .or(just("300"))
-        .from_str::<u8>();
+    let number = just::<_, &str, Own>("12").or(just("300")).from_str::<u8>();
     let rows = [
         ("12", "ok Ok(12)"),
         ("300", "ok Err(ParseIntError { kind: PosOverflow })"),
