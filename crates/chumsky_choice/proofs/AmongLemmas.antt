@@ -1,10 +1,11 @@
 -- A choice among a list, alternative by alternative.
-use Rattle.std.proofs.Common.{◌≡◌, ℕ, ◌+◌, ◌<◌, ◌≤◌, get_or, drop, Bool, Option, None, List, [], ◌∷◌, map, length, refl, sym, ◌∙◌, ap, subst, Result, Err, arith}
+use Rattle.std.proofs.Common.{◌≡◌, ℕ, ◌+◌, ◌<◌, ◌≤◌, get_or, drop, Bool, Option, None, Some, List, [], ◌∷◌, map, length, Bor, refl, sym, ◌∙◌, ap, subst, Result, Err, arith}
 use Rattle.std.proofs.Math.Numerals.{add-one}
 use Rattle.std.proofs.Math.ListN.{drop_of_length-le}
 use Rattle.std.proofs.Math.Seq.{drop-cons}
 use Rattle.std.proofs.lemmas.List.Elements.{All-head, All-tail}
 use Rattle.std.specs.List.{All, IsFirstAndRest}
+use Rattle.std.specs.Prelude.{IfSome, MatchOption}
 use Rattle.chumsky_input.specs.declared.error.Error as error_trait
 use Rattle.chumsky_input.specs.declared.inspector.Inspector as inspector_trait
 use Rattle.chumsky_input.specs.declared.input.Input as input_trait
@@ -45,12 +46,15 @@ left-next xs i x h e = drop-cons xs i x h ∙ cc (add-one i)
 pub left-none : {X : Type 0} (xs : List X) (i : ℕ) → length xs ≤ i → length (drop i xs) ≡ 0
 left-none xs i h = ap length (drop_of_length-le xs h)
 
-module _ {X : Type 0} (P : X → Type 0) {xs rest : List X} {x : X} where
-  pub first-all : IsFirstAndRest xs x rest → All P xs → P x
-  first-all s h = All-head P x rest (subst (All P) s.0 h)
+module _ {X : Type 0} (P : X → Type 0) (xs : List X) where
+  -- what holds of all holds of the first, and of the others
+  pub first-all : (r : Option (Bor X × Bor (List X))) → MatchOption r (length xs ≡ 0) (λ p. IsFirstAndRest xs p.0.now p.1.now) → All P xs → IfSome r (λ p. P p.0.now)
+  first-all (Some p) s h = All-head P p.0.now p.1.now (subst (All P) s.0 h)
+  first-all None s h = tt
 
-  pub rest-all : IsFirstAndRest xs x rest → All P xs → All P rest
-  rest-all s h = All-tail P x rest (subst (All P) s.0 h)
+  pub rest-all : (r : Option (Bor X × Bor (List X))) → MatchOption r (length xs ≡ 0) (λ p. IsFirstAndRest xs p.0.now p.1.now) → All P xs → IfSome r (λ p. All P p.1.now)
+  rest-all (Some p) s h = All-tail P p.0.now p.1.now (subst (All P) s.0 h)
+  rest-all None s h = tt
 
 module _ {I Tok Sp Cu Er St Mk Cx V X : Type 0} (source : input_trait.Ghosts I Cu Tok Sp) (errors : error_trait.Ghosts Er I Tok Sp) (states : inspector_trait.Ghosts St I Mk Tok Sp) (meaning : X → Meaning Tok Cx states.Seen errors.Seen V) (wanted : Bool) (old : Held Tok Cx states.Seen errors.Seen) where
   -- no alternative

@@ -1,5 +1,6 @@
 //! Choice among the parsers of a slice.
-ghost use Rattle.std.specs.Prelude.{◌≡◌, ◌≢◌, true, false, None, [], map, length, All};
+ghost use Rattle.std.specs.Prelude.{◌≡◌, ◌≢◌, true, false, None, [], map, length, All, IfSome, MatchOption};
+ghost use Rattle.std.specs.List.{IsFirstAndRest};
 ghost use Rattle.chumsky_input.specs.Held.{held};
 ghost use Rattle.chumsky_input.specs.Run.{Ran, Fails, with_value, without_value};
 ghost use Rattle.chumsky_parser.specs.Choice.{FirstOf};
@@ -23,7 +24,7 @@ pub fn emit_among<'src, I: Input<'src>, O, E: ParserExtra<I>, P: Parser<'src, I,
     ensures ran { Ran E.Error.merged E.Error.takes_no_memory (FirstAmong I.Input E.Error.Error E.State.Inspector (map (λ p. P.meaning p E.Error.Error E.State.Inspector) parsers.now)) true (held I.Input E.Error.Error E.State.Inspector inp.old) (held I.Input E.Error.Error E.State.Inspector inp.new) (with_value result) }
     ensures lent { inp.new.state.ghost_name ≡ inp.old.state.ghost_name }
 {
-    let Some((first, others)) = parsers.split_first() else {
+    let Some((first, others)) = first_and_others::<I, O, E, P>(parsers) else {
         return Err(expect_nothing(inp));
     };
     if others.is_empty() {
@@ -41,13 +42,26 @@ pub fn check_among<'src, I: Input<'src>, O, E: ParserExtra<I>, P: Parser<'src, I
     ensures ran { Ran E.Error.merged E.Error.takes_no_memory (FirstAmong I.Input E.Error.Error E.State.Inspector (map (λ p. P.meaning p E.Error.Error E.State.Inspector) parsers.now)) false (held I.Input E.Error.Error E.State.Inspector inp.old) (held I.Input E.Error.Error E.State.Inspector inp.new) (without_value result) }
     ensures lent { inp.new.state.ghost_name ≡ inp.old.state.ghost_name }
 {
-    let Some((first, others)) = parsers.split_first() else {
+    let Some((first, others)) = first_and_others::<I, O, E, P>(parsers) else {
         return Err(expect_nothing(inp));
     };
     if others.is_empty() {
         return first.go_check(inp);
     }
     check_several(first, others, inp)
+}
+
+/// The first of some parsers, and the others.
+#[inline]
+fn first_and_others<'p, 'src, I: Input<'src>, O, E: ParserExtra<I>, P: Parser<'src, I, O, E>>(
+    parsers: &'p [P],
+) -> Option<(&'p P, &'p [P])>
+    requires { All P.ready parsers.now }
+    ensures cases { MatchOption result (length parsers.now ≡ 0) (λ p. IsFirstAndRest parsers.now p.0.now p.1.now) }
+    ensures first { IfSome result (λ p. P.ready p.0.now) }
+    ensures others { IfSome result (λ p. All P.ready p.1.now) }
+{
+    parsers.split_first()
 }
 
 /// Runs the first of two or more parsers that doesn't fail.
