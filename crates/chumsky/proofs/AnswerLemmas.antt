@@ -11,7 +11,8 @@ use Rattle.chumsky_input.specs.Outcome.{Event, Meaning, Outcome, Verdict, Yes, N
 use Rattle.chumsky_input.specs.Primary.{primary}
 use Rattle.chumsky_input.specs.Run.{Ran, LeavesBy, begin, answer, with_value, without_value, final_error}
 use Rattle.chumsky_parser.specs.declared.result.ParseResult.{ParseResult}
-use Rattle.chumsky.specs.Answer.{SettlesAs, reported, IsOutput, Reports, Answers, Parses, WholeRun}
+use Rattle.chumsky.specs.Answer.{IsOutput, Reports, Answers, Parses, WholeRun}
+use Rattle.chumsky_parse_iter.specs.Settled.{SettlesAs, reported}
 use Rattle.chumsky_parser.specs.FailureLaws.{SameUnit}
 use Rattle.chumsky_primitive.specs.EndLaws.{end-agrees}
 use Rattle.chumsky_parser.specs.Laws.{chained-agrees, given-agrees, asked-agrees}

@@ -1,39 +1,19 @@
 -- What one call of `parse` or `check` answers.
-use Rattle.std.specs.Prelude.{◌≡◌, ℕ, Bool, false, Option, Some, None, List, [], ◌∷◌, ◌++◌, ◌⊎◌, ⊤, Result, Ok, Err, map, IfOk}
+use Rattle.std.specs.Prelude.{◌≡◌, Bool, false, Option, Some, None, List, ⊤, Result, Ok, Err, map, IfOk}
 use Rattle.chumsky_input.specs.declared.error.Error as error_trait
 use Rattle.chumsky_input.specs.declared.inspector.Inspector as inspector_trait
 use Rattle.chumsky_input.specs.declared.input.Input as input_trait
 use Rattle.chumsky_input.specs.declared.stop.Stop.{Stop}
-use Rattle.chumsky_input.specs.declared.stop.Stop.TheVariants.{Memory}
-use Rattle.chumsky_input.specs.declared.stop.Fault.{Fault}
-use Rattle.chumsky_input.specs.declared.stop.Fault.TheVariants as fault
-use Rattle.chumsky_input.specs.Held.{Held}
-use Rattle.chumsky_input.specs.Wanted.{Wanted}
-use Rattle.chumsky_input.specs.Outcome.{Meaning, Outcome, Verdict, Yes, No, Halt, Clash, HasEventAt, IsAnswer, SameValue}
-use Rattle.chumsky_input.specs.Primary.{primary}
-use Rattle.chumsky_input.specs.Run.{final_error, with_last}
+use Rattle.chumsky_input.specs.Outcome.{Meaning, Outcome, Verdict, Yes, No, Halt, Clash, IsAnswer, SameValue}
 use Rattle.chumsky_parser.specs.Chained.{Chained, Given, Asked}
 use Rattle.chumsky_primitive.specs.End.{MeansEnd}
+use Rattle.chumsky_parse_iter.specs.Settled.{reported, RefusesBy}
 use Rattle.chumsky_parser.specs.declared.result.ParseResult.{ParseResult}
 
 module _ {I Tok Sp Cu Er St Mk Cx V : Type 0} (source : input_trait.Ghosts I Cu Tok Sp) (errors : error_trait.Ghosts Er I Tok Sp) (states : inspector_trait.Ghosts St I Mk Tok Sp) where
   -- the parser, and then the end of input
   abbrev pub WholeRun : Meaning Tok Cx states.Seen errors.Seen V → Meaning Tok Cx states.Seen errors.Seen V
   WholeRun part = Chained part (λ v. Chained (Asked false (MeansEnd source errors states)) (λ _. Given v))
-
--- what is reported of a call: a failure adds its last error
-module _ {Tok Sp Er V : Type 0} (expectation : List (Wanted Tok) → Option Tok → Sp → Er) (span : List Tok → ℕ → ℕ → Sp) where
-  abbrev pub SettlesAs : {Cx St : Type 0} → Result V Fault → Held Tok Cx St Er → Held Tok Cx St Er → Result (Option V) Stop → Type 0
-  SettlesAs (Ok v) old new result = (result ≡ Ok (Some v)) × (new ≡ old)
-  SettlesAs (Err fault.Fail) old new result = ((result ≡ Ok None) × (new ≡ with_last expectation span old)) ⊎ ((result ≡ Err Memory) × (new.state ≡ old.state))
-  SettlesAs (Err (fault.Stop s)) old new result = (result ≡ Err s) × (new ≡ old)
-
-  -- the errors that an answer reports
-  abbrev pub reported : {St : Type 0} → Verdict V Er → List Tok → Outcome V Er St → (Er → Er → Er) → List Er
-  reported (Yes v) ts o merged = o.emitted
-  reported No ts o merged = o.emitted ++ final_error expectation span (primary merged o.events) ts o.end ∷ []
-  reported (Halt s) ts o merged = []
-  reported (Clash e) ts o merged = []
 
 -- the output of an answer, as what its verdict says
 abbrev pub IsOutput : {V W Er : Type 0} → (Option V → W → Type 0) → Verdict V Er → Option W → Type 0
@@ -49,13 +29,6 @@ module _ {I Tok Sp Cu Er V W : Type 0} (source : input_trait.Ghosts I Cu Tok Sp)
   pub record Reports {St : Type 0} (by : Option V → W → Type 0) (ts : List Tok) (o : Outcome V errors.Seen St) (parsed : ParseResult W Er) : Type 0 where
     pub output : IsOutput by o.verdict parsed.output
     pub errors_are : map errors.seen parsed.errors.items ≡ reported errors.expectation source.span_between o.verdict ts o errors.merged
-
-module _ {V Er St : Type 0} (safe : Type 0) where
-  abbrev pub RefusesBy : Verdict V Er → Outcome V Er St → Stop → Type 0
-  RefusesBy (Yes v) o s = ⊥
-  RefusesBy No o s = s ≡ Memory
-  RefusesBy (Halt z) o s = s ≡ z
-  RefusesBy (Clash e) o s = (s ≡ Memory) × (safe → ⊥) × HasEventAt e.place o.events
 
 module _ {I Tok Sp Cu Er V W : Type 0} (source : input_trait.Ghosts I Cu Tok Sp) (errors : error_trait.Ghosts Er I Tok Sp) where
   -- the answer of a call, of one outcome

@@ -168,6 +168,7 @@ pub mod laws {
     pub use chumsky_items::steady::{
         collect_exactly_is_steady, collect_is_steady, repeated_is_steady, separated_by_is_steady,
     };
+    pub use chumsky_parse_iter::laws::finish_answers_the_whole;
     pub use chumsky_parser::steady::{by_reference_is_steady, either_is_steady};
     pub use chumsky_primitive::steady::{
         any_is_steady, any_ref_is_steady, custom_is_steady, end_is_steady, just_is_steady,
@@ -197,6 +198,8 @@ pub use chumsky_input::same::SameClone;
 pub use chumsky_input::stop::{Failure, Fault, PResult, Stop};
 pub use chumsky_input::util::DefaultExpected;
 pub use chumsky_items::ext::IterParserExt;
+pub use chumsky_parse_iter::ext::ParseIterExt;
+pub use chumsky_parse_iter::parse_iter::ParseIter;
 pub use chumsky_parser::input_ref_ext::InputRefExt;
 pub use chumsky_parser::iter::{IsIterParser, IterParser, IterParserDebug, Iterates};
 pub use chumsky_parser::parser::{IsParser, Parser};

@@ -2,12 +2,13 @@
 ghost use Rattle.std.specs.Prelude.{◌≡◌, true, false, Some, None};
 ghost use Rattle.chumsky_input.specs.Held.{held};
 ghost use Rattle.chumsky_input.specs.Run.{Ran, with_value, without_value};
-ghost use Rattle.chumsky.specs.Answer.{WholeRun, SettlesAs, Parses};
+ghost use Rattle.chumsky.specs.Answer.{WholeRun, Parses};
 
 use chumsky_input::extra::ParserExtra;
 use chumsky_input::input::Input;
 use chumsky_input::input_ref::{Finished, InputRef};
-use chumsky_input::stop::{Fault, PResult, Stop};
+use chumsky_input::stop::{PResult, Stop};
+use chumsky_parse_iter::settle::settle;
 use chumsky_parser::parser::Parser;
 use chumsky_parser::result::ParseResult;
 use chumsky_primitive::end::End;
@@ -44,25 +45,6 @@ fn whole_check<'src, I: Input<'src>, O, E: ParserExtra<I>, P: Parser<'src, I, O,
     let end: End<I, E> = End { of: PhantomData };
     end.go_check(inp)?;
     Ok(())
-}
-
-/// The output of an answer. A failure adds its last error to those that were emitted.
-#[inline]
-fn settle<'src, I: Input<'src>, O, E: ParserExtra<I>>(
-    inp: &mut InputRef<'src, '_, I, E>,
-    answer: PResult<O>,
-) -> Result<Option<O>, Stop>
-    ensures settles { SettlesAs E.Error.expectation I.span_between answer (held I.Input E.Error.Error E.State.Inspector inp.old) (held I.Input E.Error.Error E.State.Inspector inp.new) result }
-    ensures lent { inp.new.state.ghost_name ≡ inp.old.state.ghost_name }
-{
-    match answer {
-        Ok(value) => Ok(Some(value)),
-        Err(Fault::Stop(stop)) => Err(stop),
-        Err(Fault::Fail) => match inp.add_last() {
-            Ok(()) => Ok(None),
-            Err(_) => Err(Stop::Memory),
-        },
-    }
 }
 
 /// `ParserExt::parse_with_state`.

@@ -12,6 +12,8 @@ mod folds;
 #[cfg(test)]
 mod nodes;
 #[cfg(test)]
+mod parse_iter;
+#[cfg(test)]
 mod repeated;
 #[cfg(test)]
 mod separated_by;

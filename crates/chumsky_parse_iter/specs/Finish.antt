@@ -1,0 +1,104 @@
+-- The answer at the end of a run that gave its items one after another.
+use Rattle.std.specs.Prelude.{◌≡◌, ℕ, zero, suc, ◌+◌, ◌^◌, nat_lt, Bool, true, false, Option, Some, None, List, [], ◌∷◌, Result, Ok, Err, map}
+use Rattle.chumsky_input.specs.declared.error.Error as error_trait
+use Rattle.chumsky_input.specs.declared.inspector.Inspector as inspector_trait
+use Rattle.chumsky_input.specs.declared.input.Input as input_trait
+use Rattle.chumsky_input.specs.declared.stop.Stop.{Stop}
+use Rattle.chumsky_input.specs.declared.stop.Stop.TheVariants.{CountTooLarge}
+use Rattle.chumsky_input.specs.declared.stop.Fault.{Fault}
+use Rattle.chumsky_input.specs.declared.stop.Fault.TheVariants as fault
+use Rattle.chumsky_input.specs.Held.{Held}
+use Rattle.chumsky_input.specs.Outcome.{Meaning, Outcome, IsAnswer}
+use Rattle.chumsky_input.specs.Run.{Ran, begin, without_value}
+use Rattle.chumsky_parser.specs.Chained.{Chained, Asked}
+use Rattle.chumsky_parser.specs.Failure.{SaysNo, Stops}
+use Rattle.chumsky_parser.specs.Items.{Next, AfterStep}
+use Rattle.chumsky_parser.specs.declared.result.ParseResult.{ParseResult}
+use Rattle.chumsky_primitive.specs.End.{MeansEnd}
+use Rattle.chumsky_parse_iter.specs.declared.parse_iter.Phase.{Phase}
+use Rattle.chumsky_parse_iter.specs.declared.parse_iter.Phase.TheVariants.{Unbegun, Running, Ended, Refused}
+use Rattle.chumsky_parse_iter.specs.Settled.{SettlesAs, reported, RefusesBy}
+
+module _ {I Tok Sp Cu Er St Mk Cx : Type 0} (source : input_trait.Ghosts I Cu Tok Sp) (errors : error_trait.Ghosts Er I Tok Sp) (states : inspector_trait.Ghosts St I Mk Tok Sp) where
+  -- a failure and a refusal stand; else the end of input is asked for where the run stands
+  abbrev pub Closing : {S : Type 0} → Phase S → Meaning Tok Cx states.Seen errors.Seen (Unit {0})
+  Closing Unbegun = MeansEnd source errors states
+  Closing (Running s) = MeansEnd source errors states
+  Closing Ended = MeansEnd source errors states
+  Closing (Refused fault.Fail) = SaysNo
+  Closing (Refused (fault.Stop s)) = Stops s
+
+  -- the run closes, and a failure adds its last error to those that were emitted: the state and the errors that it leaves
+  pub record Closes (closing : Meaning Tok Cx states.Seen errors.Seen (Unit {0})) (old : Held Tok Cx states.Seen errors.Seen) (state : states.Seen) (found : List errors.Seen) (result : Result (Option (Unit {0})) Stop) : Type 0 where
+    pub answer : Result (Unit {0}) Fault
+    pub mid : Held Tok Cx states.Seen errors.Seen
+    pub left : Held Tok Cx states.Seen errors.Seen
+    pub ran : Ran errors.merged errors.takes_no_memory closing false old mid (without_value answer)
+    pub settles : SettlesAs errors.expectation source.span_between answer mid left result
+    pub state_is : state ≡ left.state
+    pub found_is : found ≡ left.emitted
+
+module _ {I Tok Sp Er R : Type 0} (errors : error_trait.Ghosts Er I Tok Sp) (out : R) where
+  -- the output and the errors found, or the refusal
+  abbrev pub Replies : List errors.Seen → Result (Option (Unit {0})) Stop → Result (ParseResult R Er) Stop → Type 0
+  Replies found (Ok closed) r = (parsed : ParseResult R Er) × (r ≡ Ok parsed) × (parsed.output ≡ Some out) × (map errors.seen parsed.errors.items ≡ found)
+  Replies found (Err s) r = r ≡ Err s
+
+module _ {I Tok Sp Cu Er St Mk Cx S R : Type 0} (source : input_trait.Ghosts I Cu Tok Sp) (errors : error_trait.Ghosts Er I Tok Sp) (states : inspector_trait.Ghosts St I Mk Tok Sp) where
+  -- the run closes, and is answered with this output
+  pub record Finishes (phase : Phase S) (old : Held Tok Cx states.Seen errors.Seen) (out : R) (state : states.Seen) (result : Result (ParseResult R Er) Stop) : Type 0 where
+    pub found : List errors.Seen
+    pub closed : Result (Option (Unit {0})) Stop
+    pub closes : Closes source errors states (Closing source errors states phase) old state found closed
+    pub replies : Replies errors out found closed result
+
+-- calls of `next`, one after another, with what each gave
+abbrev pub Called : {T A : Type 0} → (T → Option A → T → Type 0) → T → List (Option A) → T → Type 0
+Called nexts w [] v = w ≡ v
+Called {T} nexts w (r ∷ rs) v = (u : T) × nexts w r u × Called nexts u rs v
+
+module _ {Tok Cx St Er S V : Type 0} (begins : Meaning Tok Cx St Er S) (gives : S → Meaning Tok Cx St Er (Next S V)) (ending : Meaning Tok Cx St Er (Unit {0})) where
+  -- what follows an item, where it can be counted
+  abbrev pub WhereCounted : Bool → Meaning Tok Cx St Er (Unit {0}) → Meaning Tok Cx St Er (Unit {0})
+  WhereCounted true m = m
+  WhereCounted false m = Stops CountTooLarge
+
+  -- so many items more are asked for, after n; then, or after an end before that, it ends
+  abbrev pub Takes : ℕ → ℕ → S → Meaning Tok Cx St Er (Unit {0})
+  Takes zero n s = ending
+  Takes (suc k) n s = Chained (Asked true (gives s)) (AfterStep (λ v t. WhereCounted (nat_lt (n + 1) (2 ^ 64)) (Takes k (n + 1) t)) ending)
+
+  abbrev pub TakesMade : ℕ → Option S → Meaning Tok Cx St Er (Unit {0})
+  TakesMade k (Some s) = Takes k 0 s
+  TakesMade k None = λ b o. ⊥
+
+  -- a whole run that so many items are asked of: where there is any, an iteration is made first
+  abbrev pub WholeWalk : ℕ → Meaning Tok Cx St Er (Unit {0})
+  WholeWalk zero = ending
+  WholeWalk (suc k) = Chained (Asked true begins) (TakesMade (suc k))
+
+module _ {I Tok Sp Cu Er V R : Type 0} (source : input_trait.Ghosts I Cu Tok Sp) (errors : error_trait.Ghosts Er I Tok Sp) where
+  -- the errors of an answer, beside an output that is there in any case
+  pub record ReportsBeside {St : Type 0} (out : R) (ts : List Tok) (o : Outcome V errors.Seen St) (parsed : ParseResult R Er) : Type 0 where
+    pub answers : IsAnswer o.verdict
+    pub output : parsed.output ≡ Some out
+    pub errors_are : map errors.seen parsed.errors.items ≡ reported errors.expectation source.span_between o.verdict ts o errors.merged
+
+  abbrev pub AnswersBeside : {St : Type 0} → R → List Tok → Outcome V errors.Seen St → Result (ParseResult R Er) Stop → Type 0
+  AnswersBeside out ts o (Ok parsed) = ReportsBeside out ts o parsed
+  AnswersBeside out ts o (Err s) = RefusesBy errors.takes_no_memory o.verdict o s
+
+  -- an outcome from where a run begins, the state that it leaves, and the answer
+  pub record AnswersWhole {Cx St : Type 0} (meaning : Meaning Tok Cx St errors.Seen V) (start : Held Tok Cx St errors.Seen) (out : R) (state : St) (result : Result (ParseResult R Er) Stop) : Type 0 where
+    pub outcome : Outcome V errors.Seen St
+    pub meant : meaning (begin false start) outcome
+    pub state_is : state ≡ outcome.state
+    pub answered : AnswersBeside out start.tokens outcome result
+
+module _ {I Tok Sp Cu Er St Mk Cx S V : Type 0} (source : input_trait.Ghosts I Cu Tok Sp) (errors : error_trait.Ghosts Er I Tok Sp) (states : inspector_trait.Ghosts St I Mk Tok Sp) (begins : Meaning Tok Cx states.Seen errors.Seen S)
+    (gives : S → Meaning Tok Cx states.Seen errors.Seen (Next S V)) where
+  -- however the last step was left, what is answered then is answered of the whole run, which so many items were asked of
+  abbrev pub AnswersTheWhole : (R : Type 0) → Held Tok Cx states.Seen errors.Seen → ℕ → Phase S → Held Tok Cx states.Seen errors.Seen → Type 0
+  AnswersTheWhole R start n phase last =
+      (out : R) (state : states.Seen) (result : Result (ParseResult R Er) Stop) → Finishes source errors states phase last out state result
+      → AnswersWhole source errors (WholeWalk begins gives (MeansEnd source errors states) n) start out state result

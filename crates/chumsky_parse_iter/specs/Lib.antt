@@ -1,0 +1,3 @@
+pub mod Walk
+pub mod Settled
+pub mod Finish

@@ -1,0 +1,72 @@
+//! How a run ends: the end of input, and the last error of a failure.
+ghost use Rattle.std.specs.Prelude.{◌≡◌, false, map};
+ghost use Rattle.chumsky_input.specs.Held.{held};
+ghost use Rattle.chumsky_input.specs.Run.{Ran, without_value};
+ghost use Rattle.chumsky_parse_iter.specs.Walk.{held_of};
+ghost use Rattle.chumsky_parse_iter.specs.Finish.{Closing, Closes};
+
+use crate::parse_iter::Phase;
+use crate::settle::settle;
+use chumsky_input::aside::Aside;
+use chumsky_input::extra::ParserExtra;
+use chumsky_input::input::Input;
+use chumsky_input::input_ref::{Finished, InputRef};
+use chumsky_input::stop::{PResult, Stop};
+use chumsky_parser::parser::Parser;
+use chumsky_primitive::end::End;
+use std::alloc::Global;
+use std::marker::PhantomData;
+
+/// A failure and a refusal stand. Otherwise the end of input is asked for.
+fn run_end<'src, I: Input<'src>, E: ParserExtra<I>, S: Drop>(
+    phase: Phase<S>,
+    inp: &mut InputRef<'src, '_, I, E>,
+) -> PResult<()>
+    ensures ran { Ran E.Error.merged E.Error.takes_no_memory (Closing I.Input E.Error.Error E.State.Inspector phase) false (held I.Input E.Error.Error E.State.Inspector inp.old) (held I.Input E.Error.Error E.State.Inspector inp.new) (without_value result) }
+    ensures lent { inp.new.state.ghost_name ≡ inp.old.state.ghost_name }
+{
+    match phase {
+        Phase::Refused(fault) => Err(fault),
+        _ => {
+            let end: End<I, E> = End { of: PhantomData };
+            end.go_check(inp)
+        }
+    }
+}
+
+/// What the end of a run gives back: whether it closed, and the errors.
+pub(crate) struct Closed<X> {
+    pub(crate) answer: Result<Option<()>, Stop>,
+    pub(crate) errors: Vec<X>,
+}
+
+/// Ends a run, from a cursor, after older errors, in a state and under a context: all errors are emitted then, or it is
+/// refused.
+pub(crate) fn close_from<'src, I: Input<'src>, E: ParserExtra<I>, S: Drop>(
+    phase: Phase<S>,
+    cursor: I::Cursor,
+    older: Aside<E::Error>,
+    state: &mut E::State,
+    context: &E::Context,
+    alloc: Global,
+) -> Closed<E::Error>
+where
+    I::Token: 'src,
+    ensures { Closes I.Input E.Error.Error E.State.Inspector (Closing I.Input E.Error.Error E.State.Inspector phase) (held_of I.Input E.Error.Error E.State.Inspector cursor older state.old context.now) (E.State.seen state.new) (map E.Error.seen result.errors.items) result.answer }
+{
+    let mut inp: InputRef<'src, '_, I, E> = InputRef::resume(alloc, cursor, state, context);
+    inp.kept = older.kept;
+    inp.emitted = older.emitted;
+    let ended = run_end(phase, &mut inp);
+    let answer = settle(&mut inp, ended);
+    let Finished {
+        cursor: _,
+        state: last,
+        errors,
+    } = inp.finish();
+    let _last = &*last;
+    Closed {
+        answer,
+        errors: errors.emitted,
+    }
+}

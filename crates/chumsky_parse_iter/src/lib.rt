@@ -1,0 +1,9 @@
+//! Items one after another: an iterator over what a parser of items gives of a whole input, and the answer at its end.
+#![tactic(auto)]
+
+mod close;
+pub mod ext;
+pub mod laws;
+pub mod parse_iter;
+pub mod settle;
+mod step;
