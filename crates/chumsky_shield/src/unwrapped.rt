@@ -44,8 +44,8 @@ impl<'src, I: Input<'src>, O, E: ParserExtra<I>, A: Parser<'src, I, Option<O>, E
 
     #[inline(always)]
     fn go_emit(&self, inp: &mut InputRef<'src, '_, I, E>) -> PResult<O> {
-        let value = self.parser.go_emit(inp)?;
-        Ok(value.unwrap())
+        let held = self.parser.go_emit(inp)?;
+        Ok(held.unwrap())
     }
 
     #[inline(always)]
@@ -80,8 +80,8 @@ where
 
     #[inline(always)]
     fn go_emit(&self, inp: &mut InputRef<'src, '_, I, E>) -> PResult<O> {
-        let value = self.parser.go_emit(inp)?;
-        Ok(value.unwrap())
+        let answer = self.parser.go_emit(inp)?;
+        Ok(answer.unwrap())
     }
 
     #[inline(always)]
