@@ -228,14 +228,15 @@ pub trait ParserExt<'src, I, O, E>: Sized {
         ensures at_least { result.second.at_least ≡ 0 }
         ensures at_most { result.second.at_most ≡ None }
     {
+        let rest = Repeated {
+            parser: any(),
+            at_least: 0,
+            at_most: None,
+            of: PhantomData,
+        };
         ThenIgnore {
             first: self,
-            second: Repeated {
-                parser: any(),
-                at_least: 0,
-                at_most: None,
-                of: PhantomData,
-            },
+            second: rest,
             of: PhantomData,
         }
     }

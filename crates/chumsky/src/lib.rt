@@ -8,6 +8,7 @@ mod macros;
 mod made;
 pub mod prelude;
 mod run;
+mod steady;
 
 /// Inputs, and what a parser is lent.
 pub mod input {
@@ -120,6 +121,7 @@ pub mod combinator {
     pub use chumsky_shield::rewind::Rewind;
     pub use chumsky_shield::try_map::{TryMap, TryMapper};
     pub use chumsky_shield::try_map_with::TryMapWith;
+    pub use chumsky_shield::unwrapped::Unwrapped;
     pub use chumsky_shield::validate::Validate;
 }
 
@@ -137,6 +139,7 @@ pub mod recursive {
 
 /// Laws of parsers, each the contract of a function that does nothing: which of them mean the same, and which are steady.
 pub mod laws {
+    pub use crate::steady::{from_str_is_steady, lazy_is_steady};
     pub use chumsky_choice::laws::{
         choice_agrees_by_one_alternative, choice_is_repeated_or,
         choice_of_a_list_agrees_by_one_alternative, one_alternative_of_a_list_stands,
@@ -183,13 +186,16 @@ pub mod laws {
     };
     pub use chumsky_set::steady::{set_is_steady, set_of_a_list_is_steady};
     pub use chumsky_shield::laws::{
-        and_is_ends_where_its_first_part_ends, filter_of_all_answers_as_its_part,
+        and_is_ends_where_its_first_part_ends, filter_gives_what_passed,
+        filter_of_all_answers_as_its_part, map_err_succeeds_as_its_part,
+        map_err_with_state_succeeds_as_its_part, map_err_with_succeeds_as_its_part,
         not_ends_where_it_began, rewind_ends_where_it_began, try_map_of_all_answers_as_its_part,
+        validate_that_emits_nothing_answers_as_its_part,
     };
     pub use chumsky_shield::steady::{
         and_is_is_steady, filter_is_steady, filter_map_is_steady, map_err_is_steady,
         map_err_with_is_steady, map_err_with_state_is_steady, not_is_steady, try_map_is_steady,
-        try_map_with_is_steady, validate_is_steady,
+        try_map_with_is_steady, unwrapped_is_steady, validate_is_steady,
     };
 }
 

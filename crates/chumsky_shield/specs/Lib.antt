@@ -16,3 +16,6 @@ pub mod TriedWith
 pub mod TriedWithLaws
 pub mod Validated
 pub mod ValidatedLaws
+pub mod Unwrapped
+pub mod ErrorLaws
+pub mod UnwrappedLaws

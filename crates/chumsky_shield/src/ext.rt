@@ -11,6 +11,7 @@ use crate::not::Not;
 use crate::rewind::Rewind;
 use crate::try_map::{TryMap, TryMapper};
 use crate::try_map_with::TryMapWith;
+use crate::unwrapped::Unwrapped;
 use crate::validate::Validate;
 use chumsky_input::emitter::Emitter;
 use chumsky_input::extra::ParserExtra;
@@ -219,6 +220,18 @@ pub trait ShieldExt<I, O, E>: Sized {
         Validate {
             parser: self,
             validator,
+            of: PhantomData,
+        }
+    }
+
+    /// What is in this parser's output, which is always `Some`, or always `Ok`. That it is so is the caller's to show;
+    /// where it can't be shown, `filter_map` and `try_map` ask at run time.
+    #[inline]
+    final fn unwrapped(self) -> Unwrapped<Self, O>
+        ensures parser { result.parser ≡ self }
+    {
+        Unwrapped {
+            parser: self,
             of: PhantomData,
         }
     }

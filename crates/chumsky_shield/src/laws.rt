@@ -1,14 +1,25 @@
 //! Laws that compare parsers with their parts, each the contract of a function that does nothing.
-ghost use Rattle.std.specs.Prelude.{◌≡◌, Bool, true, Result, Ok};
-ghost use Rattle.chumsky_shield.specs.Compared.{YesStays, YesEndsAs, AnswersAsPart};
+ghost use Rattle.std.specs.Prelude.{◌≡◌, Bool, true, List, Option, Some, [], Result, Ok};
+ghost use Rattle.chumsky_input.specs.Extra.{Answers};
+ghost use Rattle.chumsky_shield.specs.Compared.{YesStays, YesEndsAs, AnswersAsPart, AnswersJustAsPart, EmitsNothing, MapsToItself, AnswersAsOne, SucceedsAsPart};
+ghost use Rattle.chumsky_shield.specs.MapErr.{MapsSeen, MapsShown, MapsWithState};
+ghost use Rattle.chumsky_shield.specs.TriedWith.{shown_of};
+ghost use Rattle.chumsky_shield.specs.Unwrapped.{AlwaysGives};
+ghost use Rattle.chumsky_shield.specs.Validated.{ByEmitter};
 
 use crate::and_is::AndIs;
 use crate::filter::{Filter, Tester};
+use crate::map_err::MapErr;
+use crate::map_err_with::MapErrWith;
+use crate::map_err_with_state::MapErrWithState;
 use crate::not::Not;
 use crate::rewind::Rewind;
 use crate::try_map::{TryMap, TryMapper};
+use crate::validate::Validate;
+use chumsky_input::emitter::Emitter;
 use chumsky_input::extra::ParserExtra;
 use chumsky_input::input::Input;
+use chumsky_input::map_extra::MapExtra;
 use chumsky_parser::parser::Parser;
 
 /// Where `a.not()` succeeds it ends where it began.
@@ -59,6 +70,18 @@ pub fn filter_of_all_answers_as_its_part<
     ensures { ((v : O) (passes : Bool) → F.gives filter.now.tester v passes → passes ≡ true) → AnswersAsPart E.Error.merged (λ b end v w. w ≡ v) (A.meaning filter.now.parser E.Error.Error E.State.Inspector) (⟦<Filter<A, F> as Parser<'src, I, O, E>>⟧.meaning filter.now E.Error.Error E.State.Inspector) }
 {}
 
+/// Each output of `a.filter(f)` has passed the test.
+pub fn filter_gives_what_passed<
+    'src,
+    I: Input<'src>,
+    O: Drop,
+    E: ParserExtra<I>,
+    A: Parser<'src, I, O, E>,
+    F: Tester<O>,
+>(filter: &Filter<A, F>)
+    ensures { AlwaysGives (λ v. F.gives filter.now.tester v true) (⟦<Filter<A, F> as Parser<'src, I, O, E>>⟧.meaning filter.now E.Error.Error E.State.Inspector) }
+{}
+
 /// `a.try_map(f)` with an `f` that never refuses answers as `a.map(f)` does: the verdict, end, state and emitted errors of
 /// `a`, with what `f` answers as the output. Only the failures of `a` count as one.
 pub fn try_map_of_all_answers_as_its_part<
@@ -71,4 +94,58 @@ pub fn try_map_of_all_answers_as_its_part<
     F: TryMapper<O, I::Span, U, E::Error>,
 >(try_map: &TryMap<A, O, F, U>)
     ensures { ((v : O) (span : I.Span) (r : Result U E.Error) → F.gives try_map.now.mapper v span r → (w : U) × (r ≡ Ok w)) → AnswersAsPart E.Error.merged (λ b end v w. F.gives try_map.now.mapper v (I.span_between b.tokens b.start end) (Ok w)) (A.meaning try_map.now.parser E.Error.Error E.State.Inspector) (⟦<TryMap<A, O, F, U> as Parser<'src, I, U, E>>⟧.meaning try_map.now E.Error.Error E.State.Inspector) }
+{}
+
+/// `a.map_err(f)` succeeds where `a` does, and then is as `a` is. With an `f` that gives back each error, by what counts of
+/// it, it answers as `a` does. Only the failures of `a` count as one.
+pub fn map_err_succeeds_as_its_part<
+    'src,
+    I: Input<'src>,
+    O: Drop,
+    E: ParserExtra<I>,
+    A: Parser<'src, I, O, E>,
+    F: Fn(E::Error) -> E::Error,
+>(map_err: &MapErr<A, F>)
+    ensures succeeds { SucceedsAsPart E.Error.merged (A.meaning map_err.now.parser E.Error.Error E.State.Inspector) (⟦<MapErr<A, F> as Parser<'src, I, O, E>>⟧.meaning map_err.now E.Error.Error E.State.Inspector) }
+    ensures itself { ((e r : E.Error.Seen) → MapsSeen E.Error.seen (F.post map_err.now.mapper) e r → r ≡ e) → AnswersAsOne E.Error.merged (A.meaning map_err.now.parser E.Error.Error E.State.Inspector) (⟦<MapErr<A, F> as Parser<'src, I, O, E>>⟧.meaning map_err.now E.Error.Error E.State.Inspector) }
+{}
+
+/// The same of `a.map_err_with(f)`, and an `f` that leaves the state too.
+pub fn map_err_with_succeeds_as_its_part<
+    'src,
+    I: Input<'src>,
+    O: Drop,
+    E: ParserExtra<I>,
+    A: Parser<'src, I, O, E>,
+    F: Fn(E::Error, &mut MapExtra<'src, '_, I, E>) -> E::Error,
+>(map_err: &MapErrWith<A, F>)
+    ensures succeeds { SucceedsAsPart E.Error.merged (A.meaning map_err.now.parser E.Error.Error E.State.Inspector) (⟦<MapErrWith<A, F> as Parser<'src, I, O, E>>⟧.meaning map_err.now E.Error.Error E.State.Inspector) }
+    ensures itself { MapsToItself (MapsShown E.Error.seen (Answers I.Input E.State.Inspector F.Fn map_err.now.mapper)) → AnswersAsOne E.Error.merged (A.meaning map_err.now.parser E.Error.Error E.State.Inspector) (⟦<MapErrWith<A, F> as Parser<'src, I, O, E>>⟧.meaning map_err.now E.Error.Error E.State.Inspector) }
+{}
+
+/// The same of `a.map_err_with_state(f)`, and an `f` that leaves the state too.
+pub fn map_err_with_state_succeeds_as_its_part<
+    'src,
+    I: Input<'src>,
+    O: Drop,
+    E: ParserExtra<I>,
+    A: Parser<'src, I, O, E>,
+    F: Fn(E::Error, I::Span, &mut E::State) -> E::Error,
+>(map_err: &MapErrWithState<A, F>)
+    ensures succeeds { SucceedsAsPart E.Error.merged (A.meaning map_err.now.parser E.Error.Error E.State.Inspector) (⟦<MapErrWithState<A, F> as Parser<'src, I, O, E>>⟧.meaning map_err.now E.Error.Error E.State.Inspector) }
+    ensures itself { ((span : I.Span) (x : E.State.Seen) (e r : E.Error.Seen) (s : E.State.Seen) → MapsWithState E.Error.Error E.State.Inspector F.Fn map_err.now.mapper span x e r s → (r ≡ e) × (s ≡ x)) → AnswersAsOne E.Error.merged (A.meaning map_err.now.parser E.Error.Error E.State.Inspector) (⟦<MapErrWithState<A, F> as Parser<'src, I, O, E>>⟧.meaning map_err.now E.Error.Error E.State.Inspector) }
+{}
+
+/// `a.validate(f)` with an `f` that emits nothing and leaves the state answers as `a` does: the same verdict, end, state,
+/// failures and emitted errors, with what `f` gives as the output.
+pub fn validate_that_emits_nothing_answers_as_its_part<
+    'src,
+    I: Input<'src>,
+    O,
+    U: Drop,
+    E: ParserExtra<I>,
+    A: Parser<'src, I, O, E>,
+    F: Fn(O, &mut MapExtra<'src, '_, I, E>, &mut Emitter<E::Error>) -> U,
+>(validate: &Validate<A, O, F, U>)
+    ensures { EmitsNothing (ByEmitter I.Input E.State.Inspector F.Fn validate.now.validator E.Error.seen) → AnswersJustAsPart (λ b p v w. ByEmitter I.Input E.State.Inspector F.Fn validate.now.validator E.Error.seen v (shown_of b p.end p.state) w p.state (Some [])) (A.meaning validate.now.parser E.Error.Error E.State.Inspector) (⟦<Validate<A, O, F, U> as Parser<'src, I, U, E>>⟧.meaning validate.now E.Error.Error E.State.Inspector) }
 {}

@@ -15,4 +15,5 @@ pub mod rewind;
 pub mod steady;
 pub mod try_map;
 pub mod try_map_with;
+pub mod unwrapped;
 pub mod validate;

@@ -4,6 +4,7 @@ ghost use Rattle.chumsky_shield.specs.Vetted.{TestsAlike};
 ghost use Rattle.chumsky_input.specs.Extra.{Answers};
 ghost use Rattle.chumsky_shield.specs.MapErr.{MapsSeen, MapsOnce, MapsShown, MapsOnceShown, MapsWithState, MapsOnceFrom};
 ghost use Rattle.chumsky_shield.specs.TriedWith.{TriesWithAlike, SameTriedWith};
+ghost use Rattle.std.specs.Prelude.{Some, Ok};
 ghost use Rattle.chumsky_shield.specs.Validated.{ByEmitter, EmitsAlike, SameValidated};
 ghost use Rattle.chumsky_shield.specs.Tried.{TriesAlike, SameTried, PicksAlike, SamePicked};
 
@@ -17,6 +18,7 @@ use crate::not::Not;
 use crate::rewind::Rewind;
 use crate::try_map::{TryMap, TryMapper};
 use crate::try_map_with::TryMapWith;
+use crate::unwrapped::Unwrapped;
 use crate::validate::Validate;
 use chumsky_input::emitter::Emitter;
 use chumsky_input::extra::ParserExtra;
@@ -153,4 +155,20 @@ pub fn validate_is_steady<
 >(validate: &Validate<A, O, F, U>)
     ensures steady { A.steady validate.now.parser → EmitsAlike (ByEmitter I.Input E.State.Inspector F.Fn validate.now.validator E.Error.seen) (A.same validate.now.parser) → ⟦<Validate<A, O, F, U> as Parser<'src, I, U, E>>⟧.steady validate.now }
     ensures same { (x y : U) → ⟦<Validate<A, O, F, U> as Parser<'src, I, U, E>>⟧.same validate.now x y → SameValidated (ByEmitter I.Input E.State.Inspector F.Fn validate.now.validator E.Error.seen) (A.same validate.now.parser) x y }
+{}
+
+/// `a.unwrapped()`.
+pub fn unwrapped_is_steady<
+    'src,
+    I: Input<'src>,
+    O,
+    X: Drop,
+    E: ParserExtra<I>,
+    A: Parser<'src, I, Option<O>, E>,
+    B: Parser<'src, I, Result<O, X>, E>,
+>(of_some: &Unwrapped<A, Option<O>>, of_ok: &Unwrapped<B, Result<O, X>>)
+    ensures of_some { A.steady of_some.now.parser → ⟦<Unwrapped<A, Option<O>> as Parser<'src, I, O, E>>⟧.steady of_some.now }
+    ensures of_ok { B.steady of_ok.now.parser → ⟦<Unwrapped<B, Result<O, X>> as Parser<'src, I, O, E>>⟧.steady of_ok.now }
+    ensures same_of_some { (x y : O) → ⟦<Unwrapped<A, Option<O>> as Parser<'src, I, O, E>>⟧.same of_some.now x y → A.same of_some.now.parser (Some x) (Some y) }
+    ensures same_of_ok { (x y : O) → ⟦<Unwrapped<B, Result<O, X>> as Parser<'src, I, O, E>>⟧.same of_ok.now x y → B.same of_ok.now.parser (Ok x) (Ok y) }
 {}

@@ -97,6 +97,14 @@ fn an_array_is_filled_and_asks_for_no_more(rt: HostRuntime) {
     assert_three(&rt, just('a').repeated().at_most(2), &rows);
 }
 
+/// A failure with nothing expected is filtered as any other.
+#[test]
+fn an_array_that_is_filtered_fails_as_it_does(rt: HostRuntime) {
+    let two = just::<_, &str, Own>('a').repeated().at_most(2);
+    let three = two.collect_exactly::<ArrayVec<char, 3>>().filter(|_| true);
+    assert_answers(&rt, &three, &[("aa", "error 2..2 expected nothing found end")]);
+}
+
 /// A byte, again and again.
 type Bytes<'src> = Repeated<Just<u8, &'src [u8], Own>, u8, &'src [u8], Own>;
 

@@ -1,6 +1,7 @@
 //! Parsers that judge what another answers.
-use crate::asserts::assert_answers;
-use answers::extras::Own;
+use crate::asserts::{assert_answers, assert_answers_from};
+use answers::extras::{Merging, Own};
+use answers::states::Kept;
 use chumsky::prelude::*;
 
 #[test]
@@ -181,4 +182,109 @@ fn map_err_leaves_older_errors_as_they_are(rt: HostRuntime) {
     });
     let rows = [("ac", "error 1..2 expected 'b' found 'c'"), ("x", "ok 'x'")];
     assert_answers(&rt, &just('a').ignore_then(just('b')).or(mapped), &rows);
+}
+
+#[test]
+fn map_err_with_state_is_handed_the_state_to_write(rt: HostRuntime) {
+    let alloc = rt.alloc();
+    let mapped = any::<&str, extra::Full<Rich<char>, Kept, ()>>()
+        .and_is(just("xy"))
+        .map_err_with_state(move |_, span, state: &mut Kept| {
+            state.count = state.count.saturating_add(1);
+            Rich::custom(span, String::new(alloc))
+        });
+    let rows = [
+        ("xz", "error 0..1 \"\"; state Kept { count: 8 }"),
+        (
+            "xy",
+            "error 1..2 expected end of input found 'y'; state Kept { count: 7 }",
+        ),
+    ];
+    assert_answers_from(&rt, &mapped, Kept { count: 7 }, &rows);
+}
+
+/// The validator counts that it was called. It is refused memory where it asks for too much.
+#[test]
+fn a_validator_without_memory_refuses_the_run_once_it_has_returned(rt: HostRuntime) {
+    let emitting = any::<&str, extra::State<Kept>>().validate(|c, extra, emitter| {
+        emitter.emit(EmptyErr);
+        if c == 'x' && emitter.errors.reserve(usize::MAX).is_err() {
+            emitter.refused = true;
+        }
+        let state = extra.state();
+        state.count = state.count.saturating_add(1);
+        c
+    });
+    let rows = [
+        ("ab", "ok ('a', 'b'); error; error; state Kept { count: 2 }"),
+        ("axc", "refused Memory; state Kept { count: 2 }"),
+    ];
+    assert_answers_from(&rt, &(&emitting).then(&emitting), Kept { count: 0 }, &rows);
+}
+
+#[test]
+fn what_the_last_alternative_emits_stays(rt: HostRuntime) {
+    let emitting = any::<&str, Own>().validate(|c, extra, emitter| {
+        emitter.emit(Rich::custom(extra.span(), String::new(extra.alloc())));
+        c
+    });
+    let ac = emitting.then(just('c'));
+    let ab = just('a').then(just('b'));
+    let rows = [(
+        "aa",
+        "error 0..1 \"\"; error 1..2 expected 'b', 'c' found 'a'",
+    )];
+    assert_answers(&rt, &choice((ab, &ac)), &rows);
+    let rows = [("aa", "error 1..2 expected 'c', 'b' found 'a'")];
+    assert_answers(&rt, &choice((&ac, ab)), &rows);
+}
+
+#[test]
+fn the_failures_of_a_filtered_part_count_as_one(rt: HostRuntime) {
+    let three = group((
+        just::<_, _, Merging>('a').or_not(),
+        choice((just('b'), just('c'))).filter(|_| true).or_not(),
+        just('d'),
+    ));
+    let rows = [
+        ("", "error ((a (b c)) d)"),
+        ("cd", "ok (None, Some('c'), 'd')"),
+    ];
+    assert_answers(&rt, &three, &rows);
+}
+
+#[test]
+fn the_failure_of_a_filter_is_merged_in_its_order(rt: HostRuntime) {
+    let three = group((
+        just::<_, &str, Own>("a").or_not(),
+        just("b").filter(|_| false).or_not(),
+        just("c"),
+    ));
+    let rows = [("b", "error 0..1 expected 'a', something else, 'c' found 'b'")];
+    assert_answers(&rt, &three, &rows);
+}
+
+#[test]
+fn a_try_map_that_refuses_drops_the_failures_of_its_part(rt: HostRuntime) {
+    let alloc = rt.alloc();
+    let refusing = choice((just::<_, &str, Own>("something").ignored(), empty()))
+        .try_map(move |_, span| Err::<(), _>(Rich::custom(span, String::new(alloc))));
+    assert_answers(&rt, &refusing, &[("test", "error 0..0 \"\"")]);
+}
+
+#[test]
+fn what_was_rewound_is_not_reported(rt: HostRuntime) {
+    let ahead = group((just::<_, &str, Own>("a"), any(), just("b").or_not())).rewind();
+    let rows = [("ad", "error 1..2 expected 'c' found 'd'")];
+    assert_answers(&rt, &ahead.then(just("ac")), &rows);
+}
+
+#[test]
+fn unwrapped_gives_what_is_in_it(rt: HostRuntime) {
+    let a = just::<_, &str, Own>('a').map(Some).unwrapped();
+    let rows = [
+        ("a", "ok 'a'"),
+        ("b", "error 0..1 expected 'a' found 'b'"),
+    ];
+    assert_answers(&rt, &a, &rows);
 }
