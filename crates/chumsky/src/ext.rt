@@ -8,6 +8,7 @@ use chumsky_combinator::choice::Or;
 use chumsky_combinator::delimited_by::DelimitedBy;
 use chumsky_combinator::ignore_then::IgnoreThen;
 use chumsky_combinator::ignored::Ignored;
+use chumsky_combinator::map_with::MapWith;
 use chumsky_combinator::mapped::{Map, Mapper};
 use chumsky_combinator::or_not::OrNot;
 use chumsky_combinator::padded_by::PaddedBy;
@@ -16,6 +17,7 @@ use chumsky_combinator::then_ignore::ThenIgnore;
 use chumsky_combinator::to::To;
 use chumsky_input::extra::ParserExtra;
 use chumsky_input::input::{Input, ValueInput};
+use chumsky_input::map_extra::MapExtra;
 use chumsky_input::stop::Stop;
 use chumsky_items::repeated::Repeated;
 use chumsky_items::separated_by::SeparatedBy;
@@ -196,6 +198,24 @@ pub trait ParserExt<'src, I, O, E>: Sized {
         ensures mapper { result.mapper ≡ mapper }
     {
         Map {
+            parser: self,
+            mapper,
+            of: PhantomData,
+        }
+    }
+
+    /// `map` with a mapper that is shown the run beside the output: the span of what was taken, the state and the context.
+    /// What it writes to the state stands. Where no output is wanted it is not called, and so writes nothing.
+    #[inline]
+    final fn map_with<U, F>(self, mapper: F) -> MapWith<Self, O, F, U>
+    where
+        I: Input<'src>,
+        E: ParserExtra<I>,
+        F: Fn(O, &mut MapExtra<'src, '_, I, E>) -> U,
+        ensures parser { result.parser ≡ self }
+        ensures mapper { result.mapper ≡ mapper }
+    {
+        MapWith {
             parser: self,
             mapper,
             of: PhantomData,

@@ -94,6 +94,7 @@ pub mod combinator {
     pub use chumsky_combinator::delimited_by::DelimitedBy;
     pub use chumsky_combinator::ignore_then::IgnoreThen;
     pub use chumsky_combinator::ignored::Ignored;
+    pub use chumsky_combinator::map_with::{MapWith, MapperWith};
     pub use chumsky_combinator::mapped::{Map, Mapper};
     pub use chumsky_combinator::or_not::OrNot;
     pub use chumsky_combinator::padded_by::PaddedBy;
@@ -151,8 +152,9 @@ pub mod laws {
         then_is_associative,
     };
     pub use chumsky_combinator::steady::{
-        delimited_by_is_steady, ignore_then_is_steady, map_is_steady, or_is_steady, part_is_steady,
-        then_is_steady, to_is_steady,
+        delimited_by_is_steady, ignore_then_is_steady, map_is_steady, map_items_is_steady,
+        map_with_is_steady, or_is_steady, part_is_steady, then_is_steady, then_items_is_steady,
+        to_is_steady,
     };
     pub use chumsky_folds::laws::{
         enumerate_numbers_from_zero, fold_is_the_fold_of_what_collect_gives,
@@ -199,6 +201,7 @@ pub mod laws {
     };
 }
 
+pub use chumsky_combinator::ext::IterMapExt;
 pub use chumsky_folds::ext::{FoldExt, IterFoldExt};
 pub use chumsky_input::same::SameClone;
 pub use chumsky_input::stop::{Failure, Fault, PResult, Stop};

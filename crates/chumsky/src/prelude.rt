@@ -2,6 +2,7 @@
 pub use crate::ext::ParserExt;
 pub use crate::{select, select_ref};
 pub use chumsky_choice::make::choice;
+pub use chumsky_combinator::ext::IterMapExt;
 pub use chumsky_folds::ext::{FoldExt, IterFoldExt};
 pub use chumsky_group::make::group;
 pub use chumsky_input::error::{EmptyErr, Error};

@@ -2,7 +2,7 @@
 use Rattle.std.proofs.Common.{◌≤◌, Option, Some, None}
 use Rattle.chumsky_input.specs.Outcome.{Meaning, Beginning, Outcome, SameValue, Alike, Agree, EndsAfterStart, Agreeing, IsAnswer}
 use Rattle.chumsky_parser.specs.Laws.{chained-ends, chained-agrees, given-ends, given-agrees}
-use Rattle.chumsky_combinator.specs.Mapped.{GivenAs, Mapped, SameMapped}
+use Rattle.chumsky_combinator.specs.Mapped.{GivenAs, GivenBy, Mapped, SameMapped}
 
 module _ {Tok Cx St Er V W : Type 0} (maps : V → W → Type 0) where
   given_as-ends : (v : Option V) (b : Beginning Tok Cx St) (o : Outcome W Er St) → GivenAs maps v b o → IsAnswer o.verdict → b.start ≤ o.end
@@ -16,8 +16,14 @@ module _ {Tok Cx St Er V W : Type 0} (maps : V → W → Type 0) where
   given_as-agrees same None (Some v') e b c o q alike m n a z = given-agrees (SameMapped same maps) None (Some n.0) tt b c o q alike m n.2 a z
   given_as-agrees same None None e b c o q alike m n a z = given-agrees (SameMapped same maps) None None tt b c o q alike m n a z
 
+  pub given_by-ends : (v : Option V) → EndsAfterStart (GivenBy {Tok = Tok} {Cx = Cx} {St = St} {Er = Er} maps v)
+  given_by-ends v b o m a = given_as-ends v b o m.by_value a
+
+  pub given_by-agrees : (same : V → V → Type 0) (v v' : Option V) → SameValue same v v' → Agreeing (SameMapped same maps) (GivenBy {Tok = Tok} {Cx = Cx} {St = St} {Er = Er} maps v) (GivenBy maps v')
+  given_by-agrees same v v' e b c o q alike m n a z = given_as-agrees same v v' e b c o q alike m.by_value n.by_value a z
+
   pub mapped-ends : (part : Meaning Tok Cx St Er V) → EndsAfterStart part → EndsAfterStart (Mapped maps part)
-  mapped-ends part h = chained-ends part _ h (λ v b o m a. given_as-ends v b o m.by_value a)
+  mapped-ends part h = chained-ends part _ h given_by-ends
 
   pub mapped-agrees : (part : Meaning Tok Cx St Er V) (same : V → V → Type 0) → Agreeing same part part → Agreeing (SameMapped same maps) (Mapped maps part) (Mapped maps part)
-  mapped-agrees part same h = chained-agrees part part _ _ same (SameMapped same maps) h (λ v v' e b c o q alike m n a z. given_as-agrees same v v' e b c o q alike m.by_value n.by_value a z)
+  mapped-agrees part same h = chained-agrees part part _ _ same (SameMapped same maps) h (given_by-agrees same)

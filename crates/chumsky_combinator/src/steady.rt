@@ -2,6 +2,7 @@
 //! closures are functions. And what is known of two outputs that count as the same: mostly that those of the parts do.
 ghost use Rattle.std.specs.Prelude.{Option, ◌⊎◌};
 ghost use Rattle.chumsky_combinator.specs.Mapped.{IsFunction, SameMapped};
+ghost use Rattle.chumsky_combinator.specs.MappedWith.{OnlyAnswers, SameShown};
 ghost use Rattle.chumsky_combinator.specs.Optional.{SameOption};
 ghost use Rattle.chumsky_combinator.specs.Part.{MeansNoMore};
 
@@ -9,6 +10,7 @@ use crate::choice::Or;
 use crate::delimited_by::DelimitedBy;
 use crate::ignore_then::IgnoreThen;
 use crate::ignored::Ignored;
+use crate::map_with::{MapWith, MapperWith};
 use crate::mapped::{Map, Mapper};
 use crate::or_not::OrNot;
 use crate::padded_by::PaddedBy;
@@ -18,6 +20,7 @@ use crate::then_ignore::ThenIgnore;
 use crate::to::To;
 use chumsky_input::extra::ParserExtra;
 use chumsky_input::input::Input;
+use chumsky_parser::iter::IterParser;
 use chumsky_parser::parser::Parser;
 
 /// `a.then(b)` and `a.then_ignore(b)`.
@@ -105,6 +108,50 @@ pub fn map_is_steady<
 >(map: &Map<A, O, F, U>)
     ensures steady { A.steady map.now.parser → IsFunction (F.gives map.now.mapper) → ⟦<Map<A, O, F, U> as Parser<'src, I, U, E>>⟧.steady map.now }
     ensures same { (x y : U) → ⟦<Map<A, O, F, U> as Parser<'src, I, U, E>>⟧.same map.now x y → SameMapped (A.same map.now.parser) (F.gives map.now.mapper) x y }
+{}
+
+/// `a.map_with(f)`, where `f` gives one answer to each value and each run that it is shown, and leaves the state as it is.
+pub fn map_with_is_steady<
+    'src,
+    I: Input<'src>,
+    O,
+    U,
+    E: ParserExtra<I>,
+    A: Parser<'src, I, O, E>,
+    F: MapperWith<'src, I, O, U, E>,
+>(map_with: &MapWith<A, O, F, U>)
+    ensures steady { A.steady map_with.now.parser → OnlyAnswers (F.gives map_with.now.mapper E.State.Inspector) → ⟦<MapWith<A, O, F, U> as Parser<'src, I, U, E>>⟧.steady map_with.now }
+    ensures same { (x y : U) → ⟦<MapWith<A, O, F, U> as Parser<'src, I, U, E>>⟧.same map_with.now x y → SameShown (F.gives map_with.now.mapper E.State.Inspector) (A.same map_with.now.parser) x y }
+{}
+
+/// `a.map_items(f)` and `a.map_items_by(f)`, where `f` gives one answer to each item.
+pub fn map_items_is_steady<
+    'src,
+    I: Input<'src>,
+    O,
+    U,
+    E: ParserExtra<I>,
+    A: IterParser<'src, I, O, E>,
+    F: Mapper<O, U>,
+>(map_items: &Map<A, O, F, U>)
+    ensures steady { A.steady map_items.now.parser → IsFunction (F.gives map_items.now.mapper) → ⟦<Map<A, O, F, U> as IterParser<'src, I, U, E>>⟧.steady map_items.now }
+    ensures same { (x y : U) → ⟦<Map<A, O, F, U> as IterParser<'src, I, U, E>>⟧.same map_items.now x y → SameMapped (A.same map_items.now.parser) (F.gives map_items.now.mapper) x y }
+{}
+
+/// `a.then_items(b)`, and `a.then(b)` of two lists, as parsers of items. Two items are the same where one of the two calls
+/// them so.
+pub fn then_items_is_steady<
+    'src,
+    I: Input<'src>,
+    O,
+    U,
+    V,
+    E: ParserExtra<I>,
+    A: IterParser<'src, I, V, E>,
+    B: IterParser<'src, I, V, E>,
+>(then_items: &Then<A, B, O, U>)
+    ensures steady { A.steady then_items.now.first → B.steady then_items.now.second → ⟦<Then<A, B, O, U> as IterParser<'src, I, V, E>>⟧.steady then_items.now }
+    ensures same { (x y : V) → ⟦<Then<A, B, O, U> as IterParser<'src, I, V, E>>⟧.same then_items.now x y → A.same then_items.now.first x y ⊎ B.same then_items.now.second x y }
 {}
 
 /// `part_of(p)`, where `p` means no more than a steady parser, and outputs that are the same to that parser are alike to

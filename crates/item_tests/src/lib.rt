@@ -10,6 +10,8 @@ mod containers;
 #[cfg(test)]
 mod folds;
 #[cfg(test)]
+mod mapped;
+#[cfg(test)]
 mod nodes;
 #[cfg(test)]
 mod parse_iter;
