@@ -102,7 +102,11 @@ fn an_array_is_filled_and_asks_for_no_more(rt: HostRuntime) {
 fn an_array_that_is_filtered_fails_as_it_does(rt: HostRuntime) {
     let two = just::<_, &str, Own>('a').repeated().at_most(2);
     let three = two.collect_exactly::<ArrayVec<char, 3>>().filter(|_| true);
-    assert_answers(&rt, &three, &[("aa", "error 2..2 expected nothing found end")]);
+    assert_answers(
+        &rt,
+        &three,
+        &[("aa", "error 2..2 expected nothing found end")],
+    );
 }
 
 /// A byte, again and again.

@@ -33,8 +33,14 @@ fn the_items_of_one_list_come_before_those_of_another(rt: HostRuntime) {
         ("a", "ok \"a\""),
         ("a.", "ok \"a.\""),
         ("b", "error 0..1 expected 'a' found 'b'"),
-        ("aaa", "error 2..3 expected 'b', '.', end of input found 'a'"),
-        ("ac", "error 1..2 expected 'a', 'b', '.', end of input found 'c'"),
+        (
+            "aaa",
+            "error 2..3 expected 'b', '.', end of input found 'a'",
+        ),
+        (
+            "ac",
+            "error 1..2 expected 'a', 'b', '.', end of input found 'c'",
+        ),
         ("ab..", "error 3..4 expected end of input found '.'"),
     ];
     assert_answers(&rt, &letters, &rows);

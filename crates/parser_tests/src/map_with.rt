@@ -6,10 +6,12 @@ use chumsky::prelude::*;
 
 #[test]
 fn map_with_is_shown_what_its_part_took(rt: HostRuntime) {
-    let spanned = just::<_, &str, Own>('a').then(any()).map_with(|pair, extra| {
-        let span = extra.span();
-        (pair.1, span.start, span.end)
-    });
+    let spanned = just::<_, &str, Own>('a')
+        .then(any())
+        .map_with(|pair, extra| {
+            let span = extra.span();
+            (pair.1, span.start, span.end)
+        });
     let rows = [
         ("xab", "ok ('b', 1, 3)"),
         ("xa", "error 2..2 expected any found end"),
@@ -27,7 +29,10 @@ fn what_map_with_writes_to_the_state_stands(rt: HostRuntime) {
         c
     });
     let rows = [
-        ("a", "ok 'a'; state Told { tokens: 11 }, by check Told { tokens: 1 }"),
+        (
+            "a",
+            "ok 'a'; state Told { tokens: 11 }, by check Told { tokens: 1 }",
+        ),
         ("", "error; state Told { tokens: 0 }"),
     ];
     assert_answers_from(&rt, &adding, Told { tokens: 0 }, &rows);

@@ -260,15 +260,19 @@ fn the_failure_of_a_filter_is_merged_in_its_order(rt: HostRuntime) {
         just("b").filter(|_| false).or_not(),
         just("c"),
     ));
-    let rows = [("b", "error 0..1 expected 'a', something else, 'c' found 'b'")];
+    let rows = [(
+        "b",
+        "error 0..1 expected 'a', something else, 'c' found 'b'",
+    )];
     assert_answers(&rt, &three, &rows);
 }
 
 #[test]
 fn a_try_map_that_refuses_drops_the_failures_of_its_part(rt: HostRuntime) {
     let alloc = rt.alloc();
-    let refusing = choice((just::<_, &str, Own>("something").ignored(), empty()))
-        .try_map(move |_, span| Err::<(), _>(Rich::custom(span, String::new(alloc))));
+    let refusing = choice((just::<_, &str, Own>("something").ignored(), empty())).try_map(
+        move |_, span| Err::<(), _>(Rich::custom(span, String::new(alloc))),
+    );
     assert_answers(&rt, &refusing, &[("test", "error 0..0 \"\"")]);
 }
 
@@ -282,9 +286,6 @@ fn what_was_rewound_is_not_reported(rt: HostRuntime) {
 #[test]
 fn unwrapped_gives_what_is_in_it(rt: HostRuntime) {
     let a = just::<_, &str, Own>('a').map(Some).unwrapped();
-    let rows = [
-        ("a", "ok 'a'"),
-        ("b", "error 0..1 expected 'a' found 'b'"),
-    ];
+    let rows = [("a", "ok 'a'"), ("b", "error 0..1 expected 'a' found 'b'")];
     assert_answers(&rt, &a, &rows);
 }
