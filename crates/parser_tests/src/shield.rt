@@ -228,15 +228,23 @@ fn what_the_last_alternative_emits_stays(rt: HostRuntime) {
         emitter.emit(Rich::custom(extra.span(), String::new(extra.alloc())));
         c
     });
-    let ac = emitting.then(just('c'));
-    let ab = just('a').then(just('b'));
+    let ab_or_ac = choice((just('a').then(just('b')), emitting.then(just('c'))));
     let rows = [(
         "aa",
         "error 0..1 \"\"; error 1..2 expected 'b', 'c' found 'a'",
     )];
-    assert_answers(&rt, &choice((ab, &ac)), &rows);
+    assert_answers(&rt, &ab_or_ac, &rows);
+}
+
+#[test]
+fn what_an_earlier_alternative_emitted_is_gone(rt: HostRuntime) {
+    let emitting = any::<&str, Own>().validate(|c, extra, emitter| {
+        emitter.emit(Rich::custom(extra.span(), String::new(extra.alloc())));
+        c
+    });
+    let ac_or_ab = choice((emitting.then(just('c')), just('a').then(just('b'))));
     let rows = [("aa", "error 1..2 expected 'c', 'b' found 'a'")];
-    assert_answers(&rt, &choice((&ac, ab)), &rows);
+    assert_answers(&rt, &ac_or_ab, &rows);
 }
 
 #[test]
