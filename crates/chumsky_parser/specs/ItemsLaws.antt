@@ -32,7 +32,7 @@ module _ {Tok Cx St Er S V A W : Type 0} (step : S → Meaning Tok Cx St Er (Nex
   all_steps-ends hs hm he (suc room) a s =
       chained-ends (step s) _ (hs s) (after_step-ends (λ v t. Chained (more a v) (λ c. AllSteps step more ended room c t)) (ended a) (λ v t. chained-ends (more a v) _ (hm a v) (λ c. all_steps-ends hs hm he room c t)) (he a))
 
-  from_made-ends : ((s : S) → EndsAfterStart (step s)) → ((a : Option A) (v : Option V) → EndsAfterStart (more a v)) → ((a : Option A) → EndsAfterStart (ended a)) → (room : ℕ) (a : Option A) (s : Option S) → EndsAfterStart (FromMade step more ended room a s)
+  pub from_made-ends : ((s : S) → EndsAfterStart (step s)) → ((a : Option A) (v : Option V) → EndsAfterStart (more a v)) → ((a : Option A) → EndsAfterStart (ended a)) → (room : ℕ) (a : Option A) (s : Option S) → EndsAfterStart (FromMade step more ended room a s)
   from_made-ends hs hm he room a (Some s) b o m = all_steps-ends hs hm he room a s b o (unlisted step more ended room a s b o m)
   from_made-ends hs hm he room a None b o m = absurd m
 
@@ -49,7 +49,7 @@ module _ {Tok Cx St Er S V A W : Type 0} (step step' : S → Meaning Tok Cx St E
         (after_step-agrees sv alike sw (λ v z. Chained (more a v) (λ x. AllSteps step more ended room x z)) (λ v z. Chained (more' c v) (λ x. AllSteps step' more' ended' room x z)) (ended a) (ended' c)
         (λ v w z y d k. chained-agrees (more a v) (more' c w) _ _ sa sw (hm a c v w e d) (λ x u f. all_steps-agree room x u z y f k)) (he a c e))
 
-    from_made-agree : (room : ℕ) (a c : Option A) → SameValue sa a c → (s t : Option S) → SameValue alike s t → Agreeing sw (FromMade step more ended room a s) (FromMade step' more' ended' room c t)
+    pub from_made-agree : (room : ℕ) (a c : Option A) → SameValue sa a c → (s t : Option S) → SameValue alike s t → Agreeing sw (FromMade step more ended room a s) (FromMade step' more' ended' room c t)
     from_made-agree room a c e (Some s) (Some t) l = λ b d o q z m n. all_steps-agree room a c s t e l b d o q z (unlisted step more ended room a s b o m) (unlisted step' more' ended' room c t d q n)
     from_made-agree room a c e (Some s) None l = λ b c o q z m n. absurd n
     from_made-agree room a c e None t l = λ b c o q z m. absurd m
