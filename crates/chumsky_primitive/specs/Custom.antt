@@ -1,4 +1,4 @@
--- A parser given by a closure.
+-- A parser given by a reader, as by a closure.
 use Rattle.std.specs.Prelude.{◌≡◌, ◌≤◌, Option, None, List, [], ◌∷◌, ◌++◌, Result, Ok, Err, option_to_list, ◌⊎◌, ⊤}
 use Rattle.std.specs.Fn.{Shared}
 use denote.Ref.{MutBor}
@@ -55,35 +55,51 @@ module _ {V Er St : Type 0} where
   abbrev pub OrLacksMemory : Outcome V Er St → Outcome V Er St → Type 0
   OrLacksMemory whole o = (o ≡ whole) ⊎ (ClashesAmong whole o ⊎ Refuses (whole.emitted ≡ [] → ⊥) whole.state o)
 
-module _ {I X Tok Sp Cu Er St Cx Mk V F : Type 0} (source : input_trait.Ghosts I Cu Tok Sp) (errors : error_trait.Ghosts Er I Tok Sp) (states : inspector_trait.Ghosts St I Mk Tok Sp) (g : Shared F (MutBor (InputRef I X Cu Tok Sp Er St Cx Mk) × Unit {0}) (Result V (Failure Er) × (MutBor (InputRef I X Cu Tok Sp Er St Cx Mk) × Unit {0}))) where
-  -- the closure may be called on any input; after a value and after an error it stands where it began or further on, in the same tokens, under the same context, with the older emitted errors before any new ones, and no parser that it ran has stopped; the stop that it answers is the first of those that it ran into; and it keeps the lent state
-  pub record MayRun (f : F) : Type 0 where
-    pub may : (p : MutBor (InputRef I X Cu Tok Sp Er St Cx Mk)) → g.pre f (p, tt)
-    pub keeps : (p left : MutBor (InputRef I X Cu Tok Sp Er St Cx Mk)) (r : Result V (Failure Er)) → g.post f (p, tt) (r, (left, tt)) → GoesForward r (held source errors states p.now) (held source errors states left.now) × (left.now.state.ghost_name ≡ p.now.state.ghost_name)
+-- what a reader may do, from what is held where it begins: its answer, and what it leaves
+abbrev pub Reads : (Tok Cx St Er E V : Type 0) → Type 1
+Reads Tok Cx St Er E V = Held Tok Cx St Er → Result V (Failure E) → Held Tok Cx St Er → Type 0
 
-  -- a call of the closure from a beginning, with nothing kept and nothing emitted
-  pub record Call (f : F) (b : Beginning Tok Cx states.Seen) : Type 0 where
+-- the same, in the words of the errors and the states
+abbrev pub ReadsBy : (I Tok Sp Er St Mk Cx V : Type 0) → Type 1
+ReadsBy I Tok Sp Er St Mk Cx V = (errors : error_trait.Ghosts Er I Tok Sp) → (states : inspector_trait.Ghosts St I Mk Tok Sp) → Reads Tok Cx states.Seen errors.Seen Er V
+
+module _ {Tok Cx St Er E V : Type 0} (reads : Reads Tok Cx St Er E V) where
+  -- a call from a beginning, with nothing kept and nothing emitted
+  pub record Call (b : Beginning Tok Cx St) : Type 0 where
     pub stopped : Option Stop
-    pub lent : MutBor (InputRef I X Cu Tok Sp Er St Cx Mk)
-    pub left : MutBor (InputRef I X Cu Tok Sp Er St Cx Mk)
-    pub returned : Result V (Failure Er)
-    pub met : g.post f (lent, tt) (returned, (left, tt))
-    pub begins : held source errors states lent.now ≡ begun stopped b
+    pub returned : Result V (Failure E)
+    pub left : Held Tok Cx St Er
+    pub read : reads (begun stopped b) returned left
 
+  -- both are values of calls from one beginning
+  pub record SameCalled (v w : V) : Type 0 where
+    pub beginning : Beginning Tok Cx St
+    pub first : Call beginning
+    pub second : Call beginning
+    pub of_first : first.returned ≡ Ok v
+    pub of_second : second.returned ≡ Ok w
+
+module _ {Tok Cx St Er E V : Type 0} (seen : E → Er) (reads : Reads Tok Cx St Er E V) where
   -- what a call does, where it does not end before its start
-  pub record MeansCustom (f : F) (b : Beginning Tok Cx states.Seen) (o : Outcome V errors.Seen states.Seen) : Type 0 where
-    pub call : Call f b
-    pub does : OrLacksMemory (done errors.seen b call.returned (held source errors states call.left.now)) o
+  pub record MeansCustom (b : Beginning Tok Cx St) (o : Outcome V Er St) : Type 0 where
+    pub call : Call reads b
+    pub does : OrLacksMemory (done seen b call.returned call.left) o
     pub later : IsAnswer o.verdict → b.start ≤ o.end
 
   -- two calls from one beginning end alike
-  pub record IsSteady (f : F) : Type 0 where
-    pub alike : (b : Beginning Tok Cx states.Seen) (x y : Call f b) → EndAlike errors.seen x.returned y.returned (held source errors states x.left.now) (held source errors states y.left.now)
+  pub record IsSteady : Type 0 where
+    pub alike : (b : Beginning Tok Cx St) (x y : Call reads b) → EndAlike seen x.returned y.returned x.left y.left
 
-  -- both are values of calls from one beginning
-  pub record SameCalled (f : F) (v w : V) : Type 0 where
-    pub beginning : Beginning Tok Cx states.Seen
-    pub first : Call f beginning
-    pub second : Call f beginning
-    pub of_first : first.returned ≡ Ok v
-    pub of_second : second.returned ≡ Ok w
+module _ {I X Tok Sp Cu Er St Cx Mk V F : Type 0} (source : input_trait.Ghosts I Cu Tok Sp) (errors : error_trait.Ghosts Er I Tok Sp) (states : inspector_trait.Ghosts St I Mk Tok Sp) (g : Shared F (MutBor (InputRef I X Cu Tok Sp Er St Cx Mk) × Unit {0}) (Result V (Failure Er) × (MutBor (InputRef I X Cu Tok Sp Er St Cx Mk) × Unit {0}))) (f : F) where
+  -- the closure may be called on any input; after a value and after an error it stands where it began or further on, in the same tokens, under the same context, with the older emitted errors before any new ones, and no parser that it ran has stopped; the stop that it answers is the first of those that it ran into; and it keeps the lent state
+  pub record MayRun : Type 0 where
+    pub may : (p : MutBor (InputRef I X Cu Tok Sp Er St Cx Mk)) → g.pre f (p, tt)
+    pub keeps : (p left : MutBor (InputRef I X Cu Tok Sp Er St Cx Mk)) (r : Result V (Failure Er)) → g.post f (p, tt) (r, (left, tt)) → GoesForward r (held source errors states p.now) (held source errors states left.now) × (left.now.state.ghost_name ≡ p.now.state.ghost_name)
+
+  -- what a call of the closure may do
+  pub record Calls (before : Held Tok Cx states.Seen errors.Seen) (r : Result V (Failure Er)) (after : Held Tok Cx states.Seen errors.Seen) : Type 0 where
+    pub lent : MutBor (InputRef I X Cu Tok Sp Er St Cx Mk)
+    pub left : MutBor (InputRef I X Cu Tok Sp Er St Cx Mk)
+    pub met : g.post f (lent, tt) (r, (left, tt))
+    pub begins : held source errors states lent.now ≡ before
+    pub ends : held source errors states left.now ≡ after

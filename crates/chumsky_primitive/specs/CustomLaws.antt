@@ -1,17 +1,11 @@
 -- The laws of parsers given by closures.
 use Rattle.std.proofs.Common.{◌≡◌, Bool, true, false, Result, Ok, Err, option_to_list, refl, ◌∙◌, ap, subst, inl, inr}
-use Rattle.std.specs.Fn.{Shared}
-use denote.Ref.{MutBor}
-use Rattle.chumsky_input.specs.declared.error.Error as error_trait
-use Rattle.chumsky_input.specs.declared.inspector.Inspector as inspector_trait
-use Rattle.chumsky_input.specs.declared.input.Input as input_trait
-use Rattle.chumsky_input.specs.declared.input_ref.InputRef.{InputRef}
 use Rattle.chumsky_input.specs.declared.stop.Failure.{Failure}
 use Rattle.chumsky_input.specs.declared.stop.Failure.TheVariants as failure
-use Rattle.chumsky_input.specs.Held.{Held, held}
+use Rattle.chumsky_input.specs.Held.{Held}
 use Rattle.chumsky_input.specs.Outcome.{Beginning, Outcome, IsAnswer, SameValue, Agree, EndsAfterStart, Agreeing}
 use Rattle.chumsky_parser.specs.Failure.{wanting}
-use Rattle.chumsky_primitive.specs.Custom.{done, begun, OrLacksMemory, EndAlike, Call, MeansCustom, IsSteady, SameCalled}
+use Rattle.chumsky_primitive.specs.Custom.{done, begun, OrLacksMemory, EndAlike, Reads, Call, MeansCustom, IsSteady, SameCalled}
 
 module _ {V Er St : Type 0} where
   -- an answer is no refusal
@@ -53,18 +47,18 @@ module _ {Tok Cx St Er E V : Type 0} (seen : E → Er) (same : V → V → Type 
   done-agree b c s (Err (failure.Error d)) (Err (failure.Stop t)) h k q e a z = absurd z
   done-agree b c s (Err (failure.Stop t)) r h k q e a z = absurd a
 
-module _ {I X Tok Sp Cu Er St Cx Mk V F : Type 0} (source : input_trait.Ghosts I Cu Tok Sp) (errors : error_trait.Ghosts Er I Tok Sp) (states : inspector_trait.Ghosts St I Mk Tok Sp) (g : Shared F (MutBor (InputRef I X Cu Tok Sp Er St Cx Mk) × Unit {0}) (Result V (Failure Er) × (MutBor (InputRef I X Cu Tok Sp Er St Cx Mk) × Unit {0}))) (f : F) where
-  pub custom-ends : EndsAfterStart (MeansCustom source errors states g f)
+module _ {Tok Cx St Er E V : Type 0} (seen : E → Er) (reads : Reads Tok Cx St Er E V) where
+  pub custom-ends : EndsAfterStart (MeansCustom seen reads)
   custom-ends b o m a = m.later a
 
-  pub custom-agrees : IsSteady source errors states g f → Agreeing (SameCalled source errors states g f) (MeansCustom source errors states g f) (MeansCustom source errors states g f)
+  pub custom-agrees : IsSteady seen reads → Agreeing (SameCalled reads) (MeansCustom seen reads) (MeansCustom seen reads)
   custom-agrees steady b c o q alike m n a z =
       let x = m.call in
-      let same : begun {Er = errors.Seen} n.call.stopped c ≡ begun n.call.stopped b = cc (alike.tokens, alike.start, alike.context, alike.state) in
-      let y : Call source errors states g f b = record { stopped = n.call.stopped; lent = n.call.lent; left = n.call.left; returned = n.call.returned; met = n.call.met; begins = n.call.begins ∙ same } in
+      let same : begun {Er = Er} n.call.stopped c ≡ begun n.call.stopped b = cc (alike.tokens, alike.start, alike.context, alike.state) in
+      let y : Call reads b = record { stopped = n.call.stopped; returned = n.call.returned; left = n.call.left; read = subst (λ h. reads h n.call.returned n.call.left) same n.call.read } in
       let om = answer-whole _ o m.does a in
       let qn = answer-whole _ q n.does z in
-      let agree = done-agree errors.seen (SameCalled source errors states g f) b c alike.start x.returned y.returned (held source errors states x.left.now) (held source errors states y.left.now)
+      let agree = done-agree seen (SameCalled reads) b c alike.start x.returned y.returned x.left y.left
       (λ v w e d. record { beginning = b; first = x; second = y; of_first = e; of_second = d })
-      (steady.alike b x y) (subst (λ (p : Outcome V errors.Seen states.Seen). IsAnswer p.verdict) om a) (subst (λ (p : Outcome V errors.Seen states.Seen). IsAnswer p.verdict) qn z) in
+      (steady.alike b x y) (subst (λ (p : Outcome V Er St). IsAnswer p.verdict) om a) (subst (λ (p : Outcome V Er St). IsAnswer p.verdict) qn z) in
       rw (om, qn) agree

@@ -1,9 +1,10 @@
-//! A parser given by a closure.
-ghost use Rattle.std.specs.Prelude.{◌≡◌, Bool};
+//! A parser given by a reader, as by a closure.
+ghost use Rattle.std.specs.Prelude.{◌≡◌, Bool, ⊤};
+ghost use Rattle.chumsky_input.specs.Aside.{GoesForward};
 ghost use Rattle.chumsky_input.specs.Held.{held};
 ghost use Rattle.chumsky_input.specs.Run.{Ran};
 ghost use Rattle.chumsky_parser.specs.Failure.{asked};
-ghost use Rattle.chumsky_primitive.specs.Custom.{MayRun, MeansCustom};
+ghost use Rattle.chumsky_primitive.specs.Custom.{MayRun, Calls, MeansCustom};
 
 use chumsky_input::error::Error;
 use chumsky_input::extra::ParserExtra;
@@ -14,11 +15,66 @@ use chumsky_input::stop::{Failure, Fault, PResult};
 use chumsky_parser::parser::{IsParser, Parser};
 use std::marker::PhantomData;
 
-/// A parser given by a closure. See `custom`.
+/// What reads a value of a run that it is lent. Each closure
+/// `Fn(&mut InputRef<I, E>) -> Result<O, Failure<E::Error>>` is one, and so is a type of one's own that has an impl, which
+/// writes no clause:
+///
+/// ```text
+/// pub struct TwoTokens;
+///
+/// impl<'src> Reader<'src, &'src str, Option<char>, RichText> for TwoTokens {
+///     fn read(
+///         &self,
+///         inp: &mut InputRef<'src, '_, &'src str, RichText>,
+///     ) -> Result<Option<char>, Failure<Rich<char>>> {
+///         inp.next()?;
+///         Ok(inp.next()?)
+///     }
+/// }
+/// ```
+///
+/// After a value and after an error it stands where it began or further on, in the same tokens, under the same context, with
+/// the older emitted errors before any new ones, and no parser that it ran has stopped; after a stop of one it answers that.
+pub trait Reader<'src, I: Input<'src>, O, E: ParserExtra<I>> {
+    ghost use Rattle.chumsky_primitive.specs.Custom.{ReadsBy};
+
+    /// That it may be called. Where nothing is said, it may.
+    ghost callable: { Self → Type 0 } = { λ reader. ⊤ };
+
+    /// What it may do, from what is held where it begins: its answer, and what it leaves. Where nothing is said, anything
+    /// that a reader may.
+    ghost gives: { Self → ReadsBy I I.Token I.Span E.Error E.State E.State.Mark E.Context O } = { λ _ _ _ _ _ _. ⊤ };
+
+    /// Reads on from where the run stands.
+    fn read(&self, inp: &mut InputRef<'src, '_, I, E>) -> Result<O, Failure<E::Error>>
+        requires { callable self.now }
+        ensures gives { gives self.now E.Error.Error E.State.Inspector (held I.Input E.Error.Error E.State.Inspector inp.old) result (held I.Input E.Error.Error E.State.Inspector inp.new) }
+        ensures forward { GoesForward result (held I.Input E.Error.Error E.State.Inspector inp.old) (held I.Input E.Error.Error E.State.Inspector inp.new) }
+        ensures lent { inp.new.state.ghost_name ≡ inp.old.state.ghost_name };
+}
+
+impl<'src, I, O, E, F> Reader<'src, I, O, E> for F
+where
+    I: Input<'src>,
+    I::Token: 'src,
+    E: ParserExtra<I>,
+    F: Fn(&mut InputRef<'src, '_, I, E>) -> Result<O, Failure<E::Error>>,
+{
+    ghost callable = { λ f. MayRun I.Input E.Error.Error E.State.Inspector F.Fn f };
+
+    ghost gives = { λ f errors states. Calls I.Input errors states F.Fn f };
+
+    #[inline(always)]
+    fn read(&self, inp: &mut InputRef<'src, '_, I, E>) -> Result<O, Failure<E::Error>> {
+        (*self)(inp)
+    }
+}
+
+/// A parser given by a reader. See `custom` and `custom_by`.
 #[derive(Drop)]
 #[derive_where(Clone, Copy; F)]
 pub struct Custom<F, I, O, E> {
-    pub closure: F,
+    pub reader: F,
     pub of: PhantomData<(I, O, E)>,
 }
 
@@ -30,22 +86,22 @@ where
     I::Token: 'src,
     O: Drop,
     E: ParserExtra<I>,
-    F: Fn(&mut InputRef<'src, '_, I, E>) -> Result<O, Failure<E::Error>>,
+    F: Reader<'src, I, O, E>,
 {
     ghost use Rattle.chumsky_primitive.specs.Custom.{IsSteady, SameCalled};
     ghost use Rattle.chumsky_primitive.specs.CustomLaws.{custom-ends, custom-agrees};
 
-    ghost ready = { λ p. MayRun I.Input E.Error.Error E.State.Inspector F.Fn p.closure };
+    ghost ready = { λ p. F.callable p.reader };
 
-    ghost meaning = { λ p errors states. MeansCustom I.Input errors states F.Fn p.closure };
+    ghost meaning = { λ p errors states. MeansCustom errors.seen (F.gives p.reader errors states) };
 
-    ghost steady = { λ p. IsSteady I.Input E.Error.Error E.State.Inspector F.Fn p.closure };
+    ghost steady = { λ p. IsSteady E.Error.seen (F.gives p.reader E.Error.Error E.State.Inspector) };
 
-    ghost same = { λ p. SameCalled I.Input E.Error.Error E.State.Inspector F.Fn p.closure };
+    ghost same = { λ p. SameCalled (F.gives p.reader E.Error.Error E.State.Inspector) };
 
-    ghost ends_after_start = { λ p. custom-ends _ _ _ _ _ };
+    ghost ends_after_start = { λ p. custom-ends _ _ };
 
-    ghost agrees = { λ p s. custom-agrees _ _ _ _ _ s };
+    ghost agrees = { λ p s. custom-agrees _ _ s };
 
     #[inline]
     fn go_emit(&self, inp: &mut InputRef<'src, '_, I, E>) -> PResult<O> {
@@ -60,7 +116,7 @@ where
     }
 }
 
-/// Calls the closure on an input with nothing kept and nothing emitted, so that what it does is seen by itself, and
+/// Lets the reader read on with nothing kept and nothing emitted, so that what it does is seen by itself, and
 /// puts what was held before that.
 #[inline]
 fn call<'src, F, I, O, E>(
@@ -71,15 +127,15 @@ where
     I: Input<'src>,
     O: Drop,
     E: ParserExtra<I>,
-    F: Fn(&mut InputRef<'src, '_, I, E>) -> Result<O, Failure<E::Error>>,
-    requires { MayRun I.Input E.Error.Error E.State.Inspector F.Fn parser.now.closure }
-    ensures ran { (wanted : Bool) → Ran E.Error.merged E.Error.takes_no_memory (MeansCustom I.Input E.Error.Error E.State.Inspector F.Fn parser.now.closure) wanted (held I.Input E.Error.Error E.State.Inspector inp.old) (held I.Input E.Error.Error E.State.Inspector inp.new) (asked wanted result) }
+    F: Reader<'src, I, O, E>,
+    requires { F.callable parser.now.reader }
+    ensures ran { (wanted : Bool) → Ran E.Error.merged E.Error.takes_no_memory (MeansCustom E.Error.seen (F.gives parser.now.reader E.Error.Error E.State.Inspector)) wanted (held I.Input E.Error.Error E.State.Inspector inp.old) (held I.Input E.Error.Error E.State.Inspector inp.new) (asked wanted result) }
     ensures lent { inp.new.state.ghost_name ≡ inp.old.state.ghost_name }
 {
     let start = inp.cursor;
     let context = inp.context;
     let older = inp.set_aside();
-    match (parser.closure)(inp) {
+    match parser.reader.read(inp) {
         Ok(value) => {
             inp.bring_back(older)?;
             Ok(value)

@@ -3,7 +3,7 @@ ghost use Rattle.std.specs.Prelude.{◌≡◌};
 
 use crate::any::Any;
 use crate::any_ref::AnyRef;
-use crate::custom::Custom;
+use crate::custom::{Custom, Reader};
 use crate::empty::Empty;
 use crate::end::End;
 use crate::just::Just;
@@ -133,10 +133,27 @@ where
     I::Token: 'src,
     E: ParserExtra<I>,
     F: Fn(&mut InputRef<'src, '_, I, E>) -> Result<O, Failure<E::Error>>,
-    ensures { result.closure ≡ closure }
+    ensures { result.reader ≡ closure }
 {
     Custom {
-        closure,
+        reader: closure,
+        of: PhantomData,
+    }
+}
+
+/// The same with a value of a type with an impl of `Reader`. The parser's type can then be written down, its output may name
+/// a lifetime, and what is read is known where the parser is run.
+#[inline]
+pub fn custom_by<'src, F, I, O, E>(reader: F) -> Custom<F, I, O, E>
+where
+    I: Input<'src>,
+    I::Token: 'src,
+    E: ParserExtra<I>,
+    F: Reader<'src, I, O, E>,
+    ensures { result.reader ≡ reader }
+{
+    Custom {
+        reader,
         of: PhantomData,
     }
 }

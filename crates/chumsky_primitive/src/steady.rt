@@ -8,7 +8,7 @@ ghost use Rattle.chumsky_primitive.specs.Select.{PicksAlike, PicksRef, PicksValu
 
 use crate::any::Any;
 use crate::any_ref::AnyRef;
-use crate::custom::Custom;
+use crate::custom::{Custom, Reader};
 use crate::empty::Empty;
 use crate::end::End;
 use crate::just::Just;
@@ -18,9 +18,7 @@ use crate::select::Select;
 use crate::select_ref::SelectRef;
 use chumsky_input::extra::ParserExtra;
 use chumsky_input::input::{BorrowInput, Input, ValueInput};
-use chumsky_input::input_ref::InputRef;
 use chumsky_input::map_extra::MapExtra;
-use chumsky_input::stop::Failure;
 use chumsky_parser::container::{OrderedSeq, Seq};
 use chumsky_parser::parser::Parser;
 
@@ -90,14 +88,14 @@ where
     ensures same { (x y : O) → ⟦<SelectRef<F, I, O, E> as Parser<'src, I, O, E>>⟧.same parser.now x y → SamePicked (PicksRef I.Input E.State.Inspector F.Fn parser.now.filter) x y }
 {}
 
-/// `custom` is steady where any two calls of its closure from one beginning end alike.
+/// `custom` and `custom_by` are steady where any two calls of the reader from one beginning end alike.
 pub fn custom_is_steady<'src, F, I, O, E>(parser: &Custom<F, I, O, E>)
 where
     I: Input<'src>,
     I::Token: 'src,
     O: Drop,
     E: ParserExtra<I>,
-    F: Fn(&mut InputRef<'src, '_, I, E>) -> Result<O, Failure<E::Error>>,
-    ensures steady { IsSteady I.Input E.Error.Error E.State.Inspector F.Fn parser.now.closure → ⟦<Custom<F, I, O, E> as Parser<'src, I, O, E>>⟧.steady parser.now }
-    ensures same { (x y : O) → ⟦<Custom<F, I, O, E> as Parser<'src, I, O, E>>⟧.same parser.now x y → SameCalled I.Input E.Error.Error E.State.Inspector F.Fn parser.now.closure x y }
+    F: Reader<'src, I, O, E>,
+    ensures steady { IsSteady E.Error.seen (F.gives parser.now.reader E.Error.Error E.State.Inspector) → ⟦<Custom<F, I, O, E> as Parser<'src, I, O, E>>⟧.steady parser.now }
+    ensures same { (x y : O) → ⟦<Custom<F, I, O, E> as Parser<'src, I, O, E>>⟧.same parser.now x y → SameCalled (F.gives parser.now.reader E.Error.Error E.State.Inspector) x y }
 {}
