@@ -3,6 +3,7 @@ use Rattle.std.specs.Prelude.{Option, Some}
 use Rattle.chumsky_input.specs.Outcome.{Meaning, Beginning, Outcome}
 use Rattle.chumsky_parser.specs.Chained.{Chained, Given}
 use Rattle.chumsky_parser.specs.Items.{Next, More, End, AfterStep}
+use Rattle.chumsky_parser.specs.Showing.{GivesShown, GivenShown}
 use Rattle.chumsky_combinator.specs.Mapped.{GivenBy}
 
 module _ {Tok Cx St Er S V W : Type 0} where
@@ -13,3 +14,7 @@ module _ {Tok Cx St Er S V W : Type 0} where
   -- a step whose item goes through a mapper
   pub record MapsItem (maps : V → W → Type 0) (step : Meaning Tok Cx St Er (Next S V)) (b : Beginning Tok Cx St) (o : Outcome (Next S W) Er St) : Type 0 where
     pub remade : Remade (GivenBy maps) step b o
+
+  -- the same of a mapper that is shown what the step took
+  pub record MapsItemWith (maps : GivesShown Tok Cx St V W) (step : Meaning Tok Cx St Er (Next S V)) (b : Beginning Tok Cx St) (o : Outcome (Next S W) Er St) : Type 0 where
+    pub remade : Remade (GivenShown maps b.start) step b o

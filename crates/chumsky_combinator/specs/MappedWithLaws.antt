@@ -1,47 +1,14 @@
 -- The laws of mappers that are shown the run.
-use Rattle.std.proofs.Common.{◌≡◌, ℕ, ◌≤◌, Option, Some, None, refl, sym, ap, subst, arith, ◌∙◌}
-use Rattle.chumsky_input.specs.Extra.{Shown}
-use Rattle.chumsky_input.specs.Outcome.{Meaning, Beginning, Outcome, Alike, Agree, SameValue, EndsAfterStart, Agreeing, IsAnswer}
-use Rattle.chumsky_parser.specs.Chained.{Chained, Given}
-use Rattle.chumsky_parser.specs.Laws.{chained-ends, chained-agrees, given-ends, given-agrees}
-use Rattle.chumsky_combinator.specs.MappedWith.{GivesShown, OnlyAnswers, SameShown, GivenSince, GivenShown, MappedWith}
+use Rattle.chumsky_input.specs.Outcome.{Meaning, EndsAfterStart, Agreeing}
+use Rattle.chumsky_parser.specs.Laws.{chained-ends, chained-agrees}
+use Rattle.chumsky_parser.specs.Showing.{GivesShown, OnlyAnswers, SameShown, GivenShown}
+use Rattle.chumsky_parser.specs.ShowingLaws.{shown-ends, shown-agrees}
+use Rattle.chumsky_combinator.specs.MappedWith.{MappedWith}
 
 module _ {Tok Cx St Er V W : Type 0} (gives : GivesShown Tok Cx St V W) where
-  since-ends : (from : ℕ) (v : Option V) (b : Beginning Tok Cx St) (o : Outcome W Er St) → GivenSince gives from v b o → IsAnswer o.verdict → b.start ≤ o.end
-  since-ends from (Some v) b o m a = omega (arith, ap (λ (x : Outcome W Er St). x.end) m.3)
-  since-ends from None b o m a = given-ends None b o m a
-
-  shown-ends : (from : ℕ) (v : Option V) → EndsAfterStart (GivenShown {Tok = Tok} {Cx = Cx} {St = St} {Er = Er} gives from v)
-  shown-ends from v b o m a = since-ends from v b o m.by_value a
-
   pub mapped_with-ends : (part : Meaning Tok Cx St Er V) → EndsAfterStart part → EndsAfterStart (MappedWith gives part)
-  mapped_with-ends part h b o m a = chained-ends part (GivenShown gives b.start) h (shown-ends b.start) b o m.run a
+  mapped_with-ends part h b o m a = chained-ends part (GivenShown gives b.start) h (shown-ends gives b.start) b o m.run a
 
-  module _ (one : OnlyAnswers gives) (same : V → V → Type 0) where
-    since-agrees : (from : ℕ) (v v' : Option V) → SameValue same v v' → (b c : Beginning Tok Cx St) (o q : Outcome W Er St) → Alike b c → GivenSince gives from v b o → GivenSince gives from v' c q → IsAnswer o.verdict → IsAnswer q.verdict → Agree (SameShown gives same) o q
-    since-agrees from (Some v) (Some v') e b c o q alike m n a z =
-        let x : Shown Tok Cx St = record { tokens = b.tokens; from = from; to = b.start; context = b.context; state = b.state } in
-        let y : Shown Tok Cx St = record { tokens = c.tokens; from = from; to = c.start; context = c.context; state = c.state } in
-        let there : y ≡ x = cc (alike.tokens, alike.start, alike.context, alike.state) in
-        let answer : gives v' x n.0 n.1 = subst (λ i. gives v' i n.0 n.1) there n.2 in
-        let left : m.1 ≡ b.state = (one v x m.0 m.0 m.1 m.1 m.2 m.2).1 in
-        let right : n.1 ≡ b.state = (one v' x n.0 n.0 n.1 n.1 answer answer).1 in
-        let k : SameShown gives same m.0 n.0 = record { first = v; second = v'; shown = x; state = m.1; other_state = n.1; alike = e; from_first = m.2; from_second = answer } in
-        rw (m.3, n.3) (record { answer = k; end = alike.start; state = left ∙ sym right; events = refl; emitted = refl })
-    since-agrees from (Some v) None e b c o q alike m n a z =
-        let x : Shown Tok Cx St = record { tokens = b.tokens; from = from; to = b.start; context = b.context; state = b.state } in
-        let left : m.1 ≡ b.state = (one v x m.0 m.0 m.1 m.1 m.2 m.2).1 in
-        rw (m.3, n) (record { answer = tt; end = alike.start; state = left ∙ alike.state; events = refl; emitted = refl })
-    since-agrees from None (Some v') e b c o q alike m n a z =
-        let y : Shown Tok Cx St = record { tokens = c.tokens; from = from; to = c.start; context = c.context; state = c.state } in
-        let right : n.1 ≡ c.state = (one v' y n.0 n.0 n.1 n.1 n.2 n.2).1 in
-        rw (m, n.3) (record { answer = tt; end = alike.start; state = alike.state ∙ sym right; events = refl; emitted = refl })
-    since-agrees from None None e b c o q alike m n a z = given-agrees (SameShown gives same) None None tt b c o q alike m n a z
-
-    -- shown what ran since one place
-    shown-agrees : (from from' : ℕ) → from ≡ from' → (v w : Option V) → SameValue same v w → Agreeing (SameShown gives same) (GivenShown {Tok = Tok} {Cx = Cx} {St = St} {Er = Er} gives from v) (GivenShown gives from' w)
-    shown-agrees from from' d v w e b c o q alike m n a z = since-agrees from v w e b c o q alike m.by_value (subst (λ x. GivenSince gives x w c q) (sym d) n.by_value) a z
-
-    pub mapped_with-agrees : (part : Meaning Tok Cx St Er V) → Agreeing same part part → Agreeing (SameShown gives same) (MappedWith gives part) (MappedWith gives part)
-    mapped_with-agrees part h b c o q alike m n a z =
-        chained-agrees part part (GivenShown gives b.start) (GivenShown gives c.start) same (SameShown gives same) h (shown-agrees b.start c.start alike.start) b c o q alike m.run n.run a z
+  pub mapped_with-agrees : (one : OnlyAnswers gives) (same : V → V → Type 0) (part : Meaning Tok Cx St Er V) → Agreeing same part part → Agreeing (SameShown gives same) (MappedWith gives part) (MappedWith gives part)
+  mapped_with-agrees one same part h b c o q alike m n a z =
+      chained-agrees part part (GivenShown gives b.start) (GivenShown gives c.start) same (SameShown gives same) h (shown-agrees gives one same (SameShown gives same) (λ w w' k. k) b.start c.start alike.start) b c o q alike m.run n.run a z

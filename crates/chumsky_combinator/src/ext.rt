@@ -1,8 +1,12 @@
 //! The builders of items that are put through mappers, and of items after items.
 ghost use Rattle.std.specs.Prelude.{◌≡◌};
 
+use crate::map_with::MapWith;
 use crate::mapped::{Map, Mapper};
 use crate::sequence::Then;
+use chumsky_input::extra::ParserExtra;
+use chumsky_input::input::Input;
+use chumsky_input::map_extra::MapExtra;
 use chumsky_parser::iter::IsIterParser;
 use std::marker::PhantomData;
 
@@ -31,6 +35,25 @@ pub trait IterMapExt<I, O, E>: Sized {
         ensures mapper { result.mapper ≡ mapper }
     {
         Map {
+            parser: self,
+            mapper,
+            of: PhantomData,
+        }
+    }
+
+    /// `map_items` with a mapper that is shown the run beside the item: the span of what its step took, which in a list with
+    /// separators begins before the separator, the state and the context. What it writes to the state stands. Where no
+    /// output is wanted it is not called, and so writes nothing.
+    #[inline]
+    final fn map_items_with<'src, U, F>(self, mapper: F) -> MapWith<Self, O, F, U>
+    where
+        I: Input<'src>,
+        E: ParserExtra<I>,
+        F: Fn(O, &mut MapExtra<'src, '_, I, E>) -> U,
+        ensures parser { result.parser ≡ self }
+        ensures mapper { result.mapper ≡ mapper }
+    {
+        MapWith {
             parser: self,
             mapper,
             of: PhantomData,

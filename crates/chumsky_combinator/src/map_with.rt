@@ -13,7 +13,7 @@ use std::marker::PhantomData;
 
 /// What makes an output of another and of what it is shown of the run. Each closure `Fn(O, &mut MapExtra<I, E>) -> U` is one.
 pub trait MapperWith<'src, I: Input<'src>, O, U, E: ParserExtra<I>> {
-    ghost use Rattle.chumsky_combinator.specs.MappedWith.{Makes};
+    ghost use Rattle.chumsky_parser.specs.Showing.{Makes};
 
     /// That it may be called, and keeps the reference to the state.
     ghost callable: { Self → Type 0 };
@@ -65,7 +65,8 @@ where
     A: Parser<'src, I, O, E>,
     F: MapperWith<'src, I, O, U, E>,
 {
-    ghost use Rattle.chumsky_combinator.specs.MappedWith.{MappedWith, OnlyAnswers, SameShown};
+    ghost use Rattle.chumsky_parser.specs.Showing.{OnlyAnswers, SameShown};
+    ghost use Rattle.chumsky_combinator.specs.MappedWith.{MappedWith};
     ghost use Rattle.chumsky_combinator.specs.MappedWithLaws.{mapped_with-ends, mapped_with-agrees};
 
     ghost ready = { λ p. A.ready p.parser × F.callable p.mapper };

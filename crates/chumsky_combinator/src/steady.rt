@@ -2,7 +2,7 @@
 //! closures are functions. And what is known of two outputs that count as the same: mostly that those of the parts do.
 ghost use Rattle.std.specs.Prelude.{Option, ◌⊎◌};
 ghost use Rattle.chumsky_combinator.specs.Mapped.{IsFunction, SameMapped};
-ghost use Rattle.chumsky_combinator.specs.MappedWith.{OnlyAnswers, SameShown};
+ghost use Rattle.chumsky_parser.specs.Showing.{OnlyAnswers, SameShown};
 ghost use Rattle.chumsky_combinator.specs.Optional.{SameOption};
 ghost use Rattle.chumsky_combinator.specs.Part.{MeansNoMore};
 
@@ -136,6 +136,20 @@ pub fn map_items_is_steady<
 >(map_items: &Map<A, O, F, U>)
     ensures steady { A.steady map_items.now.parser → IsFunction (F.gives map_items.now.mapper) → ⟦<Map<A, O, F, U> as IterParser<'src, I, U, E>>⟧.steady map_items.now }
     ensures same { (x y : U) → ⟦<Map<A, O, F, U> as IterParser<'src, I, U, E>>⟧.same map_items.now x y → SameMapped (A.same map_items.now.parser) (F.gives map_items.now.mapper) x y }
+{}
+
+/// `a.map_items_with(f)`, where `f` gives one answer to each item and what it is shown, and leaves the state as it is.
+pub fn map_items_with_is_steady<
+    'src,
+    I: Input<'src>,
+    O,
+    U,
+    E: ParserExtra<I>,
+    A: IterParser<'src, I, O, E>,
+    F: MapperWith<'src, I, O, U, E>,
+>(map_items: &MapWith<A, O, F, U>)
+    ensures steady { A.steady map_items.now.parser → OnlyAnswers (F.gives map_items.now.mapper E.State.Inspector) → ⟦<MapWith<A, O, F, U> as IterParser<'src, I, U, E>>⟧.steady map_items.now }
+    ensures same { (x y : U) → ⟦<MapWith<A, O, F, U> as IterParser<'src, I, U, E>>⟧.same map_items.now x y → SameShown (F.gives map_items.now.mapper E.State.Inspector) (A.same map_items.now.parser) x y }
 {}
 
 /// `a.then_items(b)`, and `a.then(b)` of two lists, as parsers of items. Two items are the same where one of the two calls

@@ -1,0 +1,76 @@
+//! Items whose outputs go through a mapper that is shown the run.
+use crate::map_with::{MapWith, MapperWith};
+use chumsky_input::extra::ParserExtra;
+use chumsky_input::input::Input;
+use chumsky_input::input_ref::InputRef;
+use chumsky_input::stop::PResult;
+use chumsky_parser::iter::{IsIterParser, IterParser, IterParserDebug, Iterates};
+use chumsky_parser::onward::next_item;
+
+impl<I, O, U, E, A: IsIterParser<I, O, E>, F> IsIterParser<I, U, E> for MapWith<A, O, F, U> {}
+
+impl<A: Iterates, O, F, U> Iterates for MapWith<A, O, F, U> {
+    /// The iteration inside.
+    type IterState = A::IterState;
+}
+
+impl<
+    'src,
+    I: Input<'src>,
+    O,
+    U,
+    E: ParserExtra<I>,
+    A: IterParser<'src, I, O, E>,
+    F: MapperWith<'src, I, O, U, E>,
+> IterParser<'src, I, U, E> for MapWith<A, O, F, U> {
+    ghost use Rattle.chumsky_parser.specs.Showing.{OnlyAnswers, SameShown};
+    ghost use Rattle.chumsky_combinator.specs.MappedItems.{MapsItemWith};
+    ghost use Rattle.chumsky_combinator.specs.MappedItemsLaws.{maps_item_with-end, maps_item_with-agree};
+
+    ghost ready = { λ p. A.ready p.parser × F.callable p.mapper };
+
+    ghost may_step = { λ p s. A.may_step p.parser s × F.callable p.mapper };
+
+    ghost begins = { λ p errors states. A.begins p.parser errors states };
+
+    ghost gives = { λ p d s errors states. MapsItemWith (F.gives p.mapper states) (A.gives p.parser d s errors states) };
+
+    ghost steady = { λ p. A.steady p.parser × OnlyAnswers (F.gives p.mapper E.State.Inspector) };
+
+    ghost same = { λ p. SameShown (F.gives p.mapper E.State.Inspector) (A.same p.parser) };
+
+    ghost alike = { λ p. A.alike p.parser };
+
+    ghost ends_after_start = { λ p d. maps_item_with-end _ _ _ (A.ends_after_start p.parser d) };
+
+    ghost agrees = { λ p s d. maps_item_with-agree _ _ _ s.1 (A.same p.parser) (A.alike p.parser) (A.agrees p.parser s.0 d) };
+
+    #[inline(always)]
+    fn make_iter(&self, inp: &mut InputRef<'src, '_, I, E>) -> PResult<A::IterState> {
+        self.parser.make_iter(inp)
+    }
+
+    #[inline(always)]
+    fn next_emit(
+        &self,
+        inp: &mut InputRef<'src, '_, I, E>,
+        state: &mut A::IterState,
+        debug: IterParserDebug,
+    ) -> PResult<Option<U>> {
+        let before = inp.cursor;
+        match next_item(&self.parser, inp, state, debug)? {
+            None => Ok(None),
+            Some(item) => Ok(Some(self.mapper.apply_with(item, &before, inp))),
+        }
+    }
+
+    #[inline(always)]
+    fn next_check(
+        &self,
+        inp: &mut InputRef<'src, '_, I, E>,
+        state: &mut A::IterState,
+        debug: IterParserDebug,
+    ) -> PResult<Option<()>> {
+        self.parser.next_check(inp, state, debug)
+    }
+}
