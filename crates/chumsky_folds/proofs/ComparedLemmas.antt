@@ -14,7 +14,7 @@ use Rattle.chumsky_items.specs.Lists.{IsYes}
 use Rattle.chumsky_folds.specs.Folding.{FoldsLeft, FoldsFrom, FoldsItems, FoldsFromCopy, FoldsFromPart}
 use Rattle.chumsky_folds.specs.FoldingBack.{FoldsRight, FoldsHeld, FoldedBack, FoldsBack}
 use Rattle.chumsky_folds.specs.Compared.{FoldsCollected}
-use Rattle.chumsky_folds.proofs.FoldingLemmas.{folds_left-more}
+use Rattle.chumsky_folds.specs.FoldingLaws.{folds_left-more}
 
 abbrev value_in : {V : Type 0} → V → Option V → V
 value_in d (Some v) = v

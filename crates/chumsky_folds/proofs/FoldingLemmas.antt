@@ -1,5 +1,5 @@
 -- What is left of what is folded out of items.
-use Rattle.std.proofs.Common.{false, Option, None, List, [], ◌∷◌, ◌++◌, refl, subst, Result}
+use Rattle.std.proofs.Common.{false, Option, None, refl, Result}
 use Rattle.chumsky_input.specs.declared.stop.Fault.{Fault}
 use Rattle.chumsky_input.specs.Held.{Held}
 use Rattle.chumsky_input.specs.Outcome.{Meaning}
@@ -9,14 +9,8 @@ use Rattle.chumsky_parser.proofs.ChainedLemmas.{chained}
 use Rattle.chumsky_parser.proofs.IgnoringLemmas.{ran-uncopied}
 use Rattle.chumsky_items.specs.Consumers.{Passes}
 use Rattle.chumsky_items.proofs.ConsumersLemmas.{collects-passed}
-use Rattle.chumsky_folds.specs.Folding.{FoldsLeft, FoldsFrom, FoldsItems, FoldsFromCopy}
+use Rattle.chumsky_folds.specs.Folding.{FoldsFrom, FoldsItems, FoldsFromCopy}
 use Rattle.std.specs.Prelude.{⊤}
-
-module _ {A V : Type 0} (steps : A → V → A → Type 0) where
-  -- one more item, from the left
-  pub folds_left-more : (xs : List V) (a b z : A) (x : V) → FoldsLeft steps a xs b → steps b x z → FoldsLeft steps a (xs ++ x ∷ []) z
-  folds_left-more [] a b z x f s = (z, subst (λ y. steps y x z) f s, refl)
-  folds_left-more (y ∷ ys) a b z x f s = (f.0, f.1, folds_left-more ys f.0 b z x f.2 s)
 
 module _ {Tok Cx St Er S V A : Type 0} {merged : Er → Er → Er} {safe : Type 0} {gives : S → Meaning Tok Cx St Er (Next S V)} {begins : Meaning Tok Cx St Er S} {old new : Held Tok Cx St Er} where
   -- without a value nothing is folded

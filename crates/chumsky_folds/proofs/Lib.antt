@@ -3,3 +3,8 @@ pub mod FoldingBackLemmas
 pub mod EnumeratingLemmas
 pub mod ComparedLemmas
 pub mod NumberingLemmas
+pub mod FoldingShownLemmas
+pub mod PlacedLemmas
+pub mod FoldingBackShownLemmas
+pub mod FoldingTriedLemmas
+pub mod BlindLemmas

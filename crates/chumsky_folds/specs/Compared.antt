@@ -1,7 +1,9 @@
 -- What the laws say of folds, and of items with their numbers.
-use Rattle.std.specs.Prelude.{◌≡◌, ℕ, ◌+◌, true, Some, List, [], ◌∷◌, ⊤}
+use Rattle.std.specs.Prelude.{◌≡◌, ℕ, ◌+◌, true, Some, None, List, [], ◌∷◌, ⊤}
+use Rattle.chumsky_input.specs.Extra.{Shown}
 use Rattle.chumsky_input.specs.Outcome.{Meaning, Beginning, Outcome, Yes}
 use Rattle.chumsky_parser.specs.Chained.{retold}
+use Rattle.chumsky_parser.specs.Showing.{GivesShown}
 
 module _ {Tok Cx St Er L C A : Type 0} where
   -- where a value is wanted: each yes of the whole is the fold of what is collected when it succeeds in the same way; and
@@ -9,6 +11,17 @@ module _ {Tok Cx St Er L C A : Type 0} where
   pub record FoldsCollected (holds : L → C → Type 0) (folds : L → A → Type 0) (collects : Meaning Tok Cx St Er C) (whole : Meaning Tok Cx St Er A) : Type 0 where
     pub apart : (b : Beginning Tok Cx St) (o : Outcome A Er St) (z : A) → b.wanted ≡ true → whole b o → o.verdict ≡ Yes (Some z) → (l : L) × folds l z × ((c : C) → holds l c → collects b (retold (Yes (Some c)) o))
     pub together : (b : Beginning Tok Cx St) (o : Outcome C Er St) (c : C) (l : L) (z : A) → b.wanted ≡ true → collects b o → o.verdict ≡ Yes (Some c) → holds l c → folds l z → whole b (retold (Yes (Some z)) o)
+
+-- a folder that takes no notice of what it is shown, and leaves the state: it answers as these steps
+pub record IsBlind {Tok Cx St V A : Type 0} (folds : GivesShown Tok Cx St (A × V) A) (steps : A → V → A → Type 0) : Type 0 where
+  pub sees : (p : A × V) (x : Shown Tok Cx St) (z : A) (s : St) → folds p x z s → steps p.0 p.1 z × (s ≡ x.state)
+  pub answers : (p : A × V) (x : Shown Tok Cx St) (z : A) → steps p.0 p.1 z → folds p x z x.state
+
+-- where a value is wanted: each outcome of the one, but for a yes without a value, is one of the other; and each yes with a
+-- value of the other is one of the one
+pub record FoldsAlike {Tok Cx St Er A : Type 0} (one other : Meaning Tok Cx St Er A) : Type 0 where
+  pub narrower : (b : Beginning Tok Cx St) (o : Outcome A Er St) → b.wanted ≡ true → (o.verdict ≡ Yes None → ⊥) → one b o → other b o
+  pub wider : (b : Beginning Tok Cx St) (o : Outcome A Er St) (z : A) → b.wanted ≡ true → o.verdict ≡ Yes (Some z) → other b o → one b o
 
 -- the numbers are k, k + 1, k + 2 and so on
 abbrev pub NumberedFrom : {V : Type 0} → ℕ → List (ℕ × V) → Type 0

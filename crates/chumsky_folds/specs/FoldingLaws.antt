@@ -1,5 +1,5 @@
 -- The laws of what is folded out of items.
-use Rattle.std.proofs.Common.{Option, Some, None, List, [], ◌∷◌, ◌++◌, inl, inr}
+use Rattle.std.proofs.Common.{Option, Some, None, List, [], ◌∷◌, ◌++◌, refl, subst, inl, inr}
 use Rattle.std.specs.Prelude.{⊤}
 use Rattle.chumsky_input.specs.Outcome.{Meaning, Beginning, Outcome, SameValue, EndsAfterStart, Agreeing}
 use Rattle.chumsky_parser.specs.Chained.{Given}
@@ -10,7 +10,13 @@ use Rattle.chumsky_parser.specs.Items.{Next, ItemsEnd, ItemsAgree}
 use Rattle.chumsky_parser.specs.ItemsLaws.{two_runs-agree}
 use Rattle.chumsky_items.specs.Consumers.{Appends, HoldsAll, Collected, SameItems}
 use Rattle.chumsky_items.specs.ConsumersLaws.{same_items-more, collects-ends}
-use Rattle.chumsky_folds.specs.Folding.{FoldsFrom, FoldsItems, FoldsFromCopy, FoldsFromPart, SameFolded}
+use Rattle.chumsky_folds.specs.Folding.{FoldsLeft, FoldsFrom, FoldsItems, FoldsFromCopy, FoldsFromPart, SameFolded}
+
+module _ {A V : Type 0} (steps : A → V → A → Type 0) where
+  -- one more item, from the left
+  pub folds_left-more : (xs : List V) (a b z : A) (x : V) → FoldsLeft steps a xs b → steps b x z → FoldsLeft steps a (xs ++ x ∷ []) z
+  folds_left-more [] a b z x f s = (z, subst (λ y. steps y x z) f s, refl)
+  folds_left-more (y ∷ ys) a b z x f s = (f.0, f.1, folds_left-more ys f.0 b z x f.2 s)
 
 -- one more item, where all are there
 abbrev pub appended : {V : Type 0} → Option (List V) → Option V → Option (List V)

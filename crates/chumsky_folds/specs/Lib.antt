@@ -5,3 +5,12 @@ pub mod FoldingBackLaws
 pub mod Enumerating
 pub mod EnumeratingLaws
 pub mod Compared
+pub mod CalledWithTwo
+pub mod FoldingShown
+pub mod FoldingShownLaws
+pub mod Placed
+pub mod PlacedLaws
+pub mod FoldingBackShown
+pub mod FoldingBackShownLaws
+pub mod FoldingTried
+pub mod FoldingTriedLaws

@@ -5,7 +5,13 @@ use crate::enumerate::Enumerate;
 use crate::fold::Fold;
 use crate::folder::{Folder, RightFolder};
 use crate::foldl::Foldl;
+use crate::foldl_with::FoldlWith;
 use crate::foldr::Foldr;
+use crate::foldr_with::FoldrWith;
+use crate::try_foldl::TryFoldl;
+use chumsky_input::extra::ParserExtra;
+use chumsky_input::input::Input;
+use chumsky_input::map_extra::MapExtra;
 use chumsky_items::collect::Collect;
 use chumsky_parser::iter::IsIterParser;
 use chumsky_parser::parser::IsParser;
@@ -90,6 +96,36 @@ pub trait IterFoldExt<I, O, E>: Sized {
         }
     }
 
+    /// `foldr` with a folder that is shown the run beside the item and the accumulator: the span from before the item's step
+    /// to the end of `other`, which in a list with separators begins before the separator, the state and the context. What
+    /// it writes to the state stands.
+    ///
+    /// ```text
+    /// // Of `--x` the spans are 1..3, of the inner minus, and then 0..3.
+    /// just('-').repeated().foldr_with(atom, |_, operand, e| negated(operand, e.span()))
+    /// ```
+    #[inline]
+    final fn foldr_with<'src, U, B: IsParser<I, U, E>, F>(
+        self,
+        other: B,
+        folder: F,
+    ) -> FoldrWith<F, Self, B, O>
+    where
+        I: Input<'src>,
+        E: ParserExtra<I>,
+        F: Fn(O, U, &mut MapExtra<'src, '_, I, E>) -> U,
+        ensures items { result.items ≡ self }
+        ensures parser { result.parser ≡ other }
+        ensures folder { result.folder ≡ folder }
+    {
+        FoldrWith {
+            items: self,
+            parser: other,
+            folder,
+            of: PhantomData,
+        }
+    }
+
     /// Each item with the number of items before it: 0, 1, 2 and so on. It is a parser of items again.
     #[inline]
     final fn enumerate(self) -> Enumerate<Self, O>
@@ -140,6 +176,66 @@ pub trait FoldExt<I, O, E>: Sized {
         ensures folder { result.folder ≡ folder }
     {
         Foldl {
+            parser: self,
+            items,
+            folder,
+            of: PhantomData,
+        }
+    }
+
+    /// `foldl` with a folder that is shown the run beside the accumulator and the item: the span from the start of this
+    /// parser to the end of the item, the state and the context. What it writes to the state stands. Where no output is
+    /// wanted it is not called, and so writes nothing.
+    ///
+    /// ```text
+    /// // Of `1+2+3` the spans are 0..3, and then 0..5.
+    /// number.foldl_with(just('+').ignore_then(number).repeated(), |sum, next, e| add(sum, next, e.span()))
+    /// ```
+    #[inline]
+    final fn foldl_with<'src, U, B: IsIterParser<I, U, E>, F>(
+        self,
+        items: B,
+        folder: F,
+    ) -> FoldlWith<F, Self, B, U>
+    where
+        I: Input<'src>,
+        E: ParserExtra<I>,
+        F: Fn(O, U, &mut MapExtra<'src, '_, I, E>) -> O,
+        ensures parser { result.parser ≡ self }
+        ensures items { result.items ≡ items }
+        ensures folder { result.folder ≡ folder }
+    {
+        FoldlWith {
+            parser: self,
+            items,
+            folder,
+            of: PhantomData,
+        }
+    }
+
+    /// `foldl_with` with a folder that may refuse an item. Where it answers an error the run fails: the error stands at the
+    /// place before the item's step, and the run where that step ended. This parser, the items and the folder run where no
+    /// output is wanted too, so that both paths fail alike.
+    ///
+    /// ```text
+    /// // A sum past 255 is refused.
+    /// number.try_foldl(others, |sum: u8, next, e| sum.checked_add(next).ok_or_else(|| too_large(e.span())))
+    /// ```
+    #[inline]
+    final fn try_foldl<'src, U, B: IsIterParser<I, U, E>, F>(
+        self,
+        items: B,
+        folder: F,
+    ) -> TryFoldl<F, Self, B, U>
+    where
+        I: Input<'src>,
+        E: ParserExtra<I>,
+        F: Fn(O, U, &mut MapExtra<'src, '_, I, E>) -> Result<O, E::Error>,
+        ensures parser { result.parser ≡ self }
+        ensures items { result.items ≡ items }
+        ensures folder { result.folder ≡ folder }
+    {
+        TryFoldl {
             parser: self,
             items,
             folder,

@@ -1,13 +1,15 @@
 //! Laws of folds and of items with their numbers, each the contract of a function that does nothing.
 ghost use Rattle.std.specs.Prelude.{◌≡◌, List, reverse};
 ghost use Rattle.chumsky_parser.specs.Chained.{Sequence};
-ghost use Rattle.chumsky_folds.specs.Compared.{FoldsCollected, NumbersFromZero};
+ghost use Rattle.chumsky_folds.specs.Compared.{FoldsAlike, FoldsCollected, IsBlind, NumbersFromZero};
 ghost use Rattle.chumsky_folds.specs.Folding.{FoldsLeft};
 
 use crate::enumerate::Enumerate;
 use crate::fold::Fold;
 use crate::folder::{Folder, RightFolder};
+use crate::folder_with::FolderWith;
 use crate::foldl::Foldl;
+use crate::foldl_with::FoldlWith;
 use crate::foldr::Foldr;
 use chumsky_input::extra::ParserExtra;
 use chumsky_input::input::Input;
@@ -42,6 +44,22 @@ pub fn foldl_is_the_fold_of_what_collect_gives<
     F: Folder<O, U>,
 >(foldl: &Foldl<F, A, B, U>)
     ensures { FoldsCollected (λ (p : O × List U) c. (p.0 ≡ c.0) × (c.1.items ≡ p.1)) (λ (p : O × List U) z. FoldsLeft (F.gives foldl.now.folder) p.0 p.1 z) (Sequence (A.meaning foldl.now.parser E.Error.Error E.State.Inspector) (⟦<Collect<B, U, Vec<U>> as Parser<'src, I, Vec<U>, E>>⟧.meaning (record { parser = foldl.now.items; of = record {} }) E.Error.Error E.State.Inspector)) (⟦<Foldl<F, A, B, U> as Parser<'src, I, O, E>>⟧.meaning foldl.now E.Error.Error E.State.Inspector) }
+{}
+
+/// Where its folder takes no notice of the run and leaves the state, `foldl_with` has the outcomes of `foldl` by a folder with
+/// the same answers.
+pub fn foldl_with_by_a_blind_folder_is_foldl<
+    'src,
+    I: Input<'src>,
+    O: Drop,
+    U: Drop,
+    E: ParserExtra<I>,
+    A: Parser<'src, I, O, E>,
+    B: IterParser<'src, I, U, E>,
+    F: FolderWith<'src, I, O, U, E>,
+    G: Folder<O, U>,
+>(foldl: &FoldlWith<F, A, B, U>, folder: &G)
+    ensures { IsBlind (F.gives foldl.now.folder E.State.Inspector) (G.gives folder.now) → FoldsAlike (⟦<FoldlWith<F, A, B, U> as Parser<'src, I, O, E>>⟧.meaning foldl.now E.Error.Error E.State.Inspector) (⟦<Foldl<G, A, B, U> as Parser<'src, I, O, E>>⟧.meaning (record { parser = foldl.now.parser; items = foldl.now.items; folder = folder.now; of = record {} }) E.Error.Error E.State.Inspector) }
 {}
 
 /// `foldr` gives the left fold of the items in reverse, as `collect` gives them, into the output of the parser after them.

@@ -2,15 +2,23 @@
 //! are, and their folders are functions. And what is known of two outputs that count as the same.
 ghost use Rattle.std.specs.Prelude.{ℕ};
 ghost use Rattle.chumsky_parser.specs.Copied.{BothCopies};
+ghost use Rattle.chumsky_parser.specs.Showing.{OnlyAnswers};
 ghost use Rattle.chumsky_folds.specs.Enumerating.{SameNumbered};
 ghost use Rattle.chumsky_folds.specs.Folding.{IsFunction, SameFolded};
 ghost use Rattle.chumsky_folds.specs.FoldingBack.{SameFoldedBack};
+ghost use Rattle.chumsky_folds.specs.FoldingShown.{StepsShown, SameTaken};
+ghost use Rattle.chumsky_folds.specs.FoldingBackShown.{StepsBackShown};
+ghost use Rattle.chumsky_folds.specs.FoldingTried.{StepsTried, TriesAlike};
 
 use crate::enumerate::Enumerate;
 use crate::fold::Fold;
 use crate::folder::{Folder, RightFolder};
+use crate::folder_with::{FolderWith, RightFolderWith, TryFolder};
 use crate::foldl::Foldl;
+use crate::foldl_with::FoldlWith;
 use crate::foldr::Foldr;
+use crate::foldr_with::FoldrWith;
+use crate::try_foldl::TryFoldl;
 use chumsky_input::extra::ParserExtra;
 use chumsky_input::input::Input;
 use chumsky_parser::iter::IterParser;
@@ -61,6 +69,56 @@ pub fn foldr_is_steady<
 >(foldr: &Foldr<F, A, B, O>)
     ensures steady { A.steady foldr.now.items.parser → B.steady foldr.now.parser → IsFunction (F.gives foldr.now.folder) → ⟦<Foldr<F, A, B, O> as Parser<'src, I, U, E>>⟧.steady foldr.now }
     ensures same { (x y : U) → ⟦<Foldr<F, A, B, O> as Parser<'src, I, U, E>>⟧.same foldr.now x y → SameFoldedBack (B.same foldr.now.parser) (A.same foldr.now.items.parser) (F.gives foldr.now.folder) x y }
+{}
+
+/// `a.foldl_with(b, f)`, where `f` gives one answer to each accumulator, item and what it is shown, and leaves the state as it
+/// is. Two outputs are the same where they are left folds, from outputs of `a` that are the same, of as many items that are,
+/// each shown one run.
+pub fn foldl_with_is_steady<
+    'src,
+    I: Input<'src>,
+    O: Drop,
+    U: Drop,
+    E: ParserExtra<I>,
+    A: Parser<'src, I, O, E>,
+    B: IterParser<'src, I, U, E>,
+    F: FolderWith<'src, I, O, U, E>,
+>(foldl: &FoldlWith<F, A, B, U>)
+    ensures steady { A.steady foldl.now.parser → B.steady foldl.now.items → OnlyAnswers (F.gives foldl.now.folder E.State.Inspector) → ⟦<FoldlWith<F, A, B, U> as Parser<'src, I, O, E>>⟧.steady foldl.now }
+    ensures same { (x y : O) → ⟦<FoldlWith<F, A, B, U> as Parser<'src, I, O, E>>⟧.same foldl.now x y → SameFolded (A.same foldl.now.parser) (SameTaken (B.same foldl.now.items)) (StepsShown (F.gives foldl.now.folder E.State.Inspector)) x y }
+{}
+
+/// `a.foldr_with(b, f)`, where `f` gives one answer to each item, accumulator and what it is shown, and leaves the state as it
+/// is. Two outputs are the same where they are right folds, from outputs of `b` that are the same, of as many items that are,
+/// each shown one run.
+pub fn foldr_with_is_steady<
+    'src,
+    I: Input<'src>,
+    O: Drop,
+    U: Drop,
+    E: ParserExtra<I>,
+    A: IterParser<'src, I, O, E>,
+    B: Parser<'src, I, U, E>,
+    F: RightFolderWith<'src, I, O, U, E>,
+>(foldr: &FoldrWith<F, A, B, O>)
+    ensures steady { A.steady foldr.now.items → B.steady foldr.now.parser → OnlyAnswers (F.gives foldr.now.folder E.State.Inspector) → ⟦<FoldrWith<F, A, B, O> as Parser<'src, I, U, E>>⟧.steady foldr.now }
+    ensures same { (x y : U) → ⟦<FoldrWith<F, A, B, O> as Parser<'src, I, U, E>>⟧.same foldr.now x y → SameFoldedBack (B.same foldr.now.parser) (SameTaken (A.same foldr.now.items)) (StepsBackShown (F.gives foldr.now.folder E.State.Inspector)) x y }
+{}
+
+/// `a.try_foldl(b, f)`, where `f` takes both of two items that are the same, into accumulators that were folded alike, or
+/// refuses both with errors that count as one, and leaves one state; it may change the state, since both paths call it.
+pub fn try_foldl_is_steady<
+    'src,
+    I: Input<'src>,
+    O: Drop,
+    U: Drop,
+    E: ParserExtra<I>,
+    A: Parser<'src, I, O, E>,
+    B: IterParser<'src, I, U, E>,
+    F: TryFolder<'src, I, O, U, E>,
+>(foldl: &TryFoldl<F, A, B, U>)
+    ensures steady { A.steady foldl.now.parser → B.steady foldl.now.items → TriesAlike E.Error.seen (F.gives foldl.now.folder E.State.Inspector) (A.same foldl.now.parser) (B.same foldl.now.items) → ⟦<TryFoldl<F, A, B, U> as Parser<'src, I, O, E>>⟧.steady foldl.now }
+    ensures same { (x y : O) → ⟦<TryFoldl<F, A, B, U> as Parser<'src, I, O, E>>⟧.same foldl.now x y → SameFolded (A.same foldl.now.parser) (SameTaken (B.same foldl.now.items)) (StepsTried (F.gives foldl.now.folder E.State.Inspector)) x y }
 {}
 
 /// `a.enumerate()`. Two of its items are the same where their numbers are equal, and the items of `a` in them are the same.

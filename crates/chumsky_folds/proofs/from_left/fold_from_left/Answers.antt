@@ -2,7 +2,7 @@ use Rattle.std.proofs.Common.{rules, arith, refl, ◌++◌, ◌∷◌, []}
 use Rattle.chumsky_parser.proofs.ChainedLemmas.{emit_ok, emit_err}
 use Rattle.chumsky_parser.proofs.ItemsLemmas.{items-unmade, items-made, steps-failed, steps-ended, steps-full, steps-more, emit_item, emit_end, emit_fault}
 use Rattle.chumsky_items.proofs.ConsumersLemmas.{ran-appended, ran-collected}
-use Rattle.chumsky_folds.proofs.FoldingLemmas.{folds_left-more}
+use Rattle.chumsky_folds.specs.FoldingLaws.{folds_left-more}
 use Rattle.chumsky_folds.proofs.from_left.fold_from_left.Goals as goal
 
 pub returns-in_err-state-clause-ran : goal.returns-in_err-state-clause-ran

@@ -1,0 +1,201 @@
+//! What makes one value of many, and is shown the run.
+ghost use Rattle.std.specs.Prelude.{◌≡◌, ◌≤◌};
+ghost use Rattle.chumsky_input.specs.Extra.{shown_from};
+ghost use Rattle.chumsky_input.specs.Held.{held};
+ghost use Rattle.chumsky_folds.specs.CalledWithTwo.{KeepsStateOfTwo, AnswersTwo};
+
+use chumsky_input::extra::ParserExtra;
+use chumsky_input::input::Input;
+use chumsky_input::input_ref::InputRef;
+use chumsky_input::map_extra::MapExtra;
+use std::marker::PhantomData;
+
+/// What takes one item more into an accumulator, from the left, and is shown the run: what `foldl_with` calls. Each closure
+/// `Fn(A, O, &mut MapExtra<I, E>) -> A` is one.
+pub trait FolderWith<'src, I: Input<'src>, A, O, E: ParserExtra<I>> {
+    ghost use Rattle.chumsky_parser.specs.Showing.{Makes};
+
+    /// That it may be called, and keeps the reference to the state.
+    ghost callable: { Self → Type 0 };
+
+    /// What it may give for an accumulator, an item and what it is shown, and the state that it may leave.
+    ghost gives: { Self → Makes I I.Token I.Span E.State E.State.Mark E.Context (A × O) A };
+
+    /// The accumulator with the item in it, shown what the run took since a cursor of its input.
+    fn step_with(
+        &self,
+        accumulator: A,
+        item: O,
+        since: &I::Cursor,
+        inp: &mut InputRef<'src, '_, I, E>,
+    ) -> A
+        requires callable { callable self.now }
+        requires tokens { I.cursor_tokens since.now ≡ (held I.Input E.Error.Error E.State.Inspector inp.old).tokens }
+        requires order { I.place since.now ≤ (held I.Input E.Error.Error E.State.Inspector inp.old).place }
+        ensures gives { gives self.now E.State.Inspector (accumulator, item) (shown_from (I.place since.now) (held I.Input E.Error.Error E.State.Inspector inp.old)) result (held I.Input E.Error.Error E.State.Inspector inp.new).state }
+        ensures moves { held I.Input E.Error.Error E.State.Inspector inp.new ≡ record (held I.Input E.Error.Error E.State.Inspector inp.old) { state = (held I.Input E.Error.Error E.State.Inspector inp.new).state } }
+        ensures lent { inp.new.state.ghost_name ≡ inp.old.state.ghost_name };
+}
+
+impl<'src, I, A, O, E, F> FolderWith<'src, I, A, O, E> for F
+where
+    I: Input<'src>,
+    E: ParserExtra<I>,
+    F: Fn(A, O, &mut MapExtra<'src, '_, I, E>) -> A,
+{
+    ghost callable = { λ f. KeepsStateOfTwo I.Input E.State.Inspector F.Fn f };
+
+    ghost gives = { λ f states. AnswersTwo I.Input states F.Fn f };
+
+    #[inline(always)]
+    fn step_with(
+        &self,
+        accumulator: A,
+        item: O,
+        since: &I::Cursor,
+        inp: &mut InputRef<'src, '_, I, E>,
+    ) -> A {
+        call_with_two(self, accumulator, item, since, inp)
+    }
+}
+
+/// What takes one item more into an accumulator, from the right, and is shown the run: what `foldr_with` calls. Each closure
+/// `Fn(O, A, &mut MapExtra<I, E>) -> A` is one.
+pub trait RightFolderWith<'src, I: Input<'src>, O, A, E: ParserExtra<I>> {
+    ghost use Rattle.chumsky_parser.specs.Showing.{Makes};
+
+    /// That it may be called, and keeps the reference to the state.
+    ghost callable: { Self → Type 0 };
+
+    /// What it may give for an item, an accumulator and what it is shown, and the state that it may leave.
+    ghost gives: { Self → Makes I I.Token I.Span E.State E.State.Mark E.Context (O × A) A };
+
+    /// The accumulator with the item in it, shown what the run took since a cursor of its input.
+    fn step_with(
+        &self,
+        item: O,
+        accumulator: A,
+        since: &I::Cursor,
+        inp: &mut InputRef<'src, '_, I, E>,
+    ) -> A
+        requires callable { callable self.now }
+        requires tokens { I.cursor_tokens since.now ≡ (held I.Input E.Error.Error E.State.Inspector inp.old).tokens }
+        requires order { I.place since.now ≤ (held I.Input E.Error.Error E.State.Inspector inp.old).place }
+        ensures gives { gives self.now E.State.Inspector (item, accumulator) (shown_from (I.place since.now) (held I.Input E.Error.Error E.State.Inspector inp.old)) result (held I.Input E.Error.Error E.State.Inspector inp.new).state }
+        ensures moves { held I.Input E.Error.Error E.State.Inspector inp.new ≡ record (held I.Input E.Error.Error E.State.Inspector inp.old) { state = (held I.Input E.Error.Error E.State.Inspector inp.new).state } }
+        ensures lent { inp.new.state.ghost_name ≡ inp.old.state.ghost_name };
+}
+
+impl<'src, I, O, A, E, F> RightFolderWith<'src, I, O, A, E> for F
+where
+    I: Input<'src>,
+    E: ParserExtra<I>,
+    F: Fn(O, A, &mut MapExtra<'src, '_, I, E>) -> A,
+{
+    ghost callable = { λ f. KeepsStateOfTwo I.Input E.State.Inspector F.Fn f };
+
+    ghost gives = { λ f states. AnswersTwo I.Input states F.Fn f };
+
+    #[inline(always)]
+    fn step_with(
+        &self,
+        item: O,
+        accumulator: A,
+        since: &I::Cursor,
+        inp: &mut InputRef<'src, '_, I, E>,
+    ) -> A {
+        call_with_two(self, item, accumulator, since, inp)
+    }
+}
+
+/// What takes one item more into an accumulator, or refuses it with an error, and is shown the run: what `try_foldl` calls.
+/// Each closure `Fn(A, O, &mut MapExtra<I, E>) -> Result<A, Error>` is one.
+pub trait TryFolder<'src, I: Input<'src>, A, O, E: ParserExtra<I>> {
+    ghost use Rattle.std.specs.Prelude.{Result};
+    ghost use Rattle.chumsky_parser.specs.Showing.{Makes};
+
+    /// That it may be called, and keeps the reference to the state.
+    ghost callable: { Self → Type 0 };
+
+    /// What it may answer to an accumulator, an item and what it is shown, and the state that it may leave.
+    ghost gives: { Self → Makes I I.Token I.Span E.State E.State.Mark E.Context (A × O) (Result A E.Error) };
+
+    /// The accumulator with the item in it, or the error that refuses it, shown what the run took since a cursor of its
+    /// input.
+    fn try_step(
+        &self,
+        accumulator: A,
+        item: O,
+        since: &I::Cursor,
+        inp: &mut InputRef<'src, '_, I, E>,
+    ) -> Result<A, E::Error>
+        requires callable { callable self.now }
+        requires tokens { I.cursor_tokens since.now ≡ (held I.Input E.Error.Error E.State.Inspector inp.old).tokens }
+        requires order { I.place since.now ≤ (held I.Input E.Error.Error E.State.Inspector inp.old).place }
+        ensures gives { gives self.now E.State.Inspector (accumulator, item) (shown_from (I.place since.now) (held I.Input E.Error.Error E.State.Inspector inp.old)) result (held I.Input E.Error.Error E.State.Inspector inp.new).state }
+        ensures moves { held I.Input E.Error.Error E.State.Inspector inp.new ≡ record (held I.Input E.Error.Error E.State.Inspector inp.old) { state = (held I.Input E.Error.Error E.State.Inspector inp.new).state } }
+        ensures lent { inp.new.state.ghost_name ≡ inp.old.state.ghost_name };
+}
+
+impl<'src, I, A, O, E, F> TryFolder<'src, I, A, O, E> for F
+where
+    I: Input<'src>,
+    E: ParserExtra<I>,
+    F: Fn(A, O, &mut MapExtra<'src, '_, I, E>) -> Result<A, E::Error>,
+{
+    ghost callable = { λ f. KeepsStateOfTwo I.Input E.State.Inspector F.Fn f };
+
+    ghost gives = { λ f states. AnswersTwo I.Input states F.Fn f };
+
+    #[inline(always)]
+    fn try_step(
+        &self,
+        accumulator: A,
+        item: O,
+        since: &I::Cursor,
+        inp: &mut InputRef<'src, '_, I, E>,
+    ) -> Result<A, E::Error> {
+        call_with_two(self, accumulator, item, since, inp)
+    }
+}
+
+/// Calls a closure with two values and an extra over what the run took since a cursor of its input.
+#[inline(always)]
+fn call_with_two<'src, I, E, A, V, R, F>(
+    closure: &F,
+    first: A,
+    second: V,
+    since: &I::Cursor,
+    inp: &mut InputRef<'src, '_, I, E>,
+) -> R
+where
+    I: Input<'src>,
+    E: ParserExtra<I>,
+    F: Fn(A, V, &mut MapExtra<'src, '_, I, E>) -> R,
+    requires callable { KeepsStateOfTwo I.Input E.State.Inspector F.Fn closure.now }
+    requires tokens { I.cursor_tokens since.now ≡ (held I.Input E.Error.Error E.State.Inspector inp.old).tokens }
+    requires order { I.place since.now ≤ (held I.Input E.Error.Error E.State.Inspector inp.old).place }
+    ensures answers { AnswersTwo I.Input E.State.Inspector F.Fn closure.now (first, second) (shown_from (I.place since.now) (held I.Input E.Error.Error E.State.Inspector inp.old)) result (held I.Input E.Error.Error E.State.Inspector inp.new).state }
+    ensures moves { held I.Input E.Error.Error E.State.Inspector inp.new ≡ record (held I.Input E.Error.Error E.State.Inspector inp.old) { state = (held I.Input E.Error.Error E.State.Inspector inp.new).state } }
+    ensures lent { inp.new.state.ghost_name ≡ inp.old.state.ghost_name }
+{
+    let mut extra: MapExtra<'src, '_, I, E> = MapExtra {
+        from: *since,
+        to: inp.cursor,
+        state: &mut *inp.state,
+        context: inp.context,
+        alloc: inp.alloc,
+        source: PhantomData,
+    };
+    let answer = closure(first, second, &mut extra);
+    let MapExtra {
+        from: _,
+        to: _,
+        state: lent,
+        context: _,
+        alloc: _,
+        source: _,
+    } = extra;
+    let _last = &*lent;
+    answer
+}

@@ -1,0 +1,137 @@
+//! Items and then a parser, folded from its output back by what is shown the run.
+ghost use Rattle.std.specs.Prelude.{◌≡◌, true, false, IfOk};
+ghost use Rattle.std.specs.List.{All};
+ghost use Rattle.chumsky_input.specs.Extra.{shown_from};
+ghost use Rattle.chumsky_input.specs.Held.{held};
+ghost use Rattle.chumsky_input.specs.Run.{Ran, with_value};
+ghost use Rattle.chumsky_items.specs.Consumers.{Collects};
+ghost use Rattle.chumsky_folds.specs.Placed.{Placed, HoldsPlaced, StartsIn, places_of};
+ghost use Rattle.chumsky_folds.specs.FoldingBackShown.{FoldsRightShown};
+
+use crate::folder_with::RightFolderWith;
+use chumsky_input::extra::ParserExtra;
+use chumsky_input::input::Input;
+use chumsky_input::input_ref::InputRef;
+use chumsky_input::stop::{Fault, PResult, Stop};
+use chumsky_items::pass::pass_all;
+use chumsky_parser::iter::{IsIterParser, IterParser, IterParserDebug};
+use chumsky_parser::onward::next_item;
+use chumsky_parser::parser::{IsParser, Parser};
+use std::marker::PhantomData;
+
+/// The items of a parser, and then another parser, folded from the right, from the other one's output, by a closure that is
+/// shown the run. See `foldr_with`.
+#[derive(Drop)]
+#[derive_where(Clone, Copy; F, A, B)]
+pub struct FoldrWith<F, A, B, O> {
+    pub items: A,
+    pub parser: B,
+    pub folder: F,
+    pub of: PhantomData<O>,
+}
+
+impl<I, O, U, E, A: IsIterParser<I, O, E>, B: IsParser<I, U, E>, F> IsParser<I, U, E>
+    for FoldrWith<F, A, B, O> {}
+
+impl<
+    'src,
+    I: Input<'src>,
+    O: Drop,
+    U: Drop,
+    E: ParserExtra<I>,
+    A: IterParser<'src, I, O, E>,
+    B: Parser<'src, I, U, E>,
+    F: RightFolderWith<'src, I, O, U, E>,
+> Parser<'src, I, U, E> for FoldrWith<F, A, B, O> {
+    ghost use Rattle.std.proofs.Common.{sym, ◌∙◌};
+    ghost use Rattle.chumsky_parser.specs.Showing.{OnlyAnswers};
+    ghost use Rattle.chumsky_folds.specs.FoldingBack.{SameFoldedBack};
+    ghost use Rattle.chumsky_folds.specs.FoldingShown.{SameTaken};
+    ghost use Rattle.chumsky_folds.specs.FoldingBackShown.{FoldsBackShown, StepsBackShown};
+    ghost use Rattle.chumsky_folds.specs.FoldingBackShownLaws.{folds_back_shown-ends, folds_back_shown-agree};
+
+    ghost ready = { λ p. A.ready p.items × B.ready p.parser × F.callable p.folder };
+
+    ghost meaning = { λ p errors states. FoldsBackShown (λ s. A.gives p.items (record { nonconsumption_is_ok = false }) s errors states) (A.begins p.items errors states) (HoldsPlaced I.Input) (F.gives p.folder states) (B.meaning p.parser errors states) };
+
+    ghost steady = { λ p. A.steady p.items × B.steady p.parser × OnlyAnswers (F.gives p.folder E.State.Inspector) };
+
+    ghost same = { λ p. SameFoldedBack (B.same p.parser) (SameTaken (A.same p.items)) (StepsBackShown (F.gives p.folder E.State.Inspector)) };
+
+    ghost ends_after_start = { λ p. folds_back_shown-ends _ _ _ _ _ (A.ends_after_start p.items (record { nonconsumption_is_ok = false })) (B.ends_after_start p.parser) };
+
+    ghost agrees = { λ p s. folds_back_shown-agree _ _ _ _ _ (λ xs ys v e d. sym e ∙ d) s.2 (A.same p.items) (B.same p.parser) (A.alike p.items) (A.agrees p.items s.0 (record { nonconsumption_is_ok = false })) (B.agrees p.parser s.1) };
+
+    #[inline(always)]
+    fn go_emit(&self, inp: &mut InputRef<'src, '_, I, E>) -> PResult<U> {
+        let items = collect_placed::<I, O, E, A>(&self.items, inp)?;
+        let last = self.parser.go_emit(inp)?;
+        Ok(fold_back_with::<I, O, U, E, F>(items, last, &self.folder, inp))
+    }
+
+    #[inline(always)]
+    fn go_check(&self, inp: &mut InputRef<'src, '_, I, E>) -> PResult<()> {
+        pass_all::<Vec<(O, I::Cursor)>, I, O, E, A>(&self.items, inp)?;
+        self.parser.go_check(inp)
+    }
+}
+
+/// All items, in order, each with the cursor before its step.
+#[inline(always)]
+fn collect_placed<'src, I: Input<'src>, O: Drop, E: ParserExtra<I>, A: IterParser<'src, I, O, E>>(
+    parser: &A,
+    inp: &mut InputRef<'src, '_, I, E>,
+) -> PResult<Vec<(O, I::Cursor)>>
+    requires { A.ready parser.now }
+    ensures ran { Ran E.Error.merged E.Error.takes_no_memory (Collects (λ s. Placed (A.gives parser.now (record { nonconsumption_is_ok = false }) s E.Error.Error E.State.Inspector)) (A.begins parser.now E.Error.Error E.State.Inspector) (HoldsPlaced I.Input) ⊥) true (held I.Input E.Error.Error E.State.Inspector inp.old) (held I.Input E.Error.Error E.State.Inspector inp.new) (with_value result) }
+    ensures within { IfOk result (λ v. All (StartsIn I.Input (held I.Input E.Error.Error E.State.Inspector inp.new).tokens (held I.Input E.Error.Error E.State.Inspector inp.new).place) v.items) }
+    ensures lent { inp.new.state.ghost_name ≡ inp.old.state.ghost_name }
+{
+    let mut state = parser.make_iter(inp)?;
+    let mut items = Vec::new(inp.alloc());
+    let mut count = 0usize;
+    let debug = IterParserDebug {
+        nonconsumption_is_ok: false,
+    };
+    loop {
+        let before = inp.cursor;
+        match next_item(parser, inp, &mut state, debug)? {
+            None => return Ok(items),
+            Some(item) => {
+                if count == usize::MAX {
+                    return Err(Fault::Stop(Stop::CountTooLarge));
+                }
+                count += 1;
+                match items.push((item, before)) {
+                    Ok(()) => {}
+                    Err(_) => return Err(Fault::Stop(Stop::Memory)),
+                }
+            }
+        }
+    }
+}
+
+/// Takes each item into the accumulator, from the last one back, showing what the run took since its cursor.
+#[inline(always)]
+fn fold_back_with<
+    'src,
+    I: Input<'src>,
+    O: Drop,
+    U,
+    E: ParserExtra<I>,
+    F: RightFolderWith<'src, I, O, U, E>,
+>(items: Vec<(O, I::Cursor)>, last: U, folder: &F, inp: &mut InputRef<'src, '_, I, E>) -> U
+    requires callable { F.callable folder.now }
+    requires within { All (StartsIn I.Input (held I.Input E.Error.Error E.State.Inspector inp.old).tokens (held I.Input E.Error.Error E.State.Inspector inp.old).place) items.items }
+    ensures folds { FoldsRightShown (F.gives folder.now E.State.Inspector) (shown_from (held I.Input E.Error.Error E.State.Inspector inp.old).place (held I.Input E.Error.Error E.State.Inspector inp.old)) last (places_of I.Input items.items) result (held I.Input E.Error.Error E.State.Inspector inp.new).state }
+    ensures moves { held I.Input E.Error.Error E.State.Inspector inp.new ≡ record (held I.Input E.Error.Error E.State.Inspector inp.old) { state = (held I.Input E.Error.Error E.State.Inspector inp.new).state } }
+    ensures lent { inp.new.state.ghost_name ≡ inp.old.state.ghost_name }
+{
+    let mut left = items;
+    let mut accumulator = last;
+    while let Some(placed) = left.pop() {
+        let (item, before) = placed;
+        accumulator = folder.step_with(item, accumulator, &before, inp);
+    }
+    accumulator
+}

@@ -1,0 +1,146 @@
+//! A parser and then items, folded from its output by what may refuse.
+ghost use Rattle.std.specs.Prelude.{◌≡◌, ◌≤◌, true, false, Some, Bool};
+ghost use Rattle.chumsky_input.specs.Held.{held};
+ghost use Rattle.chumsky_input.specs.Run.{Ran, with_value};
+ghost use Rattle.chumsky_parser.specs.Failure.{asked};
+ghost use Rattle.chumsky_folds.specs.FoldingShown.{TakesAll};
+ghost use Rattle.chumsky_folds.specs.Placed.{Placed};
+ghost use Rattle.chumsky_folds.specs.FoldingTried.{TakesTried, FoldsTried};
+
+use crate::folder_with::TryFolder;
+use chumsky_input::error::Error;
+use chumsky_input::extra::ParserExtra;
+use chumsky_input::input::Input;
+use chumsky_input::input_ref::InputRef;
+use chumsky_input::stop::{Fault, PResult, Stop};
+use chumsky_parser::iter::{IsIterParser, IterParser, IterParserDebug};
+use chumsky_parser::onward::next_item;
+use chumsky_parser::parser::{IsParser, Parser};
+use std::marker::PhantomData;
+
+/// A parser, and then the items of another, folded from the left, from the first one's output, by a closure that is shown
+/// the run and may refuse. See `try_foldl`.
+#[derive(Drop)]
+#[derive_where(Clone, Copy; F, A, B)]
+pub struct TryFoldl<F, A, B, U> {
+    pub parser: A,
+    pub items: B,
+    pub folder: F,
+    pub of: PhantomData<U>,
+}
+
+impl<I, O, U, E, A: IsParser<I, O, E>, B: IsIterParser<I, U, E>, F> IsParser<I, O, E>
+    for TryFoldl<F, A, B, U> {}
+
+impl<
+    'src,
+    I: Input<'src>,
+    O: Drop,
+    U: Drop,
+    E: ParserExtra<I>,
+    A: Parser<'src, I, O, E>,
+    B: IterParser<'src, I, U, E>,
+    F: TryFolder<'src, I, O, U, E>,
+> Parser<'src, I, O, E> for TryFoldl<F, A, B, U> {
+    ghost use Rattle.chumsky_folds.specs.Folding.{SameFolded};
+    ghost use Rattle.chumsky_folds.specs.FoldingShown.{SameTaken};
+    ghost use Rattle.chumsky_folds.specs.FoldingTried.{StepsTried, TriesAlike};
+    ghost use Rattle.chumsky_folds.specs.FoldingTriedLaws.{folds_tried-ends, folds_tried-agree};
+
+    ghost ready = { λ p. A.ready p.parser × B.ready p.items × F.callable p.folder };
+
+    ghost meaning = { λ p errors states. FoldsTried (λ s. B.gives p.items (record { nonconsumption_is_ok = false }) s errors states) (B.begins p.items errors states) errors.seen (F.gives p.folder states) (A.meaning p.parser errors states) };
+
+    ghost steady = { λ p. A.steady p.parser × B.steady p.items × TriesAlike E.Error.seen (F.gives p.folder E.State.Inspector) (A.same p.parser) (B.same p.items) };
+
+    ghost same = { λ p. SameFolded (A.same p.parser) (SameTaken (B.same p.items)) (StepsTried (F.gives p.folder E.State.Inspector)) };
+
+    ghost ends_after_start = { λ p. folds_tried-ends _ _ _ _ _ (B.ends_after_start p.items (record { nonconsumption_is_ok = false })) (A.ends_after_start p.parser) };
+
+    ghost agrees = { λ p s. folds_tried-agree _ _ _ _ _ (A.same p.parser) (B.same p.items) (B.alike p.items) s.2 (B.agrees p.items s.1 (record { nonconsumption_is_ok = false })) (A.agrees p.parser s.0) };
+
+    #[inline]
+    fn go_emit(&self, inp: &mut InputRef<'src, '_, I, E>) -> PResult<O> {
+        run_try_foldl(self, inp)
+    }
+
+    #[inline]
+    fn go_check(&self, inp: &mut InputRef<'src, '_, I, E>) -> PResult<()> {
+        let output = run_try_foldl(self, inp)?;
+        drop(output);
+        Ok(())
+    }
+}
+
+/// Runs the part for its value, and folds the items into it.
+#[inline]
+fn run_try_foldl<'src, I, O, U, E, A, B, F>(
+    fold: &TryFoldl<F, A, B, U>,
+    inp: &mut InputRef<'src, '_, I, E>,
+) -> PResult<O>
+where
+    I: Input<'src>,
+    O: Drop,
+    U: Drop,
+    E: ParserExtra<I>,
+    A: Parser<'src, I, O, E>,
+    B: IterParser<'src, I, U, E>,
+    F: TryFolder<'src, I, O, U, E>,
+    requires part { A.ready fold.now.parser }
+    requires items { B.ready fold.now.items }
+    requires callable { F.callable fold.now.folder }
+    ensures ran { (w : Bool) → Ran E.Error.merged E.Error.takes_no_memory (FoldsTried (λ s. B.gives fold.now.items (record { nonconsumption_is_ok = false }) s E.Error.Error E.State.Inspector) (B.begins fold.now.items E.Error.Error E.State.Inspector) E.Error.seen (F.gives fold.now.folder E.State.Inspector) (A.meaning fold.now.parser E.Error.Error E.State.Inspector)) w (held I.Input E.Error.Error E.State.Inspector inp.old) (held I.Input E.Error.Error E.State.Inspector inp.new) (asked w result) }
+    ensures lent { inp.new.state.ghost_name ≡ inp.old.state.ghost_name }
+{
+    let before = inp.cursor;
+    let first = fold.parser.go_emit(inp)?;
+    try_fold_with::<I, O, U, E, B, F>(first, &before, &fold.items, &fold.folder, inp)
+}
+
+/// Runs over all items, and takes each into the accumulator, which is first as given, until one is refused.
+#[inline(always)]
+fn try_fold_with<
+    'src,
+    I: Input<'src>,
+    B: Drop,
+    O: Drop,
+    E: ParserExtra<I>,
+    A: IterParser<'src, I, O, E>,
+    F: TryFolder<'src, I, B, O, E>,
+>(
+    first: B,
+    since: &I::Cursor,
+    parser: &A,
+    folder: &F,
+    inp: &mut InputRef<'src, '_, I, E>,
+) -> PResult<B>
+    requires ready { A.ready parser.now }
+    requires callable { F.callable folder.now }
+    requires tokens { I.cursor_tokens since.now ≡ (held I.Input E.Error.Error E.State.Inspector inp.old).tokens }
+    requires order { I.place since.now ≤ (held I.Input E.Error.Error E.State.Inspector inp.old).place }
+    ensures ran { Ran E.Error.merged E.Error.takes_no_memory (TakesAll (λ s. Placed (A.gives parser.now (record { nonconsumption_is_ok = false }) s E.Error.Error E.State.Inspector)) (A.begins parser.now E.Error.Error E.State.Inspector) (TakesTried E.Error.seen (F.gives folder.now E.State.Inspector) (I.place since.now)) (Some first)) true (held I.Input E.Error.Error E.State.Inspector inp.old) (held I.Input E.Error.Error E.State.Inspector inp.new) (with_value result) }
+    ensures lent { inp.new.state.ghost_name ≡ inp.old.state.ghost_name }
+{
+    let mut state = parser.make_iter(inp)?;
+    let mut accumulator = first;
+    let mut count = 0usize;
+    let debug = IterParserDebug {
+        nonconsumption_is_ok: false,
+    };
+    loop {
+        let before = inp.cursor;
+        match next_item(parser, inp, &mut state, debug)? {
+            None => return Ok(accumulator),
+            Some(item) => {
+                if count == usize::MAX {
+                    return Err(Fault::Stop(Stop::CountTooLarge));
+                }
+                count += 1;
+                match folder.try_step(accumulator, item, since, inp) {
+                    Ok(next) => accumulator = next,
+                    Err(error) => return Err(inp.add_event(I::place(&before), error)),
+                }
+            }
+        }
+    }
+}
