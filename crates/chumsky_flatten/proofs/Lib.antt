@@ -1,0 +1,5 @@
+pub mod IntoItemsLemmas
+pub mod FlatteningLemmas
+pub mod YesLemmas
+pub mod ComparedLemmas
+pub mod TogetherLemmas

@@ -1,0 +1,8 @@
+//! Items out of collections: those of an output, and those of each item.
+#![tactic(auto)]
+
+pub mod ext;
+pub mod flatten;
+pub mod into_iter;
+pub mod laws;
+pub mod steady;
