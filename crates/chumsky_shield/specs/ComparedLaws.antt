@@ -1,5 +1,5 @@
 -- Laws that compare parsers with their parts.
-use Rattle.std.proofs.Common.{◌≡◌, ℕ, Bool, true, false, Option, Some, None, Result, Ok, Err, refl, sym, ap, ◌∙◌, subst, inl, inr}
+use Rattle.std.proofs.Common.{◌≡◌, ℕ, Bool, true, Option, Some, None, Result, Ok, Err, refl, sym, ap, ◌∙◌, subst, inl, inr}
 use Rattle.chumsky_input.specs.declared.error.Error as error_trait
 use Rattle.chumsky_input.specs.declared.inspector.Inspector as inspector_trait
 use Rattle.chumsky_input.specs.declared.input.Input as input_trait
@@ -9,7 +9,7 @@ use Rattle.chumsky_shield.specs.Shielded.{Judges, NoAsOne}
 use Rattle.chumsky_shield.specs.ShieldedLaws.{or_clash-whole, or_lacks-whole}
 use Rattle.chumsky_shield.specs.Not.{Denies, Allows, MeansNot}
 use Rattle.chumsky_shield.specs.Vetted.{Vets, Rules, Vetting, Vetted, ByTest, tested}
-use Rattle.chumsky_shield.specs.Tried.{ByTry, ruling_seen}
+use Rattle.chumsky_shield.specs.Tried.{ByTry, ByPick, ruling_seen, picked}
 use Rattle.chumsky_parser.specs.Chained.{from, Follows}
 use Rattle.chumsky_parser.specs.Choice.{OrElse, ElseFrom}
 use Rattle.chumsky_parser.specs.Failure.{SaysNo}
@@ -73,6 +73,12 @@ module _ {I Tok Sp Cu Er St Cx V W : Type 0} (source : input_trait.Ghosts I Cu T
   try_map-as_part h =
       vetted-as_part errors.merged free (ByTry source errors gives) (λ b end v w. gives v (source.span_between b.tokens b.start end) (Ok w))
       (λ b end s t v r m. let k = h v (source.span_between b.tokens b.start end) m.ruling m.says in (k.0, m.answer ∙ ap (ruling_seen errors.seen) k.1, m.keeps, subst (gives v (source.span_between b.tokens b.start end)) k.1 m.says)) part
+
+module _ {I Tok Sp Cu Er St Cx V W : Type 0} (source : input_trait.Ghosts I Cu Tok Sp) (errors : error_trait.Ghosts Er I Tok Sp) (free : Type 0) (gives : V → Option W → Type 0) (part : Meaning Tok Cx St errors.Seen V) where
+  pub filter_map-as_part : ((v : V) (r : Option W) → gives v r → (w : W) × (r ≡ Some w)) → AnswersAsPart errors.merged (λ b end v w. gives v (Some w)) part (Vetted errors.merged free (ByPick source errors gives) part)
+  filter_map-as_part h =
+      vetted-as_part errors.merged free (ByPick source errors gives) (λ b end v w. gives v (Some w))
+      (λ b end s t v r m. let k = h v m.pick m.says in (k.0, m.answer ∙ ap (λ x. picked source errors x b end) k.1, m.keeps, subst (gives v) k.1 m.says)) part
 
 module _ {Tok Cx St Er V : Type 0} (merged : Er → Er → Er) (part : Meaning Tok Cx St Er V) where
   rewound : (v : Verdict V Er) (b : Beginning Tok Cx St) (p o : Outcome V Er St) (u : Option V) → Judges v (Rewinds merged) (NoAsOne merged) b p o → o.verdict ≡ Yes u → o.end ≡ b.start

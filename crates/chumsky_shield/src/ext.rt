@@ -3,7 +3,7 @@ ghost use Rattle.std.specs.Prelude.{◌≡◌};
 
 use crate::and_is::AndIs;
 use crate::filter::{Filter, Tester};
-use crate::filter_map::FilterMap;
+use crate::filter_map::{FilterMap, Picker};
 use crate::map_err::MapErr;
 use crate::map_err_with::MapErrWith;
 use crate::map_err_with_state::MapErrWithState;
@@ -86,15 +86,29 @@ pub trait ShieldExt<I, O, E>: Sized {
         }
     }
 
-    /// This parser, its output put through `filter`; where that answers none, it fails as `filter` does.
+    /// This parser, its output put through `picker`; where that answers none, it fails as `filter` does.
     #[inline]
-    final fn filter_map<U, F: Fn(O) -> Option<U>>(self, filter: F) -> FilterMap<Self, O, F, U>
+    final fn filter_map<U, F: Fn(O) -> Option<U>>(self, picker: F) -> FilterMap<Self, O, F, U>
         ensures parser { result.parser ≡ self }
-        ensures filter { result.filter ≡ filter }
+        ensures picker { result.picker ≡ picker }
     {
         FilterMap {
             parser: self,
-            filter,
+            picker,
+            of: PhantomData,
+        }
+    }
+
+    /// The same with a value of a type with an impl of `Picker`. The parser's type can then be written down, and what is
+    /// picked is known where the parser is run.
+    #[inline]
+    final fn filter_map_by<U, F: Picker<O, U>>(self, picker: F) -> FilterMap<Self, O, F, U>
+        ensures parser { result.parser ≡ self }
+        ensures picker { result.picker ≡ picker }
+    {
+        FilterMap {
+            parser: self,
+            picker,
             of: PhantomData,
         }
     }

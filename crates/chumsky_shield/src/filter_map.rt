@@ -1,5 +1,5 @@
-//! A mapper that picks what it maps.
-ghost use Rattle.std.specs.Prelude.{◌≡◌, Bool};
+//! A parser whose output is picked.
+ghost use Rattle.std.specs.Prelude.{◌≡◌, Bool, ⊤, Option};
 ghost use Rattle.chumsky_input.specs.Held.{held};
 ghost use Rattle.chumsky_input.specs.Run.{Ran};
 ghost use Rattle.chumsky_parser.specs.Failure.{asked};
@@ -16,12 +16,51 @@ use chumsky_input::stop::{Fault, PResult};
 use chumsky_parser::parser::{IsParser, Parser};
 use std::marker::PhantomData;
 
-/// A parser whose output goes through a closure that answers `Some` to what it takes. See `filter_map`.
+/// What picks an output: it makes one of another, or answers none. Each closure `Fn(O) -> Option<U>` is one, and so is a
+/// type of one's own that has an impl, which says in `gives` what is later known of an output that was picked:
+///
+/// ```text
+/// pub struct BelowTen;
+///
+/// impl Picker<u64, u8> for BelowTen {
+///     ghost gives = { λ picker number picked. IfSome picked (λ digit. digit < 10) };
+///
+///     fn pick(&self, value: u64) -> Option<u8> {
+///         if value < 10 { Some(value as u8) } else { None }
+///     }
+/// }
+/// ```
+pub trait Picker<O, U> {
+    /// That it may be called. Where nothing is said, it may.
+    ghost callable: { Self → Type 0 } = { λ picker. ⊤ };
+
+    /// What it may answer to a value.
+    ghost gives: { Self → O → Option U → Type 0 };
+
+    /// The output for a value, or none.
+    fn pick(&self, value: O) -> Option<U>
+        requires { callable self.now }
+        ensures { gives self.now value result };
+}
+
+impl<O, U, F: Fn(O) -> Option<U>> Picker<O, U> for F {
+    ghost callable = { λ f. F.IsAlwaysCallable f };
+
+    ghost gives = { λ f value result. F.post f value result };
+
+    #[inline]
+    fn pick(&self, value: O) -> Option<U> {
+        (*self)(value)
+    }
+}
+
+/// A parser whose output goes through a picker, which answers `Some` to what it takes. See `filter_map` and
+/// `filter_map_by`.
 #[derive(Drop)]
 #[derive_where(Clone, Copy; A, F)]
 pub struct FilterMap<A, O, F, U> {
     pub parser: A,
-    pub filter: F,
+    pub picker: F,
     pub of: PhantomData<(O, U)>,
 }
 
@@ -33,40 +72,40 @@ where
     U: Drop,
     E: ParserExtra<I>,
     A: Parser<'src, I, O, E>,
-    F: Fn(O) -> Option<U>,
+    F: Picker<O, U>,
 {
     ghost use Rattle.chumsky_shield.specs.Tried.{PicksAlike, SamePicked};
     ghost use Rattle.chumsky_shield.specs.TriedLaws.{picks-alike};
     ghost use Rattle.chumsky_shield.specs.VettedLaws.{vetted-ends, vetted-agrees};
 
-    ghost ready = { λ p. A.ready p.parser × F.IsAlwaysCallable p.filter };
+    ghost ready = { λ p. A.ready p.parser × F.callable p.picker };
 
-    ghost meaning = { λ p errors states. Vetted errors.merged errors.takes_no_memory (ByPick I.Input errors (F.post p.filter)) (A.meaning p.parser errors states) };
+    ghost meaning = { λ p errors states. Vetted errors.merged errors.takes_no_memory (ByPick I.Input errors (F.gives p.picker)) (A.meaning p.parser errors states) };
 
-    ghost steady = { λ p. A.steady p.parser × PicksAlike (A.same p.parser) (F.post p.filter) };
+    ghost steady = { λ p. A.steady p.parser × PicksAlike (A.same p.parser) (F.gives p.picker) };
 
-    ghost same = { λ p. SamePicked (A.same p.parser) (F.post p.filter) };
+    ghost same = { λ p. SamePicked (A.same p.parser) (F.gives p.picker) };
 
     ghost ends_after_start = { λ p. vetted-ends _ _ _ _ (A.ends_after_start p.parser) };
 
-    ghost agrees = { λ p s. vetted-agrees _ _ _ _ (A.same p.parser) _ (A.agrees p.parser s.0) (picks-alike _ _ (A.same p.parser) (F.post p.filter) s.1) };
+    ghost agrees = { λ p s. vetted-agrees _ _ _ _ (A.same p.parser) _ (A.agrees p.parser s.0) (picks-alike _ _ (A.same p.parser) (F.gives p.picker) s.1) };
 
     #[inline]
     fn go_emit(&self, inp: &mut InputRef<'src, '_, I, E>) -> PResult<U> {
-        pick(self, inp)
+        pick_output(self, inp)
     }
 
     #[inline]
     fn go_check(&self, inp: &mut InputRef<'src, '_, I, E>) -> PResult<()> {
-        let output = pick(self, inp)?;
+        let output = pick_output(self, inp)?;
         drop(output);
         Ok(())
     }
 }
 
-/// Runs the part with nothing kept, and calls the closure on its output.
+/// Runs the part with nothing kept, and lets the picker judge its output.
 #[inline]
-fn pick<'src, I, O, U, E, A, F>(
+fn pick_output<'src, I, O, U, E, A, F>(
     filter_map: &FilterMap<A, O, F, U>,
     inp: &mut InputRef<'src, '_, I, E>,
 ) -> PResult<U>
@@ -75,16 +114,16 @@ where
     U: Drop,
     E: ParserExtra<I>,
     A: Parser<'src, I, O, E>,
-    F: Fn(O) -> Option<U>,
+    F: Picker<O, U>,
     requires part { A.ready filter_map.now.parser }
-    requires filter { F.IsAlwaysCallable filter_map.now.filter }
-    ensures ran { (w : Bool) → Ran E.Error.merged E.Error.takes_no_memory (Vetted E.Error.merged E.Error.takes_no_memory (ByPick I.Input E.Error.Error (F.post filter_map.now.filter)) (A.meaning filter_map.now.parser E.Error.Error E.State.Inspector)) w (held I.Input E.Error.Error E.State.Inspector inp.old) (held I.Input E.Error.Error E.State.Inspector inp.new) (asked w result) }
+    requires picker { F.callable filter_map.now.picker }
+    ensures ran { (w : Bool) → Ran E.Error.merged E.Error.takes_no_memory (Vetted E.Error.merged E.Error.takes_no_memory (ByPick I.Input E.Error.Error (F.gives filter_map.now.picker)) (A.meaning filter_map.now.parser E.Error.Error E.State.Inspector)) w (held I.Input E.Error.Error E.State.Inspector inp.old) (held I.Input E.Error.Error E.State.Inspector inp.new) (asked w result) }
     ensures lent { inp.new.state.ghost_name ≡ inp.old.state.ghost_name }
 {
     let start = inp.cursor;
     let older = inp.take_kept();
     match filter_map.parser.go_emit(inp) {
-        Ok(value) => match (filter_map.filter)(value) {
+        Ok(value) => match filter_map.picker.pick(value) {
             Some(output) => {
                 inp.keep_before(older)?;
                 Ok(output)

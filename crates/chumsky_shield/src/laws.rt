@@ -9,6 +9,7 @@ ghost use Rattle.chumsky_shield.specs.Validated.{ByEmitter};
 
 use crate::and_is::AndIs;
 use crate::filter::{Filter, Tester};
+use crate::filter_map::{FilterMap, Picker};
 use crate::map_err::MapErr;
 use crate::map_err_with::MapErrWith;
 use crate::map_err_with_state::MapErrWithState;
@@ -80,6 +81,33 @@ pub fn filter_gives_what_passed<
     F: Tester<O>,
 >(filter: &Filter<A, F>)
     ensures { AlwaysGives (λ v. F.gives filter.now.tester v true) (⟦<Filter<A, F> as Parser<'src, I, O, E>>⟧.meaning filter.now E.Error.Error E.State.Inspector) }
+{}
+
+/// `a.filter_map(f)` with an `f` that never answers none answers as `a.map(f)` does: the verdict, end, state and emitted
+/// errors of `a`, with what `f` picked as the output. Only the failures of `a` count as one.
+pub fn filter_map_of_all_answers_as_its_part<
+    'src,
+    I: Input<'src>,
+    O,
+    U: Drop,
+    E: ParserExtra<I>,
+    A: Parser<'src, I, O, E>,
+    F: Picker<O, U>,
+>(filter_map: &FilterMap<A, O, F, U>)
+    ensures { ((v : O) (r : Option U) → F.gives filter_map.now.picker v r → (w : U) × (r ≡ Some w)) → AnswersAsPart E.Error.merged (λ b end v w. F.gives filter_map.now.picker v (Some w)) (A.meaning filter_map.now.parser E.Error.Error E.State.Inspector) (⟦<FilterMap<A, O, F, U> as Parser<'src, I, U, E>>⟧.meaning filter_map.now E.Error.Error E.State.Inspector) }
+{}
+
+/// Each output of `a.filter_map(f)` is one that `f` picked.
+pub fn filter_map_gives_what_was_picked<
+    'src,
+    I: Input<'src>,
+    O,
+    U: Drop,
+    E: ParserExtra<I>,
+    A: Parser<'src, I, O, E>,
+    F: Picker<O, U>,
+>(filter_map: &FilterMap<A, O, F, U>)
+    ensures { AlwaysGives (λ w. (v : O) × F.gives filter_map.now.picker v (Some w)) (⟦<FilterMap<A, O, F, U> as Parser<'src, I, U, E>>⟧.meaning filter_map.now E.Error.Error E.State.Inspector) }
 {}
 
 /// `a.try_map(f)` with an `f` that never refuses answers as `a.map(f)` does: the verdict, end, state and emitted errors of

@@ -10,7 +10,7 @@ ghost use Rattle.chumsky_shield.specs.Tried.{TriesAlike, SameTried, PicksAlike, 
 
 use crate::and_is::AndIs;
 use crate::filter::{Filter, Tester};
-use crate::filter_map::FilterMap;
+use crate::filter_map::{FilterMap, Picker};
 use crate::map_err::MapErr;
 use crate::map_err_with::MapErrWith;
 use crate::map_err_with_state::MapErrWithState;
@@ -62,7 +62,7 @@ pub fn filter_is_steady<
     ensures same { (x y : O) → ⟦<Filter<A, F> as Parser<'src, I, O, E>>⟧.same filter.now x y → A.same filter.now.parser x y }
 {}
 
-/// `a.filter_map(f)`.
+/// `a.filter_map(f)` and `a.filter_map_by(f)`.
 pub fn filter_map_is_steady<
     'src,
     I: Input<'src>,
@@ -70,10 +70,10 @@ pub fn filter_map_is_steady<
     U: Drop,
     E: ParserExtra<I>,
     A: Parser<'src, I, O, E>,
-    F: Fn(O) -> Option<U>,
+    F: Picker<O, U>,
 >(filter_map: &FilterMap<A, O, F, U>)
-    ensures steady { A.steady filter_map.now.parser → PicksAlike (A.same filter_map.now.parser) (F.post filter_map.now.filter) → ⟦<FilterMap<A, O, F, U> as Parser<'src, I, U, E>>⟧.steady filter_map.now }
-    ensures same { (x y : U) → ⟦<FilterMap<A, O, F, U> as Parser<'src, I, U, E>>⟧.same filter_map.now x y → SamePicked (A.same filter_map.now.parser) (F.post filter_map.now.filter) x y }
+    ensures steady { A.steady filter_map.now.parser → PicksAlike (A.same filter_map.now.parser) (F.gives filter_map.now.picker) → ⟦<FilterMap<A, O, F, U> as Parser<'src, I, U, E>>⟧.steady filter_map.now }
+    ensures same { (x y : U) → ⟦<FilterMap<A, O, F, U> as Parser<'src, I, U, E>>⟧.same filter_map.now x y → SamePicked (A.same filter_map.now.parser) (F.gives filter_map.now.picker) x y }
 {}
 
 /// `a.try_map(f)` and `a.try_map_by(f)`.

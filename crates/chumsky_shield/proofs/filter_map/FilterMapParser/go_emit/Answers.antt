@@ -3,4 +3,4 @@ use Rattle.chumsky_shield.proofs.ShieldLemmas.{asked_emits}
 use Rattle.chumsky_shield.proofs.filter_map.FilterMapParser.go_emit.Goals as goal
 
 pub returns-clause-ran : goal.returns-clause-ran
-returns-clause-ran g c = asked_emits c.pick.result (c.pick.ensures.ran true)
+returns-clause-ran g c = asked_emits c.pick_output.result (c.pick_output.ensures.ran true)
