@@ -36,7 +36,8 @@ use Rattle.chumsky_recursive.specs.Weight.{level, power, weight, total, IsBounde
 use Rattle.chumsky_recursive.proofs.Begins.{node_at, waits_all, waits_there}
 use Rattle.chumsky_recursive.proofs.Options.{wanting-there}
 use Rattle.chumsky_recursive.proofs.Resumes.{Heard}
-use Rattle.chumsky_recursive.proofs.Waiting.{bared, waits, heard, makes-ran, makes-there}
+use Rattle.chumsky_recursive.proofs.Waiting.{bared, waits, heard}
+use Rattle.chumsky_recursive.proofs.Making.{makes-ran, makes-there}
 use Rattle.chumsky_recursive.proofs.Weights.{waits_lighter, waits_bounded, fits_first, fits_none}
 
 module _ {I Tok Sp Cu Er St Mk Cx V : Type 0} (source : input_trait.Ghosts I Cu Tok Sp) (errors : error_trait.Ghosts Er I Tok Sp) (states : inspector_trait.Ghosts St I Mk Tok Sp) (old new : List (Frame V Cu Mk Er)) (other more : ℕ) (m : Marks Tok states.Marked) (was now : Held Tok Cx states.Seen errors.Seen) (todo : Todo V) where

@@ -1,10 +1,15 @@
 pub mod Parts
 pub mod Tries
+pub mod Vetting
+pub mod Making
+pub mod Gathering
 pub mod Waiting
 pub mod Weights
 pub mod Begins
 pub mod Resumes
-pub mod Searched
 pub mod Options
 pub mod AheadBegins
 pub mod AheadResumes
+pub mod Tried
+pub mod Listing
+pub mod ListSteps

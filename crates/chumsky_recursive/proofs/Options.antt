@@ -32,7 +32,8 @@ use Rattle.chumsky_recursive.specs.Weight.{level, power, weight, weight_of, tota
 use Rattle.chumsky_recursive.proofs.Begins.{node_at, waits_all, waits_there}
 use Rattle.chumsky_recursive.proofs.Parts.{does}
 use Rattle.chumsky_recursive.proofs.Resumes.{Heard}
-use Rattle.chumsky_recursive.proofs.Waiting.{waits, heard, makes-ran, makes-there}
+use Rattle.chumsky_recursive.proofs.Waiting.{waits, heard}
+use Rattle.chumsky_recursive.proofs.Making.{makes-ran, makes-there}
 use Rattle.chumsky_recursive.proofs.Weights.{waits_lighter, answer_lighter, waits_bounded}
 
 module _ {Tok Cx St Mk Er V W : Type 0} (merged : Er → Er → Er) (safe : Type 0) (mark : St → Mk) (back : St → Mk → St) (quiet : Type 0) (first second : Meaning Tok Cx St Er V) (next : Option V → Meaning Tok Cx St Er W) (wanted : Bool) (old : Held Tok Cx St Er) where

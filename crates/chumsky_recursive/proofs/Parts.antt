@@ -1,6 +1,6 @@
 -- What the kind of a node says of its meaning.
 use Rattle.std.proofs.Common.{◌≡◌, ℕ, zero, suc, ◌-◌, ◌<◌, Bool, true, false, ◌&&◌, List, [], ◌∷◌, map, Option, Some, None, Result, Err, slice_get, length, refl, sym, ◌∙◌, ap, subst, arith, inl, inr}
-use Rattle.std.specs.List.{AllByRecursion, list_all}
+use Rattle.std.specs.List.{AllByRecursion}
 use Rattle.chumsky_input.specs.declared.error.Error as error_trait
 use Rattle.chumsky_input.specs.declared.inspector.Inspector as inspector_trait
 use Rattle.chumsky_input.specs.declared.input.Input as input_trait
@@ -21,7 +21,8 @@ use Rattle.chumsky_rules.specs.declared.kinds.NodeKind.{NodeKind}
 use Rattle.chumsky_rules.specs.declared.kinds.NodeKind.TheVariants.{Leaf, Rule, Then, Choice, Repeated, SeparatedBy, OrNot, Not, AndIs, Rewind, Map, TryMap}
 use Rattle.chumsky_rules.specs.Tables.{Tables}
 use Rattle.chumsky_rules.specs.Built.{IsBuilt, parts_of, calls_of}
-use Rattle.chumsky_recursive.specs.Means.{Acts, Made, OrNoMemory, is_run, each_runs, kind_means, known_means, node_means, body_means, call_means, part_means}
+use Rattle.chumsky_items.specs.Repeating.{Repeats}
+use Rattle.chumsky_recursive.specs.Means.{Acts, Made, Listed, OrNoMemory, VettedOrNone, kind_means, known_means, node_means, body_means, call_means, part_means}
 use Rattle.chumsky_recursive.specs.Frames.{alternatives_of}
 
 module _ {I Tok Sp Cu Er St Mk Cx V : Type 0} (source : input_trait.Ghosts I Cu Tok Sp) (errors : error_trait.Ghosts Er I Tok Sp) (states : inspector_trait.Ghosts St I Mk Tok Sp) (a : Acts Tok Cx states.Seen errors.Seen V) where
@@ -38,8 +39,11 @@ module _ {I Tok Sp Cu Er St Mk Cx V : Type 0} (source : input_trait.Ghosts I Cu 
       rw (e, d) refl
   kind_same call p q bound h (Choice v) all = ap (FirstAmong source errors states) (same_map p q bound h v.items all)
   kind_same call p q bound h (Map n f) all = ap (λ x. Chained x (Made (a.maps f))) (h n all.0)
-  kind_same call p q bound h (Repeated a least most) all = refl
-  kind_same call p q bound h (SeparatedBy a b cfg) all = refl
+  kind_same call p q bound h (Repeated n least most) all = ap (λ x. Listed (Repeats states.mark states.back states.takes_no_memory x false least most) a.lists) (h n all.0)
+  kind_same call p q bound h (SeparatedBy n m cfg) all =
+      let e : p n ≡ q n = h n all.0 in
+      let d : p m ≡ q m = h m all.1.0 in
+      rw (e, d) refl
   kind_same call p q bound h (OrNot n) all = ap (λ x. Chained (OrNone states.mark states.back states.takes_no_memory x) (Made a.options)) (h n all.0)
   kind_same call p q bound h (Not n) all = ap (λ x. Chained (MeansNot source errors states x) (Made a.units)) (h n all.0)
   kind_same call p q bound h (AndIs n m) all =
@@ -47,7 +51,7 @@ module _ {I Tok Sp Cu Er St Mk Cx V : Type 0} (source : input_trait.Ghosts I Cu 
       let d : p m ≡ q m = h m all.1.0 in
       rw (e, d) refl
   kind_same call p q bound h (Rewind n) all = ap (MeansRewind errors.merged) (h n all.0)
-  kind_same call p q bound h (TryMap a f) all = refl
+  kind_same call p q bound h (TryMap n f) all = ap (VettedOrNone errors.merged (a.tries f)) (h n all.0)
 
   known_same : (call p q : ℕ → Meaning Tok Cx states.Seen errors.Seen V) (bound : ℕ) → ((n : ℕ) → n < bound → p n ≡ q n) → (k : Option NodeKind) → ((x : NodeKind) → k ≡ Some x → AllByRecursion (λ m. m < bound) (parts_of x)) → known_means source errors states a call p k ≡ known_means source errors states a call q k
   known_same call p q bound h None all = refl
@@ -125,23 +129,3 @@ alternative_of_below n (Some (TryMap p f)) i x h e = absurd cc
 
 pub alternative_below : (g : Tables) (n i x : ℕ) → IsBuilt g → slice_get (alternatives_of (slice_get g.nodes n)) i ≡ Some x → x < n
 alternative_below g n i x built e = alternative_of_below n (slice_get g.nodes n) i x (λ m f. built.parts n m f) e
-
-both_left : (b c : Bool) → (b && c) ≡ true → b ≡ true
-both_left true c e = refl
-both_left false c e = absurd cc
-
-both_right : (b c : Bool) → (b && c) ≡ true → c ≡ true
-both_right true c e = e
-both_right false c e = absurd cc
-
-run_at : (nodes : List NodeKind) (n : ℕ) (k : NodeKind) → list_all is_run nodes ≡ true → slice_get nodes n ≡ Some k → is_run k ≡ true
-run_at [] n k all e = absurd cc
-run_at (x ∷ xs) zero k all e = let f : x ≡ k = cc in rw (← f) (both_left (is_run x) (list_all is_run xs) all)
-run_at (x ∷ xs) (suc n) k all e = run_at xs n k (both_right (is_run x) (list_all is_run xs) all) e
-
--- a node of another kind is not there
-pub runs_at : (g : Tables) (n : ℕ) (k m : NodeKind) → each_runs g ≡ true → slice_get g.nodes n ≡ Some k → k ≡ m → is_run m ≡ true
-runs_at g n k m all e f = rw (← f) (run_at g.nodes n k all e)
-
-pub not_run : false ≡ true → ⊥
-not_run e = absurd cc

@@ -23,7 +23,8 @@ use Rattle.chumsky_recursive.specs.Means.{Acts, part_means}
 use Rattle.chumsky_recursive.specs.Frames.{Makes, Waits, Begun, Answers, alternatives_of, WaitsFor, Wait, Left}
 use Rattle.chumsky_recursive.proofs.Begins.{node_at}
 use Rattle.chumsky_recursive.proofs.Tries.{tries-stand, tries-end, tries-next, tries-unrestored}
-use Rattle.chumsky_recursive.proofs.Waiting.{waits, heard, makes-ran, makes-there, both-there}
+use Rattle.chumsky_recursive.proofs.Waiting.{waits, heard, both-there}
+use Rattle.chumsky_recursive.proofs.Making.{makes-ran, makes-there}
 
 module _ {I Tok Sp Cu Er St Mk Cx V : Type 0} (source : input_trait.Ghosts I Cu Tok Sp) (errors : error_trait.Ghosts Er I Tok Sp) (states : inspector_trait.Ghosts St I Mk Tok Sp) (a : Acts Tok Cx states.Seen errors.Seen V) (g : Tables) (fs : List (Frame V Cu Mk Er)) (now : Held Tok Cx states.Seen errors.Seen) (answer : Result (Option V) Fault) where
   abbrev pub Heard : Frame V Cu Mk Er → List (Frame V Cu Mk Er) → Held Tok Cx states.Seen errors.Seen → Todo V → Type 0

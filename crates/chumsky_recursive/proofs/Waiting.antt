@@ -1,6 +1,6 @@
 -- What is left to do after a step.
-use Rattle.std.specs.Prelude.{IfOk, is_some}
-use Rattle.std.proofs.Common.{◌≡◌, ℕ, Bool, false, Option, Some, None, option_map, ap, List, [], ◌∷◌, ◌++◌, slice_get, refl, sym, ◌∙◌, subst, Result, Ok, Err, inl, inr}
+use Rattle.std.specs.Prelude.{IfOk, is_some, ⊤}
+use Rattle.std.proofs.Common.{◌≡◌, ℕ, Bool, true, false, Option, Some, None, ap, List, [], ◌∷◌, ◌++◌, slice_get, refl, sym, ◌∙◌, subst, Result, Ok, Err, inl, inr}
 use Rattle.chumsky_input.specs.declared.error.Error as error_trait
 use Rattle.chumsky_input.specs.declared.inspector.Inspector as inspector_trait
 use Rattle.chumsky_input.specs.declared.input.Input as input_trait
@@ -10,40 +10,28 @@ use Rattle.chumsky_input.specs.declared.stop.Fault.TheVariants as fault
 use Rattle.chumsky_input.specs.declared.stop.Stop.{Stop}
 use Rattle.chumsky_input.specs.declared.stop.Stop.TheVariants.{Memory}
 use Rattle.chumsky_input.specs.Outcome.{Meaning}
-use Rattle.chumsky_input.specs.Held.{Held, located, marks}
+use Rattle.chumsky_input.specs.Held.{Held, marks}
 use Rattle.chumsky_input.specs.Run.{Ran}
 use Rattle.chumsky_parser.specs.Chained.{Given, both}
-use Rattle.chumsky_parser.proofs.ChainedLemmas.{ran-chained_err, ran-given, ran-weaker, ran-asked, failed}
+use Rattle.chumsky_parser.proofs.ChainedLemmas.{ran-given, ran-weaker, ran-asked, failed}
 use Rattle.chumsky_parser.proofs.ChoiceLemmas.{attempt-stands}
 use Rattle.chumsky_parser.proofs.FailureLemmas.{ran-halts}
 use Rattle.chumsky_recursive.specs.declared.frames.Frame.{Frame}
-use Rattle.chumsky_recursive.specs.declared.frames.Frame.TheVariants.{First, Second, Alternative, Mapped, Optional, Denied, Both, Looked, Rewound}
+use Rattle.chumsky_recursive.specs.declared.frames.Frame.TheVariants.{First, Second, Alternative, Mapped, Optional, Denied, Both, Looked, Rewound, Tried, Separator, Item}
 use Rattle.chumsky_recursive.specs.declared.frames.Todo.{Todo}
 use Rattle.chumsky_recursive.specs.declared.frames.Todo.TheVariants.{Begin, Answer}
 use Rattle.chumsky_rules.specs.declared.kinds.NodeKind.{NodeKind}
 use Rattle.chumsky_rules.specs.Tables.{Tables}
 use Rattle.chumsky_rules.specs.Built.{IsBuilt}
 use Rattle.chumsky_recursive.specs.Means.{Acts, Made, part_means}
-use Rattle.chumsky_recursive.specs.Frames.{Makes, Waits, Begun, Answers, asked_of, outside, with_part, Keeps, WaitsFor, Wait, Left}
+use Rattle.chumsky_recursive.specs.Frames.{Makes, Waits, Begun, Answers, asked_of, outside, Keeps, Does, Goes, WaitsFor, Wait, Left}
+use Rattle.chumsky_recursive.proofs.Gathering.{gathers_on, separator_stops, item_stops}
 use Rattle.chumsky_shield.proofs.AndIsLemmas.{and_is_stops, rewind_stops}
 use Rattle.chumsky_shield.proofs.NotLemmas.{not_stops}
+use Rattle.chumsky_shield.proofs.VettedLemmas.{vetted_stops}
+use Rattle.chumsky_recursive.proofs.Vetting.{or_none_ran}
 use Rattle.chumsky_recursive.proofs.Tries.{tries-stand}
 use Rattle.chumsky_recursive.proofs.Parts.{lacks}
-
-module _ {Tok Cx St Er V W : Type 0} (merged : Er → Er → Er) (safe : Type 0) (gives : V → W → Type 0) (wanted : Bool) (now : Held Tok Cx St Er) where
-  -- what is made of a value
-  pub makes-ran : (v : Option V) (r : Result (Option W) Fault) → Makes gives v r → Ran merged safe (Made gives v) wanted now now r
-  makes-ran (Some v) (Ok (Some w)) h = ran-weaker merged safe (Given (Some w)) (Made gives (Some v)) wanted now now (Ok (Some w)) (λ o m. record { by_value = inl (w, h, m) }) ran-given
-  makes-ran (Some v) (Ok None) h = absurd h
-  makes-ran (Some v) (Err f) h = rw h (ran-halts merged safe (Made gives (Some v)) wanted now now (record { tokens = refl; context = refl }) refl (λ o e s. record { by_value = inr (tt, e, s) }))
-  makes-ran None r h = rw h (ran-weaker merged safe (Given None) (Made gives None) wanted now now (Ok None) (λ o m. record { by_value = m }) ran-given)
-
-pub makes-there : {V W : Type 0} (gives : V → W → Type 0) (b : Bool) (v : Option V) (r : Result (Option W) Fault) → is_some v ≡ b → Makes gives v r → IfOk r (λ w. is_some w ≡ b)
-makes-there gives b (Some v) (Ok (Some w)) e h = e
-makes-there gives b (Some v) (Ok None) e h = absurd h
-makes-there gives b (Some v) (Err f) e h = tt
-makes-there gives b None (Ok w) e h = let f : w ≡ None = cc in rw f e
-makes-there gives b None (Err f) e h = tt
 
 pub both-there : {V W : Type 0} (b : Bool) (v : Option V) (w : Option W) → is_some v ≡ b → is_some w ≡ b → is_some (both v w) ≡ b
 both-there b (Some v) (Some w) e f = e
@@ -57,37 +45,64 @@ module _ {Tok Cx St Er V : Type 0} {merged : Er → Er → Er} {safe : Type 0} (
 
 module _ {I Tok Sp Cu Er St Mk Cx V : Type 0} (source : input_trait.Ghosts I Cu Tok Sp) (errors : error_trait.Ghosts Er I Tok Sp) (states : inspector_trait.Ghosts St I Mk Tok Sp) (a : Acts Tok Cx states.Seen errors.Seen V) (g : Tables) where
   -- a stop of its part is one of the node that waits
-  passes : {m : Meaning Tok Cx states.Seen errors.Seen V} {wanted : Bool} (t : Begun Tok Cx states.Seen errors.Seen) {new : Held Tok Cx states.Seen errors.Seen} (s : Stop) (f : Frame V Cu Mk Er) → Keeps source errors states a g f wanted t → Ran errors.merged errors.takes_no_memory m (asked_of f wanted) t.held new (Err (fault.Stop s))
-      → Ran errors.merged errors.takes_no_memory (with_part source errors states a g f m) wanted (outside source errors states a g f t.held) new (Err (fault.Stop s))
-  passes t s (First second more w) k h = ran-chained_err _ _ _ _ _ _ _ _ h
-  passes t s (Second v) k h = ran-chained_err _ _ _ _ _ _ _ _ h
-  passes {m} {wanted} t {new} s (Alternative node more w next before) k h = tries-stand errors.merged errors.takes_no_memory states.back states.takes_no_memory (marks source states before).mark wanted m t.held new (Err (fault.Stop s)) _ (λ q. cc) h
-  passes t s (Mapped f) k h = ran-chained_err _ _ _ _ _ _ _ _ h
-  passes {m} {wanted} t {new} s (Optional w before) k h = ran-chained_err _ _ _ _ _ _ _ _ (attempt-stands errors.merged errors.takes_no_memory states.back states.takes_no_memory (marks source states before).mark _ _ wanted t.held new (Err (fault.Stop s)) (ran-chained_err _ _ _ _ _ _ _ _ h) (λ q. cc))
-  passes {m} {wanted} t {new} s (Denied w before older) k h =
-      failed (not_stops source errors states m wanted (record t.held { kept = option_map (located errors.seen) older }) (marks source states before) k.1 new (bared m false t.held new (Err (fault.Stop s)) k.2 h)) refl refl
-  passes {m} {wanted} t {new} s (Both other more before) k h =
-      and_is_stops errors.merged errors.takes_no_memory states.mark states.back states.takes_no_memory m (part_means source errors states a g more other) wanted t.held new s h
-  passes t s (Looked v end) k h = failed (ran-asked h) refl refl
-  passes {m} {wanted} t {new} s (Rewound start older) k h =
-      rewind_stops errors.merged errors.takes_no_memory m wanted (record t.held { kept = option_map (located errors.seen) older }) new (bared m wanted t.held new (Err (fault.Stop s)) k.2 h)
+  halts : (f : Frame V Cu Mk Er) (u t : Begun Tok Cx states.Seen errors.Seen) {new : Held Tok Cx states.Seen errors.Seen} (s : Stop) → Keeps source errors states a g f u.wanted t → Goes source errors states a g f u t
+      → Ran errors.merged errors.takes_no_memory (part_means source errors states a g t.more t.node) (asked_of f u.wanted) t.held new (Err (fault.Stop s)) → Answers source errors states a g u new (Err (fault.Stop s))
+  halts (First second more w) u t {new} s k x h = x new (Err (fault.Stop s)) (failed h refl refl)
+  halts (Second v) u t {new} s k x h = x new (Err (fault.Stop s)) (failed h refl refl)
+  halts (Alternative node more w next before) u t {new} s k x h =
+      x new (Err (fault.Stop s)) (tries-stand errors.merged errors.takes_no_memory states.back states.takes_no_memory (marks source states before).mark u.wanted (part_means source errors states a g t.more t.node) t.held new (Err (fault.Stop s)) _ (λ q. cc) h)
+  halts (Mapped f) u t {new} s k x h = x new (Err (fault.Stop s)) (failed h refl refl)
+  halts (Optional w before) u t {new} s k x h =
+      x new (Err (fault.Stop s)) (failed (attempt-stands errors.merged errors.takes_no_memory states.back states.takes_no_memory (marks source states before).mark _ _ u.wanted t.held new (Err (fault.Stop s)) (failed h refl refl) (λ q. cc)) refl refl)
+  halts (Denied w before older) u t {new} s k x h =
+      x new (Err (fault.Stop s))
+      (failed (not_stops source errors states (part_means source errors states a g t.more t.node) u.wanted (outside source errors states a g older t.held) (marks source states before) k.1 new (bared (part_means source errors states a g t.more t.node) false t.held new (Err (fault.Stop s)) k.2 h)) refl refl)
+  halts (Both other more before) u t {new} s k x h =
+      x new (Err (fault.Stop s)) (and_is_stops errors.merged errors.takes_no_memory states.mark states.back states.takes_no_memory (part_means source errors states a g t.more t.node) (part_means source errors states a g more other) u.wanted t.held new s h)
+  halts (Looked v end) u t {new} s k x h = x new (Err (fault.Stop s)) (failed (ran-asked h) refl refl)
+  halts (Rewound start older) u t {new} s k x h =
+      x new (Err (fault.Stop s)) (rewind_stops errors.merged errors.takes_no_memory (part_means source errors states a g t.more t.node) u.wanted (outside source errors states a g older t.held) new (bared (part_means source errors states a g t.more t.node) u.wanted t.held new (Err (fault.Stop s)) k.2 h))
+  halts (Tried f w start older) u t {new} s k x h =
+      x new (Err (fault.Stop s)) (or_none_ran errors.merged errors.takes_no_memory (a.tries f) (part_means source errors states a g t.more t.node) u.wanted (outside source errors states a g older t.held) new (Err (fault.Stop s))
+      (vetted_stops errors.merged errors.takes_no_memory ⊤ (a.tries f) (part_means source errors states a g t.more t.node) u.wanted (outside source errors states a g older t.held) new (bared (part_means source errors states a g t.more t.node) true t.held new (Err (fault.Stop s)) k.3 h)))
+  halts (Separator p before) u t {new} s k x h = separator_stops source errors states a g p before u t x new s h
+  halts (Item p start back) u t {new} s k x h = item_stops source errors states a g p start back u t x new s h
 
   -- another node in the place of the one that runs
   pub instead : (fs : List (Frame V Cu Mk Er)) (s u t : Begun Tok Cx states.Seen errors.Seen) → Wait source errors states a g fs s u → t.wanted ≡ u.wanted → ((new : Held Tok Cx states.Seen errors.Seen) (r : Result (Option V) Fault) → Answers source errors states a g t new r → Answers source errors states a g u new r) → Wait source errors states a g fs s t
   instead [] s u t (q, h) w k = (w ∙ q, λ new r x. h new r (k new r x))
   instead (f ∷ fs) s u t (v, x, y) w k = (v, x, instead fs v u t y w k)
 
-  lifted : (f : Frame V Cu Mk Er) (s u t : Begun Tok Cx states.Seen errors.Seen) → u.wanted ≡ s.wanted → ((new : Held Tok Cx states.Seen errors.Seen) (r : Result (Option V) Fault) → Answers source errors states a g u new r → Answers source errors states a g s new r) → WaitsFor source errors states a g f u t → WaitsFor source errors states a g f s t
-  lifted f s u t q h k =
-      record {
-        asks = k.asks ∙ ap (asked_of f) q;
-        keeps = subst (λ b. Keeps source errors states a g f b t) q k.keeps;
-        goes = λ new r x. h new r (k.goes new r (subst (λ b. Ran errors.merged errors.takes_no_memory (with_part source errors states a g f (part_means source errors states a g t.more t.node)) b (outside source errors states a g f t.held) new r) (sym q) x));
-      }
+  -- of a node in whose place this one runs
+  module _ (s u : Begun Tok Cx states.Seen errors.Seen) (q : u.wanted ≡ s.wanted) (h : (new : Held Tok Cx states.Seen errors.Seen) (r : Result (Option V) Fault) → Answers source errors states a g u new r → Answers source errors states a g s new r) where
+    does_on : {m : Meaning Tok Cx states.Seen errors.Seen V} {held : Held Tok Cx states.Seen errors.Seen} → Does source errors states a g m held u → Does source errors states a g m held s
+    does_on {m} {held} k new r x = h new r (k new r (subst (λ b. Ran errors.merged errors.takes_no_memory m b held new r) (sym q) x))
+
+    goes_on : (f : Frame V Cu Mk Er) (t : Begun Tok Cx states.Seen errors.Seen) → Goes source errors states a g f u t → Goes source errors states a g f s t
+    goes_on (First second more w) t k = does_on k
+    goes_on (Second v) t k = does_on k
+    goes_on (Alternative node more w next before) t k = does_on k
+    goes_on (Mapped f) t k = does_on k
+    goes_on (Optional w before) t k = does_on k
+    goes_on (Denied w before older) t k = does_on k
+    goes_on (Both other more before) t k = does_on k
+    goes_on (Looked v end) t k = does_on k
+    goes_on (Rewound start older) t k = does_on k
+    goes_on (Tried f w start older) t k = does_on k
+    goes_on (Separator p before) t k = record { list = k.list; is_list = k.is_list; gathers = gathers_on source errors states a g k.list p s u q h k.gathers; marked = k.marked; below = k.below; part = k.part; same = k.same }
+    goes_on (Item p start back) t k = record { list = k.list; is_list = k.is_list; now = k.now; gathers = gathers_on source errors states a g k.list p s u q h k.gathers; goes = k.goes }
+
+    lifted : (f : Frame V Cu Mk Er) (t : Begun Tok Cx states.Seen errors.Seen) → WaitsFor source errors states a g f u t → WaitsFor source errors states a g f s t
+    lifted f t k =
+        record {
+          asks = k.asks ∙ ap (asked_of f) q;
+          keeps = subst (λ b. Keeps source errors states a g f b t) q k.keeps;
+          goes = goes_on f t k.goes;
+        }
 
   -- one frame more
   pub pushed : (fs : List (Frame V Cu Mk Er)) (f : Frame V Cu Mk Er) (s u t : Begun Tok Cx states.Seen errors.Seen) → Wait source errors states a g fs s u → WaitsFor source errors states a g f u t → Wait source errors states a g (fs ++ f ∷ []) s t
-  pushed [] f s u t (q, h) k = (t, lifted f s u t q h k, (refl, λ new r x. x))
+  pushed [] f s u t (q, h) k = (t, lifted s u q h f t k, (refl, λ new r x. x))
   pushed (x ∷ fs) f s u t (v, y, z) k = (v, y, pushed fs f v u t z k)
 
   -- the last frame taken off: its node, and the part that it waits for
@@ -103,7 +118,7 @@ module _ {I Tok Sp Cu Er St Mk Cx V : Type 0} (source : input_trait.Ghosts I Cu 
     waits {old} {new} {f} {part} {more} {wanted} {todo} now s u k e h w x =
         elim h.cases [
           | inl l ↦ rw (l.0, l.1) (pushed old f s u (record { more = more; node = part; wanted = wanted; held = now }) w x)
-          | inr l ↦ rw (l.0, l.1) (u, w, x.goes now (Err (fault.Stop Memory)) (passes (record { more = more; node = part; wanted = wanted; held = now }) Memory f x.keeps (subst (λ b. Ran errors.merged errors.takes_no_memory (part_means source errors states a g more part) b now now (Err (fault.Stop Memory))) x.asks (lacks source errors states a g built more wanted now part k e))), tt)
+          | inr l ↦ rw (l.0, l.1) (u, w, halts f u (record { more = more; node = part; wanted = wanted; held = now }) Memory x.keeps x.goes (subst (λ b. Ran errors.merged errors.takes_no_memory (part_means source errors states a g more part) b now now (Err (fault.Stop Memory))) x.asks (lacks source errors states a g built more wanted now part k e)), tt)
         ]
 
   -- what the part of a frame answered, for a value or without one as its node runs

@@ -9,16 +9,16 @@ use Rattle.chumsky_recursive.specs.declared.frames.Todo.TheVariants.{Answer}
 use Rattle.chumsky_recursive.specs.Frames.{Waits}
 use Rattle.chumsky_recursive.specs.Weight.{level, power, share, weight_of, weight, total, reach, IsBounded, Fits}
 
-power_pos : (n : ℕ) → 0 < power n
+pub power_pos : (n : ℕ) → 0 < power n
 unfolding power
 power_pos zero = omega arith
 power_pos (suc n) = let h = power_pos n in omega (arith, h)
 
-power_more : (n : ℕ) → power (n + 1) ≡ 2 ^ 66 * power n
+pub power_more : (n : ℕ) → power (n + 1) ≡ 2 ^ 68 * power n
 unfolding power
 power_more n = rw add-one refl
 
-power_mono : (m n : ℕ) → m ≤ n → power m ≤ power n
+pub power_mono : (m n : ℕ) → m ≤ n → power m ≤ power n
 unfolding power
 power_mono zero n h = power_pos n
 power_mono (suc m) zero h = absurd (omega arith)

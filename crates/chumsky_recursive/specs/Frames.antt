@@ -1,15 +1,24 @@
 -- What waits while a part runs, and what is left to do.
-use Rattle.std.specs.Prelude.{false, ◌≡◌, ℕ, ◌<◌, Bool, List, [], ◌∷◌, ◌++◌, map, drop, Option, Some, None, option_map, Result, Ok, Err, IfOk, is_some, slice_get, ◌⊎◌, ⊤}
+use Rattle.std.specs.Prelude.{true, false, not, ◌&&◌, nat_eq, nat_lt, nat_le, ◌≡◌, ℕ, ◌+◌, ◌^◌, ◌<◌, Bool, List, [], ◌∷◌, ◌++◌, map, drop, Option, Some, None, option_map, Result, Ok, Err, IfOk, is_some, slice_get, length, ◌⊎◌, ⊤}
 use Rattle.chumsky_input.specs.declared.error.Error as error_trait
 use Rattle.chumsky_input.specs.declared.inspector.Inspector as inspector_trait
 use Rattle.chumsky_input.specs.declared.input.Input as input_trait
 use Rattle.chumsky_input.specs.declared.input_ref.Checkpoint.{Checkpoint}
+use Rattle.chumsky_input.specs.declared.input_ref.Located.{Located}
 use Rattle.chumsky_input.specs.declared.stop.Fault.{Fault}
 use Rattle.chumsky_input.specs.declared.stop.Fault.TheVariants as fault
 use Rattle.chumsky_input.specs.declared.stop.Stop.TheVariants.{Memory}
 use Rattle.chumsky_input.specs.Held.{Held, Marks, located, marks}
 use Rattle.chumsky_input.specs.Outcome.{Meaning}
 use Rattle.chumsky_input.specs.Run.{Ran, marked_here, gone_back}
+use Rattle.std.specs.Bool.{MatchBool}
+use Rattle.std.specs.declared.vec.Vec.{Vec}
+use Rattle.std.specs.declared.alloc.Global.{Global}
+use Rattle.chumsky_parser.specs.Items.{Next, End}
+use Rattle.chumsky_parser.specs.Steps.{AllSteps}
+use Rattle.chumsky_items.specs.Consumers.{Appends, Collected}
+use Rattle.chumsky_items.specs.Repeating.{Counted, Repeats, asks, at_cap}
+use Rattle.chumsky_items.specs.Separating.{Bounds, Separates, asks_after}
 use Rattle.chumsky_parser.specs.Chained.{Chained, Asked, Given, both}
 use Rattle.chumsky_parser.specs.Choice.{AttemptFrom, FirstFrom, StandsAt}
 use Rattle.chumsky_parser.specs.Failure.{wanting}
@@ -17,13 +26,15 @@ use Rattle.chumsky_parser.specs.Ignoring.{Gives}
 use Rattle.chumsky_shield.specs.Not.{MeansNot}
 use Rattle.chumsky_shield.specs.AndIs.{GivenAt, MeansAndIs, MeansRewind}
 use Rattle.chumsky_recursive.specs.declared.frames.Frame.{Frame}
-use Rattle.chumsky_recursive.specs.declared.frames.Frame.TheVariants.{First, Second, Alternative, Mapped, Optional, Denied, Both, Looked, Rewound}
+use Rattle.chumsky_recursive.specs.declared.frames.Frame.TheVariants.{First, Second, Alternative, Mapped, Optional, Denied, Both, Looked, Rewound, Tried, Separator, Item}
+use Rattle.chumsky_recursive.specs.declared.frames.Gathered.{Gathered}
+use Rattle.chumsky_recursive.specs.declared.lists.Listing.{Listing}
 use Rattle.chumsky_recursive.specs.declared.frames.Todo.{Todo}
 use Rattle.chumsky_recursive.specs.declared.frames.Todo.TheVariants.{Begin, Answer}
 use Rattle.chumsky_rules.specs.declared.kinds.NodeKind.{NodeKind}
 use Rattle.chumsky_rules.specs.declared.kinds.NodeKind.TheVariants.{Leaf, Rule, Then, Choice, Repeated, SeparatedBy, OrNot, Not, AndIs, Rewind, Map, TryMap}
 use Rattle.chumsky_rules.specs.Tables.{Tables}
-use Rattle.chumsky_recursive.specs.Means.{Acts, Made, part_means}
+use Rattle.chumsky_recursive.specs.Means.{Acts, AreThose, Values, Listed, Made, VettedOrNone, part_means}
 
 module _ {V W : Type 0} (gives : V → W → Type 0) where
   -- of a value one that is given, unless memory is wanting; of none, none
@@ -67,7 +78,50 @@ alternatives_of (Some (AndIs a b)) = []
 alternatives_of (Some (Rewind a)) = []
 alternatives_of (Some (TryMap a f)) = []
 
--- a part runs for its value where its node does, but for one that is only looked at
+-- of what a node that is a list is made
+abbrev pub lists_of : Option NodeKind → Option Listing
+lists_of None = None
+lists_of (Some (Leaf n)) = None
+lists_of (Some (Rule r)) = None
+lists_of (Some (Then a b)) = None
+lists_of (Some (Choice v)) = None
+lists_of (Some (Map a f)) = None
+lists_of (Some (Repeated a least most)) = Some (record { item = a; separator = None; at_least = least; at_most = most; leading = false; trailing = false })
+lists_of (Some (SeparatedBy a b cfg)) = Some (record { item = a; separator = Some b; at_least = cfg.at_least; at_most = cfg.at_most; leading = cfg.allow_leading; trailing = cfg.allow_trailing })
+lists_of (Some (OrNot a)) = None
+lists_of (Some (Not a)) = None
+lists_of (Some (AndIs a b)) = None
+lists_of (Some (Rewind a)) = None
+lists_of (Some (TryMap a f)) = None
+
+abbrev pub bounds_at : Listing → Bounds
+bounds_at l = record { least = l.at_least; most = l.at_most; leading = l.leading; trailing = l.trailing; free = false }
+
+-- whether progress is asked of its next item: of the first only where there is no separator
+abbrev pub asks_by : Option ℕ → Listing → ℕ → Bool
+asks_by None l k = asks false l.at_most
+asks_by (Some b) l k = asks_after (nat_eq k 0) (bounds_at l)
+
+abbrev pub asks_at : Listing → ℕ → Bool
+asks_at l k = asks_by l.separator l k
+
+-- the separator that is tried before it: before the first only one that may lead
+abbrev pub unless : Bool → Option ℕ → Option ℕ
+unless true b = None
+unless false b = b
+
+abbrev pub separator_at : Listing → ℕ → Option ℕ
+separator_at l k = unless (nat_eq k 0 && not l.leading) l.separator
+
+-- whether that stays though no item follows
+abbrev pub stays_at : Listing → ℕ → Bool
+stays_at l k = l.trailing && nat_le l.at_least k
+
+-- the values of items, where they are wanted
+abbrev pub items_of : {V : Type 0} → Option (Vec V Global) → Option (List V)
+items_of vs = option_map (λ (v : Vec _ Global). v.items) vs
+
+-- a part runs for its value where its node does, but for one that is only looked at, or judged
 abbrev pub asked_of : {V Cu Mk Er : Type 0} → Frame V Cu Mk Er → Bool → Bool
 asked_of (First second more wanted) w = w
 asked_of (Second v) w = w
@@ -78,6 +132,9 @@ asked_of (Denied wanted before older) w = false
 asked_of (Both other more before) w = w
 asked_of (Looked v end) w = false
 asked_of (Rewound start older) w = w
+asked_of (Tried f wanted start older) w = true
+asked_of (Separator p before) w = false
+asked_of (Item p start back) w = w
 
 -- where a node began: under calls that may open so many more rules, for its value or without it, and what was held
 pub record Begun (Tok Cx St Er : Type 0) : Type 0 where
@@ -91,29 +148,75 @@ module _ {I Tok Sp Cu Er St Mk Cx V : Type 0} (source : input_trait.Ghosts I Cu 
   abbrev pub Answers : Begun Tok Cx states.Seen errors.Seen → Held Tok Cx states.Seen errors.Seen → Result (Option V) Fault → Type 0
   Answers s new r = Ran errors.merged errors.takes_no_memory (part_means source errors states a g s.more s.node) s.wanted s.held new r
 
-  -- what a frame does with its part, from where the part begins
-  abbrev pub with_part : Frame V Cu Mk Er → Meaning Tok Cx states.Seen errors.Seen V → Meaning Tok Cx states.Seen errors.Seen V
-  with_part (First second more wanted) m = Chained m (λ v. Chained (part_means source errors states a g more second) (λ w. Made a.pairs (both v w)))
-  with_part (Second v) m = Chained m (λ w. Made a.pairs (both v w))
-  with_part (Alternative node more wanted next before) m = FirstFrom states.back states.takes_no_memory (marks source states before).mark m (map (part_means source errors states a g more) (drop next (alternatives_of (slice_get g.nodes node))))
-  with_part (Mapped f) m = Chained m (Made (a.maps f))
-  with_part (Optional wanted before) m = Chained (AttemptFrom states.back states.takes_no_memory (marks source states before).mark (Chained m (λ v. Given (option_map Some v))) (Gives None)) (Made a.options)
-  with_part (Denied wanted before older) m = Chained (MeansNot source errors states m) (Made a.units)
-  with_part (Both other more before) m = MeansAndIs states.mark states.back states.takes_no_memory m (part_means source errors states a g more other)
-  with_part (Looked v end) m = Chained (Asked false m) (λ _. GivenAt v (source.place end))
-  with_part (Rewound start older) m = MeansRewind errors.merged m
+  -- what this meaning does from there, the node does that began at s
+  abbrev pub Does : Meaning Tok Cx states.Seen errors.Seen V → Held Tok Cx states.Seen errors.Seen → Begun Tok Cx states.Seen errors.Seen → Type 0
+  Does m held s = (new : Held Tok Cx states.Seen errors.Seen) (r : Result (Option V) Fault) → Ran errors.merged errors.takes_no_memory m s.wanted held new r → Answers s new r
 
-  -- what was held where the node's frame stands, and not its part: what was kept was set aside for the part
-  abbrev pub outside : Frame V Cu Mk Er → Held Tok Cx states.Seen errors.Seen → Held Tok Cx states.Seen errors.Seen
-  outside (First second more wanted) h = h
-  outside (Second v) h = h
-  outside (Alternative node more wanted next before) h = h
-  outside (Mapped f) h = h
-  outside (Optional wanted before) h = h
-  outside (Denied wanted before older) h = record h { kept = option_map (located errors.seen) older }
-  outside (Both other more before) h = h
-  outside (Looked v end) h = h
-  outside (Rewound start older) h = record h { kept = option_map (located errors.seen) older }
+  -- what was held where a node's frame stands, and not its part: what was kept was set aside for the part
+  abbrev pub outside : Option (Located Er) → Held Tok Cx states.Seen errors.Seen → Held Tok Cx states.Seen errors.Seen
+  outside older h = record h { kept = option_map (located errors.seen) older }
+
+  -- one step of a list node
+  abbrev pub step_by : Option ℕ → Listing → ℕ → ℕ → Meaning Tok Cx states.Seen errors.Seen (Next ℕ V)
+  step_by None l more = Repeats states.mark states.back states.takes_no_memory (part_means source errors states a g more l.item) false l.at_least l.at_most
+  step_by (Some b) l more = Separates states.mark states.back states.takes_no_memory (part_means source errors states a g more b) (part_means source errors states a g more l.item) (bounds_at l)
+
+  abbrev pub step_of : Listing → ℕ → ℕ → Meaning Tok Cx states.Seen errors.Seen (Next ℕ V)
+  step_of l more = step_by l.separator l more
+
+  -- a list node that began at s has so many items, and its next step begins here: what all its steps do from here, it does
+  -- from s
+  pub record Gathers (l : Listing) (p : Gathered V) (s : Begun Tok Cx states.Seen errors.Seen) (now : Held Tok Cx states.Seen errors.Seen) : Type 0 where
+    pub wanted : p.wanted ≡ s.wanted
+    pub there : is_some (items_of p.values) ≡ p.wanted
+    pub room : ℕ
+    pub left : room + p.count + 1 ≡ 2 ^ 64
+    pub origin : Held Tok Cx states.Seen errors.Seen
+    pub on : (new : Held Tok Cx states.Seen errors.Seen) (x : Result (Option (List V)) Fault) → Ran errors.merged errors.takes_no_memory (AllSteps (step_of l p.more) (Appends ⊥) (Collected AreThose) room (items_of p.values) p.count) p.wanted now new x
+        → Ran errors.merged errors.takes_no_memory (Values (step_of l p.more)) p.wanted origin new x
+    pub whole : (new : Held Tok Cx states.Seen errors.Seen) (r : Result (Option V) Fault) → Ran errors.merged errors.takes_no_memory (Listed (step_of l p.more) a.lists) p.wanted origin new r → Answers s new r
+
+  -- a step's answer, of that of its item: a failure is gone back from, and is the end, unless items are too few
+  abbrev pub Turned : Bool → Marks Tok states.Marked → Result (Option (Next ℕ V)) Fault → Held Tok Cx states.Seen errors.Seen → Held Tok Cx states.Seen errors.Seen → Result (Option (Next ℕ V)) Fault → Type 0
+  Turned few m (Ok x) mid new y = (new ≡ mid) × (y ≡ Ok x)
+  Turned few m (Err fault.Fail) mid new y = ((states.takes_no_memory → ⊥) × (new ≡ mid) × (y ≡ Err (fault.Stop Memory))) ⊎ ((new ≡ gone_back states.back mid m) × MatchBool few (y ≡ Err fault.Fail) (y ≡ Ok (Some End)))
+  Turned few m (Err (fault.Stop s)) mid new y = (new ≡ mid) × (y ≡ Err (fault.Stop s))
+
+  -- the separator that begins at t is that of the next step
+  pub record AtSeparator (p : Gathered V) (before : Checkpoint Cu Mk) (s t : Begun Tok Cx states.Seen errors.Seen) : Type 0 where
+    pub list : Listing
+    pub is_list : lists_of (slice_get g.nodes p.node) ≡ Some list
+    pub gathers : Gathers list p s t.held
+    pub marked : marks source states before ≡ marked_here states.mark t.held
+    pub below : at_cap list.at_most p.count ≡ false
+    pub part : separator_at list p.count ≡ Some t.node
+    pub same : t.more ≡ p.more
+
+  -- the item that begins at t is that of the next step, which began earlier
+  pub record AtItem (p : Gathered V) (start : ℕ) (back : Checkpoint Cu Mk) (s t : Begun Tok Cx states.Seen errors.Seen) : Type 0 where
+    pub list : Listing
+    pub is_list : lists_of (slice_get g.nodes p.node) ≡ Some list
+    pub now : Held Tok Cx states.Seen errors.Seen
+    pub gathers : Gathers list p s now
+    pub goes : (mid new : Held Tok Cx states.Seen errors.Seen) (z y : Result (Option (Next ℕ V)) Fault) → Ran errors.merged errors.takes_no_memory (Counted (asks_at list p.count) p.count start (part_means source errors states a g t.more t.node)) p.wanted t.held mid z
+        → Turned (nat_lt p.count list.at_least) (marks source states back) z mid new y → Ran errors.merged errors.takes_no_memory (step_of list p.more p.count) p.wanted now new y
+
+  -- what the frame of a node that began at s does with its part, which began at t, the node does
+  abbrev pub Goes : Frame V Cu Mk Er → Begun Tok Cx states.Seen errors.Seen → Begun Tok Cx states.Seen errors.Seen → Type 0
+  Goes (First second more wanted) s t = Does (Chained (part_means source errors states a g t.more t.node) (λ v. Chained (part_means source errors states a g more second) (λ w. Made a.pairs (both v w)))) t.held s
+  Goes (Second v) s t = Does (Chained (part_means source errors states a g t.more t.node) (λ w. Made a.pairs (both v w))) t.held s
+  Goes (Alternative node more wanted next before) s t =
+      Does (FirstFrom states.back states.takes_no_memory (marks source states before).mark (part_means source errors states a g t.more t.node) (map (part_means source errors states a g more) (drop next (alternatives_of (slice_get g.nodes node))))) t.held s
+  Goes (Mapped f) s t = Does (Chained (part_means source errors states a g t.more t.node) (Made (a.maps f))) t.held s
+  Goes (Optional wanted before) s t =
+      Does (Chained (AttemptFrom states.back states.takes_no_memory (marks source states before).mark (Chained (part_means source errors states a g t.more t.node) (λ v. Given (option_map Some v))) (Gives None)) (Made a.options)) t.held s
+  Goes (Denied wanted before older) s t = Does (Chained (MeansNot source errors states (part_means source errors states a g t.more t.node)) (Made a.units)) (outside older t.held) s
+  Goes (Both other more before) s t = Does (MeansAndIs states.mark states.back states.takes_no_memory (part_means source errors states a g t.more t.node) (part_means source errors states a g more other)) t.held s
+  Goes (Looked v end) s t = Does (Chained (Asked false (part_means source errors states a g t.more t.node)) (λ _. GivenAt v (source.place end))) t.held s
+  Goes (Rewound start older) s t = Does (MeansRewind errors.merged (part_means source errors states a g t.more t.node)) (outside older t.held) s
+  Goes (Tried f wanted start older) s t = Does (VettedOrNone errors.merged (a.tries f) (part_means source errors states a g t.more t.node)) (outside older t.held) s
+  Goes (Separator p before) s t = AtSeparator p before s t
+  Goes (Item p start back) s t = AtItem p start back s t
 
   -- what a frame keeps is that of its node, which runs for its value or without it, and of its part, which began at t
   abbrev pub Keeps : Frame V Cu Mk Er → Bool → Begun Tok Cx states.Seen errors.Seen → Type 0
@@ -126,12 +229,15 @@ module _ {I Tok Sp Cu Er St Mk Cx V : Type 0} (source : input_trait.Ghosts I Cu 
   Keeps (Both other more before) asked t = marks source states before ≡ marked_here states.mark t.held
   Keeps (Looked v end) asked t = is_some v ≡ asked
   Keeps (Rewound start older) asked t = (source.cursor_tokens start ≡ t.held.tokens) × (source.place start ≡ t.held.place) × (t.held.kept ≡ None)
+  Keeps (Tried f wanted start older) asked t = (wanted ≡ asked) × (source.cursor_tokens start ≡ t.held.tokens) × (source.place start ≡ t.held.place) × (t.held.kept ≡ None)
+  Keeps (Separator p before) asked t = ⊤
+  Keeps (Item p start back) asked t = ⊤
 
-  -- the frame of the node that began at s waits for the part that began at t: what it does with the part, the node does
+  -- the frame of the node that began at s waits for the part that began at t
   pub record WaitsFor (f : Frame V Cu Mk Er) (s t : Begun Tok Cx states.Seen errors.Seen) : Type 0 where
     pub asks : t.wanted ≡ asked_of f s.wanted
     pub keeps : Keeps f s.wanted t
-    pub goes : (new : Held Tok Cx states.Seen errors.Seen) (r : Result (Option V) Fault) → Ran errors.merged errors.takes_no_memory (with_part f (part_means source errors states a g t.more t.node)) s.wanted (outside f t.held) new r → Answers s new r
+    pub goes : Goes f s t
 
   -- frames, the last on top, of nodes of which the first began at s, and each waits for the next; the last waits for the part that began at t
   abbrev pub Wait : List (Frame V Cu Mk Er) → Begun Tok Cx states.Seen errors.Seen → Begun Tok Cx states.Seen errors.Seen → Type 0
@@ -145,16 +251,19 @@ module _ {I Tok Sp Cu Er St Mk Cx V : Type 0} (source : input_trait.Ghosts I Cu 
 
 -- the nodes that a frame names are there, and its checkpoint or cursor is one of this input
 module _ {I Tok Sp Cu Er St Mk V : Type 0} (source : input_trait.Ghosts I Cu Tok Sp) (states : inspector_trait.Ghosts St I Mk Tok Sp) where
-  abbrev pub IsKnown : ℕ → List Tok → Frame V Cu Mk Er → Type 0
-  IsKnown nodes tokens (First second more wanted) = second < nodes
+  abbrev pub IsKnown : List NodeKind → List Tok → Frame V Cu Mk Er → Type 0
+  IsKnown nodes tokens (First second more wanted) = second < length nodes
   IsKnown nodes tokens (Second v) = ⊤
-  IsKnown nodes tokens (Alternative node more wanted next before) = (node < nodes) × ((marks source states before).tokens ≡ tokens)
+  IsKnown nodes tokens (Alternative node more wanted next before) = (node < length nodes) × ((marks source states before).tokens ≡ tokens)
   IsKnown nodes tokens (Mapped f) = ⊤
   IsKnown nodes tokens (Optional wanted before) = (marks source states before).tokens ≡ tokens
   IsKnown nodes tokens (Denied wanted before older) = (marks source states before).tokens ≡ tokens
-  IsKnown nodes tokens (Both other more before) = (other < nodes) × ((marks source states before).tokens ≡ tokens)
+  IsKnown nodes tokens (Both other more before) = (other < length nodes) × ((marks source states before).tokens ≡ tokens)
   IsKnown nodes tokens (Looked v end) = source.cursor_tokens end ≡ tokens
   IsKnown nodes tokens (Rewound start older) = source.cursor_tokens start ≡ tokens
+  IsKnown nodes tokens (Tried f wanted start older) = source.cursor_tokens start ≡ tokens
+  IsKnown nodes tokens (Separator p before) = (is_some (lists_of (slice_get nodes p.node)) ≡ true) × ((marks source states before).tokens ≡ tokens)
+  IsKnown nodes tokens (Item p start back) = (is_some (lists_of (slice_get nodes p.node)) ≡ true) × ((marks source states back).tokens ≡ tokens)
 
 -- a node that begins is there
 abbrev pub IsThere : {V : Type 0} → ℕ → Todo V → Type 0

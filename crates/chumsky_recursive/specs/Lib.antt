@@ -2,8 +2,9 @@ pub mod Means
 pub mod MeansLaws
 pub mod Frames
 pub mod Ahead
+pub mod Judged
+pub mod Lists
 pub mod Weight
-pub mod Closing
 pub mod LimitLaws
 pub mod Leaves
 pub mod LeavesLaws

@@ -1,22 +1,30 @@
 -- Answers under different limits.
-use Rattle.std.proofs.Common.{false, ◌≡◌, ℕ, zero, suc, ◌+◌, ◌≤◌, List, [], ◌∷◌, map, length, Option, Some, None, slice_get, refl, sym, ap, subst, arith, inl, inr}
+use Rattle.std.proofs.Common.{true, false, ◌≡◌, ℕ, zero, suc, ◌+◌, ◌≤◌, List, [], ◌∷◌, map, length, Option, Some, None, nat_eq, nat_lt, Bool, slice_get, refl, sym, ap, subst, arith, inl, inr}
 use Rattle.chumsky_input.specs.declared.error.Error as error_trait
 use Rattle.chumsky_input.specs.declared.inspector.Inspector as inspector_trait
 use Rattle.chumsky_input.specs.declared.input.Input as input_trait
 use Rattle.chumsky_input.specs.Outcome.{Event, Meaning, Beginning, Outcome, Verdict, Yes, No, Halt, Clash, Agreeing, IsAnswer}
-use Rattle.chumsky_parser.specs.Chained.{from, Follows, Chained, Asked, retold}
+use Rattle.chumsky_parser.specs.Chained.{from, Follows, Chained, Asked, Given, retold}
 use Rattle.chumsky_parser.specs.Failure.{SaysNo}
 use Rattle.chumsky_parser.specs.Choice.{Stands, OneOrFirst, ElseFrom, OrElse}
 use Rattle.chumsky_parser.specs.Ignoring.{Gives}
 use Rattle.chumsky_combinator.specs.Optional.{OrNone}
 use Rattle.chumsky_shield.specs.Shielded.{OfYes, OfNo, Judges, Shielded, NoAsOne}
 use Rattle.chumsky_shield.specs.Not.{Denies, Allows, MeansNot}
+use Rattle.chumsky_input.specs.declared.stop.Stop.TheVariants.{CountTooLarge}
+use Rattle.chumsky_parser.specs.Failure.{Stops, wanting}
+use Rattle.chumsky_parser.specs.Items.{Next, More, End, AfterStep, AllItems, FromMade, Items}
+use Rattle.chumsky_parser.specs.Steps.{AllSteps, listed, unlisted}
+use Rattle.chumsky_items.specs.Consumers.{Appends, Collected}
+use Rattle.chumsky_items.specs.Repeating.{Counted, Settles, Closes, Uncapped, Repeats, asks, at_cap}
+use Rattle.chumsky_items.specs.Separating.{Bounds, Lead, Staying, Round, Unfilled, Separates, asks_after, stays}
+use Rattle.chumsky_shield.specs.Vetted.{Vets}
 use Rattle.chumsky_shield.specs.AndIs.{GivenAt, LooksFrom, MeansAndIs, Rewinds, MeansRewind}
 use Rattle.chumsky_choice.specs.Among.{NoneOrFirst, FirstAmong}
 use Rattle.chumsky_rules.specs.declared.kinds.NodeKind.{NodeKind}
 use Rattle.chumsky_rules.specs.declared.kinds.NodeKind.TheVariants.{Leaf, Rule, Then, Choice, Repeated, SeparatedBy, OrNot, Not, AndIs, Rewind, Map, TryMap}
 use Rattle.chumsky_rules.specs.Tables.{Tables}
-use Rattle.chumsky_recursive.specs.Means.{Acts, kind_means, known_means, node_means, body_means, call_means}
+use Rattle.chumsky_recursive.specs.Means.{Acts, AreThose, Listed, bounds_of, VettingOrNone, VettedOrNone, kind_means, known_means, node_means, body_means, call_means}
 use Rattle.chumsky_recursive.specs.MeansLaws.{ActsAgree, call-agrees}
 
 module _ {Tok Cx St Er V : Type 0} where
@@ -81,6 +89,12 @@ module _ {Tok Cx St Er V : Type 0} (part part' : Meaning Tok Cx St Er V) (h : Ha
   asked-has : HasAnswers (Asked false part) (Asked false part')
   asked-has b o a m = record { run = h (record b { wanted = false }) o a m.run }
 
+  asked_for-has : HasAnswers (Asked true part) (Asked true part')
+  asked_for-has b o a m = record { run = h (record b { wanted = true }) o a m.run }
+
+  vetted-has : {W : Type 0} (merged : Er → Er → Er) (vets : Vets Tok Cx St Er V W) → HasAnswers (VettedOrNone merged vets part) (VettedOrNone merged vets part')
+  vetted-has merged vets b o a m = record { run = shielded-has (Asked true part) (Asked true part') (VettingOrNone merged vets) (NoAsOne merged) asked_for-has b o a m.run }
+
   rewind-has : (merged : Er → Er → Er) → HasAnswers (MeansRewind merged part) (MeansRewind merged part')
   rewind-has merged b o a m = record { run = shielded-has part part' (Rewinds merged) (NoAsOne merged) h b o a m.run }
 
@@ -103,6 +117,68 @@ module _ {Tok Cx St Mk Er V W : Type 0} (mark : St → Mk) (back : St → Mk →
       record {
         run = chained-has (OrElse mark back safe part SaysNo) (OrElse mark back safe part' SaysNo) (LooksFrom b.start other) (LooksFrom b.start other') (or_else-has mark back safe part part' SaysNo SaysNo h (λ c q y z. z)) (looks_has b.start) b o a m.run;
       }
+
+module _ {Tok Cx St Er S V A W : Type 0} (step step' : S → Meaning Tok Cx St Er (Next S V)) (hs : (s : S) → HasAnswers (step s) (step' s)) (more : Option A → Option V → Meaning Tok Cx St Er A) (ended : Option A → Meaning Tok Cx St Er W) where
+  after_step-has : (on on' : Option V → S → Meaning Tok Cx St Er W) (end : Meaning Tok Cx St Er W) → ((v : Option V) (s : S) → HasAnswers (on v s) (on' v s)) → (x : Option (Next S V)) → HasAnswers (AfterStep on end x) (AfterStep on' end x)
+  after_step-has on on' end h (Some (More v s)) = h v s
+  after_step-has on on' end h (Some End) = λ b o a m. m
+  after_step-has on on' end h None = λ b o a m. m
+
+  all_steps-has : (room : ℕ) (a : Option A) (s : S) → HasAnswers (AllSteps step more ended room a s) (AllSteps step' more ended room a s)
+  all_steps-has zero a s = chained-has (step s) (step' s) (AfterStep (λ _ _. Stops CountTooLarge) (ended a)) (AfterStep (λ _ _. Stops CountTooLarge) (ended a)) (hs s) (λ x b o y m. m)
+  all_steps-has (suc room) a s =
+      chained-has (step s) (step' s) (AfterStep (λ v t. Chained (more a v) (λ c. AllSteps step more ended room c t)) (ended a)) (AfterStep (λ v t. Chained (more a v) (λ c. AllSteps step' more ended room c t)) (ended a)) (hs s)
+      (after_step-has (λ v t. Chained (more a v) (λ c. AllSteps step more ended room c t)) (λ v t. Chained (more a v) (λ c. AllSteps step' more ended room c t)) (ended a)
+      (λ v t. chained-has (more a v) (more a v) (λ c. AllSteps step more ended room c t) (λ c. AllSteps step' more ended room c t) (λ b o y m. m) (λ c. all_steps-has room c t)))
+
+  from_made-has : (room : ℕ) (a : Option A) (s : Option S) → HasAnswers (FromMade step more ended room a s) (FromMade step' more ended room a s)
+  from_made-has room a (Some s) b o y m = listed step' more ended room a s b o (all_steps-has room a s b o y (unlisted step more ended room a s b o m))
+  from_made-has room a None b o y m = m
+
+  items-has : (begins : Meaning Tok Cx St Er S) (first : A) → HasAnswers (Items step more ended begins first) (Items step' more ended begins first)
+  items-has begins first b o y m =
+      record {
+        room = m.room;
+        full = m.full;
+        run = chained-has (Asked true begins) (Asked true begins) (FromMade step more ended m.room (wanting b.wanted first)) (FromMade step' more ended m.room (wanting b.wanted first)) (λ c q z n. n) (from_made-has m.room (wanting b.wanted first)) b o y m.run;
+      }
+
+module _ {Tok Cx St Er V : Type 0} (step step' : ℕ → Meaning Tok Cx St Er (Next ℕ V)) (hs : (k : ℕ) → HasAnswers (step k) (step' k)) where
+  listed-has : (lists : List V → V → Type 0) → HasAnswers (Listed step lists) (Listed step' lists)
+  listed-has lists = chained-has _ _ _ _ (items-has step step' hs (Appends ⊥) (Collected AreThose) (Given (Some 0)) []) (λ v b o y m. m)
+
+module _ {Tok Cx St Mk Er V : Type 0} (mark : St → Mk) (back : St → Mk → St) (safe : Type 0) (item item' : Meaning Tok Cx St Er V) (h : HasAnswers item item') where
+  counted-has : (asked : Bool) (k start : ℕ) → HasAnswers (Counted asked k start item) (Counted asked k start item')
+  counted-has asked k start b o y m = record { run = chained-has item item' (Settles asked k start) (Settles asked k start) h (λ v c q z n. n) b o y m.run }
+
+  module _ (free : Bool) (least : ℕ) (most : Option ℕ) where
+    uncapped-has : (full : Bool) (k start : ℕ) → HasAnswers (Uncapped mark back safe item free least most full k start) (Uncapped mark back safe item' free least most full k start)
+    uncapped-has true k start = λ b o y m. m
+    uncapped-has false k start = or_else-has mark back safe (Counted (asks free most) k start item) (Counted (asks free most) k start item') (Closes (nat_lt k least)) (Closes (nat_lt k least)) (counted-has (asks free most) k start) (λ b o y m. m)
+
+    repeats-has : (k : ℕ) → HasAnswers (Repeats mark back safe item free least most k) (Repeats mark back safe item' free least most k)
+    repeats-has k b o y m = record { step = uncapped-has (at_cap most k) k b.start b o y m.step }
+
+  module _ {U : Type 0} (separator separator' : Meaning Tok Cx St Er U) (hu : HasAnswers separator separator') where
+    lead-has : (first leading : Bool) → HasAnswers (Lead mark back safe separator first leading) (Lead mark back safe separator' first leading)
+    lead-has false leading = asked-has separator separator' hu
+    lead-has true true = or_else-has mark back safe (Asked false separator) (Asked false separator') (Given None) (Given None) (asked-has separator separator' hu) (λ b o y m. m)
+    lead-has true false = λ b o y m. m
+
+    module _ (d : Bounds) where
+      staying-has : (stay : Bool) (k start : ℕ) → HasAnswers (Staying mark back safe stay (Counted (asks_after (nat_eq k 0) d) k start item)) (Staying mark back safe stay (Counted (asks_after (nat_eq k 0) d) k start item'))
+      staying-has true k start = or_else-has mark back safe (Counted (asks_after (nat_eq k 0) d) k start item) (Counted (asks_after (nat_eq k 0) d) k start item') (Closes false) (Closes false) (counted-has (asks_after (nat_eq k 0) d) k start) (λ b o y m. m)
+      staying-has false k start = counted-has (asks_after (nat_eq k 0) d) k start
+
+      round-has : (k start : ℕ) → HasAnswers (Round mark back safe separator item d k start) (Round mark back safe separator' item' d k start)
+      round-has k start b o y m = record { run = chained-has (Lead mark back safe separator (nat_eq k 0) d.leading) (Lead mark back safe separator' (nat_eq k 0) d.leading) _ _ (lead-has (nat_eq k 0) d.leading) (λ u. staying-has (stays d k) k start) b o y m.run }
+
+      unfilled-has : (full : Bool) (k start : ℕ) → HasAnswers (Unfilled mark back safe separator item d full k start) (Unfilled mark back safe separator' item' d full k start)
+      unfilled-has true k start = λ b o y m. m
+      unfilled-has false k start = or_else-has mark back safe (Round mark back safe separator item d k start) (Round mark back safe separator' item' d k start) (Closes (nat_lt k d.least)) (Closes (nat_lt k d.least)) (round-has k start) (λ b o y m. m)
+
+      separates-has : (k : ℕ) → HasAnswers (Separates mark back safe separator item d k) (Separates mark back safe separator' item' d k)
+      separates-has k b o y m = record { step = unfilled-has (at_cap d.most k) k b.start b o y m.step }
 
 module _ {Tok Cx St Mk Er V : Type 0} (back : St → Mk → St) (safe : Type 0) (mark : Mk) (part part' : ℕ → Meaning Tok Cx St Er V) (h : (n : ℕ) → HasAnswers (part n) (part' n)) where
   as_many : (ns : List ℕ) → length (map part ns) ≡ 0 → length (map part' ns) ≡ 0
@@ -144,13 +220,17 @@ module _ {I Tok Sp Cu Er St Mk Cx V : Type 0} (source : input_trait.Ghosts I Cu 
       kind_has part part' hp (Then n k) = chained-has (part n) (part' n) _ _ (hp n) (λ v. chained-has (part k) (part' k) _ _ (hp k) (λ w b o y m. m))
       kind_has part part' hp (Choice v) = among-has part part' hp v.items
       kind_has part part' hp (Map n f) = chained-has (part n) (part' n) _ _ (hp n) (λ v b o y m. m)
-      kind_has part part' hp (Repeated n least most) = λ b o y m. m
-      kind_has part part' hp (SeparatedBy n k cfg) = λ b o y m. m
+      kind_has part part' hp (Repeated n least most) =
+          listed-has (Repeats states.mark states.back states.takes_no_memory (part n) false least most) (Repeats states.mark states.back states.takes_no_memory (part' n) false least most)
+          (repeats-has states.mark states.back states.takes_no_memory (part n) (part' n) (hp n) false least most) a.lists
+      kind_has part part' hp (SeparatedBy n k cfg) =
+          listed-has (Separates states.mark states.back states.takes_no_memory (part k) (part n) (bounds_of cfg)) (Separates states.mark states.back states.takes_no_memory (part' k) (part' n) (bounds_of cfg))
+          (separates-has states.mark states.back states.takes_no_memory (part n) (part' n) (hp n) (part k) (part' k) (hp k) (bounds_of cfg)) a.lists
       kind_has part part' hp (OrNot n) = chained-has (OrNone states.mark states.back states.takes_no_memory (part n)) (OrNone states.mark states.back states.takes_no_memory (part' n)) _ _ (or_none-has states.mark states.back states.takes_no_memory (part n) (part' n) (hp n)) (λ v b o y m. m)
       kind_has part part' hp (Not n) = chained-has (MeansNot source errors states (part n)) (MeansNot source errors states (part' n)) _ _ (not-has source errors states (part n) (part' n) (hp n)) (λ v b o y m. m)
       kind_has part part' hp (AndIs n k) = and_is-has states.mark states.back states.takes_no_memory (part n) (part' n) (part k) (part' k) (hp n) (hp k)
       kind_has part part' hp (Rewind n) = rewind-has (part n) (part' n) (hp n) errors.merged
-      kind_has part part' hp (TryMap n f) = λ b o y m. m
+      kind_has part part' hp (TryMap n f) = vetted-has (part n) (part' n) (hp n) errors.merged (a.tries f)
 
       known_has : (part part' : ℕ → Meaning Tok Cx states.Seen errors.Seen V) → ((n : ℕ) → HasAnswers (part n) (part' n)) → (k : Option NodeKind) → HasAnswers (known_means source errors states a call part k) (known_means source errors states a call' part' k)
       known_has part part' hp None b o y m = m

@@ -1,7 +1,7 @@
 -- A whole number that falls at each step.
 use Rattle.std.specs.Prelude.{ℕ, zero, suc, ◌+◌, ◌-◌, ◌*◌, ◌^◌, ◌≤◌, List, [], ◌∷◌, ⊤}
 use Rattle.chumsky_recursive.specs.declared.frames.Frame.{Frame}
-use Rattle.chumsky_recursive.specs.declared.frames.Frame.TheVariants.{First, Second, Alternative, Mapped, Optional, Denied, Both, Looked, Rewound}
+use Rattle.chumsky_recursive.specs.declared.frames.Frame.TheVariants.{First, Second, Alternative, Mapped, Optional, Denied, Both, Looked, Rewound, Tried, Separator, Item}
 use Rattle.chumsky_recursive.specs.declared.frames.Todo.{Todo}
 use Rattle.chumsky_recursive.specs.declared.frames.Todo.TheVariants.{Begin, Answer}
 
@@ -11,11 +11,15 @@ level nodes more node = more * nodes + node
 
 unfoldable pub power : ℕ → ℕ
 power zero = 1
-power (suc n) = 2 ^ 66 * power n
+power (suc n) = 2 ^ 68 * power n
 
 -- how often a choice may still begin an alternative
 abbrev pub share : ℕ → ℕ
 share next = 2 * (2 ^ 64 - next) + 1
+
+-- how often a list with so many items may still begin a part, from its next item on
+abbrev pub rounds : ℕ → ℕ
+rounds count = 4 * (2 ^ 64 - count) + 1
 
 module _ {V Cu Mk Er : Type 0} where
   abbrev pub weight_of : ℕ → Frame V Cu Mk Er → ℕ
@@ -28,6 +32,9 @@ module _ {V Cu Mk Er : Type 0} where
   weight_of nodes (Both other more before) = power (level nodes more other + 1) + 2
   weight_of nodes (Looked v end) = 1
   weight_of nodes (Rewound start older) = 1
+  weight_of nodes (Tried f wanted start older) = 1
+  weight_of nodes (Separator p before) = (rounds p.count + 2) * power (level nodes p.more p.node)
+  weight_of nodes (Item p start back) = rounds p.count * power (level nodes p.more p.node)
 
   abbrev pub weight : ℕ → List (Frame V Cu Mk Er) → ℕ
   weight nodes [] = 0
@@ -52,6 +59,9 @@ module _ {V Cu Mk Er : Type 0} where
   reach nodes (Both other more before) = level nodes more other + 1
   reach nodes (Looked v end) = 0
   reach nodes (Rewound start older) = 0
+  reach nodes (Tried f wanted start older) = 0
+  reach nodes (Separator p before) = level nodes p.more p.node
+  reach nodes (Item p start back) = level nodes p.more p.node
 
   -- frames, of which so many others lie below the first, leave room for those parts
   abbrev pub IsBounded : ℕ → ℕ → ℕ → List (Frame V Cu Mk Er) → Type 0

@@ -1,9 +1,9 @@
 //! Running a node: one loop over the nodes that wait.
-ghost use Rattle.std.specs.Prelude.{◌≡◌, true, ℕ, ◌<◌, length, IfOk, is_some};
+ghost use Rattle.std.specs.Prelude.{◌≡◌, ℕ, ◌<◌, length, IfOk, is_some};
 ghost use Rattle.chumsky_input.specs.Held.{held};
 ghost use Rattle.chumsky_input.specs.Run.{Ran};
 ghost use Rattle.chumsky_rules.specs.Closed.{IsClosed};
-ghost use Rattle.chumsky_recursive.specs.Means.{acts_of, each_runs, part_means, call_means};
+ghost use Rattle.chumsky_recursive.specs.Means.{acts_of, part_means, call_means};
 
 use crate::actions::Actions;
 use crate::frames::Todo;
@@ -26,9 +26,8 @@ fn run<'src, I: Input<'src>, E: ParserExtra<I>, A: Actions<'src, I, E>>(
 ) -> PResult<Option<A::Value>>
     requires closed { IsClosed rules.now (A.leaf_count actions.now) }
     requires ready { A.ready actions.now }
-    requires runs { each_runs rules.now ≡ true }
     requires start { start < length rules.now.nodes }
-    ensures ran { Ran E.Error.merged E.Error.takes_no_memory (part_means I.Input E.Error.Error E.State.Inspector (acts_of I.Input E.Error.Error E.State.Inspector (A.leaf_meaning actions.now) (A.pair_gives actions.now) (A.option_gives actions.now) (A.unit_gives actions.now) (A.map_gives actions.now)) rules.now more start) wanted (held I.Input E.Error.Error E.State.Inspector inp.old) (held I.Input E.Error.Error E.State.Inspector inp.new) result }
+    ensures ran { Ran E.Error.merged E.Error.takes_no_memory (part_means I.Input E.Error.Error E.State.Inspector (acts_of I.Input E.Error.Error E.State.Inspector (A.leaf_meaning actions.now) (A.pair_gives actions.now) (A.option_gives actions.now) (A.unit_gives actions.now) (A.map_gives actions.now) (A.try_gives actions.now) (A.list_gives actions.now)) rules.now more start) wanted (held I.Input E.Error.Error E.State.Inspector inp.old) (held I.Input E.Error.Error E.State.Inspector inp.new) result }
     ensures there { IfOk result (λ v. is_some v ≡ wanted) }
     ensures lent { inp.new.state.ghost_name ≡ inp.old.state.ghost_name }
 {
@@ -58,9 +57,8 @@ pub(crate) fn call<'src, I: Input<'src>, E: ParserExtra<I>, A: Actions<'src, I, 
 ) -> PResult<Option<A::Value>>
     requires closed { IsClosed rules.now (A.leaf_count actions.now) }
     requires ready { A.ready actions.now }
-    requires runs { each_runs rules.now ≡ true }
     requires rule { rule < length rules.now.bodies }
-    ensures ran { Ran E.Error.merged E.Error.takes_no_memory (call_means I.Input E.Error.Error E.State.Inspector (acts_of I.Input E.Error.Error E.State.Inspector (A.leaf_meaning actions.now) (A.pair_gives actions.now) (A.option_gives actions.now) (A.unit_gives actions.now) (A.map_gives actions.now)) rules.now more rule) wanted (held I.Input E.Error.Error E.State.Inspector inp.old) (held I.Input E.Error.Error E.State.Inspector inp.new) result }
+    ensures ran { Ran E.Error.merged E.Error.takes_no_memory (call_means I.Input E.Error.Error E.State.Inspector (acts_of I.Input E.Error.Error E.State.Inspector (A.leaf_meaning actions.now) (A.pair_gives actions.now) (A.option_gives actions.now) (A.unit_gives actions.now) (A.map_gives actions.now) (A.try_gives actions.now) (A.list_gives actions.now)) rules.now more rule) wanted (held I.Input E.Error.Error E.State.Inspector inp.old) (held I.Input E.Error.Error E.State.Inspector inp.new) result }
     ensures there { IfOk result (λ v. is_some v ≡ wanted) }
     ensures lent { inp.new.state.ghost_name ≡ inp.old.state.ghost_name }
 {

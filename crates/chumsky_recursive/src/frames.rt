@@ -30,6 +30,24 @@ pub(crate) enum Frame<V, P, M, R> {
     Looked(Option<V>, P),
     /// Of `rewind`, its part runs, with nothing kept: where it began, and what was kept before.
     Rewound(P, Option<Located<R>>),
+    /// Of `try_map`, its part runs for its value, with nothing kept: the number of the mapper, whether the node runs for its
+    /// value, where it began, and what was kept before.
+    Tried(usize, bool, P, Option<Located<R>>),
+    /// Of `separated_by`, its separator runs: what there is so far, and the checkpoint of the round.
+    Separator(Gathered<V>, Checkpoint<P, M>),
+    /// Of a list, an item runs: what there is so far, the place of the round's beginning, and the checkpoint to go back to.
+    Item(Gathered<V>, usize, Checkpoint<P, M>),
+}
+
+/// A list node with the items that it has so far: the node, how many more rules, whether it runs for its value, how many
+/// items, and their values.
+#[derive(Drop)]
+pub(crate) struct Gathered<V> {
+    pub(crate) node: Node,
+    pub(crate) more: usize,
+    pub(crate) wanted: bool,
+    pub(crate) count: usize,
+    pub(crate) values: Option<Vec<V>>,
 }
 
 /// What comes next: a node begins, under calls that may open so many more rules, for its value or without it; or the

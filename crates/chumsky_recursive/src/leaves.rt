@@ -1,5 +1,5 @@
 //! Actions of leaves that stand in a list.
-ghost use Rattle.std.specs.Prelude.{◌≡◌, ℕ, ⊤, IfOk, Option};
+ghost use Rattle.std.specs.Prelude.{◌≡◌, ℕ, ⊤, IfOk, Option, Result, List};
 ghost use Rattle.chumsky_input.specs.Held.{held};
 ghost use Rattle.chumsky_input.specs.Run.{Ran, with_value, without_value};
 
@@ -11,9 +11,9 @@ use chumsky_input::stop::PResult;
 use chumsky_parser::parser::Parser;
 use std::alloc::{AllocError, Global};
 
-/// How a grammar makes values of values. An impl may say in `pair_gives`, `option_gives`, `unit_gives` and `map_gives`
-/// what is later known of them; where it says nothing, nothing is known.
-pub trait Values {
+/// How a grammar over spans `S` with errors `R` makes values of values. An impl may say in `pair_gives`, `option_gives`,
+/// `unit_gives`, `map_gives`, `list_gives` and `try_gives` what is later known of them; where it says nothing, nothing is known.
+pub trait Values<S, R> {
     type Value: Drop;
 
     /// What it may make of two values.
@@ -27,6 +27,12 @@ pub trait Values {
 
     /// What a mapper may make of a value.
     ghost map_gives: { Self → ℕ → Self.Value → Self.Value → Type 0 } = { λ _ _ _ _. ⊤ };
+
+    /// What it may make of the values of a list.
+    ghost list_gives: { Self → List Self.Value → Self.Value → Type 0 } = { λ _ _ _. ⊤ };
+
+    /// What a fallible mapper may answer to a value and its span.
+    ghost try_gives: { Self → ℕ → Self.Value → S → Result Self.Value R → Type 0 } = { λ _ _ _ _ _. ⊤ };
 
     /// The value of two parts.
     fn pair(&self, alloc: Global, a: Self::Value, b: Self::Value) -> Result<Self::Value, AllocError>
@@ -43,6 +49,22 @@ pub trait Values {
     /// A value through the mapper of this number.
     fn map(&self, alloc: Global, mapper: usize, v: Self::Value) -> Result<Self::Value, AllocError>
         ensures { IfOk result (λ w. map_gives self.now mapper v w) };
+
+    /// The value of a list, of those of its items in order. Where a grammar has no node `repeated` or `separated_by`, it is
+    /// never called.
+    fn list(&self, alloc: Global, items: Vec<Self::Value>) -> Result<Self::Value, AllocError>
+        ensures { IfOk result (λ v. list_gives self.now items.items v) };
+
+    /// A value through the fallible mapper of this number, which may refuse it with an error. Where a grammar has no node
+    /// `try_map`, it is never called.
+    fn try_map(
+        &self,
+        alloc: Global,
+        mapper: usize,
+        v: Self::Value,
+        span: S,
+    ) -> Result<Result<Self::Value, R>, AllocError>
+        ensures { IfOk result (λ r. try_gives self.now mapper v span r) };
 }
 
 /// Actions whose leaves are parsers of one type: the leaf of a number is the parser at that index.
@@ -57,7 +79,7 @@ impl<
     'src,
     I: Input<'src>,
     E: ParserExtra<I>,
-    W: Values,
+    W: Values<I::Span, E::Error>,
     P: Parser<'src, I, W::Value, E>,
 > Actions<'src, I, E> for Leaves<'a, P, W> {
     type Value = W::Value;
@@ -81,7 +103,11 @@ impl<
 
     ghost map_gives = { λ p. W.map_gives p.values };
 
-    ghost steady = { λ p. AnswersAlike (λ n. listed_leaf (λ q. P.meaning q E.Error.Error E.State.Inspector) (slice_get p.leaves.now n)) (W.pair_gives p.values) (W.option_gives p.values) (W.unit_gives p.values) (W.map_gives p.values) };
+    ghost try_gives = { λ p. W.try_gives p.values };
+
+    ghost list_gives = { λ p. W.list_gives p.values };
+
+    ghost steady = { λ p. AnswersAlike (λ n. listed_leaf (λ q. P.meaning q E.Error.Error E.State.Inspector) (slice_get p.leaves.now n)) (W.pair_gives p.values) (W.option_gives p.values) (W.unit_gives p.values) (W.map_gives p.values) E.Error.seen (W.try_gives p.values) (W.list_gives p.values) };
 
     ghost same = { λ _ v w. v ≡ w };
 
@@ -121,6 +147,22 @@ impl<
         self.values.map(alloc, f, v)
     }
 
+    fn list(&self, alloc: Global, items: Vec<W::Value>) -> Result<W::Value, AllocError>
+        ensures { IfOk result (λ v. W.list_gives self.now.values items.items v) }
+    {
+        self.values.list(alloc, items)
+    }
+
+    fn try_map(
+        &self,
+        alloc: Global,
+        f: usize,
+        v: W::Value,
+        span: I::Span,
+    ) -> Result<Result<W::Value, E::Error>, AllocError> {
+        self.values.try_map(alloc, f, v, span)
+    }
+
     ghost leaves_end_after_start = { λ p n. listed_leaf-ends _ P.ends_after_start (slice_get p.leaves.now n) };
 
     ghost leaves_agree = { λ _ s n. s.answers n };
@@ -132,4 +174,8 @@ impl<
     ghost units_agree = { λ _ s x y d g. s.made x y d g };
 
     ghost maps_agree = { λ _ s f v w x y e d g. s.mapped f v w x y e d g };
+
+    ghost lists_agree = { λ _ s vs ws x y e d g. s.listed vs ws x y e d g };
+
+    ghost tries_agree = { λ _ s f v w span x y e d g. s.tried f v w span x y e d g };
 }

@@ -3,14 +3,14 @@
 
 pub mod actions;
 mod ahead;
-pub mod errors;
 mod evaluator;
 mod frames;
 pub mod grammar;
+mod judged;
 pub mod laws;
 pub mod leaves;
+mod lists;
 mod optional;
-mod runs;
 pub mod steady;
 mod steps;
 mod values;

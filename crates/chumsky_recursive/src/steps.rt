@@ -2,13 +2,17 @@
 ghost use Rattle.std.specs.Prelude.{◌≡◌, true, ℕ, ◌<◌, ◌≤◌, ◌+◌, length, Some, slice_get, [], All, IfOk, IfErr, is_some, MatchOption, ⊤};
 ghost use Rattle.chumsky_input.specs.Held.{Held, held, marks};
 ghost use Rattle.chumsky_rules.specs.Closed.{IsClosed};
-ghost use Rattle.chumsky_recursive.specs.Means.{acts_of, each_runs};
-ghost use Rattle.chumsky_recursive.specs.Frames.{Begun, Answers, WaitsFor, Wait, Left, IsKnown, IsThere, alternatives_of};
+ghost use Rattle.chumsky_recursive.specs.Means.{acts_of};
+ghost use Rattle.chumsky_recursive.specs.Frames.{Begun, Answers, WaitsFor, Wait, Left, IsKnown, IsThere, alternatives_of, lists_of};
 ghost use Rattle.chumsky_recursive.specs.Weight.{level, weight, weight_of, total, reach, IsBounded, Fits};
 
 use crate::actions::Actions;
 use crate::ahead::{begin_and_is, begin_not, begin_rewind, go_back, look, stand, turn};
 use crate::frames::{Frame, Todo, wait};
+use crate::judged::{begin_try, judge};
+use crate::lists::{
+    Listing, begin_list, hear_item, hear_separator, parts_of, repeated_list, separated_list,
+};
 use crate::optional::{begin_part, or_absent};
 use crate::values::{leaf, map, nothing, pair};
 use chumsky_input::extra::ParserExtra;
@@ -66,6 +70,18 @@ fn alternative(rules: &Rules, node: Node, place: usize) -> Option<Node>
     }
 }
 
+/// Of what a list node is made.
+#[inline]
+fn list_at(rules: &Rules, node: Node) -> Listing
+    requires { is_some (lists_of (slice_get rules.now.nodes node)) ≡ true }
+    ensures { lists_of (slice_get rules.now.nodes node) ≡ Some result }
+{
+    match parts_of(kind_of(rules, node)) {
+        Some(list) => list,
+        None => unreachable!(),
+    }
+}
+
 /// Begins a node.
 pub(crate) fn begin<'src, I: Input<'src>, E: ParserExtra<I>, A: Actions<'src, I, E>>(
     actions: &A,
@@ -79,9 +95,8 @@ pub(crate) fn begin<'src, I: Input<'src>, E: ParserExtra<I>, A: Actions<'src, I,
     requires closed { IsClosed rules.now (A.leaf_count actions.now) }
     requires ready { A.ready actions.now }
     requires node { node < length rules.now.nodes }
-    requires runs { each_runs rules.now ≡ true }
-    ensures left { (s : Begun I.Token E.Context E.State.Seen E.Error.Seen) → Wait I.Input E.Error.Error E.State.Inspector (acts_of I.Input E.Error.Error E.State.Inspector (A.leaf_meaning actions.now) (A.pair_gives actions.now) (A.option_gives actions.now) (A.unit_gives actions.now) (A.map_gives actions.now)) rules.now frames.old.items s (record { more = more; node = node; wanted = wanted; held = held I.Input E.Error.Error E.State.Inspector inp.old }) → Left I.Input E.Error.Error E.State.Inspector (acts_of I.Input E.Error.Error E.State.Inspector (A.leaf_meaning actions.now) (A.pair_gives actions.now) (A.option_gives actions.now) (A.unit_gives actions.now) (A.map_gives actions.now)) rules.now frames.new.items s (held I.Input E.Error.Error E.State.Inspector inp.new) result }
-    ensures known { All (IsKnown I.Input E.State.Inspector (length rules.now.nodes) (held I.Input E.Error.Error E.State.Inspector inp.old).tokens) frames.old.items → All (IsKnown I.Input E.State.Inspector (length rules.now.nodes) (held I.Input E.Error.Error E.State.Inspector inp.old).tokens) frames.new.items }
+    ensures left { (s : Begun I.Token E.Context E.State.Seen E.Error.Seen) → Wait I.Input E.Error.Error E.State.Inspector (acts_of I.Input E.Error.Error E.State.Inspector (A.leaf_meaning actions.now) (A.pair_gives actions.now) (A.option_gives actions.now) (A.unit_gives actions.now) (A.map_gives actions.now) (A.try_gives actions.now) (A.list_gives actions.now)) rules.now frames.old.items s (record { more = more; node = node; wanted = wanted; held = held I.Input E.Error.Error E.State.Inspector inp.old }) → Left I.Input E.Error.Error E.State.Inspector (acts_of I.Input E.Error.Error E.State.Inspector (A.leaf_meaning actions.now) (A.pair_gives actions.now) (A.option_gives actions.now) (A.unit_gives actions.now) (A.map_gives actions.now) (A.try_gives actions.now) (A.list_gives actions.now)) rules.now frames.new.items s (held I.Input E.Error.Error E.State.Inspector inp.new) result }
+    ensures known { All (IsKnown I.Input E.State.Inspector rules.now.nodes (held I.Input E.Error.Error E.State.Inspector inp.old).tokens) frames.old.items → All (IsKnown I.Input E.State.Inspector rules.now.nodes (held I.Input E.Error.Error E.State.Inspector inp.old).tokens) frames.new.items }
     ensures there { IsThere (length rules.now.nodes) result }
     ensures lighter { total (length rules.now.nodes) frames.new.items result < total (length rules.now.nodes) frames.old.items (Todo.Begin node more wanted) }
     ensures bounded { (bound : ℕ) → IsBounded (length rules.now.nodes) bound 0 frames.old.items → level (length rules.now.nodes) more node + length frames.old.items ≤ bound → IsBounded (length rules.now.nodes) bound 0 frames.new.items × Fits (length rules.now.nodes) bound (length frames.new.items) result }
@@ -116,13 +131,19 @@ pub(crate) fn begin<'src, I: Input<'src>, E: ParserExtra<I>, A: Actions<'src, I,
             }
         }
         NodeKind::Map(a, f) => wait(frames, Frame::Mapped(*f), *a, more, wanted),
-        NodeKind::Repeated(_, _, _) => unreachable!(),
-        NodeKind::SeparatedBy(_, _, _) => unreachable!(),
+        NodeKind::Repeated(a, at_least, at_most) => {
+            let list = repeated_list(*a, *at_least, *at_most);
+            begin_list(actions, frames, &list, node, more, wanted, inp)
+        }
+        NodeKind::SeparatedBy(a, b, bounds) => {
+            let list = separated_list(*a, *b, bounds);
+            begin_list(actions, frames, &list, node, more, wanted, inp)
+        }
         NodeKind::OrNot(a) => begin_part(frames, *a, more, wanted, inp),
         NodeKind::Not(a) => begin_not(frames, *a, more, wanted, inp),
         NodeKind::AndIs(a, b) => begin_and_is(frames, *a, *b, more, wanted, inp),
         NodeKind::Rewind(a) => begin_rewind(frames, *a, more, wanted, inp),
-        NodeKind::TryMap(_, _) => unreachable!(),
+        NodeKind::TryMap(a, f) => begin_try(frames, *a, more, *f, wanted, inp),
     }
 }
 
@@ -136,9 +157,9 @@ fn resume<'src, I: Input<'src>, E: ParserExtra<I>, A: Actions<'src, I, E>>(
     inp: &mut InputRef<'src, '_, I, E>,
 ) -> Todo<A::Value>
     requires closed { IsClosed rules.now (A.leaf_count actions.now) }
-    requires known { IsKnown I.Input E.State.Inspector (length rules.now.nodes) (held I.Input E.Error.Error E.State.Inspector inp.old).tokens frame }
-    ensures left { (s u t : Begun I.Token E.Context E.State.Seen E.Error.Seen) → Wait I.Input E.Error.Error E.State.Inspector (acts_of I.Input E.Error.Error E.State.Inspector (A.leaf_meaning actions.now) (A.pair_gives actions.now) (A.option_gives actions.now) (A.unit_gives actions.now) (A.map_gives actions.now)) rules.now frames.old.items s u → WaitsFor I.Input E.Error.Error E.State.Inspector (acts_of I.Input E.Error.Error E.State.Inspector (A.leaf_meaning actions.now) (A.pair_gives actions.now) (A.option_gives actions.now) (A.unit_gives actions.now) (A.map_gives actions.now)) rules.now frame u t → Answers I.Input E.Error.Error E.State.Inspector (acts_of I.Input E.Error.Error E.State.Inspector (A.leaf_meaning actions.now) (A.pair_gives actions.now) (A.option_gives actions.now) (A.unit_gives actions.now) (A.map_gives actions.now)) rules.now t (held I.Input E.Error.Error E.State.Inspector inp.old) answer → IfOk answer (λ v. is_some v ≡ t.wanted) → Left I.Input E.Error.Error E.State.Inspector (acts_of I.Input E.Error.Error E.State.Inspector (A.leaf_meaning actions.now) (A.pair_gives actions.now) (A.option_gives actions.now) (A.unit_gives actions.now) (A.map_gives actions.now)) rules.now frames.new.items s (held I.Input E.Error.Error E.State.Inspector inp.new) result }
-    ensures known { All (IsKnown I.Input E.State.Inspector (length rules.now.nodes) (held I.Input E.Error.Error E.State.Inspector inp.old).tokens) frames.old.items → All (IsKnown I.Input E.State.Inspector (length rules.now.nodes) (held I.Input E.Error.Error E.State.Inspector inp.old).tokens) frames.new.items }
+    requires known { IsKnown I.Input E.State.Inspector rules.now.nodes (held I.Input E.Error.Error E.State.Inspector inp.old).tokens frame }
+    ensures left { (s u t : Begun I.Token E.Context E.State.Seen E.Error.Seen) → Wait I.Input E.Error.Error E.State.Inspector (acts_of I.Input E.Error.Error E.State.Inspector (A.leaf_meaning actions.now) (A.pair_gives actions.now) (A.option_gives actions.now) (A.unit_gives actions.now) (A.map_gives actions.now) (A.try_gives actions.now) (A.list_gives actions.now)) rules.now frames.old.items s u → WaitsFor I.Input E.Error.Error E.State.Inspector (acts_of I.Input E.Error.Error E.State.Inspector (A.leaf_meaning actions.now) (A.pair_gives actions.now) (A.option_gives actions.now) (A.unit_gives actions.now) (A.map_gives actions.now) (A.try_gives actions.now) (A.list_gives actions.now)) rules.now frame u t → Answers I.Input E.Error.Error E.State.Inspector (acts_of I.Input E.Error.Error E.State.Inspector (A.leaf_meaning actions.now) (A.pair_gives actions.now) (A.option_gives actions.now) (A.unit_gives actions.now) (A.map_gives actions.now) (A.try_gives actions.now) (A.list_gives actions.now)) rules.now t (held I.Input E.Error.Error E.State.Inspector inp.old) answer → IfOk answer (λ v. is_some v ≡ t.wanted) → Left I.Input E.Error.Error E.State.Inspector (acts_of I.Input E.Error.Error E.State.Inspector (A.leaf_meaning actions.now) (A.pair_gives actions.now) (A.option_gives actions.now) (A.unit_gives actions.now) (A.map_gives actions.now) (A.try_gives actions.now) (A.list_gives actions.now)) rules.now frames.new.items s (held I.Input E.Error.Error E.State.Inspector inp.new) result }
+    ensures known { All (IsKnown I.Input E.State.Inspector rules.now.nodes (held I.Input E.Error.Error E.State.Inspector inp.old).tokens) frames.old.items → All (IsKnown I.Input E.State.Inspector rules.now.nodes (held I.Input E.Error.Error E.State.Inspector inp.old).tokens) frames.new.items }
     ensures there { IsThere (length rules.now.nodes) result }
     ensures lighter { total (length rules.now.nodes) frames.new.items result < weight (length rules.now.nodes) frames.old.items + weight_of (length rules.now.nodes) frame }
     ensures bounded { (bound : ℕ) → IsBounded (length rules.now.nodes) bound 0 frames.old.items → reach (length rules.now.nodes) frame + length frames.old.items ≤ bound → IsBounded (length rules.now.nodes) bound 0 frames.new.items × Fits (length rules.now.nodes) bound (length frames.new.items) result }
@@ -188,6 +209,17 @@ fn resume<'src, I: Input<'src>, E: ParserExtra<I>, A: Actions<'src, I, E>>(
         Frame::Both(other, more, before) => look(frames, other, more, &before, answer, inp),
         Frame::Looked(value, end) => Todo::Answer(stand(value, end, answer, inp)),
         Frame::Rewound(start, older) => Todo::Answer(go_back(start, older, answer, inp)),
+        Frame::Tried(f, wanted, start, older) => {
+            Todo::Answer(judge(actions, f, wanted, start, older, answer, inp))
+        }
+        Frame::Separator(so_far, before) => {
+            let list = list_at(rules, so_far.node);
+            hear_separator(actions, frames, &list, so_far, before, answer, inp)
+        }
+        Frame::Item(so_far, start, back) => {
+            let list = list_at(rules, so_far.node);
+            hear_item(actions, frames, &list, so_far, start, &back, answer, inp)
+        }
     }
 }
 
@@ -200,9 +232,9 @@ pub(crate) fn hear<'src, I: Input<'src>, E: ParserExtra<I>, A: Actions<'src, I, 
     inp: &mut InputRef<'src, '_, I, E>,
 ) -> Result<Todo<A::Value>, PResult<Option<A::Value>>>
     requires closed { IsClosed rules.now (A.leaf_count actions.now) }
-    requires known { All (IsKnown I.Input E.State.Inspector (length rules.now.nodes) (held I.Input E.Error.Error E.State.Inspector inp.old).tokens) frames.old.items }
-    ensures left { IfOk result (λ todo. (s : Begun I.Token E.Context E.State.Seen E.Error.Seen) → Left I.Input E.Error.Error E.State.Inspector (acts_of I.Input E.Error.Error E.State.Inspector (A.leaf_meaning actions.now) (A.pair_gives actions.now) (A.option_gives actions.now) (A.unit_gives actions.now) (A.map_gives actions.now)) rules.now frames.old.items s (held I.Input E.Error.Error E.State.Inspector inp.old) (Todo.Answer answer) → Left I.Input E.Error.Error E.State.Inspector (acts_of I.Input E.Error.Error E.State.Inspector (A.leaf_meaning actions.now) (A.pair_gives actions.now) (A.option_gives actions.now) (A.unit_gives actions.now) (A.map_gives actions.now)) rules.now frames.new.items s (held I.Input E.Error.Error E.State.Inspector inp.new) todo) }
-    ensures known { All (IsKnown I.Input E.State.Inspector (length rules.now.nodes) (held I.Input E.Error.Error E.State.Inspector inp.old).tokens) frames.new.items }
+    requires known { All (IsKnown I.Input E.State.Inspector rules.now.nodes (held I.Input E.Error.Error E.State.Inspector inp.old).tokens) frames.old.items }
+    ensures left { IfOk result (λ todo. (s : Begun I.Token E.Context E.State.Seen E.Error.Seen) → Left I.Input E.Error.Error E.State.Inspector (acts_of I.Input E.Error.Error E.State.Inspector (A.leaf_meaning actions.now) (A.pair_gives actions.now) (A.option_gives actions.now) (A.unit_gives actions.now) (A.map_gives actions.now) (A.try_gives actions.now) (A.list_gives actions.now)) rules.now frames.old.items s (held I.Input E.Error.Error E.State.Inspector inp.old) (Todo.Answer answer) → Left I.Input E.Error.Error E.State.Inspector (acts_of I.Input E.Error.Error E.State.Inspector (A.leaf_meaning actions.now) (A.pair_gives actions.now) (A.option_gives actions.now) (A.unit_gives actions.now) (A.map_gives actions.now) (A.try_gives actions.now) (A.list_gives actions.now)) rules.now frames.new.items s (held I.Input E.Error.Error E.State.Inspector inp.new) todo) }
+    ensures known { All (IsKnown I.Input E.State.Inspector rules.now.nodes (held I.Input E.Error.Error E.State.Inspector inp.old).tokens) frames.new.items }
     ensures there { IfOk result (IsThere (length rules.now.nodes)) }
     ensures lighter { IfOk result (λ todo. total (length rules.now.nodes) frames.new.items todo < weight (length rules.now.nodes) frames.old.items) }
     ensures ends { IfErr result (λ r. (r ≡ answer) × (frames.old.items ≡ []) × (held I.Input E.Error.Error E.State.Inspector inp.new ≡ held I.Input E.Error.Error E.State.Inspector inp.old)) }

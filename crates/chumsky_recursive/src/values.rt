@@ -4,7 +4,7 @@ ghost use Rattle.chumsky_input.specs.Held.{held};
 ghost use Rattle.chumsky_input.specs.Run.{Ran, Fails};
 ghost use Rattle.chumsky_parser.specs.Chained.{both};
 ghost use Rattle.chumsky_parser.specs.Failure.{expects, wanting};
-ghost use Rattle.chumsky_recursive.specs.Frames.{Makes};
+ghost use Rattle.chumsky_recursive.specs.Frames.{Makes, items_of};
 
 use crate::actions::Actions;
 use chumsky_input::error::Error;
@@ -117,6 +117,23 @@ pub(crate) fn unit<'src, I: Input<'src>, E: ParserExtra<I>, A: Actions<'src, I, 
     match actions.unit(alloc) {
         Ok(value) => Ok(Some(value)),
         Err(_) => Err(Fault::Stop(Stop::Memory)),
+    }
+}
+
+/// The value of a list, where its items have theirs.
+pub(crate) fn listed<'src, I: Input<'src>, E: ParserExtra<I>, A: Actions<'src, I, E>>(
+    actions: &A,
+    alloc: Global,
+    values: Option<Vec<A::Value>>,
+) -> PResult<Option<A::Value>>
+    ensures { Makes (A.list_gives actions.now) (items_of values) result }
+{
+    match values {
+        None => Ok(None),
+        Some(values) => match actions.list(alloc, values) {
+            Ok(value) => Ok(Some(value)),
+            Err(_) => Err(Fault::Stop(Stop::Memory)),
+        },
     }
 }
 

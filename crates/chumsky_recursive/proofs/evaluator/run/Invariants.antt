@@ -9,8 +9,8 @@ use Rattle.chumsky_recursive.proofs.evaluator.run.Given as goal
 -- what is left to do is what the node does that began first, and there are no more frames than levels below it
 abbrev pub invariant-steps : goal.invariant-steps
 invariant-steps g l = record {
-  left : Left g.I.Input g.E.Error.Error g.E.State.Inspector (acts_of g.I.Input g.E.Error.Error g.E.State.Inspector (g.A.Actions.leaf_meaning l.actions) (g.A.Actions.pair_gives l.actions) (g.A.Actions.option_gives l.actions) (g.A.Actions.unit_gives l.actions) (g.A.Actions.map_gives l.actions)) l.rules l.frames.items (record { more = l.fn.more; node = l.fn.start; wanted = l.fn.wanted; held = held g.I.Input g.E.Error.Error g.E.State.Inspector l.fn.inp }) (held g.I.Input g.E.Error.Error g.E.State.Inspector l.inp) l.todo;
-  known : All (IsKnown g.I.Input g.E.State.Inspector (length l.rules.nodes) (held g.I.Input g.E.Error.Error g.E.State.Inspector l.inp).tokens) l.frames.items;
+  left : Left g.I.Input g.E.Error.Error g.E.State.Inspector (acts_of g.I.Input g.E.Error.Error g.E.State.Inspector (g.A.Actions.leaf_meaning l.actions) (g.A.Actions.pair_gives l.actions) (g.A.Actions.option_gives l.actions) (g.A.Actions.unit_gives l.actions) (g.A.Actions.map_gives l.actions) (g.A.Actions.try_gives l.actions) (g.A.Actions.list_gives l.actions)) l.rules l.frames.items (record { more = l.fn.more; node = l.fn.start; wanted = l.fn.wanted; held = held g.I.Input g.E.Error.Error g.E.State.Inspector l.fn.inp }) (held g.I.Input g.E.Error.Error g.E.State.Inspector l.inp) l.todo;
+  known : All (IsKnown g.I.Input g.E.State.Inspector l.rules.nodes (held g.I.Input g.E.Error.Error g.E.State.Inspector l.inp).tokens) l.frames.items;
   there : IsThere (length l.rules.nodes) l.todo;
   bounded : IsBounded (length l.rules.nodes) (level (length l.rules.nodes) l.fn.more l.fn.start) 0 l.frames.items;
   fits : Fits (length l.rules.nodes) (level (length l.rules.nodes) l.fn.more l.fn.start) (length l.frames.items) l.todo;

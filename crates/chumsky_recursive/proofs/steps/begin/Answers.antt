@@ -1,11 +1,14 @@
-use Rattle.std.proofs.Common.{rules, ◌<◌, length, Some, ◌∙◌, ap, sym}
+use Rattle.std.proofs.Common.{rules, ◌≡◌, ◌<◌, length, slice_get, Some, refl, ◌∙◌, ap, sym}
 use Rattle.chumsky_input.specs.Held.{held}
-use Rattle.chumsky_recursive.specs.Frames.{IsKnown}
-use Rattle.chumsky_recursive.proofs.Parts.{not_run, runs_at, parts_below, calls_within, alternative_below}
+use Rattle.chumsky_recursive.specs.Frames.{IsKnown, lists_of}
+use Rattle.chumsky_recursive.proofs.Parts.{parts_below, calls_within, alternative_below}
 use Rattle.chumsky_recursive.proofs.Begins.{leaf_left, deep_left, rule_left, then_left, map_left, none_left, one_left, many_left, unmarked_left, waits_all, waits_there, less, tokens_of}
 use Rattle.chumsky_recursive.proofs.Weights.{waits_lighter, part_level, body_level, two_lighter, one_lighter, first_lighter, below_lighter, answer_lighter, waits_bounded, fits_below, fits_under, fits_over, fits_none}
 use Rattle.chumsky_recursive.proofs.Options.{marked_all, marked_there, marked_lighter, marked_bounded, or_not_left}
 use Rattle.chumsky_recursive.proofs.AheadBegins.{denied_all, denied_there, denied_lighter, denied_bounded, not_left, and_is_left, rewind_left}
+use Rattle.chumsky_recursive.proofs.Tried.{try_left}
+use Rattle.chumsky_recursive.proofs.Listing.{list_below, repeated_left, separated_left}
+use Rattle.chumsky_recursive.proofs.ListSteps.{begin_known, begin_there, begin_lighter, begin_bounded}
 use Rattle.chumsky_recursive.proofs.steps.begin.Goals as goal
 
 pub returns-then-more-eq0-clause-left : goal.returns-then-more-eq0-clause-left
@@ -54,7 +57,7 @@ returns-in-Then-clause-left g c =
 pub returns-in-Then-clause-known : goal.returns-in-Then-clause-known
 returns-in-Then-clause-known g c =
     let b = parts_below c.args.rules.now c.args.node _ _ c.requires.closed.built c.kind_of.ensures c.in-Then.is in
-    λ all. waits_all (IsKnown g.I.Input g.E.State.Inspector (length c.args.rules.now.nodes) (held g.I.Input g.E.Error.Error g.E.State.Inspector c.args.inp.now).tokens) c.wait.ensures (less b.1.0 c.requires.node) all
+    λ all. waits_all (IsKnown g.I.Input g.E.State.Inspector c.args.rules.now.nodes (held g.I.Input g.E.Error.Error g.E.State.Inspector c.args.inp.now).tokens) c.wait.ensures (less b.1.0 c.requires.node) all
 
 pub returns-in-Then-clause-there : goal.returns-in-Then-clause-there
 returns-in-Then-clause-there g c =
@@ -72,7 +75,7 @@ returns-in-Map-clause-left g c =
     map_left _ _ _ _ _ c.requires.closed.built _ _ _ _ _ _ _ (c.kind_of.ensures ∙ ap Some c.in-Map.is) (less b.0 c.requires.node) c.wait-in-Map.ensures
 
 pub returns-in-Map-clause-known : goal.returns-in-Map-clause-known
-returns-in-Map-clause-known g c = λ all. waits_all (IsKnown g.I.Input g.E.State.Inspector (length c.args.rules.now.nodes) (held g.I.Input g.E.Error.Error g.E.State.Inspector c.args.inp.now).tokens) c.wait-in-Map.ensures tt all
+returns-in-Map-clause-known g c = λ all. waits_all (IsKnown g.I.Input g.E.State.Inspector c.args.rules.now.nodes (held g.I.Input g.E.Error.Error g.E.State.Inspector c.args.inp.now).tokens) c.wait-in-Map.ensures tt all
 
 pub returns-in-Map-clause-there : goal.returns-in-Map-clause-there
 returns-in-Map-clause-there g c =
@@ -88,7 +91,7 @@ pub returns-in-Ok-clause-left : goal.returns-in-Ok-clause-left
 returns-in-Ok-clause-left g c = many_left _ _ _ _ _ c.requires.closed.built _ _ _ _ _ _ (c.kind_of.ensures ∙ ap Some c.in-Choice.is) _ _ c.in-Ok.before (sym c.alternative.ensures.is ∙ c.in-Some.is) (sym c.alternative-in-Choice.ensures.is ∙ c.in-Some-alternative.is) (less (alternative_below c.args.rules.now c.args.node 0 c.in-Some.first c.requires.closed.built (sym c.alternative.ensures.is ∙ c.in-Some.is)) c.requires.node) c.in-Ok.ensures c.wait-in-Ok.ensures
 
 pub returns-in-Ok-clause-known : goal.returns-in-Ok-clause-known
-returns-in-Ok-clause-known g c = λ all. waits_all (IsKnown g.I.Input g.E.State.Inspector (length c.args.rules.now.nodes) (held g.I.Input g.E.Error.Error g.E.State.Inspector c.args.inp.now).tokens) c.wait-in-Ok.ensures (c.requires.node, ap tokens_of c.in-Ok.ensures) all
+returns-in-Ok-clause-known g c = λ all. waits_all (IsKnown g.I.Input g.E.State.Inspector c.args.rules.now.nodes (held g.I.Input g.E.Error.Error g.E.State.Inspector c.args.inp.now).tokens) c.wait-in-Ok.ensures (c.requires.node, ap tokens_of c.in-Ok.ensures) all
 
 pub returns-in-Ok-clause-there : goal.returns-in-Ok-clause-there
 returns-in-Ok-clause-there g c = waits_there (length c.args.rules.now.nodes) c.wait-in-Ok.ensures (less (alternative_below c.args.rules.now c.args.node 0 c.in-Some.first c.requires.closed.built (sym c.alternative.ensures.is ∙ c.in-Some.is)) c.requires.node)
@@ -101,15 +104,6 @@ returns-in-Err-clause-left g c = unmarked_left _ _ _ _ _ c.requires.closed.built
 
 pub returns-in-Err-clause-lighter : goal.returns-in-Err-clause-lighter
 returns-in-Err-clause-lighter g c = answer_lighter _ _
-
-pub unreachable-requires : goal.unreachable-requires
-unreachable-requires g c = not_run (runs_at c.args.rules.now c.args.node _ _ c.requires.runs c.kind_of.ensures c.in-Repeated.is)
-
-pub unreachable-requires-in-SeparatedBy : goal.unreachable-requires-in-SeparatedBy
-unreachable-requires-in-SeparatedBy g c = not_run (runs_at c.args.rules.now c.args.node _ _ c.requires.runs c.kind_of.ensures c.in-SeparatedBy.is)
-
-pub unreachable-requires-in-TryMap : goal.unreachable-requires-in-TryMap
-unreachable-requires-in-TryMap g c = not_run (runs_at c.args.rules.now c.args.node _ _ c.requires.runs c.kind_of.ensures c.in-TryMap.is)
 
 pub returns-then-more-eq0-clause-bounded : goal.returns-then-more-eq0-clause-bounded
 returns-then-more-eq0-clause-bounded g c =
@@ -155,7 +149,7 @@ returns-in-OrNot-clause-left g c =
     or_not_left _ _ _ _ _ c.requires.closed.built _ _ _ _ _ _ (c.kind_of.ensures ∙ ap Some c.in-OrNot.is) (less b.0 c.requires.node) c.begin_part.ensures
 
 pub returns-in-OrNot-clause-known : goal.returns-in-OrNot-clause-known
-returns-in-OrNot-clause-known g c = λ all. marked_all _ _ (IsKnown g.I.Input g.E.State.Inspector (length c.args.rules.now.nodes) (held g.I.Input g.E.Error.Error g.E.State.Inspector c.args.inp.now).tokens) c.begin_part.ensures (λ d e. ap tokens_of e) all
+returns-in-OrNot-clause-known g c = λ all. marked_all _ _ (IsKnown g.I.Input g.E.State.Inspector c.args.rules.now.nodes (held g.I.Input g.E.Error.Error g.E.State.Inspector c.args.inp.now).tokens) c.begin_part.ensures (λ d e. ap tokens_of e) all
 
 pub returns-in-OrNot-clause-there : goal.returns-in-OrNot-clause-there
 returns-in-OrNot-clause-there g c =
@@ -178,7 +172,7 @@ returns-in-Not-clause-left g c =
     not_left _ _ _ _ _ c.requires.closed.built _ _ _ _ _ _ (c.kind_of.ensures ∙ ap Some c.in-Not.is) (less b.0 c.requires.node) c.begin_not.ensures.waits
 
 pub returns-in-Not-clause-known : goal.returns-in-Not-clause-known
-returns-in-Not-clause-known g c = λ all. denied_all _ _ _ c.begin_not.ensures.waits (IsKnown g.I.Input g.E.State.Inspector (length c.args.rules.now.nodes) (held g.I.Input g.E.Error.Error g.E.State.Inspector c.args.inp.now).tokens) (λ d k e. ap tokens_of e) all
+returns-in-Not-clause-known g c = λ all. denied_all _ _ _ c.begin_not.ensures.waits (IsKnown g.I.Input g.E.State.Inspector c.args.rules.now.nodes (held g.I.Input g.E.Error.Error g.E.State.Inspector c.args.inp.now).tokens) (λ d k e. ap tokens_of e) all
 
 pub returns-in-Not-clause-there : goal.returns-in-Not-clause-there
 returns-in-Not-clause-there g c =
@@ -203,7 +197,7 @@ returns-in-AndIs-clause-left g c =
 pub returns-in-AndIs-clause-known : goal.returns-in-AndIs-clause-known
 returns-in-AndIs-clause-known g c =
     let b = parts_below c.args.rules.now c.args.node _ _ c.requires.closed.built c.kind_of.ensures c.in-AndIs.is in
-    λ all. marked_all _ _ (IsKnown g.I.Input g.E.State.Inspector (length c.args.rules.now.nodes) (held g.I.Input g.E.Error.Error g.E.State.Inspector c.args.inp.now).tokens) c.begin_and_is.ensures (λ d e. (less b.1.0 c.requires.node, ap tokens_of e)) all
+    λ all. marked_all _ _ (IsKnown g.I.Input g.E.State.Inspector c.args.rules.now.nodes (held g.I.Input g.E.Error.Error g.E.State.Inspector c.args.inp.now).tokens) c.begin_and_is.ensures (λ d e. (less b.1.0 c.requires.node, ap tokens_of e)) all
 
 pub returns-in-AndIs-clause-there : goal.returns-in-AndIs-clause-there
 returns-in-AndIs-clause-there g c =
@@ -226,7 +220,7 @@ returns-in-Rewind-clause-left g c =
     rewind_left _ _ _ _ _ c.requires.closed.built _ _ _ _ _ _ (c.kind_of.ensures ∙ ap Some c.in-Rewind.is) (less b.0 c.requires.node) c.begin_rewind.ensures.waits
 
 pub returns-in-Rewind-clause-known : goal.returns-in-Rewind-clause-known
-returns-in-Rewind-clause-known g c = λ all. waits_all (IsKnown g.I.Input g.E.State.Inspector (length c.args.rules.now.nodes) (held g.I.Input g.E.Error.Error g.E.State.Inspector c.args.inp.now).tokens) c.begin_rewind.ensures.waits.waits c.begin_rewind.ensures.waits.tokens all
+returns-in-Rewind-clause-known g c = λ all. waits_all (IsKnown g.I.Input g.E.State.Inspector c.args.rules.now.nodes (held g.I.Input g.E.Error.Error g.E.State.Inspector c.args.inp.now).tokens) c.begin_rewind.ensures.waits.waits c.begin_rewind.ensures.waits.tokens all
 
 pub returns-in-Rewind-clause-there : goal.returns-in-Rewind-clause-there
 returns-in-Rewind-clause-there g c =
@@ -242,3 +236,80 @@ pub returns-in-Rewind-clause-bounded : goal.returns-in-Rewind-clause-bounded
 returns-in-Rewind-clause-bounded g c =
     let b = parts_below c.args.rules.now c.args.node _ _ c.requires.closed.built c.kind_of.ensures c.in-Rewind.is in
     λ bound m l. waits_bounded (length c.args.rules.now.nodes) bound c.begin_rewind.ensures.waits.waits (fits_none _ _ _ l) (fits_under _ _ _ _ (part_level (length c.args.rules.now.nodes) c.args.more c.in-Rewind.a c.args.node b.0) l) m
+
+pub returns-in-TryMap-clause-left : goal.returns-in-TryMap-clause-left
+returns-in-TryMap-clause-left g c =
+    let b = parts_below c.args.rules.now c.args.node _ _ c.requires.closed.built c.kind_of.ensures c.in-TryMap.is in
+    try_left _ _ _ _ _ c.requires.closed.built _ _ _ _ _ _ _ (c.kind_of.ensures ∙ ap Some c.in-TryMap.is) (less b.0 c.requires.node) c.begin_try.ensures.waits
+
+pub returns-in-TryMap-clause-known : goal.returns-in-TryMap-clause-known
+returns-in-TryMap-clause-known g c = λ all. waits_all (IsKnown g.I.Input g.E.State.Inspector c.args.rules.now.nodes (held g.I.Input g.E.Error.Error g.E.State.Inspector c.args.inp.now).tokens) c.begin_try.ensures.waits.waits c.begin_try.ensures.waits.tokens all
+
+pub returns-in-TryMap-clause-there : goal.returns-in-TryMap-clause-there
+returns-in-TryMap-clause-there g c =
+    let b = parts_below c.args.rules.now c.args.node _ _ c.requires.closed.built c.kind_of.ensures c.in-TryMap.is in
+    waits_there (length c.args.rules.now.nodes) c.begin_try.ensures.waits.waits (less b.0 c.requires.node)
+
+pub returns-in-TryMap-clause-lighter : goal.returns-in-TryMap-clause-lighter
+returns-in-TryMap-clause-lighter g c =
+    let b = parts_below c.args.rules.now c.args.node _ _ c.requires.closed.built c.kind_of.ensures c.in-TryMap.is in
+    waits_lighter (length c.args.rules.now.nodes) _ c.begin_try.ensures.waits.waits (one_lighter _ _ (part_level (length c.args.rules.now.nodes) c.args.more c.in-TryMap.a c.args.node b.0))
+
+pub returns-in-TryMap-clause-bounded : goal.returns-in-TryMap-clause-bounded
+returns-in-TryMap-clause-bounded g c =
+    let b = parts_below c.args.rules.now c.args.node _ _ c.requires.closed.built c.kind_of.ensures c.in-TryMap.is in
+    λ bound m l. waits_bounded (length c.args.rules.now.nodes) bound c.begin_try.ensures.waits.waits (fits_none _ _ _ l) (fits_under _ _ _ _ (part_level (length c.args.rules.now.nodes) c.args.more c.in-TryMap.a c.args.node b.0) l) m
+
+pub returns-in-Repeated-clause-left : goal.returns-in-Repeated-clause-left
+returns-in-Repeated-clause-left g c = λ s w. repeated_left _ _ _ _ _ c.requires.closed.built _ _ _ _ _ _ _ s _ _ _ (c.kind_of.ensures ∙ ap Some c.in-Repeated.is) w (rw c.repeated_list-list.ensures at c.begin_list.ensures)
+
+pub returns-in-Repeated-clause-known : goal.returns-in-Repeated-clause-known
+returns-in-Repeated-clause-known g c =
+    let e : lists_of (slice_get c.args.rules.now.nodes c.args.node) ≡ Some c.repeated_list-list.result = rw (c.kind_of.ensures ∙ ap Some c.in-Repeated.is, c.repeated_list-list.ensures) refl in
+    let b = list_below c.args.rules.now c.args.node c.repeated_list-list.result c.requires.closed.built e in
+    begin_known g.I.Input g.E.State.Inspector (g.A.Actions.list_gives c.args.actions.now) c.repeated_list-list.result c.args.rules.now.nodes c.args.frames.now.items c.begin_list.new.frames.items c.args.node c.args.more c.args.wanted (held g.I.Input g.E.Error.Error g.E.State.Inspector c.args.inp.now) c.begin_list.result e b c.begin_list.ensures
+
+pub returns-in-Repeated-clause-there : goal.returns-in-Repeated-clause-there
+returns-in-Repeated-clause-there g c =
+    let e : lists_of (slice_get c.args.rules.now.nodes c.args.node) ≡ Some c.repeated_list-list.result = rw (c.kind_of.ensures ∙ ap Some c.in-Repeated.is, c.repeated_list-list.ensures) refl in
+    let b = list_below c.args.rules.now c.args.node c.repeated_list-list.result c.requires.closed.built e in
+    begin_there g.I.Input g.E.State.Inspector (g.A.Actions.list_gives c.args.actions.now) c.repeated_list-list.result c.args.rules.now.nodes c.args.frames.now.items c.begin_list.new.frames.items c.args.node c.args.more c.args.wanted (held g.I.Input g.E.Error.Error g.E.State.Inspector c.args.inp.now) c.begin_list.result e b c.begin_list.ensures c.requires.node
+
+pub returns-in-Repeated-clause-lighter : goal.returns-in-Repeated-clause-lighter
+returns-in-Repeated-clause-lighter g c =
+    let e : lists_of (slice_get c.args.rules.now.nodes c.args.node) ≡ Some c.repeated_list-list.result = rw (c.kind_of.ensures ∙ ap Some c.in-Repeated.is, c.repeated_list-list.ensures) refl in
+    let b = list_below c.args.rules.now c.args.node c.repeated_list-list.result c.requires.closed.built e in
+    begin_lighter g.I.Input g.E.State.Inspector (g.A.Actions.list_gives c.args.actions.now) c.repeated_list-list.result c.args.rules.now.nodes c.args.frames.now.items c.begin_list.new.frames.items c.args.node c.args.more c.args.wanted (held g.I.Input g.E.Error.Error g.E.State.Inspector c.args.inp.now) c.begin_list.result e b c.begin_list.ensures (length c.args.rules.now.nodes)
+
+pub returns-in-Repeated-clause-bounded : goal.returns-in-Repeated-clause-bounded
+returns-in-Repeated-clause-bounded g c =
+    let e : lists_of (slice_get c.args.rules.now.nodes c.args.node) ≡ Some c.repeated_list-list.result = rw (c.kind_of.ensures ∙ ap Some c.in-Repeated.is, c.repeated_list-list.ensures) refl in
+    let b = list_below c.args.rules.now c.args.node c.repeated_list-list.result c.requires.closed.built e in
+    λ bound m l. begin_bounded g.I.Input g.E.State.Inspector (g.A.Actions.list_gives c.args.actions.now) c.repeated_list-list.result c.args.rules.now.nodes c.args.frames.now.items c.begin_list.new.frames.items c.args.node c.args.more c.args.wanted (held g.I.Input g.E.Error.Error g.E.State.Inspector c.args.inp.now) c.begin_list.result e b c.begin_list.ensures (length c.args.rules.now.nodes) bound l m
+
+pub returns-in-SeparatedBy-clause-left : goal.returns-in-SeparatedBy-clause-left
+returns-in-SeparatedBy-clause-left g c = λ s w. separated_left _ _ _ _ _ c.requires.closed.built _ _ _ _ _ _ _ s _ _ _ (c.kind_of.ensures ∙ ap Some c.in-SeparatedBy.is) w (rw c.separated_list-list.ensures at c.begin_list-in-SeparatedBy.ensures)
+
+pub returns-in-SeparatedBy-clause-known : goal.returns-in-SeparatedBy-clause-known
+returns-in-SeparatedBy-clause-known g c =
+    let e : lists_of (slice_get c.args.rules.now.nodes c.args.node) ≡ Some c.separated_list-list.result = rw (c.kind_of.ensures ∙ ap Some c.in-SeparatedBy.is, c.separated_list-list.ensures) refl in
+    let b = list_below c.args.rules.now c.args.node c.separated_list-list.result c.requires.closed.built e in
+    begin_known g.I.Input g.E.State.Inspector (g.A.Actions.list_gives c.args.actions.now) c.separated_list-list.result c.args.rules.now.nodes c.args.frames.now.items c.begin_list-in-SeparatedBy.new.frames.items c.args.node c.args.more c.args.wanted (held g.I.Input g.E.Error.Error g.E.State.Inspector c.args.inp.now) c.begin_list-in-SeparatedBy.result e b c.begin_list-in-SeparatedBy.ensures
+
+pub returns-in-SeparatedBy-clause-there : goal.returns-in-SeparatedBy-clause-there
+returns-in-SeparatedBy-clause-there g c =
+    let e : lists_of (slice_get c.args.rules.now.nodes c.args.node) ≡ Some c.separated_list-list.result = rw (c.kind_of.ensures ∙ ap Some c.in-SeparatedBy.is, c.separated_list-list.ensures) refl in
+    let b = list_below c.args.rules.now c.args.node c.separated_list-list.result c.requires.closed.built e in
+    begin_there g.I.Input g.E.State.Inspector (g.A.Actions.list_gives c.args.actions.now) c.separated_list-list.result c.args.rules.now.nodes c.args.frames.now.items c.begin_list-in-SeparatedBy.new.frames.items c.args.node c.args.more c.args.wanted (held g.I.Input g.E.Error.Error g.E.State.Inspector c.args.inp.now) c.begin_list-in-SeparatedBy.result e b c.begin_list-in-SeparatedBy.ensures c.requires.node
+
+pub returns-in-SeparatedBy-clause-lighter : goal.returns-in-SeparatedBy-clause-lighter
+returns-in-SeparatedBy-clause-lighter g c =
+    let e : lists_of (slice_get c.args.rules.now.nodes c.args.node) ≡ Some c.separated_list-list.result = rw (c.kind_of.ensures ∙ ap Some c.in-SeparatedBy.is, c.separated_list-list.ensures) refl in
+    let b = list_below c.args.rules.now c.args.node c.separated_list-list.result c.requires.closed.built e in
+    begin_lighter g.I.Input g.E.State.Inspector (g.A.Actions.list_gives c.args.actions.now) c.separated_list-list.result c.args.rules.now.nodes c.args.frames.now.items c.begin_list-in-SeparatedBy.new.frames.items c.args.node c.args.more c.args.wanted (held g.I.Input g.E.Error.Error g.E.State.Inspector c.args.inp.now) c.begin_list-in-SeparatedBy.result e b c.begin_list-in-SeparatedBy.ensures (length c.args.rules.now.nodes)
+
+pub returns-in-SeparatedBy-clause-bounded : goal.returns-in-SeparatedBy-clause-bounded
+returns-in-SeparatedBy-clause-bounded g c =
+    let e : lists_of (slice_get c.args.rules.now.nodes c.args.node) ≡ Some c.separated_list-list.result = rw (c.kind_of.ensures ∙ ap Some c.in-SeparatedBy.is, c.separated_list-list.ensures) refl in
+    let b = list_below c.args.rules.now c.args.node c.separated_list-list.result c.requires.closed.built e in
+    λ bound m l. begin_bounded g.I.Input g.E.State.Inspector (g.A.Actions.list_gives c.args.actions.now) c.separated_list-list.result c.args.rules.now.nodes c.args.frames.now.items c.begin_list-in-SeparatedBy.new.frames.items c.args.node c.args.more c.args.wanted (held g.I.Input g.E.Error.Error g.E.State.Inspector c.args.inp.now) c.begin_list-in-SeparatedBy.result e b c.begin_list-in-SeparatedBy.ensures (length c.args.rules.now.nodes) bound l m

@@ -1,13 +1,17 @@
-use Rattle.std.proofs.Common.{arith, ◌≡◌, ◌<◌, ◌^◌, length, Err, ◌∙◌, ap, sym}
+use Rattle.std.specs.Prelude.{is_some}
+use Rattle.std.proofs.Common.{arith, ◌≡◌, ◌<◌, ◌^◌, true, length, slice_get, Err, refl, ◌∙◌, ap, sym}
 use Rattle.chumsky_input.specs.declared.stop.Fault.TheVariants as fault
 use Rattle.chumsky_input.specs.Held.{held, marks}
-use Rattle.chumsky_recursive.specs.Frames.{IsKnown}
+use Rattle.chumsky_recursive.specs.Frames.{IsKnown, lists_of}
 use Rattle.chumsky_recursive.proofs.Parts.{alternative_below}
 use Rattle.chumsky_recursive.proofs.Begins.{waits_all, waits_there, less}
 use Rattle.chumsky_recursive.proofs.Resumes.{first_fails, second_fails, mapped_fails, second_made, mapped_made, alternative_stands, alternative_ends, alternative_unrestored, second_left, next_left}
 use Rattle.chumsky_recursive.proofs.Weights.{waits_lighter, part_level, next_lighter, choice_lighter, next_small, waits_bounded, fits_under, fits_first, fits_none}
 use Rattle.chumsky_recursive.proofs.Options.{or_absent_left}
 use Rattle.chumsky_recursive.proofs.AheadResumes.{looks_all, looks_there, looks_lighter, looks_bounded, not_turns, and_is_looks, and_is_stands, rewind_returns}
+use Rattle.chumsky_recursive.proofs.Tried.{try_judges}
+use Rattle.chumsky_recursive.proofs.Listing.{list_below, list_inside, hears_separator, hears_item}
+use Rattle.chumsky_recursive.proofs.ListSteps.{separator_known, separator_there, separator_lighter, separator_bounded, item_all, item_is_there, item_is_lighter, item_is_bounded}
 use Rattle.chumsky_recursive.proofs.steps.resume.Goals as goal
 
 pub returns-in-Ok-clause-left : goal.returns-in-Ok-clause-left
@@ -16,7 +20,7 @@ returns-in-Ok-clause-left g c =
     rw c.in-First.is (second_left _ _ _ _ _ _ _ _ c.requires.closed.built _ _ _ _ c.in-Ok.is k c.wait.ensures)
 
 pub returns-in-Ok-clause-known : goal.returns-in-Ok-clause-known
-returns-in-Ok-clause-known g c = λ all. waits_all (IsKnown g.I.Input g.E.State.Inspector (length c.args.rules.now.nodes) (held g.I.Input g.E.Error.Error g.E.State.Inspector c.args.inp.now).tokens) c.wait.ensures tt all
+returns-in-Ok-clause-known g c = λ all. waits_all (IsKnown g.I.Input g.E.State.Inspector c.args.rules.now.nodes (held g.I.Input g.E.Error.Error g.E.State.Inspector c.args.inp.now).tokens) c.wait.ensures tt all
 
 pub returns-in-Ok-clause-lighter : goal.returns-in-Ok-clause-lighter
 returns-in-Ok-clause-lighter g c = rw c.in-First.is (waits_lighter (length c.args.rules.now.nodes) _ c.wait.ensures (omega arith))
@@ -62,7 +66,7 @@ returns-in-Ok-rewind-clause-left g c =
 pub returns-in-Ok-rewind-clause-known : goal.returns-in-Ok-rewind-clause-known
 returns-in-Ok-rewind-clause-known g c =
     let k : (c.in-Alternative.node < length c.args.rules.now.nodes) × ((marks g.I.Input g.E.State.Inspector c.in-Alternative.before).tokens ≡ (held g.I.Input g.E.Error.Error g.E.State.Inspector c.args.inp.now).tokens) = rw c.in-Alternative.is at c.requires.known in
-    λ all. waits_all (IsKnown g.I.Input g.E.State.Inspector (length c.args.rules.now.nodes) (held g.I.Input g.E.Error.Error g.E.State.Inspector c.args.inp.now).tokens) c.wait-in-Ok-rewind.ensures k all
+    λ all. waits_all (IsKnown g.I.Input g.E.State.Inspector c.args.rules.now.nodes (held g.I.Input g.E.Error.Error g.E.State.Inspector c.args.inp.now).tokens) c.wait-in-Ok-rewind.ensures k all
 
 pub returns-in-Ok-rewind-clause-there : goal.returns-in-Ok-rewind-clause-there
 returns-in-Ok-rewind-clause-there g c =
@@ -155,7 +159,7 @@ returns-in-Both-clause-left g c =
     rw c.in-Both.is (and_is_looks _ _ _ _ _ _ _ _ c.requires.closed.built _ _ _ _ _ k.0 _ c.look.ensures.looks)
 
 pub returns-in-Both-clause-known : goal.returns-in-Both-clause-known
-returns-in-Both-clause-known g c = λ all. looks_all g.I.Input g.E.Error.Error g.E.State.Inspector c.args.frames.now.items c.look.new.frames.items c.in-Both.other c.in-Both.more (marks g.I.Input g.E.State.Inspector c.in-Both.before) (held g.I.Input g.E.Error.Error g.E.State.Inspector c.args.inp.now) (held g.I.Input g.E.Error.Error g.E.State.Inspector c.look.new.inp) c.look.result c.args.answer c.look.ensures.looks (IsKnown g.I.Input g.E.State.Inspector (length c.args.rules.now.nodes) (held g.I.Input g.E.Error.Error g.E.State.Inspector c.args.inp.now).tokens) (λ v past e. e) all
+returns-in-Both-clause-known g c = λ all. looks_all g.I.Input g.E.Error.Error g.E.State.Inspector c.args.frames.now.items c.look.new.frames.items c.in-Both.other c.in-Both.more (marks g.I.Input g.E.State.Inspector c.in-Both.before) (held g.I.Input g.E.Error.Error g.E.State.Inspector c.args.inp.now) (held g.I.Input g.E.Error.Error g.E.State.Inspector c.look.new.inp) c.look.result c.args.answer c.look.ensures.looks (IsKnown g.I.Input g.E.State.Inspector c.args.rules.now.nodes (held g.I.Input g.E.Error.Error g.E.State.Inspector c.args.inp.now).tokens) (λ v past e. e) all
 
 pub returns-in-Both-clause-there : goal.returns-in-Both-clause-there
 returns-in-Both-clause-there g c =
@@ -184,3 +188,64 @@ returns-in-Rewound-clause-left g c = rw c.in-Rewound.is (rewind_returns _ _ _ _ 
 pub returns-in-Rewound-clause-bounded : goal.returns-in-Rewound-clause-bounded
 returns-in-Rewound-clause-bounded g c =
     λ bound b l. (b, tt)
+
+pub returns-in-Tried-clause-left : goal.returns-in-Tried-clause-left
+returns-in-Tried-clause-left g c = rw c.in-Tried.is (try_judges _ _ _ _ _ _ _ _ _ (g.A.Actions.try_gives c.args.actions.now c.in-Tried.f) (λ b e s v x h. record { ruling = x; says = h; answer = refl; keeps = refl }) _ _ _ _ _ c.judge.ensures.judges)
+
+pub returns-in-Tried-clause-bounded : goal.returns-in-Tried-clause-bounded
+returns-in-Tried-clause-bounded g c =
+    λ bound b l. (b, tt)
+
+pub returns-in-Separator-clause-left : goal.returns-in-Separator-clause-left
+returns-in-Separator-clause-left g c = rw c.in-Separator.is (hears_separator _ _ _ _ _ c.requires.closed.built _ _ _ _ _ _ _ c.list_at-list.ensures _ _ c.hear_separator.ensures.hears)
+
+pub returns-in-Separator-clause-known : goal.returns-in-Separator-clause-known
+returns-in-Separator-clause-known g c =
+    let k : (is_some (lists_of (slice_get c.args.rules.now.nodes c.in-Separator.so_far.node)) ≡ true) × ((marks g.I.Input g.E.State.Inspector c.in-Separator.before).tokens ≡ (held g.I.Input g.E.Error.Error g.E.State.Inspector c.args.inp.now).tokens) = rw c.in-Separator.is at c.requires.known in
+    let b = list_below c.args.rules.now c.in-Separator.so_far.node c.list_at-list.result c.requires.closed.built c.list_at-list.ensures in
+    λ all. separator_known g.I.Input g.E.State.Inspector (g.A.Actions.list_gives c.args.actions.now) c.list_at-list.result c.args.rules.now.nodes c.args.frames.now.items c.hear_separator.new.frames.items c.in-Separator.so_far (held g.I.Input g.E.Error.Error g.E.State.Inspector c.args.inp.now) (held g.I.Input g.E.Error.Error g.E.State.Inspector c.hear_separator.new.inp) c.hear_separator.result c.hear_separator.ensures.tokens k.0 b c.in-Separator.before c.args.answer c.hear_separator.ensures.hears k.1 all
+
+pub returns-in-Separator-clause-there : goal.returns-in-Separator-clause-there
+returns-in-Separator-clause-there g c =
+    let k : (is_some (lists_of (slice_get c.args.rules.now.nodes c.in-Separator.so_far.node)) ≡ true) × ((marks g.I.Input g.E.State.Inspector c.in-Separator.before).tokens ≡ (held g.I.Input g.E.Error.Error g.E.State.Inspector c.args.inp.now).tokens) = rw c.in-Separator.is at c.requires.known in
+    let b = list_below c.args.rules.now c.in-Separator.so_far.node c.list_at-list.result c.requires.closed.built c.list_at-list.ensures in
+    separator_there g.I.Input g.E.State.Inspector (g.A.Actions.list_gives c.args.actions.now) c.list_at-list.result c.args.rules.now.nodes c.args.frames.now.items c.hear_separator.new.frames.items c.in-Separator.so_far (held g.I.Input g.E.Error.Error g.E.State.Inspector c.args.inp.now) (held g.I.Input g.E.Error.Error g.E.State.Inspector c.hear_separator.new.inp) c.hear_separator.result c.hear_separator.ensures.tokens k.0 b c.in-Separator.before c.args.answer c.hear_separator.ensures.hears (list_inside c.args.rules.now.nodes c.in-Separator.so_far.node _ c.list_at-list.ensures)
+
+pub returns-in-Separator-clause-lighter : goal.returns-in-Separator-clause-lighter
+returns-in-Separator-clause-lighter g c =
+    let k : (is_some (lists_of (slice_get c.args.rules.now.nodes c.in-Separator.so_far.node)) ≡ true) × ((marks g.I.Input g.E.State.Inspector c.in-Separator.before).tokens ≡ (held g.I.Input g.E.Error.Error g.E.State.Inspector c.args.inp.now).tokens) = rw c.in-Separator.is at c.requires.known in
+    let b = list_below c.args.rules.now c.in-Separator.so_far.node c.list_at-list.result c.requires.closed.built c.list_at-list.ensures in
+    rw c.in-Separator.is (separator_lighter g.I.Input g.E.State.Inspector (g.A.Actions.list_gives c.args.actions.now) c.list_at-list.result c.args.rules.now.nodes c.args.frames.now.items c.hear_separator.new.frames.items c.in-Separator.so_far (held g.I.Input g.E.Error.Error g.E.State.Inspector c.args.inp.now) (held g.I.Input g.E.Error.Error g.E.State.Inspector c.hear_separator.new.inp) c.hear_separator.result c.hear_separator.ensures.tokens k.0 b c.in-Separator.before c.args.answer c.hear_separator.ensures.hears (length c.args.rules.now.nodes))
+
+pub returns-in-Separator-clause-bounded : goal.returns-in-Separator-clause-bounded
+returns-in-Separator-clause-bounded g c =
+    let k : (is_some (lists_of (slice_get c.args.rules.now.nodes c.in-Separator.so_far.node)) ≡ true) × ((marks g.I.Input g.E.State.Inspector c.in-Separator.before).tokens ≡ (held g.I.Input g.E.Error.Error g.E.State.Inspector c.args.inp.now).tokens) = rw c.in-Separator.is at c.requires.known in
+    let b = list_below c.args.rules.now c.in-Separator.so_far.node c.list_at-list.result c.requires.closed.built c.list_at-list.ensures in
+    λ bound z l. (let m = rw c.in-Separator.is at l in separator_bounded g.I.Input g.E.State.Inspector (g.A.Actions.list_gives c.args.actions.now) c.list_at-list.result c.args.rules.now.nodes c.args.frames.now.items c.hear_separator.new.frames.items c.in-Separator.so_far (held g.I.Input g.E.Error.Error g.E.State.Inspector c.args.inp.now) (held g.I.Input g.E.Error.Error g.E.State.Inspector c.hear_separator.new.inp) c.hear_separator.result c.hear_separator.ensures.tokens k.0 b c.in-Separator.before c.args.answer c.hear_separator.ensures.hears (length c.args.rules.now.nodes) bound m z)
+
+pub returns-in-Item-clause-left : goal.returns-in-Item-clause-left
+returns-in-Item-clause-left g c = rw c.in-Item.is (hears_item _ _ _ _ _ c.requires.closed.built _ _ _ _ _ _ _ c.list_at-list-in-Item.ensures _ _ _ c.hear_item.ensures.hears)
+
+pub returns-in-Item-clause-known : goal.returns-in-Item-clause-known
+returns-in-Item-clause-known g c =
+    let k : (is_some (lists_of (slice_get c.args.rules.now.nodes c.in-Item.so_far.node)) ≡ true) × ((marks g.I.Input g.E.State.Inspector c.in-Item.back).tokens ≡ (held g.I.Input g.E.Error.Error g.E.State.Inspector c.args.inp.now).tokens) = rw c.in-Item.is at c.requires.known in
+    let b = list_below c.args.rules.now c.in-Item.so_far.node c.list_at-list-in-Item.result c.requires.closed.built c.list_at-list-in-Item.ensures in
+    λ all. item_all g.I.Input g.E.State.Inspector (g.A.Actions.list_gives c.args.actions.now) c.list_at-list-in-Item.result c.args.rules.now.nodes c.args.frames.now.items c.hear_item.new.frames.items c.in-Item.so_far (held g.I.Input g.E.Error.Error g.E.State.Inspector c.args.inp.now) (held g.I.Input g.E.Error.Error g.E.State.Inspector c.hear_item.new.inp) c.hear_item.result c.hear_item.ensures.tokens k.0 b c.in-Item.start c.in-Item.back c.args.answer c.hear_item.ensures.hears all
+
+pub returns-in-Item-clause-there : goal.returns-in-Item-clause-there
+returns-in-Item-clause-there g c =
+    let k : (is_some (lists_of (slice_get c.args.rules.now.nodes c.in-Item.so_far.node)) ≡ true) × ((marks g.I.Input g.E.State.Inspector c.in-Item.back).tokens ≡ (held g.I.Input g.E.Error.Error g.E.State.Inspector c.args.inp.now).tokens) = rw c.in-Item.is at c.requires.known in
+    let b = list_below c.args.rules.now c.in-Item.so_far.node c.list_at-list-in-Item.result c.requires.closed.built c.list_at-list-in-Item.ensures in
+    item_is_there g.I.Input g.E.State.Inspector (g.A.Actions.list_gives c.args.actions.now) c.list_at-list-in-Item.result c.args.rules.now.nodes c.args.frames.now.items c.hear_item.new.frames.items c.in-Item.so_far (held g.I.Input g.E.Error.Error g.E.State.Inspector c.args.inp.now) (held g.I.Input g.E.Error.Error g.E.State.Inspector c.hear_item.new.inp) c.hear_item.result c.hear_item.ensures.tokens k.0 b c.in-Item.start c.in-Item.back c.args.answer c.hear_item.ensures.hears (list_inside c.args.rules.now.nodes c.in-Item.so_far.node _ c.list_at-list-in-Item.ensures)
+
+pub returns-in-Item-clause-lighter : goal.returns-in-Item-clause-lighter
+returns-in-Item-clause-lighter g c =
+    let k : (is_some (lists_of (slice_get c.args.rules.now.nodes c.in-Item.so_far.node)) ≡ true) × ((marks g.I.Input g.E.State.Inspector c.in-Item.back).tokens ≡ (held g.I.Input g.E.Error.Error g.E.State.Inspector c.args.inp.now).tokens) = rw c.in-Item.is at c.requires.known in
+    let b = list_below c.args.rules.now c.in-Item.so_far.node c.list_at-list-in-Item.result c.requires.closed.built c.list_at-list-in-Item.ensures in
+    rw c.in-Item.is (item_is_lighter g.I.Input g.E.State.Inspector (g.A.Actions.list_gives c.args.actions.now) c.list_at-list-in-Item.result c.args.rules.now.nodes c.args.frames.now.items c.hear_item.new.frames.items c.in-Item.so_far (held g.I.Input g.E.Error.Error g.E.State.Inspector c.args.inp.now) (held g.I.Input g.E.Error.Error g.E.State.Inspector c.hear_item.new.inp) c.hear_item.result c.hear_item.ensures.tokens k.0 b c.in-Item.start c.in-Item.back c.args.answer c.hear_item.ensures.hears (length c.args.rules.now.nodes))
+
+pub returns-in-Item-clause-bounded : goal.returns-in-Item-clause-bounded
+returns-in-Item-clause-bounded g c =
+    let k : (is_some (lists_of (slice_get c.args.rules.now.nodes c.in-Item.so_far.node)) ≡ true) × ((marks g.I.Input g.E.State.Inspector c.in-Item.back).tokens ≡ (held g.I.Input g.E.Error.Error g.E.State.Inspector c.args.inp.now).tokens) = rw c.in-Item.is at c.requires.known in
+    let b = list_below c.args.rules.now c.in-Item.so_far.node c.list_at-list-in-Item.result c.requires.closed.built c.list_at-list-in-Item.ensures in
+    λ bound z l. (let m = rw c.in-Item.is at l in item_is_bounded g.I.Input g.E.State.Inspector (g.A.Actions.list_gives c.args.actions.now) c.list_at-list-in-Item.result c.args.rules.now.nodes c.args.frames.now.items c.hear_item.new.frames.items c.in-Item.so_far (held g.I.Input g.E.Error.Error g.E.State.Inspector c.args.inp.now) (held g.I.Input g.E.Error.Error g.E.State.Inspector c.hear_item.new.inp) c.hear_item.result c.hear_item.ensures.tokens k.0 b c.in-Item.start c.in-Item.back c.args.answer c.hear_item.ensures.hears (length c.args.rules.now.nodes) bound m z)
