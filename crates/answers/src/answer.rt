@@ -1,5 +1,6 @@
 //! One line for what `parse` and `check` answer.
 use crate::says::Says;
+use crate::unmarked::Unmarked;
 use chumsky::Stop;
 use chumsky::extra::ParserExtra;
 use chumsky::prelude::*;
@@ -14,7 +15,7 @@ pub fn answer<
     I: Input<'src> + Copy,
     O: Debug + Drop,
     E: ParserExtra<I>,
-    P: IsParser<I, O, E> + Parser<'src, I, O, E>,
+    P: Parser<'src, I, O, E>,
 >(parser: &P, alloc: Global, input: I) -> Result<String, AllocError>
 where
     I::Token: 'src,
@@ -23,6 +24,7 @@ where
     E::Context: Default + Drop,
     requires { P.ready parser.now }
 {
+    let parser = Unmarked { parser };
     let parsed = parser.parse(alloc, input);
     let checked = parser.check(alloc, input);
     let line = both(alloc, &parsed, &checked)?;
@@ -44,7 +46,7 @@ pub fn answer_from<
     I: Input<'src> + Copy,
     O: Debug + Drop,
     E: ParserExtra<I>,
-    P: IsParser<I, O, E> + Parser<'src, I, O, E>,
+    P: Parser<'src, I, O, E>,
 >(parser: &P, alloc: Global, input: I, state: E::State) -> Result<String, AllocError>
 where
     I::Token: 'src,
@@ -53,6 +55,7 @@ where
     E::Context: Default + Drop,
     requires { P.ready parser.now }
 {
+    let parser = Unmarked { parser };
     let mut after_parse = state;
     let parsed = parser.parse_with_state(alloc, input, &mut after_parse);
     let mut after_check = state;

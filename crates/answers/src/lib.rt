@@ -4,6 +4,8 @@
 
 pub mod answer;
 pub mod extras;
+pub mod leaves;
 pub mod merges;
 pub mod says;
 pub mod states;
+pub mod unmarked;

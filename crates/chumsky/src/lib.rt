@@ -71,12 +71,12 @@ pub mod primitive {
     pub use chumsky_group::make::group;
     pub use chumsky_primitive::any::Any;
     pub use chumsky_primitive::any_ref::AnyRef;
-    pub use chumsky_primitive::custom::Custom;
+    pub use chumsky_primitive::custom::{Custom, Reader};
     pub use chumsky_primitive::empty::Empty;
     pub use chumsky_primitive::end::End;
     pub use chumsky_primitive::just::Just;
     pub use chumsky_primitive::make::{
-        any, any_ref, custom, empty, end, just, none_of, one_of, select, select_ref,
+        any, any_ref, custom, custom_by, empty, end, just, none_of, one_of, select, select_ref,
     };
     pub use chumsky_primitive::none_of::NoneOf;
     pub use chumsky_primitive::one_of::OneOf;
@@ -102,11 +102,17 @@ pub mod combinator {
     pub use chumsky_combinator::sequence::Then;
     pub use chumsky_combinator::then_ignore::ThenIgnore;
     pub use chumsky_combinator::to::To;
+    pub use chumsky_flatten::flatten::Flatten;
+    pub use chumsky_flatten::into_iter::IntoIter;
     pub use chumsky_folds::enumerate::Enumerate;
     pub use chumsky_folds::fold::Fold;
     pub use chumsky_folds::folder::{Folder, RightFolder};
+    pub use chumsky_folds::folder_with::{FolderWith, RightFolderWith, TryFolder};
     pub use chumsky_folds::foldl::Foldl;
+    pub use chumsky_folds::foldl_with::FoldlWith;
     pub use chumsky_folds::foldr::Foldr;
+    pub use chumsky_folds::foldr_with::FoldrWith;
+    pub use chumsky_folds::try_foldl::TryFoldl;
     pub use chumsky_items::collect::Collect;
     pub use chumsky_items::collect_exactly::CollectExactly;
     pub use chumsky_items::count::Count;
@@ -114,7 +120,7 @@ pub mod combinator {
     pub use chumsky_items::separated_by::SeparatedBy;
     pub use chumsky_shield::and_is::AndIs;
     pub use chumsky_shield::filter::{Filter, Tester};
-    pub use chumsky_shield::filter_map::FilterMap;
+    pub use chumsky_shield::filter_map::{FilterMap, Picker};
     pub use chumsky_shield::map_err::MapErr;
     pub use chumsky_shield::map_err_with::MapErrWith;
     pub use chumsky_shield::map_err_with_state::MapErrWithState;
@@ -129,7 +135,6 @@ pub mod combinator {
 /// Rules as data: recursive grammars, the parser that runs them, and why a call on them is refused.
 pub mod recursive {
     pub use chumsky_recursive::actions::Actions;
-    pub use chumsky_recursive::errors::GrammarError;
     pub use chumsky_recursive::grammar::{Grammar, close};
     pub use chumsky_recursive::leaves::{Leaves, Values};
     pub use chumsky_rules::closed::Closed;
@@ -153,15 +158,21 @@ pub mod laws {
     };
     pub use chumsky_combinator::steady::{
         delimited_by_is_steady, ignore_then_is_steady, map_is_steady, map_items_is_steady,
-        map_with_is_steady, or_is_steady, part_is_steady, then_is_steady, then_items_is_steady,
-        to_is_steady,
+        map_items_with_is_steady, map_with_is_steady, or_is_steady, part_is_steady, then_is_steady,
+        then_items_is_steady, to_is_steady,
     };
+    pub use chumsky_flatten::laws::{
+        flatten_gives_the_items_of_each_collection, into_iter_gives_the_items_of_the_output,
+    };
+    pub use chumsky_flatten::steady::{flatten_is_steady, into_iter_is_steady};
     pub use chumsky_folds::laws::{
         enumerate_numbers_from_zero, fold_is_the_fold_of_what_collect_gives,
-        foldl_is_the_fold_of_what_collect_gives, foldr_is_the_fold_of_the_reverse,
+        foldl_is_the_fold_of_what_collect_gives, foldl_with_by_a_blind_folder_is_foldl,
+        foldr_is_the_fold_of_the_reverse,
     };
     pub use chumsky_folds::steady::{
-        enumerate_is_steady, fold_is_steady, foldl_is_steady, foldr_is_steady,
+        enumerate_is_steady, fold_is_steady, foldl_is_steady, foldl_with_is_steady,
+        foldr_is_steady, foldr_with_is_steady, try_foldl_is_steady,
     };
     pub use chumsky_group::laws::{group_of_three_is_then_twice, group_of_two_is_then};
     pub use chumsky_group::steady::{group_is_steady, group_of_an_array_is_steady};
@@ -189,6 +200,7 @@ pub mod laws {
     pub use chumsky_set::steady::{set_is_steady, set_of_a_list_is_steady};
     pub use chumsky_shield::laws::{
         and_is_ends_where_its_first_part_ends, filter_gives_what_passed,
+        filter_map_gives_what_was_picked, filter_map_of_all_answers_as_its_part,
         filter_of_all_answers_as_its_part, map_err_succeeds_as_its_part,
         map_err_with_state_succeeds_as_its_part, map_err_with_succeeds_as_its_part,
         not_ends_where_it_began, rewind_ends_where_it_began, try_map_of_all_answers_as_its_part,
@@ -202,6 +214,7 @@ pub mod laws {
 }
 
 pub use chumsky_combinator::ext::IterMapExt;
+pub use chumsky_flatten::ext::{FlattenExt, IntoIterExt};
 pub use chumsky_folds::ext::{FoldExt, IterFoldExt};
 pub use chumsky_input::same::SameClone;
 pub use chumsky_input::stop::{Failure, Fault, PResult, Stop};

@@ -3,6 +3,7 @@ pub use crate::ext::ParserExt;
 pub use crate::{select, select_ref};
 pub use chumsky_choice::make::choice;
 pub use chumsky_combinator::ext::IterMapExt;
+pub use chumsky_flatten::ext::{FlattenExt, IntoIterExt};
 pub use chumsky_folds::ext::{FoldExt, IterFoldExt};
 pub use chumsky_group::make::group;
 pub use chumsky_input::error::{EmptyErr, Error};
@@ -17,7 +18,9 @@ pub use chumsky_parser::input_ref_ext::InputRefExt;
 pub use chumsky_parser::iter::{IsIterParser, IterParser};
 pub use chumsky_parser::parser::{IsParser, Parser};
 pub use chumsky_parser::result::ParseResult;
-pub use chumsky_primitive::make::{any, any_ref, custom, empty, end, just, none_of, one_of};
+pub use chumsky_primitive::make::{
+    any, any_ref, custom, custom_by, empty, end, just, none_of, one_of,
+};
 pub use chumsky_recursive::grammar::close;
 pub use chumsky_rules::kinds::Recursive;
 pub use chumsky_rules::rules::Rules;
