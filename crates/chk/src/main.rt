@@ -10,6 +10,7 @@ use std::{env, io};
 
 mod ab;
 mod list;
+mod loops;
 mod run;
 mod show;
 #[cfg(test)]

@@ -2,12 +2,13 @@
 ghost use Rattle.std.specs.Prelude.{◌≡◌, ◌⊎◌, ◌≤◌, [], ◌∷◌, ◌++◌, codes, OnOk, IfSome, IfOk, IfErr, option_map};
 ghost use Rattle.std.specs.Option.{option_copied};
 ghost use Rattle.std.specs.Io.KnownBytes.{Appends};
-ghost use Rattle.chk.specs.Lines.{error_lines, alone, pair_text, Tells, TellsSome};
+ghost use Rattle.chk.specs.Lines.{error_lines, alone, pair_text, count_text, Tells, TellsSome};
 ghost use Rattle.chk.specs.Show.{items_text, stop_text};
 ghost use Rattle.chk.specs.declared.run.Failure.TheVariants.{Refused, Unwritable};
 
 use crate::ab::{check_ab, parse_ab};
 use crate::list::{check_list, parse_list};
+use crate::loops::{check_loops, parse_loops};
 use crate::show::{ErrorLine, Items, stop_name};
 use chumsky::error::Rich;
 use chumsky::{ParseResult, Stop};
@@ -35,6 +36,7 @@ enum Command {
 enum Grammar {
     Ab,
     List,
+    Loops,
 }
 
 /// Why a run gives no answer.
@@ -128,6 +130,7 @@ fn request(words: &[String]) -> Option<(Command, Grammar)> {
     let grammar = match name.as_str() {
         "ab" => Grammar::Ab,
         "list" => Grammar::List,
+        "loops" => Grammar::Loops,
         _ => return None,
     };
     Some((command, grammar))
@@ -151,6 +154,7 @@ fn parse<W: Write>(alloc: Global, grammar: Grammar, text: &str, out: &mut W) -> 
     match grammar {
         Grammar::Ab => tell_pair(out, &parse_ab(alloc, text)?),
         Grammar::List => tell_items(out, &parse_list(alloc, text)?),
+        Grammar::Loops => tell_count(out, &parse_loops(alloc, text)?),
     }
 }
 
@@ -162,6 +166,7 @@ fn check<W: Write>(alloc: Global, grammar: Grammar, text: &str, out: &mut W) -> 
     match grammar {
         Grammar::Ab => tell_checked(out, &check_ab(alloc, text)?),
         Grammar::List => tell_checked(out, &check_list(alloc, text)?),
+        Grammar::Loops => tell_checked(out, &check_loops(alloc, text)?),
     }
 }
 
@@ -189,6 +194,17 @@ fn tell_items<W: Write>(
 {
     match report(out, answer)? {
         Some(items) => accept(out, Items(items.as_slice())),
+        None => Ok(REJECTED),
+    }
+}
+
+/// Prints the number that an answer gives, or its errors.
+fn tell_count<W: Write>(out: &mut W, answer: &ParseResult<usize, Rich<char>>) -> Result<u8, Failure>
+    ensures told { IfOk result (λ status. Tells (W.contents out.old) (W.contents out.new) answer.now.errors.items (option_map count_text answer.now.output) status) }
+    ensures unwritten { IfErr result (λ why. why ≡ Unwritable) }
+{
+    match report(out, answer)? {
+        Some(count) => accept(out, format_args!("ok {count}")),
         None => Ok(REJECTED),
     }
 }

@@ -168,6 +168,33 @@ fn checks_lists(rt: HostRuntime) -> Result<(), Fail> {
     Ok(())
 }
 
+#[test]
+fn parses_loops(rt: HostRuntime) -> Result<(), Fail> {
+    let rows = [
+        ("", 0, "ok 0\n"),
+        ("+", 0, "ok 0\n"),
+        ("+[+[]][]", 0, "ok 3\n"),
+        ("[[]", 1, "error 3..3 expected '+', '[', ']' found end\n"),
+        (
+            "[]]",
+            1,
+            "error 2..3 expected '+', '[', end of input found ']'\n",
+        ),
+    ];
+    assert_prints(&rt, &["parse", "loops"], &rows)?;
+    Ok(())
+}
+
+#[test]
+fn checks_loops(rt: HostRuntime) -> Result<(), Fail> {
+    let rows = [
+        ("+[+[]][]", 0, "ok\n"),
+        ("[[]", 1, "error 3..3 expected '+', '[', ']' found end\n"),
+    ];
+    assert_prints(&rt, &["check", "loops"], &rows)?;
+    Ok(())
+}
+
 fn is_usage(alloc: Global, words: &[&str]) -> Result<bool, AllocError> {
     let words = owned(alloc, words)?;
     let mut out = Vec::new(alloc);

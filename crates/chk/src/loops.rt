@@ -1,0 +1,119 @@
+//! The grammar `loops`: plus signs and pairs of brackets, one after another, with the same between the brackets.
+ghost use Rattle.std.specs.Prelude.{IfOk, ⊤};
+
+use chumsky::Stop;
+use chumsky::prelude::*;
+use chumsky::recursive::{Leaves, RecursiveError, Values};
+use std::alloc::{AllocError, Global};
+
+/// The leaves, by number.
+const PLUS: usize = 0;
+
+const OPENING: usize = 1;
+
+const CLOSING: usize = 2;
+
+/// Values are numbers of pairs. Where a sum is too large for a `usize`, it is the greatest.
+#[derive(Drop)]
+struct Pairs;
+
+impl Values<SimpleSpan, Rich<char>> for Pairs {
+    type Value = usize;
+
+    fn pair(&self, _alloc: Global, a: usize, b: usize) -> Result<usize, AllocError> {
+        Ok(a.saturating_add(b))
+    }
+
+    fn list(&self, _alloc: Global, items: Vec<usize>) -> Result<usize, AllocError>
+        ensures { IfOk result (λ _. ⊤) }
+    {
+        let mut sum: usize = 0;
+        for item in items.as_slice() {
+            sum = sum.saturating_add(*item);
+        }
+        Ok(sum)
+    }
+
+    fn option(&self, _alloc: Global, pairs: Option<usize>) -> Result<usize, AllocError>
+        ensures { IfOk result (λ _. ⊤) }
+    {
+        Ok(pairs.unwrap_or(0))
+    }
+
+    fn unit(&self, _alloc: Global) -> Result<usize, AllocError> {
+        Ok(0)
+    }
+
+    fn map(&self, _alloc: Global, _mapper: usize, inside: usize) -> Result<usize, AllocError> {
+        Ok(inside.saturating_add(1))
+    }
+
+    fn try_map(
+        &self,
+        _alloc: Global,
+        _mapper: usize,
+        pairs: usize,
+        _span: SimpleSpan,
+    ) -> Result<Result<usize, Rich<char>>, AllocError> {
+        Ok(Ok(pairs))
+    }
+}
+
+/// The one rule.
+fn loops(rules: &mut Rules) -> Result<Recursive, RecursiveError> {
+    rules.recursive(|rules, loops| {
+        let plus = rules.leaf(PLUS)?;
+        let opening = rules.leaf(OPENING)?;
+        let inside = rules.rule(loops)?;
+        let closing = rules.leaf(CLOSING)?;
+        let opened = rules.then(opening, inside)?;
+        let closed = rules.then(opened, closing)?;
+        let pair = rules.map(closed, 0)?;
+        let item = rules.choice(&[plus, pair])?;
+        rules.repeated(item, 0, None)
+    })
+}
+
+/// How many pairs of brackets the text has.
+pub fn parse_loops(alloc: Global, text: &str) -> Result<ParseResult<usize, Rich<char>>, Stop> {
+    let mut rules = Rules::new(alloc);
+    let Ok(start) = loops(&mut rules) else {
+        return Err(Stop::Memory);
+    };
+    let leaves = [
+        just::<_, _, extra::Err<Rich<char>>>('+').to(0),
+        just('[').to(0),
+        just(']').to(0),
+    ];
+    let actions = Leaves {
+        leaves: &leaves,
+        values: Pairs,
+    };
+    let limit = rules.limit_for(text.chars().count()).unwrap_or(usize::MAX);
+    match close(&rules, start, &actions, limit) {
+        Ok(grammar) => grammar.parse(alloc, text),
+        Err(_) => Err(Stop::Memory),
+    }
+}
+
+/// The same without the output.
+pub fn check_loops(alloc: Global, text: &str) -> Result<ParseResult<(), Rich<char>>, Stop> {
+    let mut rules = Rules::new(alloc);
+    let Ok(start) = loops(&mut rules) else {
+        return Err(Stop::Memory);
+    };
+    let leaves = [
+        just::<_, _, extra::Err<Rich<char>>>('+').to(0),
+        just('[').to(0),
+        just(']').to(0),
+    ];
+    let actions = Leaves {
+        leaves: &leaves,
+        values: Pairs,
+    };
+    let limit = rules.limit_for(text.chars().count()).unwrap_or(usize::MAX);
+    match close(&rules, start, &actions, limit) {
+        Ok(grammar) => grammar.check(alloc, text),
+        Err(_) => Err(Stop::Memory),
+    }
+}
