@@ -1,6 +1,9 @@
 //! A number that has to be small enough.
+ghost use Rattle.std.specs.Prelude.{◌<◌, IfOk, IfSome};
+
 use crate::mapping::digit;
 use chumsky::Stop;
+use chumsky::combinator::Picker;
 use chumsky::extra::RichText;
 use chumsky::prelude::*;
 use std::alloc::Global;
@@ -11,5 +14,32 @@ pub fn minute(alloc: Global, text: &str) -> Result<ParseResult<u8, Rich<char>>, 
     digits
         .map(|(tens, ones)| digit(tens) * 10 + digit(ones))
         .filter(|minute| *minute < 60)
+        .parse(alloc, text)
+}
+
+/// Picks what two digits make, below 60.
+#[derive(Clone, Copy)]
+pub struct BelowSixty;
+
+impl Picker<(char, char), u8> for BelowSixty {
+    ghost gives = { λ _ _ picked. IfSome picked (λ minute. minute < 60) };
+
+    fn pick(&self, digits: (char, char)) -> Option<u8> {
+        let (tens, ones) = digits;
+        match digit(tens) * 10 + digit(ones) {
+            minute if minute < 60 => Some(minute),
+            _ => None,
+        }
+    }
+}
+
+/// How long a call may be, as `45m`.
+pub fn minutes(alloc: Global, text: &str) -> Result<ParseResult<u8, Rich<char>>, Stop>
+    ensures below { IfOk result (λ parsed. IfSome parsed.output (λ minutes. minutes < 60)) }
+{
+    one_of::<_, _, RichText>('0'..='9')
+        .then(one_of('0'..='9'))
+        .filter_map_by(BelowSixty)
+        .then_ignore(just('m'))
         .parse(alloc, text)
 }

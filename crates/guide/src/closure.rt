@@ -1,5 +1,8 @@
-//! A closure as a parser.
+//! A closure as a parser, and a reader.
+use chumsky::extra::RichText;
+use chumsky::input::InputRef;
 use chumsky::prelude::*;
+use chumsky::primitive::Reader;
 use chumsky::{Failure, Stop};
 use std::alloc::Global;
 
@@ -37,4 +40,25 @@ pub fn day(alloc: Global, text: &str) -> Result<ParseResult<char, Rich<char>>, S
         }
     })
     .parse(alloc, text)
+}
+
+/// Reads an `x` as a text.
+#[derive(Clone, Copy)]
+pub struct AnX;
+
+impl<'src> Reader<'src, &'src str, &'static str, RichText> for AnX {
+    fn read(
+        &self,
+        inp: &mut InputRef<'src, '_, &'src str, RichText>,
+    ) -> Result<&'static str, Failure<Rich<char>>> {
+        match inp.check(just('x')) {
+            Ok(()) => Ok("x"),
+            Err(failure) => Err(failure),
+        }
+    }
+}
+
+/// One `x`, as a text.
+pub fn one_x(alloc: Global, text: &str) -> Result<ParseResult<&'static str, Rich<char>>, Stop> {
+    custom_by(AnX).parse(alloc, text)
 }

@@ -6,6 +6,7 @@ pub mod checking;
 pub mod closure;
 pub mod conclusion;
 pub mod extras;
+pub mod flattening;
 pub mod folding;
 pub mod handed;
 pub mod laws;

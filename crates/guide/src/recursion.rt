@@ -4,7 +4,7 @@ ghost use Rattle.std.specs.Prelude.{IfOk, ⊤};
 use chumsky::Stop;
 use chumsky::extra::RichText;
 use chumsky::prelude::*;
-use chumsky::recursive::{GrammarError, Leaves, RecursiveError, Values};
+use chumsky::recursive::{CloseError, Leaves, RecursiveError, Values};
 use std::alloc::{AllocError, Global};
 
 /// The leaves, by number.
@@ -12,11 +12,12 @@ const OPENING: usize = 0;
 
 const CLOSING: usize = 1;
 
-/// Values are depths: of two parts the greater, of nothing none, and a pair of brackets is one deeper than what it holds.
+/// Values are depths: of several parts the greatest, of nothing none, and a pair of brackets is one deeper than what it
+/// holds.
 #[derive(Drop)]
 struct Depths;
 
-impl Values for Depths {
+impl Values<SimpleSpan, Rich<char>> for Depths {
     type Value = usize;
 
     fn pair(&self, _alloc: Global, a: usize, b: usize) -> Result<usize, AllocError> {
@@ -36,6 +37,26 @@ impl Values for Depths {
     fn map(&self, _alloc: Global, _mapper: usize, inside: usize) -> Result<usize, AllocError> {
         Ok(inside.saturating_add(1))
     }
+
+    fn list(&self, _alloc: Global, depths: Vec<usize>) -> Result<usize, AllocError>
+        ensures { IfOk result (λ _. ⊤) }
+    {
+        let mut deepest = 0;
+        for depth in depths.as_slice() {
+            deepest = deepest.max(*depth);
+        }
+        Ok(deepest)
+    }
+
+    fn try_map(
+        &self,
+        _alloc: Global,
+        _mapper: usize,
+        depth: usize,
+        _span: SimpleSpan,
+    ) -> Result<Result<usize, Rich<char>>, AllocError> {
+        Ok(Ok(depth))
+    }
 }
 
 /// Any number of brackets, one after another and within one another.
@@ -47,8 +68,7 @@ fn brackets(rules: &mut Rules) -> Result<Recursive, RecursiveError> {
         let opened = rules.then(opening, inside)?;
         let closed = rules.then(opened, closing)?;
         let pair = rules.map(closed, 0)?;
-        let pairs = rules.then(pair, inside)?;
-        rules.or_not(pairs)
+        rules.repeated(pair, 0, None)
     })
 }
 
@@ -56,7 +76,7 @@ fn brackets(rules: &mut Rules) -> Result<Recursive, RecursiveError> {
 #[derive(Debug, Drop)]
 pub enum Refused {
     Building(RecursiveError),
-    Closing(GrammarError),
+    Closing(CloseError),
     Running(Stop),
 }
 
