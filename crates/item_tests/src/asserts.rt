@@ -1,5 +1,5 @@
 //! Asserts what parsers answer.
-use answers::answer::answer;
+use answers::answer::{answer, answer_from};
 use answers::says::Says;
 use chumsky::extra::ParserExtra;
 use chumsky::prelude::*;
@@ -13,7 +13,7 @@ pub(crate) fn assert_answers<
     I: Input<'src> + Copy,
     O: Debug + Drop,
     E: ParserExtra<I>,
-    P: IsParser<I, O, E> + Parser<'src, I, O, E>,
+    P: Parser<'src, I, O, E>,
     R: Abort + AllocGlobal,
 >(rt: &R, parser: &P, rows: &[(I, &str)])
 where
@@ -25,6 +25,28 @@ where
 {
     for (input, expected) in rows {
         let line = answer(parser, rt.alloc(), *input).expect(rt, "want of memory");
+        assert_eq!(rt; line.as_str(), *expected);
+    }
+}
+
+/// The same from a state, with the state that is left.
+pub(crate) fn assert_answers_from<
+    'src,
+    I: Input<'src> + Copy,
+    O: Debug + Drop,
+    E: ParserExtra<I>,
+    P: Parser<'src, I, O, E>,
+    R: Abort + AllocGlobal,
+>(rt: &R, parser: &P, state: E::State, rows: &[(I, &str)])
+where
+    I::Token: 'src,
+    E::Error: Says,
+    E::State: Copy + Debug,
+    E::Context: Default + Drop,
+    requires { P.ready parser.now }
+{
+    for (input, expected) in rows {
+        let line = answer_from(parser, rt.alloc(), *input, state).expect(rt, "want of memory");
         assert_eq!(rt; line.as_str(), *expected);
     }
 }

@@ -3,6 +3,7 @@ ghost use Rattle.std.specs.Prelude.{◌≡◌, length};
 
 use crate::asserts::assert_answers;
 use answers::extras::{Own, Quiet};
+use answers::leaves::{any_char, just_char};
 use arrayvec::ArrayVec;
 use chumsky::combinator::Repeated;
 use chumsky::container::Container;
@@ -17,9 +18,7 @@ use std::rc::Rc;
 
 #[test]
 fn a_set_has_each_item_once(rt: HostRuntime) {
-    let letters = just::<_, _, Own>('a')
-        .repeated()
-        .collect::<BTreeSet<char>>();
+    let letters = just_char('a').repeated().collect::<BTreeSet<char>>();
     assert_answers(&rt, &letters, &[("aa", "ok {'a'}"), ("", "ok {}")]);
 }
 
@@ -32,7 +31,7 @@ fn a_set_has_each_byte_once(rt: HostRuntime) {
 
 #[test]
 fn the_last_value_of_a_key_stands(rt: HostRuntime) {
-    let pairs = just::<_, _, Own>('a').then(any()).repeated();
+    let pairs = just_char('a').then(any_char()).repeated();
     let rows = [
         ("abac", "ok {'a': 'c'}"),
         ("aba", "error 3..3 expected any found end"),
@@ -66,7 +65,7 @@ fn characters_make_a_text(rt: HostRuntime) {
 
 #[test]
 fn nothing_takes_each_item(rt: HostRuntime) {
-    let nothing = any::<_, Own>().repeated().collect::<()>();
+    let nothing = any_char().repeated().collect::<()>();
     assert_answers(&rt, &nothing, &[("aé", "ok ()"), ("", "ok ()")]);
 }
 
@@ -100,7 +99,7 @@ fn an_array_is_filled_and_asks_for_no_more(rt: HostRuntime) {
 /// A failure with nothing expected is filtered as any other.
 #[test]
 fn an_array_that_is_filtered_fails_as_it_does(rt: HostRuntime) {
-    let two = just::<_, &str, Own>('a').repeated().at_most(2);
+    let two = just_char('a').repeated().at_most(2);
     let three = two.collect_exactly::<ArrayVec<char, 3>>().filter(|_| true);
     assert_answers(
         &rt,
@@ -158,7 +157,7 @@ fn items_of_an_array_over_bytes_need_not_move(rt: HostRuntime) {
 
 #[test]
 fn what_may_be_absent_is_one_item_or_none(rt: HostRuntime) {
-    let perhaps = just::<_, _, Own>('a').or_not().collect::<Vec<_>>();
+    let perhaps = just_char('a').or_not().collect::<Vec<_>>();
     let rows = [
         ("a", "ok ['a']"),
         ("", "ok []"),
@@ -219,7 +218,7 @@ impl Container<char> for Two {
 /// Where no output is wanted nothing is collected, so nothing is refused.
 #[test]
 fn an_item_without_room_refuses_the_run(rt: HostRuntime) {
-    let letters = just::<_, _, Own>('a').repeated().collect::<Two>();
+    let letters = just_char('a').repeated().collect::<Two>();
     let rows = [
         ("aa", "ok Two { taken: 2 }"),
         ("aaa", "parse: refused Memory; but check: ok"),
@@ -239,7 +238,7 @@ fn shared<R: Abort + AllocGlobal>(rt: &R) -> (Rc<u8>, Rc<u8>) {
 #[test]
 fn a_list_that_fails_lets_its_items_go(rt: HostRuntime) {
     let (value, handed_out) = shared(&rt);
-    let list = just::<_, _, Own>('a')
+    let list = just_char('a')
         .to(handed_out)
         .repeated()
         .at_least(2)
@@ -258,7 +257,7 @@ fn a_list_that_fails_lets_its_items_go(rt: HostRuntime) {
 #[test]
 fn an_array_that_is_not_filled_lets_its_items_go(rt: HostRuntime) {
     let (value, handed_out) = shared(&rt);
-    let array = just::<_, _, Own>('a')
+    let array = just_char('a')
         .to(Some(handed_out))
         .repeated()
         .collect_exactly::<ArrayVec<Option<Rc<u8>>, 2>>();

@@ -3,6 +3,7 @@ ghost use Rattle.std.specs.Prelude.{⊤};
 
 use crate::asserts::assert_answers;
 use answers::extras::Own;
+use answers::leaves::{any_char, just_char};
 use chumsky::combinator::{Folder, Mapper, RightFolder};
 use chumsky::prelude::*;
 use std::alloc::AllocError;
@@ -85,7 +86,7 @@ impl Folder<(bool, char), char> for Falls {
 
 #[test]
 fn a_type_of_ones_own_folds_from_the_left(rt: HostRuntime) {
-    let letters = any::<&str, Own>().repeated().fold_by((false, 'a'), Falls);
+    let letters = any_char().repeated().fold_by((false, 'a'), Falls);
     let rows = [
         ("abc", "ok (false, 'c')"),
         ("acb", "ok (true, 'b')"),
@@ -96,9 +97,9 @@ fn a_type_of_ones_own_folds_from_the_left(rt: HostRuntime) {
 
 #[test]
 fn a_type_of_ones_own_folds_from_an_output(rt: HostRuntime) {
-    let letters = just::<_, _, Own>('k')
+    let letters = just_char('k')
         .to((false, 'k'))
-        .foldl_by(any().repeated(), Falls);
+        .foldl_by(any_char().repeated(), Falls);
     let rows = [
         ("kl", "ok (false, 'l')"),
         ("ka", "ok (true, 'a')"),
@@ -125,7 +126,7 @@ impl RightFolder<char, (u8, char)> for Apart {
 fn a_type_of_ones_own_folds_from_the_right(rt: HostRuntime) {
     let letters = one_of::<_, _, Own>("ab")
         .repeated()
-        .foldr_by(just('.').to((0, '.')), Apart);
+        .foldr_by(just_char('.').to((0, '.')), Apart);
     let rows = [
         ("aab.", "ok (2, 'a')"),
         (".", "ok (0, '.')"),
@@ -136,10 +137,7 @@ fn a_type_of_ones_own_folds_from_the_right(rt: HostRuntime) {
 
 #[test]
 fn items_are_numbered_from_zero(rt: HostRuntime) {
-    let numbered = just::<_, _, Own>('a')
-        .repeated()
-        .enumerate()
-        .collect::<Vec<_>>();
+    let numbered = just_char('a').repeated().enumerate().collect::<Vec<_>>();
     let rows = [
         ("aa", "ok [(0, 'a'), (1, 'a')]"),
         ("", "ok []"),
@@ -150,8 +148,8 @@ fn items_are_numbered_from_zero(rt: HostRuntime) {
 
 #[test]
 fn numbered_items_are_folded(rt: HostRuntime) {
-    let last = any::<&str, Own>()
-        .separated_by(just(','))
+    let last = any_char()
+        .separated_by(just_char(','))
         .enumerate()
         .fold((9usize, '-'), |_, last| last);
     let rows = [("a,b,c", "ok (2, 'c')"), ("", "ok (9, '-')")];
@@ -196,9 +194,7 @@ impl Clone for Large {
 /// Where no output is wanted nothing is cloned, so nothing is refused.
 #[test]
 fn a_value_without_a_clone_refuses_the_run(rt: HostRuntime) {
-    let large = just::<_, _, Own>('a')
-        .repeated()
-        .fold(Large, |large, _| large);
+    let large = just_char('a').repeated().fold(Large, |large, _| large);
     let rows = [("aa", "parse: refused Memory; but check: ok")];
     assert_answers(&rt, &large, &rows);
 }

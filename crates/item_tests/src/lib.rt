@@ -8,7 +8,11 @@ mod collecting;
 #[cfg(test)]
 mod containers;
 #[cfg(test)]
+mod flattened;
+#[cfg(test)]
 mod folds;
+#[cfg(test)]
+mod folds_with;
 #[cfg(test)]
 mod mapped;
 #[cfg(test)]

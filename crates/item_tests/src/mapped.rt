@@ -1,6 +1,7 @@
 //! Items that are put through mappers, and items after other items.
 use crate::asserts::assert_answers;
 use answers::extras::Own;
+use answers::leaves::just_char;
 use chumsky::prelude::*;
 
 #[test]
@@ -21,12 +22,12 @@ fn each_item_goes_through_its_mapper(rt: HostRuntime) {
 /// The second list begins where the first has ended, and a failure of the first is no end.
 #[test]
 fn the_items_of_one_list_come_before_those_of_another(rt: HostRuntime) {
-    let letters = just::<_, _, Own>('a')
+    let letters = just_char('a')
         .repeated()
         .at_least(1)
         .at_most(2)
-        .then(just('b').repeated())
-        .then_items(just('.').or_not())
+        .then(just_char('b').repeated())
+        .then_items(just_char('.').or_not())
         .collect::<String>();
     let rows = [
         ("aabb.", "ok \"aabb.\""),

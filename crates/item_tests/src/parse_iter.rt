@@ -1,6 +1,7 @@
 //! Items that are asked for one after another, and what is answered at the end.
 use answers::answer::line_of;
 use answers::extras::{Own, Telling};
+use answers::leaves::{any_char, just_char};
 use answers::says::Says;
 use answers::states::Told;
 use chumsky::extra::ParserExtra;
@@ -96,6 +97,48 @@ fn the_answer_is_that_of_the_whole(rt: HostRuntime) {
         ),
     ];
     assert_walked(&rt, &three, &rows);
+}
+
+/// A part whose output is the items is run where the first of them is asked for.
+#[test]
+fn an_output_is_made_where_its_first_item_is_asked_for(rt: HostRuntime) {
+    let letters = just_char('a').map(Some).into_iter();
+    let rows = [
+        ("b", 0, "ok []; error 0..1 expected end of input found 'b'"),
+        ("b", 1, "ok []; error 0..1 expected 'a' found 'b'"),
+        ("a", 1, "ok ['a']"),
+        ("a", 9, "ok ['a']"),
+        (
+            "ab",
+            1,
+            "ok ['a']; error 1..2 expected end of input found 'b'",
+        ),
+    ];
+    assert_walked(&rt, &letters, &rows);
+}
+
+/// The items of a list that has too few of them are given all the same.
+#[test]
+fn items_that_are_filtered_fail_as_they_do(rt: HostRuntime) {
+    let letters = any_char()
+        .filter(|c| c.is_ascii_alphabetic())
+        .repeated()
+        .at_least(3);
+    let rows = [
+        ("ab", 9, "ok ['a', 'b']; error 2..2 expected any found end"),
+        (
+            "ab1",
+            9,
+            "ok ['a', 'b']; error 2..3 expected something else found '1'",
+        ),
+        (
+            "a1b",
+            9,
+            "ok ['a']; error 1..2 expected something else found '1'",
+        ),
+        ("abc", 9, "ok ['a', 'b', 'c']"),
+    ];
+    assert_walked(&rt, &letters, &rows);
 }
 
 #[test]

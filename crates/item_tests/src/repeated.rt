@@ -1,6 +1,7 @@
 //! Parsers that are run again and again.
 use crate::asserts::assert_answers;
 use answers::extras::Own;
+use answers::leaves::any_char;
 use chumsky::combinator::{Repeated, To};
 use chumsky::prelude::*;
 use chumsky::primitive::{Empty, Just};
@@ -74,14 +75,14 @@ fn a_list_of_bytes_has_bounds(rt: HostRuntime) {
 
 #[test]
 fn items_are_counted_and_offsets_are_bytes(rt: HostRuntime) {
-    let three = any::<_, Own>().repeated().at_least(3).count();
+    let three = any_char().repeated().at_least(3).count();
     let rows = [("éy", "error 3..3 expected any found end"), ("éyé", "ok 3")];
     assert_answers(&rt, &three, &rows);
 }
 
 #[test]
 fn just_so_many_items_are_taken(rt: HostRuntime) {
-    let two = any::<_, Own>().repeated().exactly(2).collect::<String>();
+    let two = any_char().repeated().exactly(2).collect::<String>();
     let rows = [
         ("ab", "ok \"ab\""),
         ("a", "error 1..1 expected any found end"),

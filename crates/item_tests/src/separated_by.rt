@@ -1,6 +1,7 @@
 //! Items with separators between them.
 use crate::asserts::assert_answers;
 use answers::extras::Own;
+use answers::leaves::{just_char, just_text};
 use chumsky::combinator::SeparatedBy;
 use chumsky::prelude::*;
 use chumsky::primitive::{Empty, Just};
@@ -187,7 +188,7 @@ fn separators_of_bytes_are_not_counted(rt: HostRuntime) {
 
 #[test]
 fn items_may_be_absent_between_separators(rt: HostRuntime) {
-    let perhaps = just::<_, _, Own>("a").or_not().separated_by(just("b"));
+    let perhaps = just_text("a").or_not().separated_by(just_text("b"));
     let rows = [
         ("bba", "ok ()"),
         ("bab", "ok ()"),
@@ -209,7 +210,7 @@ fn bytes_may_be_absent_between_separators(rt: HostRuntime) {
 
 #[test]
 fn a_separator_is_progress(rt: HostRuntime) {
-    let nothings = empty::<_, Own>().separated_by(just(',')).count();
+    let nothings = empty::<_, Own>().separated_by(just_char(',')).count();
     let rows = [
         (",", "ok 2"),
         (",,,", "ok 4"),

@@ -1,6 +1,6 @@
 //! Parsers by reference, in boxes, shared, and of one of two types.
 use crate::asserts::assert_answers;
-use answers::extras::Own;
+use answers::leaves::{any_char, just_char};
 use chumsky::prelude::*;
 use either::Either;
 use std::rc::Rc;
@@ -12,9 +12,9 @@ fn the_side_that_is_there_runs(rt: HostRuntime) {
         (false, "ok 'b'"),
     ] {
         let a_or_any = if strict {
-            Either::Left(just::<_, _, Own>('a'))
+            Either::Left(just_char('a'))
         } else {
-            Either::Right(any())
+            Either::Right(any_char())
         };
         assert_answers(&rt, &a_or_any, &[("b", line)]);
     }
@@ -22,7 +22,7 @@ fn the_side_that_is_there_runs(rt: HostRuntime) {
 
 #[test]
 fn one_parser_runs_twice_by_reference(rt: HostRuntime) {
-    let a = just::<_, _, Own>('a');
+    let a = just_char('a');
     let twice = (&a).then(&a);
     let rows = [
         ("aa", "ok ('a', 'a')"),
@@ -34,20 +34,20 @@ fn one_parser_runs_twice_by_reference(rt: HostRuntime) {
 
 #[test]
 fn a_parser_in_a_box_does_as_the_parser(rt: HostRuntime) {
-    let boxed = Box::new(rt.alloc(), just::<_, _, Own>('a')).expect(&rt, "want of memory");
+    let boxed = Box::new(rt.alloc(), just_char('a')).expect(&rt, "want of memory");
     let rows = [
         ("a", "ok 'a'"),
         ("c", "error 0..1 expected 'a', 'b' found 'c'"),
     ];
-    assert_answers(&rt, &boxed.or(just('b')), &rows);
+    assert_answers(&rt, &boxed.or(just_char('b')), &rows);
 }
 
 #[test]
 fn a_shared_parser_does_as_the_parser(rt: HostRuntime) {
-    let shared = Rc::new(rt.alloc(), just::<_, _, Own>('a')).expect(&rt, "want of memory");
+    let shared = Rc::new(rt.alloc(), just_char('a')).expect(&rt, "want of memory");
     let rows = [
         ("a", "ok 'a'"),
         ("c", "error 0..1 expected 'a', 'b' found 'c'"),
     ];
-    assert_answers(&rt, &shared.or(just('b')), &rows);
+    assert_answers(&rt, &shared.or(just_char('b')), &rows);
 }

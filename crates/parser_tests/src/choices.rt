@@ -1,6 +1,7 @@
 //! Choices among many parsers: tuples, slices, arrays and vectors.
 use crate::asserts::assert_answers;
 use answers::extras::Own;
+use answers::leaves::{just_char, just_text};
 use chumsky::prelude::*;
 use chumsky::primitive::Just;
 use std::alloc::AllocGlobal;
@@ -11,7 +12,7 @@ type Letter<'src> = Just<char, &'src str, Own>;
 
 #[test]
 fn a_later_alternative_that_goes_further_is_not_taken(rt: HostRuntime) {
-    let a_before_ab = choice((just::<_, _, Own>("a"), just("ab")));
+    let a_before_ab = choice((just_text("a"), just_text("ab")));
     let rows = [
         ("a", "ok \"a\""),
         ("ab", "error 1..2 expected end of input found 'b'"),
@@ -22,9 +23,9 @@ fn a_later_alternative_that_goes_further_is_not_taken(rt: HostRuntime) {
 #[test]
 fn the_furthest_of_many_is_reported(rt: HostRuntime) {
     let three = choice((
-        just::<_, _, Own>("xyz"),
-        just("xy").ignore_then(just("w")),
-        just("x"),
+        just_text("xyz"),
+        just_text("xy").ignore_then(just_text("w")),
+        just_text("x"),
     ));
     let rows = [
         ("xyq", "error 2..3 expected 'z', 'w' found 'q'"),
@@ -36,29 +37,34 @@ fn the_furthest_of_many_is_reported(rt: HostRuntime) {
 
 #[test]
 fn the_last_of_one_and_of_four_is_tried(rt: HostRuntime) {
-    let one = choice((just::<_, _, Own>('a'),));
+    let one = choice((just_char('a'),));
     assert_answers(&rt, &one, &[("a", "ok 'a'")]);
-    let four = choice((just::<_, _, Own>('a'), just('b'), just('c'), just('d')));
+    let four = choice((
+        just_char('a'),
+        just_char('b'),
+        just_char('c'),
+        just_char('d'),
+    ));
     assert_answers(&rt, &four, &[("d", "ok 'd'")]);
 }
 
 #[test]
 fn the_last_of_five_and_of_six_is_tried(rt: HostRuntime) {
     let five = choice((
-        just::<_, _, Own>('a'),
-        just('b'),
-        just('c'),
-        just('d'),
-        just('e'),
+        just_char('a'),
+        just_char('b'),
+        just_char('c'),
+        just_char('d'),
+        just_char('e'),
     ));
     assert_answers(&rt, &five, &[("e", "ok 'e'")]);
     let six = choice((
-        just::<_, _, Own>('a'),
-        just('b'),
-        just('c'),
-        just('d'),
-        just('e'),
-        just('f'),
+        just_char('a'),
+        just_char('b'),
+        just_char('c'),
+        just_char('d'),
+        just_char('e'),
+        just_char('f'),
     ));
     assert_answers(&rt, &six, &[("f", "ok 'f'")]);
 }
@@ -66,24 +72,24 @@ fn the_last_of_five_and_of_six_is_tried(rt: HostRuntime) {
 #[test]
 fn the_last_of_seven_and_of_eight_is_tried(rt: HostRuntime) {
     let seven = choice((
-        just::<_, _, Own>('a'),
-        just('b'),
-        just('c'),
-        just('d'),
-        just('e'),
-        just('f'),
-        just('g'),
+        just_char('a'),
+        just_char('b'),
+        just_char('c'),
+        just_char('d'),
+        just_char('e'),
+        just_char('f'),
+        just_char('g'),
     ));
     assert_answers(&rt, &seven, &[("g", "ok 'g'")]);
     let eight = choice((
-        just::<_, _, Own>('a'),
-        just('b'),
-        just('c'),
-        just('d'),
-        just('e'),
-        just('f'),
-        just('g'),
-        just('h'),
+        just_char('a'),
+        just_char('b'),
+        just_char('c'),
+        just_char('d'),
+        just_char('e'),
+        just_char('f'),
+        just_char('g'),
+        just_char('h'),
     ));
     assert_answers(&rt, &eight, &[("h", "ok 'h'")]);
 }

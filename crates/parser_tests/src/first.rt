@@ -1,11 +1,12 @@
 //! A choice between texts, an empty text, offsets of characters, a mapper.
 use crate::asserts::assert_answers;
 use answers::extras::{Own, Quiet};
+use answers::leaves::{just_char, just_text};
 use chumsky::prelude::*;
 
 #[test]
 fn the_furthest_failures_are_merged_in_order(rt: HostRuntime) {
-    let ab_or_ac = just::<_, _, Own>("ab").or(just("ac"));
+    let ab_or_ac = just_text("ab").or(just_text("ac"));
     let rows = [
         ("ab", "ok \"ab\""),
         ("ac", "ok \"ac\""),
@@ -16,7 +17,7 @@ fn the_furthest_failures_are_merged_in_order(rt: HostRuntime) {
 
 #[test]
 fn an_empty_sequence_takes_nothing(rt: HostRuntime) {
-    let nothing = just::<_, _, Own>("");
+    let nothing = just_text("");
     let rows = [
         ("", "ok \"\""),
         ("x", "error 0..1 expected end of input found 'x'"),
@@ -26,7 +27,7 @@ fn an_empty_sequence_takes_nothing(rt: HostRuntime) {
 
 #[test]
 fn offsets_count_bytes(rt: HostRuntime) {
-    let accent_then_x = just::<_, _, Own>('é').then(just('x'));
+    let accent_then_x = just_char('é').then(just_char('x'));
     let rows = [
         ("éx", "ok ('é', 'x')"),
         ("éy", "error 2..3 expected 'x' found 'y'"),

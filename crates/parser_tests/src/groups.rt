@@ -1,6 +1,7 @@
 //! Groups: each part after the other, for all their outputs.
 use crate::asserts::assert_answers;
 use answers::extras::{Merging, Own};
+use answers::leaves::{any_char, just_char};
 use chumsky::prelude::*;
 use chumsky::primitive::Just;
 use std::alloc::AllocGlobal;
@@ -40,19 +41,32 @@ fn errors_at_one_place_are_merged_from_the_left(rt: HostRuntime) {
 
 #[test]
 fn one_two_and_four_give_their_outputs_in_order(rt: HostRuntime) {
-    let one = group((just::<_, _, Own>('a'),));
+    let one = group((just_char('a'),));
     assert_answers(&rt, &one, &[("a", "ok ('a',)")]);
-    let two = group((just::<_, _, Own>('a'), any()));
+    let two = group((just_char('a'), any_char()));
     assert_answers(&rt, &two, &[("ab", "ok ('a', 'b')")]);
-    let four = group((just::<_, _, Own>('a'), any(), any(), any()));
+    let four = group((just_char('a'), any_char(), any_char(), any_char()));
     assert_answers(&rt, &four, &[("abcd", "ok ('a', 'b', 'c', 'd')")]);
 }
 
 #[test]
 fn five_and_six_give_their_outputs_in_order(rt: HostRuntime) {
-    let five = group((just::<_, _, Own>('a'), any(), any(), any(), any()));
+    let five = group((
+        just_char('a'),
+        any_char(),
+        any_char(),
+        any_char(),
+        any_char(),
+    ));
     assert_answers(&rt, &five, &[("abcde", "ok ('a', 'b', 'c', 'd', 'e')")]);
-    let six = group((just::<_, _, Own>('a'), any(), any(), any(), any(), any()));
+    let six = group((
+        just_char('a'),
+        any_char(),
+        any_char(),
+        any_char(),
+        any_char(),
+        any_char(),
+    ));
     assert_answers(
         &rt,
         &six,
@@ -63,13 +77,13 @@ fn five_and_six_give_their_outputs_in_order(rt: HostRuntime) {
 #[test]
 fn seven_give_their_outputs_in_order(rt: HostRuntime) {
     let seven = group((
-        just::<_, _, Own>('a'),
-        any(),
-        any(),
-        any(),
-        any(),
-        any(),
-        any(),
+        just_char('a'),
+        any_char(),
+        any_char(),
+        any_char(),
+        any_char(),
+        any_char(),
+        any_char(),
     ));
     let rows = [("abcdefg", "ok ('a', 'b', 'c', 'd', 'e', 'f', 'g')")];
     assert_answers(&rt, &seven, &rows);
@@ -78,14 +92,14 @@ fn seven_give_their_outputs_in_order(rt: HostRuntime) {
 #[test]
 fn eight_give_their_outputs_in_order(rt: HostRuntime) {
     let eight = group((
-        just::<_, _, Own>('a'),
-        any(),
-        any(),
-        any(),
-        any(),
-        any(),
-        any(),
-        any(),
+        just_char('a'),
+        any_char(),
+        any_char(),
+        any_char(),
+        any_char(),
+        any_char(),
+        any_char(),
+        any_char(),
     ));
     let rows = [("abcdefgh", "ok ('a', 'b', 'c', 'd', 'e', 'f', 'g', 'h')")];
     assert_answers(&rt, &eight, &rows);

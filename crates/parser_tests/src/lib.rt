@@ -15,6 +15,8 @@ mod first;
 #[cfg(test)]
 mod groups;
 #[cfg(test)]
+mod judges;
+#[cfg(test)]
 mod map_with;
 #[cfg(test)]
 mod members;

@@ -1,23 +1,22 @@
 //! Mappers that are shown the run.
 use crate::asserts::{assert_answers, assert_answers_from};
 use answers::extras::{Own, Telling};
+use answers::leaves::{any_char, just_char};
 use answers::states::Told;
 use chumsky::prelude::*;
 
 #[test]
 fn map_with_is_shown_what_its_part_took(rt: HostRuntime) {
-    let spanned = just::<_, &str, Own>('a')
-        .then(any())
-        .map_with(|pair, extra| {
-            let span = extra.span();
-            (pair.1, span.start, span.end)
-        });
+    let spanned = just_char('a').then(any_char()).map_with(|pair, extra| {
+        let span = extra.span();
+        (pair.1, span.start, span.end)
+    });
     let rows = [
         ("xab", "ok ('b', 1, 3)"),
         ("xa", "error 2..2 expected any found end"),
         ("xb", "error 1..2 expected 'a' found 'b'"),
     ];
-    assert_answers(&rt, &just('x').ignore_then(spanned), &rows);
+    assert_answers(&rt, &just_char('x').ignore_then(spanned), &rows);
 }
 
 /// It is called once for an output, and where none is wanted not at all.

@@ -1,11 +1,11 @@
 //! Sequences of which some outputs are ignored, and parts that may be absent.
 use crate::asserts::assert_answers;
-use answers::extras::Own;
+use answers::leaves::just_char;
 use chumsky::prelude::*;
 
 #[test]
 fn brackets_stand_around_the_part(rt: HostRuntime) {
-    let bracketed = just::<_, _, Own>('x').delimited_by(just('('), just(')'));
+    let bracketed = just_char('x').delimited_by(just_char('('), just_char(')'));
     let rows = [
         ("(x)", "ok 'x'"),
         ("(x", "error 2..2 expected ')' found end"),
@@ -15,7 +15,7 @@ fn brackets_stand_around_the_part(rt: HostRuntime) {
 
 #[test]
 fn padding_may_be_absent_on_either_side(rt: HostRuntime) {
-    let padded = just::<_, _, Own>('x').padded_by(just(' ').or_not());
+    let padded = just_char('x').padded_by(just_char(' ').or_not());
     let rows = [
         (" x", "ok 'x'"),
         ("x ", "ok 'x'"),
@@ -28,14 +28,14 @@ fn padding_may_be_absent_on_either_side(rt: HostRuntime) {
 
 #[test]
 fn of_two_outputs_the_second_is_kept(rt: HostRuntime) {
-    let second = just::<_, _, Own>('a').ignore_then(just('b'));
+    let second = just_char('a').ignore_then(just_char('b'));
     let rows = [("ab", "ok 'b'"), ("b", "error 0..1 expected 'a' found 'b'")];
     assert_answers(&rt, &second, &rows);
 }
 
 #[test]
 fn of_two_outputs_the_first_is_kept(rt: HostRuntime) {
-    let first = just::<_, _, Own>('a').then_ignore(just('b'));
+    let first = just_char('a').then_ignore(just_char('b'));
     let rows = [
         ("ab", "ok 'a'"),
         ("ac", "error 1..2 expected 'b' found 'c'"),
@@ -45,7 +45,7 @@ fn of_two_outputs_the_first_is_kept(rt: HostRuntime) {
 
 #[test]
 fn a_value_stands_for_an_output(rt: HostRuntime) {
-    let replaced = just::<_, _, Own>('a').to(3).then(just('b').ignored());
+    let replaced = just_char('a').to(3).then(just_char('b').ignored());
     let rows = [
         ("ab", "ok (3, ())"),
         ("a", "error 1..1 expected 'b' found end"),
@@ -55,7 +55,7 @@ fn a_value_stands_for_an_output(rt: HostRuntime) {
 
 #[test]
 fn an_absent_part_is_none(rt: HostRuntime) {
-    let perhaps = just::<_, _, Own>('a').or_not();
+    let perhaps = just_char('a').or_not();
     let rows = [
         ("", "ok None"),
         ("a", "ok Some('a')"),

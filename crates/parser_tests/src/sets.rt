@@ -1,6 +1,7 @@
 //! Sets: each part once, in any order.
 use crate::asserts::assert_answers;
 use answers::extras::Own;
+use answers::leaves::{just_char, just_text};
 use chumsky::prelude::*;
 use chumsky::primitive::Just;
 use std::alloc::AllocGlobal;
@@ -8,7 +9,7 @@ use std::process::Abort;
 
 #[test]
 fn parts_come_in_any_order(rt: HostRuntime) {
-    let three = set((just::<_, _, Own>("abc"), just("def"), just("ijk")));
+    let three = set((just_text("abc"), just_text("def"), just_text("ijk")));
     let rows = [
         ("ijkdefabc", "ok (\"abc\", \"def\", \"ijk\")"),
         ("abcdefijk", "ok (\"abc\", \"def\", \"ijk\")"),
@@ -20,7 +21,10 @@ fn parts_come_in_any_order(rt: HostRuntime) {
 
 #[test]
 fn a_part_that_moved_is_kept(rt: HostRuntime) {
-    let either_and_abc = set((choice((just::<_, _, Own>("abc"), just("def"))), just("abc")));
+    let either_and_abc = set((
+        choice((just_text("abc"), just_text("def"))),
+        just_text("abc"),
+    ));
     let rows = [
         ("abcdef", "error 3..4 expected 'a' found 'd'"),
         ("defabc", "ok (\"def\", \"abc\")"),
@@ -31,9 +35,9 @@ fn a_part_that_moved_is_kept(rt: HostRuntime) {
 #[test]
 fn parts_that_may_be_absent_are_none(rt: HostRuntime) {
     let optional = set((
-        just::<_, _, Own>("abc").or_not(),
-        just("def").or_not(),
-        just("ijk").or_not(),
+        just_text("abc").or_not(),
+        just_text("def").or_not(),
+        just_text("ijk").or_not(),
     ));
     let rows = [
         ("ijkabc", "ok (Some(\"abc\"), None, Some(\"ijk\"))"),
@@ -44,9 +48,14 @@ fn parts_that_may_be_absent_are_none(rt: HostRuntime) {
 
 #[test]
 fn one_and_four_give_their_outputs_in_order(rt: HostRuntime) {
-    let one = set((just::<_, _, Own>('a'),));
+    let one = set((just_char('a'),));
     assert_answers(&rt, &one, &[("a", "ok ('a',)")]);
-    let four = set((just::<_, _, Own>('a'), just('b'), just('c'), just('d')));
+    let four = set((
+        just_char('a'),
+        just_char('b'),
+        just_char('c'),
+        just_char('d'),
+    ));
     assert_answers(&rt, &four, &[("dacb", "ok ('a', 'b', 'c', 'd')")]);
 }
 

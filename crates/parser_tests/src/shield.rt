@@ -1,19 +1,20 @@
 //! Parsers that judge what another answers.
 use crate::asserts::{assert_answers, assert_answers_from};
 use answers::extras::{Merging, Own};
+use answers::leaves::{any_char, just_char, just_text};
 use answers::states::Kept;
 use chumsky::prelude::*;
 
 #[test]
 fn not_succeeds_where_its_part_fails_and_takes_nothing(rt: HostRuntime) {
-    let not_a = just::<_, &str, Own>('a').not().ignore_then(any());
+    let not_a = just_char('a').not().ignore_then(any_char());
     let rows = [
         ("b", "ok 'b'"),
         ("a", "error 0..1 expected something else found 'a'"),
         ("", "error 0..0 expected any found end"),
     ];
     assert_answers(&rt, &not_a, &rows);
-    let nothing = any::<&str, Own>().not();
+    let nothing = any_char().not();
     let rows = [
         ("b", "error 0..1 expected something else found 'b'"),
         ("", "ok ()"),
@@ -23,7 +24,7 @@ fn not_succeeds_where_its_part_fails_and_takes_nothing(rt: HostRuntime) {
 
 #[test]
 fn not_spans_what_its_part_took(rt: HostRuntime) {
-    let not_ab = just::<_, &str, Own>("ab").not().ignore_then(any());
+    let not_ab = just_text("ab").not().ignore_then(any_char());
     let rows = [
         ("ab", "error 0..2 expected something else found 'a'"),
         ("ac", "error 1..2 expected end of input found 'c'"),
@@ -33,7 +34,7 @@ fn not_spans_what_its_part_took(rt: HostRuntime) {
 
 #[test]
 fn filter_takes_what_passes(rt: HostRuntime) {
-    let low = any::<&str, Own>().filter(|c| *c < 'm');
+    let low = any_char().filter(|c| *c < 'm');
     let rows = [
         ("a", "ok 'a'"),
         ("z", "error 0..1 expected something else found 'z'"),
@@ -44,10 +45,10 @@ fn filter_takes_what_passes(rt: HostRuntime) {
 
 #[test]
 fn a_filter_that_refuses_stands_at_its_start(rt: HostRuntime) {
-    let alike = any::<&str, Own>()
-        .then(any())
+    let alike = any_char()
+        .then(any_char())
         .filter(|pair| pair.0 == pair.1)
-        .or(just('x').then(just('y')));
+        .or(just_char('x').then(just_char('y')));
     let rows = [
         ("aa", "ok ('a', 'a')"),
         ("ab", "error 0..2 expected something else, 'x' found 'a'"),
@@ -58,7 +59,7 @@ fn a_filter_that_refuses_stands_at_its_start(rt: HostRuntime) {
 
 #[test]
 fn filter_map_picks(rt: HostRuntime) {
-    let digit = any::<&str, Own>().filter_map(|c| c.to_digit(10));
+    let digit = any_char().filter_map(|c| c.to_digit(10));
     let rows = [
         ("7", "ok 7"),
         ("x", "error 0..1 expected something else found 'x'"),
@@ -69,7 +70,7 @@ fn filter_map_picks(rt: HostRuntime) {
 #[test]
 fn try_map_refuses_with_the_error_of_its_closure(rt: HostRuntime) {
     let alloc = rt.alloc();
-    let even = any::<&str, Own>().try_map(move |c, span| match c.to_digit(10) {
+    let even = any_char().try_map(move |c, span| match c.to_digit(10) {
         Some(digit) if digit % 2 == 0 => Ok(digit),
         _ => Err(Rich::custom(span, String::new(alloc))),
     });
@@ -84,13 +85,13 @@ fn try_map_refuses_with_the_error_of_its_closure(rt: HostRuntime) {
 #[test]
 fn an_error_of_try_map_stands_at_its_start(rt: HostRuntime) {
     let alloc = rt.alloc();
-    let same = any::<&str, Own>().then(any()).try_map(move |(one, two), span| {
+    let same = any_char().then(any_char()).try_map(move |(one, two), span| {
         if one == two {
             return Ok(one);
         }
         Err(Rich::custom(span, String::new(alloc)))
     });
-    let same_or_xy = same.or(just('x').ignore_then(just('y')));
+    let same_or_xy = same.or(just_char('x').ignore_then(just_char('y')));
     let rows = [
         ("aa", "ok 'a'"),
         ("ab", "error 0..2 \"\""),
@@ -101,16 +102,16 @@ fn an_error_of_try_map_stands_at_its_start(rt: HostRuntime) {
 
 #[test]
 fn what_a_part_that_passes_expected_is_merged(rt: HostRuntime) {
-    let perhaps_a = just::<_, &str, Own>('a').or_not().filter(|_| true);
-    let then_c = perhaps_a.ignore_then(just('c'));
+    let perhaps_a = just_char('a').or_not().filter(|_| true);
+    let then_c = perhaps_a.ignore_then(just_char('c'));
     let rows = [
         ("ac", "ok 'c'"),
         ("c", "ok 'c'"),
         ("b", "error 0..1 expected 'a', 'c' found 'b'"),
     ];
     assert_answers(&rt, &then_c, &rows);
-    let refused = just::<_, &str, Own>('a').or_not().filter(|_| false);
-    let or_c = refused.ignore_then(just('a')).or(just('c'));
+    let refused = just_char('a').or_not().filter(|_| false);
+    let or_c = refused.ignore_then(just_char('a')).or(just_char('c'));
     let rows = [
         ("c", "ok 'c'"),
         ("b", "error 0..0 expected something else, 'c' found 'b'"),
@@ -120,14 +121,14 @@ fn what_a_part_that_passes_expected_is_merged(rt: HostRuntime) {
 
 #[test]
 fn and_is_wants_both_and_stands_where_the_first_ended(rt: HostRuntime) {
-    let a_not_before_b = any::<&str, Own>().and_is(just("ab").not()).then(any());
+    let a_not_before_b = any_char().and_is(just_text("ab").not()).then(any_char());
     let rows = [
         ("ac", "ok ('a', 'c')"),
         ("bb", "ok ('b', 'b')"),
         ("ab", "error 0..2 expected something else found 'a'"),
     ];
     assert_answers(&rt, &a_not_before_b, &rows);
-    let longer = just::<_, &str, Own>('a').and_is(just("ab")).then(any());
+    let longer = just_char('a').and_is(just_text("ab")).then(any_char());
     let rows = [
         ("ab", "ok ('a', 'b')"),
         ("ac", "error 1..2 expected 'b' found 'c'"),
@@ -138,10 +139,10 @@ fn and_is_wants_both_and_stands_where_the_first_ended(rt: HostRuntime) {
 
 #[test]
 fn rewind_takes_nothing(rt: HostRuntime) {
-    let seen = just::<_, &str, Own>("ab")
+    let seen = just_text("ab")
         .rewind()
-        .then(any())
-        .then_ignore(any());
+        .then(any_char())
+        .then_ignore(any_char());
     let rows = [
         ("ab", "ok (\"ab\", 'a')"),
         ("ac", "error 1..2 expected 'b' found 'c'"),
@@ -152,18 +153,18 @@ fn rewind_takes_nothing(rt: HostRuntime) {
 
 #[test]
 fn rewind_forgets_failures_past_its_start(rt: HostRuntime) {
-    let perhaps = just::<_, &str, Own>('a').then(just('b').or_not()).rewind();
+    let perhaps = just_char('a').then(just_char('b').or_not()).rewind();
     let rows = [
         ("ac", "error 0..1 expected 'x' found 'a'"),
         ("x", "error 0..1 expected 'a' found 'x'"),
     ];
-    assert_answers(&rt, &perhaps.then(just('x')), &rows);
+    assert_answers(&rt, &perhaps.then(just_char('x')), &rows);
 }
 
 #[test]
 fn map_err_maps_the_error_that_is_reported(rt: HostRuntime) {
     let alloc = rt.alloc();
-    let mapped = just::<_, &str, Own>("ab").map_err(move |error: Rich<char>| {
+    let mapped = just_text("ab").map_err(move |error: Rich<char>| {
         Rich::custom(*error.span(), String::new(alloc))
     });
     let rows = [
@@ -177,11 +178,15 @@ fn map_err_maps_the_error_that_is_reported(rt: HostRuntime) {
 #[test]
 fn map_err_leaves_older_errors_as_they_are(rt: HostRuntime) {
     let alloc = rt.alloc();
-    let mapped = just::<_, &str, Own>('x').map_err(move |error: Rich<char>| {
+    let mapped = just_char('x').map_err(move |error: Rich<char>| {
         Rich::custom(*error.span(), String::new(alloc))
     });
     let rows = [("ac", "error 1..2 expected 'b' found 'c'"), ("x", "ok 'x'")];
-    assert_answers(&rt, &just('a').ignore_then(just('b')).or(mapped), &rows);
+    assert_answers(
+        &rt,
+        &just_char('a').ignore_then(just_char('b')).or(mapped),
+        &rows,
+    );
 }
 
 #[test]
@@ -224,11 +229,14 @@ fn a_validator_without_memory_refuses_the_run_once_it_has_returned(rt: HostRunti
 
 #[test]
 fn what_the_last_alternative_emits_stays(rt: HostRuntime) {
-    let emitting = any::<&str, Own>().validate(|c, extra, emitter| {
+    let emitting = any_char().validate(|c, extra, emitter| {
         emitter.emit(Rich::custom(extra.span(), String::new(extra.alloc())));
         c
     });
-    let ab_or_ac = choice((just('a').then(just('b')), emitting.then(just('c'))));
+    let ab_or_ac = choice((
+        just_char('a').then(just_char('b')),
+        emitting.then(just_char('c')),
+    ));
     let rows = [(
         "aa",
         "error 0..1 \"\"; error 1..2 expected 'b', 'c' found 'a'",
@@ -238,11 +246,14 @@ fn what_the_last_alternative_emits_stays(rt: HostRuntime) {
 
 #[test]
 fn what_an_earlier_alternative_emitted_is_gone(rt: HostRuntime) {
-    let emitting = any::<&str, Own>().validate(|c, extra, emitter| {
+    let emitting = any_char().validate(|c, extra, emitter| {
         emitter.emit(Rich::custom(extra.span(), String::new(extra.alloc())));
         c
     });
-    let ac_or_ab = choice((emitting.then(just('c')), just('a').then(just('b'))));
+    let ac_or_ab = choice((
+        emitting.then(just_char('c')),
+        just_char('a').then(just_char('b')),
+    ));
     let rows = [("aa", "error 1..2 expected 'c', 'b' found 'a'")];
     assert_answers(&rt, &ac_or_ab, &rows);
 }
@@ -264,9 +275,9 @@ fn the_failures_of_a_filtered_part_count_as_one(rt: HostRuntime) {
 #[test]
 fn the_failure_of_a_filter_is_merged_in_its_order(rt: HostRuntime) {
     let three = group((
-        just::<_, &str, Own>("a").or_not(),
-        just("b").filter(|_| false).or_not(),
-        just("c"),
+        just_text("a").or_not(),
+        just_text("b").filter(|_| false).or_not(),
+        just_text("c"),
     ));
     let rows = [(
         "b",
@@ -286,14 +297,19 @@ fn a_try_map_that_refuses_drops_the_failures_of_its_part(rt: HostRuntime) {
 
 #[test]
 fn what_was_rewound_is_not_reported(rt: HostRuntime) {
-    let ahead = group((just::<_, &str, Own>("a"), any(), just("b").or_not())).rewind();
+    let ahead = group((just_text("a"), any_char(), just_text("b").or_not())).rewind();
     let rows = [("ad", "error 1..2 expected 'c' found 'd'")];
-    assert_answers(&rt, &ahead.then(just("ac")), &rows);
+    assert_answers(&rt, &ahead.then(just_text("ac")), &rows);
 }
 
 #[test]
 fn unwrapped_gives_what_is_in_it(rt: HostRuntime) {
-    let a = just::<_, &str, Own>('a').map(Some).unwrapped();
-    let rows = [("a", "ok 'a'"), ("b", "error 0..1 expected 'a' found 'b'")];
-    assert_answers(&rt, &a, &rows);
+    let of_some = just_char('a').map(Some).unwrapped();
+    let of_ok = just_char('b').map(Ok::<char, ()>).unwrapped();
+    let rows = [
+        ("ab", "ok ('a', 'b')"),
+        ("b", "error 0..1 expected 'a' found 'b'"),
+        ("ac", "error 1..2 expected 'b' found 'c'"),
+    ];
+    assert_answers(&rt, &of_some.then(of_ok), &rows);
 }

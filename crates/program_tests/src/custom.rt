@@ -1,13 +1,14 @@
-//! Closures and functions as parsers: what they fail with, emit and refuse.
+//! Closures and readers as parsers: what they fail with, emit and refuse.
 use crate::asserts::assert_answers;
 use answers::extras::{Own, Quiet};
+use answers::leaves::{any_char, just_char, just_text};
 use chumsky::prelude::*;
 use chumsky::{Failure, Stop};
-use closures::{an_x, foo_or_nothing, foo_or_nothing_by_check, two_and_an_error};
+use closures::{AnX, TwoAndAnError, foo_or_nothing, foo_or_nothing_by_check};
 
 #[test]
 fn an_error_of_a_closure_stands_at_its_start(rt: HostRuntime) {
-    let error_or_ab = custom::<_, &str, &'static str, Own>(two_and_an_error).or(just("ab"));
+    let error_or_ab = custom_by::<_, &str, &'static str, Own>(TwoAndAnError).or(just_text("ab"));
     let rows = [
         ("ac", "error 1..2 expected 'b' found 'c'"),
         ("xy", "error 0..2 \"\""),
@@ -34,8 +35,8 @@ fn of_two_messages_at_one_place_the_first_stands(rt: HostRuntime) {
 #[test]
 fn what_a_part_that_succeeds_expected_is_merged(rt: HostRuntime) {
     let perhaps_a_then_c = custom::<_, &str, char, Own>(|inp| {
-        inp.parse(just('a').or_not())?;
-        inp.parse(just('c'))
+        inp.parse(just_char('a').or_not())?;
+        inp.parse(just_char('c'))
     });
     let rows = [
         ("ac", "ok 'c'"),
@@ -67,7 +68,7 @@ fn an_error_that_a_first_alternative_emits_goes_with_it(rt: HostRuntime) {
         Err(Failure::Error(Rich::custom(span, String::new(inp.alloc))))
     });
     let rows = [("a", "ok 'a'"), ("", "error 0..1 \"\"")];
-    assert_answers(&rt, &emitting.or(any()), &rows);
+    assert_answers(&rt, &emitting.or(any_char()), &rows);
 }
 
 #[test]
@@ -79,18 +80,18 @@ fn an_error_that_a_last_alternative_emits_stays(rt: HostRuntime) {
         Err(Failure::Error(Rich::custom(span, String::new(inp.alloc))))
     });
     let rows = [("a", "error 0..0 \"\"; error 0..1 \"\"")];
-    assert_answers(&rt, &just('c').or(emitting), &rows);
+    assert_answers(&rt, &just_char('c').or(emitting), &rows);
 }
 
 #[test]
 fn a_stop_of_a_closure_is_passed_on(rt: HostRuntime) {
     let stopping = custom::<_, &str, char, Own>(|inp| {
-        inp.check(just('a'))?;
-        inp.check(any())?;
+        inp.check(just_char('a'))?;
+        inp.check(any_char())?;
         Err(Failure::Stop(Stop::TooDeep))
     });
     let rows = [("ab", "refused TooDeep"), ("a", "ok 'a'")];
-    assert_answers(&rt, &stopping.or(just('a')), &rows);
+    assert_answers(&rt, &stopping.or(just_char('a')), &rows);
 }
 
 #[test]
@@ -116,8 +117,8 @@ fn what_an_abandoned_alternative_emits_goes(rt: HostRuntime) {
 }
 
 #[test]
-fn a_function_is_a_parser(rt: HostRuntime) {
-    let x = custom::<_, &str, &'static str, Own>(an_x);
+fn a_reader_is_a_parser(rt: HostRuntime) {
+    let x = custom_by::<_, &str, &'static str, Own>(AnX);
     let rows = [
         ("x", "ok \"x\""),
         ("y", "error 0..1 expected 'x' found 'y'"),

@@ -2,6 +2,7 @@
 //! other parsers give.
 use crate::asserts::assert_answers;
 use answers::extras::{Own, Quiet};
+use answers::leaves::{any_char, just_char};
 use chumsky::prelude::*;
 use chumsky::primitive::Select;
 use contexts::under_output::UnderOutput;
@@ -38,7 +39,7 @@ fn an_error_from_before_the_second_stays(rt: HostRuntime) {
         c = extra if is_context(extra.ctx(), c) => c,
     };
     let twice = UnderOutput {
-        first: any::<_, Own>().then_ignore(just('b').or_not()),
+        first: any_char().then_ignore(just_char('b').or_not()),
         second,
         of: PhantomData,
     };

@@ -3,10 +3,11 @@ use crate::asserts::{assert_answers, assert_line};
 use chumsky::laws::{end_is_steady, just_is_steady, or_not_never_says_no, then_is_associative};
 use chumsky::prelude::*;
 use guide::checking::minute;
-use guide::closure::{day, foo_or_nothing};
+use guide::closure::{day, foo_or_nothing, one_x};
 use guide::conclusion::two;
 use guide::extras::Plain;
-use guide::folding::sum;
+use guide::flattening::{all_letters, number_plate};
+use guide::folding::{spanned_sum, sum};
 use guide::handed::{check_two_tokens, each};
 use guide::laws::token_past;
 use guide::mapping::percent;
@@ -46,6 +47,7 @@ fn each_function_takes_what_it_says(rt: HostRuntime) {
     assert_line(&rt, two(rt.alloc(), "éb"), "ok ('é', 'b')");
     assert_line(&rt, foo_or_nothing(rt.alloc(), "foo"), "ok true");
     assert_line(&rt, foo_or_nothing(rt.alloc(), ""), "ok false");
+    assert_line(&rt, one_x(rt.alloc(), "x"), "ok \"x\"");
     let parsed = span_past_x(rt.alloc(), "xé")
         .ok()
         .expect(&rt, "the run was refused");
@@ -64,6 +66,32 @@ fn a_sum_is_folded(rt: HostRuntime) {
     ];
     for (text, line) in rows {
         assert_line(&rt, sum(rt.alloc(), text), line);
+    }
+}
+
+#[test]
+fn items_come_out_of_collections(rt: HostRuntime) {
+    assert_line(&rt, all_letters(rt.alloc(), "ab,,c"), "ok \"abc\"");
+    assert_line(&rt, all_letters(rt.alloc(), ""), "ok \"\"");
+    assert_line(&rt, number_plate(rt.alloc(), "AB-123"), "ok \"AB123\"");
+    let no_digit = "error 3..3 expected '0', '1', '2', '3', '4', '5', '6', '7', '8', '9' found end";
+    assert_line(&rt, number_plate(rt.alloc(), "AB-"), no_digit);
+}
+
+#[test]
+fn a_sum_has_the_span_of_all_its_numbers(rt: HostRuntime) {
+    let rows = [
+        (
+            "1+2+3",
+            "ok Term { value: 6, span: SimpleSpan { start: 0, end: 5 } }",
+        ),
+        (
+            "7",
+            "ok Term { value: 7, span: SimpleSpan { start: 0, end: 1 } }",
+        ),
+    ];
+    for (text, line) in rows {
+        assert_line(&rt, spanned_sum(rt.alloc(), text), line);
     }
 }
 

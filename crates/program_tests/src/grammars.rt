@@ -36,10 +36,10 @@ fn depth_costs_no_stack(rt: HostRuntime) {
     assert!(rt; parsed.output() == Some(&2_000));
 }
 
-/// Each pair of brackets opens one rule within, and one behind.
+/// Each pair of brackets opens one rule within.
 #[test]
 fn one_rule_more_than_the_limit_is_too_deep(rt: HostRuntime) {
-    for (text, least) in [("", 1), ("[]", 2), ("[][]", 3), ("[[]]", 3), ("[[][]]", 4)] {
+    for (text, least) in [("", 1), ("[]", 2), ("[][]", 2), ("[[]]", 3), ("[[][]]", 3)] {
         assert!(rt; depth(rt.alloc(), text, least).is_ok());
         match depth(rt.alloc(), text, least - 1) {
             Err(Refused::Running(stop)) => assert!(rt; stop == Stop::TooDeep),

@@ -13,7 +13,7 @@ pub(crate) fn assert_answers<
     I: Input<'src> + Copy,
     O: Debug + Drop,
     E: ParserExtra<I>,
-    P: IsParser<I, O, E> + Parser<'src, I, O, E>,
+    P: Parser<'src, I, O, E>,
     R: Abort + AllocGlobal,
 >(rt: &R, parser: &P, rows: &[(I, &str)])
 where

@@ -1,6 +1,7 @@
 //! Parsers that are copied: a copy is a parser of its own, and runs as the first does.
 use crate::asserts::assert_answers;
 use answers::extras::Own;
+use answers::leaves::{any_char, just_char};
 use answers::says::Says;
 use chumsky::extra::ParserExtra;
 use chumsky::prelude::*;
@@ -32,7 +33,7 @@ where
 
 #[test]
 fn a_mapped_parser_is_copied(rt: HostRuntime) {
-    let second = just::<_, _, Own>('a').then(any()).map(|(_, c)| c);
+    let second = just_char('a').then(any_char()).map(|(_, c)| c);
     let rows = [("aé", "ok 'é'"), ("b", "error 0..1 expected 'a' found 'b'")];
     assert_both_answer(&rt, second, &rows);
 }
@@ -55,7 +56,7 @@ fn a_choice_is_copied(rt: HostRuntime) {
 
 #[test]
 fn a_clone_runs_as_the_first_would(rt: HostRuntime) {
-    let first = just::<_, _, Own>('a').then(one_of("bc").or_not());
+    let first = just_char('a').then(one_of("bc").or_not());
     let cloned = first.clone().expect(&rt, "want of memory");
     let rows = [
         ("ac", "ok ('a', Some('c'))"),

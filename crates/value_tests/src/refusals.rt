@@ -2,6 +2,7 @@
 //! fails where a call refuses for no reason.
 use crate::asserts::assert_answers;
 use answers::extras::Own;
+use answers::leaves::{any_char, just_char};
 use chumsky::Stop;
 use chumsky::input::Emitter;
 use chumsky::prelude::*;
@@ -40,12 +41,12 @@ fn a_run_emits(rt: HostRuntime) {
 
 #[test]
 fn what_was_set_aside_is_brought_back(rt: HostRuntime) {
-    let closure = custom::<_, &str, char, Own>(|inp| inp.parse(just('b')));
+    let closure = custom::<_, &str, char, Own>(|inp| inp.parse(just_char('b')));
     let rows = [
         ("b", "ok 'b'"),
         ("c", "error 0..1 expected 'a', 'b' found 'c'"),
     ];
-    assert_answers(&rt, &just('a').or_not().ignore_then(closure), &rows);
+    assert_answers(&rt, &just_char('a').or_not().ignore_then(closure), &rows);
 }
 
 #[test]
@@ -55,7 +56,7 @@ fn a_failure_is_reported(rt: HostRuntime) {
         ("d", "error 0..1 expected 'a', 'b', 'c' found 'd'"),
         ("", "error 0..0 expected 'a', 'b', 'c' found end"),
     ];
-    let one = just::<_, _, Own>('a').or(just('b')).or(one_of("c"));
+    let one = just_char('a').or(just_char('b')).or(one_of("c"));
     assert_answers(&rt, &one, &rows);
 }
 
@@ -79,17 +80,17 @@ fn a_set_has_room_for_its_outputs(rt: HostRuntime) {
 
 #[test]
 fn collections_have_room_for_items(rt: HostRuntime) {
-    let items = any::<&str, Own>().repeated();
+    let items = any_char().repeated();
     assert_answers(&rt, &items.collect::<Vec<_>>(), &[("ba", "ok ['b', 'a']")]);
-    let items = any::<&str, Own>().repeated();
+    let items = any_char().repeated();
     assert_answers(&rt, &items.collect::<String>(), &[("ba", "ok \"ba\"")]);
-    let items = any::<&str, Own>().repeated();
+    let items = any_char().repeated();
     assert_answers(
         &rt,
         &items.collect::<BTreeSet<_>>(),
         &[("bab", "ok {'a', 'b'}")],
     );
-    let items = any::<&str, Own>().then(any()).repeated();
+    let items = any_char().then(any_char()).repeated();
     assert_answers(
         &rt,
         &items.collect::<BTreeMap<_, _>>(),

@@ -1,5 +1,6 @@
 //! What errors look like to people: whole reports of texts and of bytes, and the places that they name.
 use answers::extras::Own;
+use answers::leaves::{any_char, just_char, just_text};
 use chumsky::prelude::*;
 use chumsky::report::{ByteReport, Report, place_of};
 use std::alloc::{AllocError, AllocGlobal, Global};
@@ -44,7 +45,7 @@ fn assert_reports<
 
 #[test]
 fn a_report_shows_the_line_alone(rt: HostRuntime) {
-    let three_lines = just::<_, _, Own>("one\ntwo\n").then(just("three"));
+    let three_lines = just_text("one\ntwo\n").then(just_text("three"));
     let rows = [
         ("one\ntwo\nthree", ""),
         (
@@ -65,7 +66,7 @@ fn a_report_shows_the_line_alone(rt: HostRuntime) {
 
 #[test]
 fn carets_align_below_tabs_and_wide_characters(rt: HostRuntime) {
-    let tabs = just::<_, _, Own>("\té\tb");
+    let tabs = just_text("\té\tb");
     let rows = [
         (
             "\té\tc",
@@ -82,7 +83,7 @@ fn carets_align_below_tabs_and_wide_characters(rt: HostRuntime) {
 
 #[test]
 fn the_end_of_input_has_a_caret(rt: HostRuntime) {
-    let two_lines = just::<_, _, Own>("ab\ncd");
+    let two_lines = just_text("ab\ncd");
     let rows = [
         ("a", "input:1:2: expected 'b', found end of input\na\n ^\n"),
         ("ab\n", "input:2:1: expected 'c', found end of input\n\n^\n"),
@@ -138,7 +139,7 @@ fn what_names_no_token_is_in_words(rt: HostRuntime) {
         "",
         "input:1:1: expected anything, found end of input\n\n^\n",
     )];
-    assert_reports(&rt, &any::<_, Own>(), &rows);
+    assert_reports(&rt, &any_char(), &rows);
     let rows = [(
         "\u{7f}",
         "input:1:1: expected something else, found '\\u{7f}'\n\u{7f}\n^\n",
@@ -163,7 +164,7 @@ fn each_error_has_a_report(rt: HostRuntime) {
         "ab",
         "input:1:1: first\nab\n^^\ninput:1:1: expected 'c', found 'a'\nab\n^\n",
     )];
-    assert_reports(&rt, &emitting.then(just('c')), &rows);
+    assert_reports(&rt, &emitting.then(just_char('c')), &rows);
 }
 
 /// The report of a message over a span of a text.
