@@ -2,19 +2,12 @@
 //! answers.
 #![tactic(auto)]
 
+use chk_run::run::{refuse, run};
 use chumsky::Stop;
 use std::alloc::Global;
 use std::io::ErrorKind;
 use std::process::ExitCode;
 use std::{env, io};
-
-mod ab;
-mod list;
-mod loops;
-mod run;
-mod show;
-#[cfg(test)]
-mod tests;
 
 /// The words after the program's name.
 fn words(rt: &HostRuntime, alloc: Global) -> io::Result<Vec<String>> {
@@ -30,11 +23,11 @@ fn main(rt: HostRuntime) -> ExitCode {
     let words = match words(&rt, alloc) {
         Ok(words) => words,
         Err(error) if error.kind() == ErrorKind::OutOfMemory => {
-            return ExitCode::from(run::refuse(&mut out, Stop::Memory));
+            return ExitCode::from(refuse(&mut out, Stop::Memory));
         }
         Err(_) => Vec::new(alloc),
     };
-    let status = run::run(
+    let status = run(
         alloc,
         words.as_slice(),
         &mut rt.reader(),

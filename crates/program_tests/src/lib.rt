@@ -7,6 +7,8 @@ mod asserts;
 #[cfg(test)]
 mod calls;
 #[cfg(test)]
+mod chk;
+#[cfg(test)]
 mod custom;
 #[cfg(test)]
 mod from_contexts;

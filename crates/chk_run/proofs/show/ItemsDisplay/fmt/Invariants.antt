@@ -1,7 +1,7 @@
 use Rattle.std.proofs.Common.{take}
 use Rattle.std.specs.Fmt.{HasWritten, IsPlainFormatter}
-use Rattle.chk.specs.Show.{items_text}
-use Rattle.chk.proofs.show.ItemsDisplay.fmt.Given as goal
+use Rattle.chk_run.specs.Show.{items_text}
+use Rattle.chk_run.proofs.show.ItemsDisplay.fmt.Given as goal
 
 abbrev pub invariant-loop-item : goal.invariant-loop-item
 invariant-loop-item g l =

@@ -1,5 +1,5 @@
-//! What the program answers, word for word.
-use crate::run::run;
+//! What the program `chk` answers, word for word.
+use chk_run::run::run;
 use std::alloc::{AllocError, AllocGlobal, Global};
 use std::io;
 use std::io::{ErrorKind, Read, Write};

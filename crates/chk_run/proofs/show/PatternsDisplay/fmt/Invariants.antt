@@ -1,8 +1,8 @@
 use Rattle.std.proofs.Common.{◌∷◌, get_or, take}
 use Rattle.std.specs.Fmt.{HasWritten, IsPlainFormatter}
-use Rattle.chk.specs.Show.{patterns_text}
+use Rattle.chk_run.specs.Show.{patterns_text}
 use Rattle.chumsky_input.specs.declared.rich.RichPattern.TheVariants.{Any}
-use Rattle.chk.proofs.show.PatternsDisplay.fmt.Given as goal
+use Rattle.chk_run.proofs.show.PatternsDisplay.fmt.Given as goal
 
 abbrev pub invariant-loop-other : goal.invariant-loop-other
 invariant-loop-other g l =

@@ -2,9 +2,9 @@
 ghost use Rattle.std.specs.Prelude.{◌≡◌, ◌⊎◌, ◌≤◌, [], ◌∷◌, ◌++◌, codes, OnOk, IfSome, IfOk, IfErr, option_map};
 ghost use Rattle.std.specs.Option.{option_copied};
 ghost use Rattle.std.specs.Io.KnownBytes.{Appends};
-ghost use Rattle.chk.specs.Lines.{error_lines, alone, pair_text, count_text, Tells, TellsSome};
-ghost use Rattle.chk.specs.Show.{items_text, stop_text};
-ghost use Rattle.chk.specs.declared.run.Failure.TheVariants.{Refused, Unwritable};
+ghost use Rattle.chk_run.specs.Lines.{error_lines, alone, pair_text, count_text, Tells, TellsSome};
+ghost use Rattle.chk_run.specs.Show.{items_text, stop_text};
+ghost use Rattle.chk_run.specs.declared.run.Failure.TheVariants.{Refused, Unwritable};
 
 use crate::ab::{check_ab, parse_ab};
 use crate::list::{check_list, parse_list};

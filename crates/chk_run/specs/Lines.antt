@@ -3,7 +3,7 @@ use Rattle.std.specs.Prelude.{◌≡◌, ℕ, List, [], ◌∷◌, ◌++◌, fla
 use Rattle.std.specs.Char.{encode_utf8}
 use Rattle.std.specs.Io.KnownBytes.{Appends}
 use Rattle.chumsky_input.specs.declared.rich.Rich.{Rich}
-use Rattle.chk.specs.Show.{error_text}
+use Rattle.chk_run.specs.Show.{error_text}
 
 -- the lines of some errors, one after another
 abbrev pub error_lines : List (Rich ℕ) → List ℕ

@@ -1,7 +1,7 @@
 //! How errors print.
 ghost use Rattle.std.specs.Prelude.{◌≡◌, Some};
 ghost use Rattle.std.specs.Option.{option_copied};
-ghost use Rattle.chk.specs.Show.{is_plain, symbol_text, pattern_text, patterns_text, found_text, error_text, items_text, stop_text};
+ghost use Rattle.chk_run.specs.Show.{is_plain, symbol_text, pattern_text, patterns_text, found_text, error_text, items_text, stop_text};
 
 use chumsky::Stop;
 use chumsky::error::{Rich, RichPattern};
