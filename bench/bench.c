@@ -9,12 +9,14 @@ typedef uint64_t job_function(const uint8_t *bytes, size_t length);
 
 job_function bench_dates_parse, bench_dates_check, bench_words_parse, bench_words_check, bench_headers_parse,
     bench_headers_check, bench_digits_parse, bench_digits_check, bench_lists_parse, bench_lists_check,
-    bench_settings_parse, bench_settings_check, bench_fail_empty, bench_fail_rich;
+    bench_settings_parse, bench_settings_check, bench_brackets_parse, bench_brackets_check, bench_json_parse,
+    bench_json_check, bench_fail_empty, bench_fail_rich;
 
 #ifdef WITH_RUST
 job_function rust_dates_parse, rust_dates_check, rust_words_parse, rust_words_check, rust_headers_parse,
     rust_headers_check, rust_digits_parse, rust_digits_check, rust_lists_parse, rust_lists_check,
-    rust_settings_parse, rust_settings_check, rust_fail;
+    rust_settings_parse, rust_settings_check, rust_brackets_parse, rust_brackets_check, rust_json_parse,
+    rust_json_check, rust_fail;
 #define RUST(name) rust_##name
 #else
 #define RUST(name) NULL
@@ -274,6 +276,76 @@ static uint64_t settings_check(const uint8_t *bytes, size_t length) {
     return times;
 }
 
+/* How many pairs of brackets there are, within one another and one after another, if there is nothing else. */
+static int pairs(const uint8_t *bytes, size_t length, uint64_t *count) {
+    size_t depth = 0;
+    for (size_t at = 0; at < length; at++) {
+        if (bytes[at] == '[') {
+            depth += 1;
+        } else if (bytes[at] == ']' && depth) {
+            depth -= 1;
+            *count += 1;
+        } else {
+            return 0;
+        }
+    }
+    return depth == 0;
+}
+
+static uint64_t brackets_parse(const uint8_t *bytes, size_t length) {
+    uint64_t count = 0;
+    return pairs(bytes, length, &count) ? count : 0;
+}
+
+static uint64_t brackets_check(const uint8_t *bytes, size_t length) {
+    uint64_t count = 0;
+    return (uint64_t)pairs(bytes, length, &count);
+}
+
+static inline int is_letter(uint8_t byte) { return (uint8_t)(byte - 'a') < 26 || is_digit(byte); }
+
+/* Where a string ends, or null. */
+static inline const uint8_t *json_string(const uint8_t *at, const uint8_t *end) {
+    if (at == end || *at++ != '"') return NULL;
+    while (at != end && is_letter(*at)) at += 1;
+    return at != end && *at == '"' ? at + 1 : NULL;
+}
+
+/* Where a value ends, or null. JSON has no spaces here; strings, numbers and words are counted, names of members too. */
+static const uint8_t *json(const uint8_t *at, const uint8_t *end, uint64_t *count) {
+    if (at == end) return NULL;
+    uint8_t closing = *at == '[' ? ']' : *at == '{' ? '}' : 0;
+    if (!closing) {
+        *count += 1;
+        if (*at == '"') return json_string(at, end);
+        if (is_digit(*at)) return at + digits_at(at, end);
+        return BEGINS("true") ? at + 4 : BEGINS("false") ? at + 5 : BEGINS("null") ? at + 4 : NULL;
+    }
+    at += 1;
+    if (at != end && *at == closing) return at + 1;
+    for (;;) {
+        if (closing == '}') {
+            at = json_string(at, end);
+            if (!at || at == end || *at++ != ':') return NULL;
+            *count += 1;
+        }
+        at = json(at, end, count);
+        if (!at || at == end) return NULL;
+        if (*at == closing) return at + 1;
+        if (*at++ != ',') return NULL;
+    }
+}
+
+static uint64_t json_parse(const uint8_t *bytes, size_t length) {
+    uint64_t count = 0;
+    return json(bytes, bytes + length, &count) == bytes + length ? count : 0;
+}
+
+static uint64_t json_check(const uint8_t *bytes, size_t length) {
+    uint64_t count = 0;
+    return json(bytes, bytes + length, &count) == bytes + length;
+}
+
 /* Inputs, of a fixed seed. */
 
 static uint64_t seed = 1;
@@ -379,6 +451,55 @@ static struct input make_settings(unsigned count) {
     return made;
 }
 
+/* So many pairs of brackets, each within one another up to this depth. */
+static struct input make_brackets(unsigned depth, unsigned times) {
+    struct input made = room((size_t)depth * times * 2);
+    for (unsigned each = 0; each < times; each++) {
+        memset(made.bytes + (size_t)each * depth * 2, '[', depth);
+        memset(made.bytes + (size_t)each * depth * 2 + depth, ']', depth);
+    }
+    return made;
+}
+
+static uint8_t *write_string(uint8_t *at) {
+    *at++ = '"';
+    for (unsigned left = below(9); left; left--) *at++ = (uint8_t)('a' + below(26));
+    *at++ = '"';
+    return at;
+}
+
+/* Lists and objects within one another, down to this depth, and then a string, a number or a word. */
+static uint8_t *write_json(uint8_t *at, unsigned depth) {
+    unsigned kind = depth ? 3 + below(2) : below(3);
+    if (kind == 0) return write_string(at);
+    if (kind == 1) return at + write_digits(at, 8);
+    if (kind == 2) return at + sprintf((char *)at, "%s", below(2) ? "true" : below(2) ? "false" : "null");
+    *at++ = kind == 3 ? '[' : '{';
+    for (unsigned left = 1 + below(8); left; left--) {
+        if (kind == 4) {
+            at = write_string(at);
+            *at++ = ':';
+        }
+        at = write_json(at, depth - 1);
+        if (left > 1) *at++ = ',';
+    }
+    *at++ = kind == 3 ? ']' : '}';
+    return at;
+}
+
+static struct input make_json(unsigned count) {
+    struct input made = room((size_t)count * 1600 + 2);
+    uint8_t *at = made.bytes;
+    *at++ = '[';
+    for (unsigned each = 0; each < count; each++) {
+        if (each) *at++ = ',';
+        at = write_json(at, 2);
+    }
+    *at++ = ']';
+    made.length = (size_t)(at - made.bytes);
+    return made;
+}
+
 /* Rounds. */
 
 static double now(void) {
@@ -437,6 +558,7 @@ int main(int count, char **arguments) {
     const char *only = count > 2 ? arguments[2] : "";
     struct input dates = make_dates(5000), words = make_words(10000), headers = make_headers(10000);
     struct input digits = make_digits(5000), lists = make_lists(2000), settings = make_settings(5000);
+    struct input shallow = make_brackets(2, 25000), deep = make_brackets(100000, 1), json = make_json(300);
     struct input failing = make_failing(2000);
     struct job jobs[] = {
         {"dates parse", {bench_dates_parse, dates_parse, RUST(dates_parse)}, dates, {0}},
@@ -451,6 +573,12 @@ int main(int count, char **arguments) {
         {"lists check", {bench_lists_check, lists_check, RUST(lists_check)}, lists, {0}},
         {"settings parse", {bench_settings_parse, settings_parse, RUST(settings_parse)}, settings, {0}},
         {"settings check", {bench_settings_check, settings_check, RUST(settings_check)}, settings, {0}},
+        {"shallow parse", {bench_brackets_parse, brackets_parse, RUST(brackets_parse)}, shallow, {0}},
+        {"shallow check", {bench_brackets_check, brackets_check, RUST(brackets_check)}, shallow, {0}},
+        {"deep parse", {bench_brackets_parse, brackets_parse, RUST(brackets_parse)}, deep, {0}},
+        {"deep check", {bench_brackets_check, brackets_check, RUST(brackets_check)}, deep, {0}},
+        {"json parse", {bench_json_parse, json_parse, RUST(json_parse)}, json, {0}},
+        {"json check", {bench_json_check, json_check, RUST(json_check)}, json, {0}},
         {"fail EmptyErr", {bench_fail_empty, fail, RUST(fail)}, failing, {0}},
         {"fail Rich", {bench_fail_rich, fail, RUST(fail)}, failing, {0}},
     };

@@ -32,6 +32,10 @@ jobs! {
     rust_lists_check = lists_check;
     rust_settings_parse = settings_parse;
     rust_settings_check = settings_check;
+    rust_brackets_parse = brackets_parse;
+    rust_brackets_check = brackets_check;
+    rust_json_parse = json_parse;
+    rust_json_check = json_check;
     rust_fail = fail;
 }
 
@@ -220,4 +224,76 @@ fn settings_check(mut bytes: &[u8]) -> u64 {
         bytes = rest;
     }
     times
+}
+
+/// How many pairs of brackets there are, if there is nothing else.
+fn pairs(bytes: &[u8]) -> Option<u64> {
+    let (mut depth, mut count) = (0u64, 0);
+    for byte in bytes {
+        match byte {
+            b'[' => depth += 1,
+            b']' => {
+                depth = depth.checked_sub(1)?;
+                count += 1;
+            }
+            _ => return None,
+        }
+    }
+    (depth == 0).then_some(count)
+}
+
+fn brackets_parse(bytes: &[u8]) -> u64 {
+    pairs(bytes).unwrap_or(0)
+}
+
+fn brackets_check(bytes: &[u8]) -> u64 {
+    u64::from(pairs(bytes).is_some())
+}
+
+/// What follows a string.
+fn json_string(bytes: &[u8]) -> Option<&[u8]> {
+    let rest = bytes.strip_prefix(b"\"")?;
+    let end = rest.iter().position(|byte| !byte.is_ascii_lowercase() && !byte.is_ascii_digit())?;
+    rest[end..].strip_prefix(b"\"")
+}
+
+/// What follows a value; strings, numbers and words are counted, names of members too.
+fn json<'a>(bytes: &'a [u8], count: &mut u64) -> Option<&'a [u8]> {
+    let closing = match bytes.first()? {
+        b'[' => b']',
+        b'{' => b'}',
+        _ => {
+            *count += 1;
+            return match bytes[0] {
+                b'"' => json_string(bytes),
+                b'0'..=b'9' => split_digits(bytes).map(|(_, rest)| rest),
+                _ => [&b"true"[..], b"false", b"null"].iter().find_map(|word| bytes.strip_prefix(*word)),
+            };
+        }
+    };
+    let mut rest = &bytes[1..];
+    if rest.first() == Some(&closing) {
+        return Some(&rest[1..]);
+    }
+    loop {
+        if closing == b'}' {
+            rest = json_string(rest)?.strip_prefix(b":")?;
+            *count += 1;
+        }
+        rest = json(rest, count)?;
+        match rest.split_first()? {
+            (byte, after) if *byte == closing => return Some(after),
+            (b',', after) => rest = after,
+            _ => return None,
+        }
+    }
+}
+
+fn json_parse(bytes: &[u8]) -> u64 {
+    let mut count = 0;
+    json(bytes, &mut count).filter(|rest| rest.is_empty()).map_or(0, |_| count)
+}
+
+fn json_check(bytes: &[u8]) -> u64 {
+    u64::from(json(bytes, &mut 0).is_some_and(<[u8]>::is_empty))
 }

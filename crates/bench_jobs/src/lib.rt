@@ -3,6 +3,7 @@
 #![tactic(auto)]
 
 mod dates;
+mod grammars;
 mod headers;
 mod lists;
 mod run;
