@@ -5,6 +5,7 @@ pub mod Making
 pub mod Gathering
 pub mod Waiting
 pub mod Weights
+pub mod Room
 pub mod Begins
 pub mod Resumes
 pub mod Options

@@ -1,5 +1,5 @@
 -- A whole number that falls at each step.
-use Rattle.std.specs.Prelude.{ℕ, zero, suc, ◌+◌, ◌-◌, ◌*◌, ◌^◌, ◌≤◌, List, [], ◌∷◌, ⊤}
+use Rattle.std.specs.Prelude.{ℕ, zero, suc, ◌+◌, ◌-◌, ◌*◌, ◌^◌, ◌≤◌, List, [], ◌∷◌, length, ⊤}
 use Rattle.chumsky_recursive.specs.declared.frames.Frame.{Frame}
 use Rattle.chumsky_recursive.specs.declared.frames.Frame.TheVariants.{First, Second, Alternative, Mapped, Optional, Denied, Both, Looked, Rewound, Tried, Separator, Item}
 use Rattle.chumsky_recursive.specs.declared.frames.Todo.{Todo}
@@ -72,3 +72,11 @@ module _ {V Cu Mk Er : Type 0} where
 abbrev pub Fits : {V : Type 0} → ℕ → ℕ → ℕ → Todo V → Type 0
 Fits nodes bound count (Begin node more wanted) = level nodes more node + count ≤ bound
 Fits nodes bound count (Answer r) = ⊤
+
+module _ {V Cu Mk Er : Type 0} where
+  -- frames and what comes next, under a limit on open rules: no more frames wait than one more than limit times nodes, and
+  -- neither what they may still begin nor what comes next will make them more
+  pub record HasRoom (limit nodes : ℕ) (fs : List (Frame V Cu Mk Er)) (todo : Todo V) : Type 0 where
+    pub few : length fs ≤ 1 + limit * nodes
+    pub bounded : IsBounded nodes (limit * nodes) 0 fs
+    pub fits : Fits nodes (limit * nodes) (length fs) todo

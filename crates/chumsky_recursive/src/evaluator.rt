@@ -1,19 +1,53 @@
 //! Running a node: one loop over the nodes that wait.
-ghost use Rattle.std.specs.Prelude.{◌≡◌, ℕ, ◌<◌, length, IfOk, is_some};
+ghost use Rattle.std.specs.Prelude.{◌≡◌, ℕ, ◌<◌, length, [], All, IfOk, IfErr, is_some};
 ghost use Rattle.chumsky_input.specs.Held.{held};
 ghost use Rattle.chumsky_input.specs.Run.{Ran};
 ghost use Rattle.chumsky_rules.specs.Closed.{IsClosed};
 ghost use Rattle.chumsky_recursive.specs.Means.{acts_of, part_means, call_means};
+ghost use Rattle.chumsky_recursive.specs.Frames.{Begun, Left, IsKnown, IsThere};
+ghost use Rattle.chumsky_recursive.specs.Weight.{total, HasRoom};
 
 use crate::actions::Actions;
-use crate::frames::Todo;
+use crate::frames::{Frame, Todo};
 use crate::steps::{begin, body_of, hear};
 use chumsky_input::extra::ParserExtra;
 use chumsky_input::input::Input;
 use chumsky_input::input_ref::InputRef;
+use chumsky_input::inspector::Inspector;
 use chumsky_input::stop::{Fault, PResult, Stop};
 use chumsky_rules::kinds::{Node, Recursive};
 use chumsky_rules::rules::Rules;
+
+/// One step of a run: the node that comes next begins, or the one that waits last hears of its part; where none waits, the
+/// answer is that of the run. Under whichever limit there was room before it, there is after it.
+#[inline]
+fn step<'src, I: Input<'src>, E: ParserExtra<I>, A: Actions<'src, I, E>>(
+    actions: &A,
+    rules: &Rules,
+    frames: &mut Vec<Frame<A::Value, I::Cursor, <E::State as Inspector<I>>::Mark, E::Error>>,
+    todo: Todo<A::Value>,
+    inp: &mut InputRef<'src, '_, I, E>,
+) -> Result<Todo<A::Value>, PResult<Option<A::Value>>>
+    requires closed { IsClosed rules.now (A.leaf_count actions.now) }
+    requires ready { A.ready actions.now }
+    requires known { All (IsKnown I.Input E.State.Inspector rules.now.nodes (held I.Input E.Error.Error E.State.Inspector inp.old).tokens) frames.old.items }
+    requires there { IsThere (length rules.now.nodes) todo }
+    ensures room { IfOk result (λ next. (limit : ℕ) → HasRoom limit (length rules.now.nodes) frames.old.items todo → HasRoom limit (length rules.now.nodes) frames.new.items next) }
+    ensures left { IfOk result (λ next. (s : Begun I.Token E.Context E.State.Seen E.Error.Seen) → Left I.Input E.Error.Error E.State.Inspector (acts_of I.Input E.Error.Error E.State.Inspector (A.leaf_meaning actions.now) (A.pair_gives actions.now) (A.option_gives actions.now) (A.unit_gives actions.now) (A.map_gives actions.now) (A.try_gives actions.now) (A.list_gives actions.now)) rules.now frames.old.items s (held I.Input E.Error.Error E.State.Inspector inp.old) todo → Left I.Input E.Error.Error E.State.Inspector (acts_of I.Input E.Error.Error E.State.Inspector (A.leaf_meaning actions.now) (A.pair_gives actions.now) (A.option_gives actions.now) (A.unit_gives actions.now) (A.map_gives actions.now) (A.try_gives actions.now) (A.list_gives actions.now)) rules.now frames.new.items s (held I.Input E.Error.Error E.State.Inspector inp.new) next) }
+    ensures known { All (IsKnown I.Input E.State.Inspector rules.now.nodes (held I.Input E.Error.Error E.State.Inspector inp.old).tokens) frames.new.items }
+    ensures there { IfOk result (IsThere (length rules.now.nodes)) }
+    ensures lighter { IfOk result (λ next. total (length rules.now.nodes) frames.new.items next < total (length rules.now.nodes) frames.old.items todo) }
+    ensures ends { IfErr result (λ r. (todo ≡ Todo.Answer r) × (frames.old.items ≡ []) × (held I.Input E.Error.Error E.State.Inspector inp.new ≡ held I.Input E.Error.Error E.State.Inspector inp.old)) }
+    ensures tokens { (held I.Input E.Error.Error E.State.Inspector inp.new).tokens ≡ (held I.Input E.Error.Error E.State.Inspector inp.old).tokens }
+    ensures lent { inp.new.state.ghost_name ≡ inp.old.state.ghost_name }
+{
+    match todo {
+        Todo::Begin(node, more, wanted) => {
+            Ok(begin(actions, rules, frames, node, more, wanted, inp))
+        }
+        Todo::Answer(answer) => hear(actions, rules, frames, answer, inp),
+    }
+}
 
 /// Runs a node, where so many more rules may be opened.
 fn run<'src, I: Input<'src>, E: ParserExtra<I>, A: Actions<'src, I, E>>(
@@ -34,14 +68,9 @@ fn run<'src, I: Input<'src>, E: ParserExtra<I>, A: Actions<'src, I, E>>(
     let mut frames = Vec::new(inp.alloc);
     let mut todo = Todo::Begin(start, more, wanted);
     'steps: loop {
-        match todo {
-            Todo::Begin(node, more, wanted) => {
-                todo = begin(actions, rules, &mut frames, node, more, wanted, inp);
-            }
-            Todo::Answer(answer) => match hear(actions, rules, &mut frames, answer, inp) {
-                Ok(next) => todo = next,
-                Err(answer) => return answer,
-            },
+        match step(actions, rules, &mut frames, todo, inp) {
+            Ok(next) => todo = next,
+            Err(answer) => return answer,
         }
     }
 }
