@@ -2,6 +2,7 @@
 //! parsers.
 #![tactic(auto)]
 
+pub mod arithmetic;
 pub mod checking;
 pub mod closure;
 pub mod conclusion;

@@ -2,6 +2,7 @@
 use crate::asserts::{assert_answers, assert_line};
 use chumsky::laws::{end_is_steady, just_is_steady, or_not_never_says_no, then_is_associative};
 use chumsky::prelude::*;
+use guide::arithmetic::value_of;
 use guide::checking::minute;
 use guide::closure::{day, foo_or_nothing, one_x};
 use guide::conclusion::two;
@@ -205,4 +206,49 @@ fn a_level_is_told_or_what_is_wrong_with_it(rt: HostRuntime) {
             .expect(&rt, "the run was refused");
         assert_eq!(rt; line.as_str(), told);
     }
+}
+
+#[test]
+fn products_come_before_sums(rt: HostRuntime) {
+    let rows = [
+        ("7", 7),
+        ("1+2*3", 7),
+        ("2*3+1", 7),
+        ("(1+2)*3", 9),
+        ("2*(3+4)*5", 70),
+        ("((1))+((2+3)*4)", 21),
+        ("0*(9+9)", 0),
+    ];
+    for (text, value) in rows {
+        let parsed = value_of(rt.alloc(), text, 10).expect(&rt, "refused");
+        assert!(rt; parsed.output() == Some(&value));
+    }
+}
+
+#[test]
+fn arithmetic_fails_where_it_is_amiss(rt: HostRuntime) {
+    for (text, start, end) in [
+        ("", 0, 0),
+        ("1+", 2, 2),
+        ("(1+2", 4, 4),
+        ("1+2)", 3, 4),
+        ("1++2", 2, 3),
+    ] {
+        let parsed = value_of(rt.alloc(), text, 10).expect(&rt, "refused");
+        assert!(rt; parsed.output() == None);
+        for error in parsed.errors() {
+            assert!(rt; *error.span() == SimpleSpan { start, end });
+        }
+    }
+}
+
+#[test]
+fn arithmetic_stays_at_the_greatest_number(rt: HostRuntime) {
+    let mut text = String::new(rt.alloc());
+    text.push('9').expect(&rt, "want of memory");
+    for _ in 0..30 {
+        text.push_str("*9").expect(&rt, "want of memory");
+    }
+    let parsed = value_of(rt.alloc(), text.as_str(), 10).expect(&rt, "refused");
+    assert!(rt; parsed.output() == Some(&u64::MAX));
 }

@@ -1,0 +1,152 @@
+//! A grammar of two levels: sums of products, as rules.
+ghost use Rattle.std.specs.Prelude.{IfOk, ⊤};
+
+use crate::recursion::Refused;
+use chumsky::extra::RichText;
+use chumsky::prelude::*;
+use chumsky::recursive::{Leaves, RecursiveError, SepCfg, Values};
+use std::alloc::{AllocError, Global};
+
+/// The leaves, by number.
+const DIGIT: usize = 0;
+
+const PLUS: usize = 1;
+
+const TIMES: usize = 2;
+
+const OPENING: usize = 3;
+
+const CLOSING: usize = 4;
+
+/// The mappers, by number: what the numbers of a list come to.
+const ADDED: usize = 0;
+
+const MULTIPLIED: usize = 1;
+
+/// A number, twice; or of a list both what its numbers come to added and multiplied, until a mapper takes one of the two.
+#[derive(Clone, Copy, Drop)]
+struct Amount {
+    added: u64,
+    multiplied: u64,
+}
+
+/// One number.
+fn number(n: u64) -> Amount {
+    Amount {
+        added: n,
+        multiplied: n,
+    }
+}
+
+/// Values are amounts, where signs and brackets count nothing. What is more than a `u64` holds is its greatest number.
+#[derive(Drop)]
+struct Amounts;
+
+impl Values<SimpleSpan, Rich<char>> for Amounts {
+    type Value = Amount;
+
+    fn pair(&self, _alloc: Global, a: Amount, b: Amount) -> Result<Amount, AllocError> {
+        Ok(number(a.added.saturating_add(b.added)))
+    }
+
+    fn option(&self, _alloc: Global, amount: Option<Amount>) -> Result<Amount, AllocError>
+        ensures { IfOk result (λ _. ⊤) }
+    {
+        Ok(amount.unwrap_or(number(0)))
+    }
+
+    fn unit(&self, _alloc: Global) -> Result<Amount, AllocError> {
+        Ok(number(0))
+    }
+
+    fn map(&self, _alloc: Global, mapper: usize, amount: Amount) -> Result<Amount, AllocError> {
+        if mapper == ADDED {
+            Ok(number(amount.added))
+        } else {
+            Ok(number(amount.multiplied))
+        }
+    }
+
+    fn list(&self, _alloc: Global, amounts: Vec<Amount>) -> Result<Amount, AllocError>
+        ensures { IfOk result (λ _. ⊤) }
+    {
+        let mut added = 0u64;
+        let mut multiplied = 1u64;
+        for amount in amounts.as_slice() {
+            added = added.saturating_add(amount.added);
+            multiplied = multiplied.saturating_mul(amount.multiplied);
+        }
+        Ok(Amount { added, multiplied })
+    }
+
+    fn try_map(
+        &self,
+        _alloc: Global,
+        _mapper: usize,
+        amount: Amount,
+        _span: SimpleSpan,
+    ) -> Result<Result<Amount, Rich<char>>, AllocError> {
+        Ok(Ok(amount))
+    }
+}
+
+/// One or more, with a sign between them.
+const ONE_OR_MORE: SepCfg = SepCfg {
+    at_least: 1,
+    at_most: None,
+    allow_leading: false,
+    allow_trailing: false,
+};
+
+/// Sums of products of digits, and of such sums in brackets.
+fn expression(rules: &mut Rules) -> Result<Recursive, RecursiveError> {
+    rules.recursive(|rules, expression| {
+        let digit = rules.leaf(DIGIT)?;
+        let opening = rules.leaf(OPENING)?;
+        let inside = rules.rule(expression)?;
+        let closing = rules.leaf(CLOSING)?;
+        let opened = rules.then(opening, inside)?;
+        let in_brackets = rules.then(opened, closing)?;
+        let atom = rules.choice(&[digit, in_brackets])?;
+
+        let times = rules.leaf(TIMES)?;
+        let factors = rules.separated_by(atom, times, ONE_OR_MORE)?;
+        let term = rules.map(factors, MULTIPLIED)?;
+
+        let plus = rules.leaf(PLUS)?;
+        let terms = rules.separated_by(term, plus, ONE_OR_MORE)?;
+        rules.map(terms, ADDED)
+    })
+}
+
+/// What a sum of products comes to, where no more than `limit` rules are open at once.
+pub fn value_of(
+    alloc: Global,
+    text: &str,
+    limit: usize,
+) -> Result<ParseResult<u64, Rich<char>>, Refused> {
+    let mut rules = Rules::new(alloc);
+    let start = match expression(&mut rules) {
+        Ok(start) => start,
+        Err(error) => return Err(Refused::Building(error)),
+    };
+    let amount = |token: char| number(token.to_digit(10).unwrap_or(0) as u64);
+    let leaves = [
+        one_of::<_, _, RichText>("0123456789").map(amount),
+        one_of("+").map(amount),
+        one_of("*").map(amount),
+        one_of("(").map(amount),
+        one_of(")").map(amount),
+    ];
+    let actions = Leaves {
+        leaves: &leaves,
+        values: Amounts,
+    };
+    match close(&rules, start, &actions, limit) {
+        Ok(grammar) => grammar
+            .map(|amount: Amount| amount.added)
+            .parse(alloc, text)
+            .map_err(Refused::Running),
+        Err(error) => Err(Refused::Closing(error)),
+    }
+}
