@@ -4,6 +4,7 @@ use answers::extras::{Own, Tallied};
 use answers::leaves::just_char;
 use answers::states::Tally;
 use chumsky::prelude::*;
+use std::alloc::Global;
 
 /// From the left each span begins where the whole began, and ends with the item.
 #[test]
@@ -45,6 +46,14 @@ fn a_fold_from_the_right_is_shown_what_follows_an_item(rt: HostRuntime) {
     assert_answers(&rt, &spans, &rows);
 }
 
+/// An error that says `zero`.
+fn zero(alloc: Global, span: SimpleSpan) -> Rich<char> {
+    match Rich::custom_in(alloc, span, "zero") {
+        Ok(error) => error,
+        Err(_) => Rich::custom(span, String::new(alloc)),
+    }
+}
+
 /// A number of digits, of which one that is 0 is refused.
 #[test]
 fn a_refused_item_fails_where_its_step_began(rt: HostRuntime) {
@@ -53,7 +62,7 @@ fn a_refused_item_fails_where_its_step_began(rt: HostRuntime) {
         one_of('0'..='9').map(value).repeated(),
         |number: u64, digit, extra| {
             if digit == 0 {
-                return Err(Rich::custom(extra.span(), String::new(extra.alloc())));
+                return Err(zero(extra.alloc(), extra.span()));
             }
             Ok(number.wrapping_mul(10).wrapping_add(digit))
         },
@@ -61,9 +70,9 @@ fn a_refused_item_fails_where_its_step_began(rt: HostRuntime) {
     let rows = [
         ("47", "ok 47"),
         ("0", "ok 0"),
-        ("407", "error 0..2 \"\""),
-        ("4107", "error 0..3 \"\""),
-        ("00a", "error 0..2 \"\""),
+        ("407", "error 0..2 \"zero\""),
+        ("4107", "error 0..3 \"zero\""),
+        ("00a", "error 0..2 \"zero\""),
         (
             "x",
             "error 0..1 expected '0', '1', '2', '3', '4', '5', '6', '7', '8', '9' found 'x'",

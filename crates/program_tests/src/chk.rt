@@ -195,6 +195,30 @@ fn checks_loops(rt: HostRuntime) -> Result<(), Fail> {
     Ok(())
 }
 
+/// So many pairs of brackets, each but the first within another.
+fn nested(alloc: Global, pairs: usize) -> Result<String, AllocError> {
+    let mut text = String::new(alloc);
+    for _ in 0..pairs {
+        text.push('[')?;
+    }
+    for _ in 0..pairs {
+        text.push(']')?;
+    }
+    Ok(text)
+}
+
+#[test]
+fn ten_thousand_pairs_within_one_another_are_counted(rt: HostRuntime) -> Result<(), Fail> {
+    let text = nested(rt.alloc(), 10_000)?;
+    assert_prints(
+        &rt,
+        &["parse", "loops"],
+        &[(text.as_str(), 0, "ok 10000\n")],
+    )?;
+    assert_prints(&rt, &["check", "loops"], &[(text.as_str(), 0, "ok\n")])?;
+    Ok(())
+}
+
 fn is_usage(alloc: Global, words: &[&str]) -> Result<bool, AllocError> {
     let words = owned(alloc, words)?;
     let mut out = Vec::new(alloc);
