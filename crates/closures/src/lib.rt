@@ -2,22 +2,21 @@
 //! check refuses: they go on after a stop of a parser that they run, answer another, or end before their start.
 #![tactic(auto)]
 
-use answers::answer::answer;
-use answers::extras::Own;
-use chumsky::Failure;
+use chumsky::extra::RichText;
 use chumsky::input::InputRef;
 use chumsky::prelude::*;
 use chumsky::primitive::Reader;
-use std::alloc::{AllocError, Global};
+use chumsky::{Failure, Stop};
+use std::alloc::Global;
 
 /// Takes two tokens, and fails with an error of its own.
 #[derive(Clone, Copy)]
 pub struct TwoAndAnError;
 
-impl<'src> Reader<'src, &'src str, &'static str, Own> for TwoAndAnError {
+impl<'src> Reader<'src, &'src str, &'static str, RichText> for TwoAndAnError {
     fn read(
         &self,
-        inp: &mut InputRef<'src, '_, &'src str, Own>,
+        inp: &mut InputRef<'src, '_, &'src str, RichText>,
     ) -> Result<&'static str, Failure<Rich<char>>> {
         inp.next()?;
         inp.next()?;
@@ -30,10 +29,10 @@ impl<'src> Reader<'src, &'src str, &'static str, Own> for TwoAndAnError {
 #[derive(Clone, Copy)]
 pub struct AnX;
 
-impl<'src> Reader<'src, &'src str, &'static str, Own> for AnX {
+impl<'src> Reader<'src, &'src str, &'static str, RichText> for AnX {
     fn read(
         &self,
-        inp: &mut InputRef<'src, '_, &'src str, Own>,
+        inp: &mut InputRef<'src, '_, &'src str, RichText>,
     ) -> Result<&'static str, Failure<Rich<char>>> {
         match inp.check(just('x')) {
             Ok(()) => Ok("x"),
@@ -43,9 +42,9 @@ impl<'src> Reader<'src, &'src str, &'static str, Own> for AnX {
     }
 }
 
-/// What a closure answers that runs `just("foo")` and goes back where that fails.
-pub fn foo_or_nothing(alloc: Global, text: &str) -> Result<String, AllocError> {
-    let closure = custom::<_, &str, bool, Own>(|inp| {
+/// A closure that runs `just("foo")` and goes back where that fails.
+pub fn foo_or_nothing(alloc: Global, text: &str) -> Result<ParseResult<bool, Rich<char>>, Stop> {
+    let closure = custom::<_, &str, bool, RichText>(|inp| {
         let before = inp.save()?;
         match inp.parse(just("foo")) {
             Ok(_) => Ok(true),
@@ -56,12 +55,12 @@ pub fn foo_or_nothing(alloc: Global, text: &str) -> Result<String, AllocError> {
             Err(Failure::Stop(stop)) => Err(Failure::Stop(stop)),
         }
     });
-    answer(&closure, alloc, text)
+    closure.parse(alloc, text)
 }
 
-/// What the same answers with `inp.check`.
-pub fn foo_or_nothing_by_check(alloc: Global, text: &str) -> Result<String, AllocError> {
-    let closure = custom::<_, &str, bool, Own>(|inp| {
+/// The same with `inp.check`.
+pub fn foo_or_nothing_by_check(alloc: Global, text: &str) -> Result<ParseResult<bool, Rich<char>>, Stop> {
+    let closure = custom::<_, &str, bool, RichText>(|inp| {
         let start = inp.save()?;
         match inp.check(just("foo")) {
             Ok(()) => Ok(true),
@@ -72,5 +71,5 @@ pub fn foo_or_nothing_by_check(alloc: Global, text: &str) -> Result<String, Allo
             Err(Failure::Stop(refused)) => Err(Failure::Stop(refused)),
         }
     });
-    answer(&closure, alloc, text)
+    closure.parse(alloc, text)
 }

@@ -1,0 +1,65 @@
+//! Sequences of which some outputs are ignored, and parts that may be absent.
+use answers::asserts::assert_answers;
+use answers::leaves::just_char;
+use chumsky::prelude::*;
+
+#[test]
+fn brackets_stand_around_the_part(rt: HostRuntime) {
+    let bracketed = just_char('x').delimited_by(just_char('('), just_char(')'));
+    let rows = [
+        ("(x)", "ok 'x'"),
+        ("(x", "error 2..2 expected ')' found end"),
+    ];
+    assert_answers(&rt, &bracketed, &rows);
+}
+
+#[test]
+fn padding_may_be_absent_on_either_side(rt: HostRuntime) {
+    let padded = just_char('x').padded_by(just_char(' ').or_not());
+    let rows = [
+        (" x", "ok 'x'"),
+        ("x ", "ok 'x'"),
+        (" x ", "ok 'x'"),
+        ("x", "ok 'x'"),
+        ("xy", "error 1..2 expected ' ', end of input found 'y'"),
+    ];
+    assert_answers(&rt, &padded, &rows);
+}
+
+#[test]
+fn of_two_outputs_the_second_is_kept(rt: HostRuntime) {
+    let second = just_char('a').ignore_then(just_char('b'));
+    let rows = [("ab", "ok 'b'"), ("b", "error 0..1 expected 'a' found 'b'")];
+    assert_answers(&rt, &second, &rows);
+}
+
+#[test]
+fn of_two_outputs_the_first_is_kept(rt: HostRuntime) {
+    let first = just_char('a').then_ignore(just_char('b'));
+    let rows = [
+        ("ab", "ok 'a'"),
+        ("ac", "error 1..2 expected 'b' found 'c'"),
+    ];
+    assert_answers(&rt, &first, &rows);
+}
+
+#[test]
+fn a_value_stands_for_an_output(rt: HostRuntime) {
+    let replaced = just_char('a').to(3).then(just_char('b').ignored());
+    let rows = [
+        ("ab", "ok (3, ())"),
+        ("a", "error 1..1 expected 'b' found end"),
+    ];
+    assert_answers(&rt, &replaced, &rows);
+}
+
+#[test]
+fn an_absent_part_is_none(rt: HostRuntime) {
+    let perhaps = just_char('a').or_not();
+    let rows = [
+        ("", "ok None"),
+        ("a", "ok Some('a')"),
+        ("b", "error 0..1 expected 'a', end of input found 'b'"),
+    ];
+    assert_answers(&rt, &perhaps, &rows);
+}

@@ -1,0 +1,99 @@
+//! The parsers of the crate `examples`, on texts and bytes that they take and on ones that they don't.
+use answers::asserts::assert_line;
+use examples::date::parse_date;
+use examples::header::parse_header;
+use examples::request::parse_request;
+use examples::setting::parse_setting;
+
+#[test]
+fn a_date_has_a_month_and_a_day(rt: HostRuntime) {
+    let rows = [
+        ("2026-11-23", "ok Date { year: 2026, month: 11, day: 23 }"),
+        ("0099-01-31", "ok Date { year: 99, month: 1, day: 31 }"),
+        ("9999-12-09", "ok Date { year: 9999, month: 12, day: 9 }"),
+        ("2026-13-01", "error 6..7 expected '0', '1', '2' found '3'"),
+        ("2026-20-01", "error 5..6 expected '0', '1' found '2'"),
+        (
+            "2026-00-01",
+            "error 6..7 expected '1', '2', '3', '4', '5', '6', '7', '8', '9' found '0'",
+        ),
+        ("2026-01-32", "error 9..10 expected '0', '1' found '2'"),
+        ("2026-01", "error 7..7 expected '-' found end"),
+        (
+            "2026-01-011",
+            "error 10..11 expected end of input found '1'",
+        ),
+    ];
+    for (text, line) in rows {
+        assert_line(&rt, parse_date(rt.alloc(), text), line);
+    }
+}
+
+#[test]
+fn a_setting_has_a_key_and_a_value(rt: HostRuntime) {
+    let rows = [
+        (
+            "port = 8080",
+            "ok Setting { key: Port, value: Number(8080) }",
+        ),
+        ("level = 7", "ok Setting { key: Level, value: Number(7) }"),
+        (
+            "verbose = false",
+            "ok Setting { key: Verbose, value: Switch(false) }",
+        ),
+        ("log = true", "ok Setting { key: Log, value: Switch(true) }"),
+        ("port=8080", "error 4..5 expected ' ' found '='"),
+        ("port = truth", "error 10..11 expected 'e' found 't'"),
+        (
+            "port = 80800",
+            "error 11..12 expected end of input found '0'",
+        ),
+        ("colour = 1", "error 1..2 expected 'a' found 'o'"),
+    ];
+    for (text, line) in rows {
+        assert_line(&rt, parse_setting(rt.alloc(), text), line);
+    }
+}
+
+#[test]
+fn a_header_has_its_length_with_the_high_byte_first(rt: HostRuntime) {
+    let right = parse_header(rt.alloc(), &[b'P', b'K', b'T', 2, 0x81, 1, 2]);
+    assert_line(
+        &rt,
+        right,
+        "ok Header { version: 2, flags: 129, length: 258 }",
+    );
+    let other = parse_header(rt.alloc(), b"PKD");
+    assert_line(&rt, other, "error 2..3 expected 84 found 68");
+    let newer = parse_header(rt.alloc(), &[b'P', b'K', b'T', 3, 0x81, 1, 2]);
+    assert_line(&rt, newer, "error 3..4 expected 1, 2 found 3");
+    let short = parse_header(rt.alloc(), &[b'P', b'K', b'T', 1, 0, 0]);
+    assert_line(&rt, short, "error 6..6 expected any found end");
+}
+
+#[test]
+fn a_request_has_a_method_and_a_target(rt: HostRuntime) {
+    let rows = [
+        (
+            "GET /index.html HTTP/1.1\r\n",
+            "ok Request { method: Get, target: \"/index.html\", version: Http11 }",
+        ),
+        (
+            "PUT /é HTTP/1.0\r\n",
+            "ok Request { method: Put, target: \"/é\", version: Http10 }",
+        ),
+        (
+            "PATCH / HTTP/1.1\r\n",
+            "error 1..2 expected 'O', 'U' found 'A'",
+        ),
+        (
+            "GET  HTTP/1.1\r\n",
+            "error 4..5 expected something else found ' '",
+        ),
+        ("GET / HTTP/2.0\r\n", "error 11..12 expected '1' found '2'"),
+        ("GET / HTTP/1.1", "error 14..14 expected '\\r' found end"),
+    ];
+    for (text, line) in rows {
+        assert_line(&rt, parse_request(rt.alloc(), text), line);
+    }
+}

@@ -1,0 +1,254 @@
+//! The items of docs/GUIDE.md, and the parser that README.md begins with, run as they say; and laws called at parsers.
+use answers::asserts::{assert_answers, assert_line};
+use chumsky::laws::{end_is_steady, just_is_steady, or_not_never_says_no, then_is_associative};
+use chumsky::prelude::*;
+use guide::arithmetic::value_of;
+use guide::checking::minute;
+use guide::closure::{day, foo_or_nothing, one_x};
+use guide::conclusion::two;
+use guide::extras::Plain;
+use guide::flattening::{all_letters, number_plate};
+use guide::folding::{spanned_sum, sum};
+use guide::handed::{check_two_tokens, each};
+use guide::laws::token_past;
+use guide::mapping::percent;
+use guide::parts::{on_or_off, switch_is_steady, ticket, time_of_day};
+use guide::picking::span_past_x;
+use guide::readme::tell_level;
+use guide::running::{keyword, one_two, pair};
+
+#[test]
+fn a_pair_is_taken(rt: HostRuntime) {
+    let rows = [
+        ("ab", "ok ('a', 'b')"),
+        ("ba", "ok ('b', 'a')"),
+        ("ac", "error 1..2 expected 'b' found 'c'"),
+        ("", "error 0..0 expected 'a', 'b' found end"),
+        ("abc", "error 2..3 expected end of input found 'c'"),
+    ];
+    for (text, line) in rows {
+        assert_line(&rt, pair(rt.alloc(), text), line);
+    }
+}
+
+#[test]
+fn a_minute_is_below_sixty(rt: HostRuntime) {
+    assert_line(&rt, minute(rt.alloc(), "59"), "ok 59");
+    let too_large = "error 0..2 expected something else found '6'";
+    assert_line(&rt, minute(rt.alloc(), "60"), too_large);
+    let not_a_digit =
+        "error 1..2 expected '0', '1', '2', '3', '4', '5', '6', '7', '8', '9' found 'x'";
+    assert_line(&rt, minute(rt.alloc(), "5x"), not_a_digit);
+}
+
+#[test]
+fn each_function_takes_what_it_says(rt: HostRuntime) {
+    assert_line(&rt, keyword(rt.alloc(), "if"), "ok \"if\"");
+    assert_line(&rt, one_two(rt.alloc(), &[1, 2]), "ok [1, 2]");
+    assert_line(&rt, two(rt.alloc(), "éb"), "ok ('é', 'b')");
+    assert_line(&rt, foo_or_nothing(rt.alloc(), "foo"), "ok true");
+    assert_line(&rt, foo_or_nothing(rt.alloc(), ""), "ok false");
+    assert_line(&rt, one_x(rt.alloc(), "x"), "ok \"x\"");
+    let parsed = span_past_x(rt.alloc(), "xé")
+        .ok()
+        .expect(&rt, "the run was refused");
+    assert!(rt; parsed.output() == Some(&('x', SimpleSpan { start: 1, end: 3 })));
+}
+
+#[test]
+fn a_sum_is_folded(rt: HostRuntime) {
+    let rows = [
+        ("1+2+3", "ok 6"),
+        ("7", "ok 7"),
+        (
+            "",
+            "error 0..0 expected '0', '1', '2', '3', '4', '5', '6', '7', '8', '9' found end",
+        ),
+    ];
+    for (text, line) in rows {
+        assert_line(&rt, sum(rt.alloc(), text), line);
+    }
+}
+
+#[test]
+fn items_come_out_of_collections(rt: HostRuntime) {
+    assert_line(&rt, all_letters(rt.alloc(), "ab,,c"), "ok \"abc\"");
+    assert_line(&rt, all_letters(rt.alloc(), ""), "ok \"\"");
+    assert_line(&rt, number_plate(rt.alloc(), "AB-123"), "ok \"AB123\"");
+    let no_digit = "error 3..3 expected '0', '1', '2', '3', '4', '5', '6', '7', '8', '9' found end";
+    assert_line(&rt, number_plate(rt.alloc(), "AB-"), no_digit);
+}
+
+#[test]
+fn a_sum_has_the_span_of_all_its_numbers(rt: HostRuntime) {
+    let rows = [
+        (
+            "1+2+3",
+            "ok Term { value: 6, span: SimpleSpan { start: 0, end: 5 } }",
+        ),
+        (
+            "7",
+            "ok Term { value: 7, span: SimpleSpan { start: 0, end: 1 } }",
+        ),
+    ];
+    for (text, line) in rows {
+        assert_line(&rt, spanned_sum(rt.alloc(), text), line);
+    }
+}
+
+#[test]
+fn a_parser_is_handed_in(rt: HostRuntime) {
+    let (parsed, checked) = each(&any::<&str, Plain>(), rt.alloc(), "a", "ab")
+        .ok()
+        .expect(&rt, "the run was refused");
+    assert_line(&rt, Ok(parsed), "ok 'a'");
+    assert_line(&rt, Ok(checked), "error");
+}
+
+#[test]
+fn a_generic_caller_runs_its_parser(rt: HostRuntime) {
+    for (text, line) in [("éb", "ok ()"), ("éba", "error")] {
+        assert_line(
+            &rt,
+            check_two_tokens::<_, extra::Default>(rt.alloc(), text),
+            line,
+        );
+    }
+}
+
+#[test]
+fn an_error_has_a_message_of_its_own(rt: HostRuntime) {
+    let rows = [
+        ("7", "ok '7'"),
+        ("8", "error 0..1 \"no such day\""),
+        ("é", "error 0..2 \"no such day\""),
+        ("", "error 0..0 \"no such day\""),
+    ];
+    for (text, line) in rows {
+        assert_line(&rt, day(rt.alloc(), text), line);
+    }
+}
+
+#[test]
+fn a_number_is_made_of_its_digits(rt: HostRuntime) {
+    assert_line(&rt, percent(rt.alloc(), "07%"), "ok 7");
+    assert_line(&rt, percent(rt.alloc(), "93%"), "ok 93");
+    assert_line(
+        &rt,
+        percent(rt.alloc(), "9x%"),
+        "error 1..2 expected '0', '1', '2', '3', '4', '5', '6', '7', '8', '9' found 'x'",
+    );
+}
+
+#[test]
+fn a_part_keeps_the_furthest_failure(rt: HostRuntime) {
+    let rows = [
+        ("07:30 4.50", "ok ((7, 30), 450)"),
+        ("23:05 9.99", "ok ((23, 5), 999)"),
+        (
+            "24:05 9.99",
+            "error 1..2 expected '0', '1', '2', '3' found '4'",
+        ),
+        ("07.30 4.50", "error 2..3 expected ':' found '.'"),
+        ("07:30 4,50", "error 7..8 expected '.' found ','"),
+    ];
+    for (text, line) in rows {
+        assert_line(&rt, ticket(rt.alloc(), text), line);
+    }
+    let parser = time_of_day().to('t').or(just("07:3a").to('a'));
+    let line =
+        "error 4..5 expected '0', '1', '2', '3', '4', '5', '6', '7', '8', '9', 'a' found 'x'";
+    assert_answers(
+        &rt,
+        &parser,
+        &[("07:30", "ok 't'"), ("07:3a", "ok 'a'"), ("07:3x", line)],
+    );
+}
+
+/// What a law says stands in its contract; at run time it does nothing.
+#[test]
+fn laws_are_called_at_parsers(rt: HostRuntime) {
+    let parser = any::<&str, extra::Err<EmptyErr>>().ignore_then(just('é'));
+    just_is_steady(&parser.second);
+    token_past(&parser, &any());
+    or_not_never_says_no(&parser);
+    then_is_associative(&parser, &any(), &parser);
+    end_is_steady::<&str, extra::Err<EmptyErr>>(&end(), &empty());
+    let switch = on_or_off();
+    switch_is_steady(&switch);
+    assert_answers(&rt, &parser, &[("xé", "ok 'é'")]);
+    assert_answers(
+        &rt,
+        &switch,
+        &[
+            ("off", "ok false"),
+            ("of", "error 2..2 expected 'f' found end"),
+        ],
+    );
+}
+
+#[test]
+fn a_level_is_told_or_what_is_wrong_with_it(rt: HostRuntime) {
+    let rows = [
+        ("level=info", "Info\n"),
+        (
+            "level=wart",
+            "settings:1:10: expected 'n', found 't'\nlevel=wart\n         ^\n",
+        ),
+        (
+            "level=loud",
+            "settings:1:7: expected 'e', 'w', 'i' or 'd', found 'l'\nlevel=loud\n      ^\n",
+        ),
+    ];
+    for (text, told) in rows {
+        let line = tell_level(rt.alloc(), text)
+            .ok()
+            .expect(&rt, "the run was refused");
+        assert_eq!(rt; line.as_str(), told);
+    }
+}
+
+#[test]
+fn products_come_before_sums(rt: HostRuntime) {
+    let rows = [
+        ("7", 7),
+        ("1+2*3", 7),
+        ("2*3+1", 7),
+        ("(1+2)*3", 9),
+        ("2*(3+4)*5", 70),
+        ("((1))+((2+3)*4)", 21),
+        ("0*(9+9)", 0),
+    ];
+    for (text, value) in rows {
+        let parsed = value_of(rt.alloc(), text, 10).expect(&rt, "refused");
+        assert!(rt; parsed.output() == Some(&value));
+    }
+}
+
+#[test]
+fn arithmetic_fails_where_it_is_amiss(rt: HostRuntime) {
+    for (text, start, end) in [
+        ("", 0, 0),
+        ("1+", 2, 2),
+        ("(1+2", 4, 4),
+        ("1+2)", 3, 4),
+        ("1++2", 2, 3),
+    ] {
+        let parsed = value_of(rt.alloc(), text, 10).expect(&rt, "refused");
+        assert!(rt; parsed.output() == None);
+        for error in parsed.errors() {
+            assert!(rt; *error.span() == SimpleSpan { start, end });
+        }
+    }
+}
+
+#[test]
+fn arithmetic_stays_at_the_greatest_number(rt: HostRuntime) {
+    let mut text = String::new(rt.alloc());
+    text.push('9').expect(&rt, "want of memory");
+    for _ in 0..30 {
+        text.push_str("*9").expect(&rt, "want of memory");
+    }
+    let parsed = value_of(rt.alloc(), text.as_str(), 10).expect(&rt, "refused");
+    assert!(rt; parsed.output() == Some(&u64::MAX));
+}

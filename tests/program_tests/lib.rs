@@ -1,0 +1,20 @@
+//! What closures and programs answer: closures that are lent the input, other contexts and inputs, and what `guide` and
+//! `examples` hold.
+#![tactic(auto)]
+
+#[cfg(test)]
+mod calls;
+#[cfg(test)]
+mod chk;
+#[cfg(test)]
+mod custom;
+#[cfg(test)]
+mod from_contexts;
+#[cfg(test)]
+mod from_examples;
+#[cfg(test)]
+mod from_guide;
+#[cfg(test)]
+mod grammars;
+#[cfg(test)]
+mod input_ref;
