@@ -59,7 +59,10 @@ pub fn foo_or_nothing(alloc: Global, text: &str) -> Result<ParseResult<bool, Ric
 }
 
 /// The same with `inp.check`.
-pub fn foo_or_nothing_by_check(alloc: Global, text: &str) -> Result<ParseResult<bool, Rich<char>>, Stop> {
+pub fn foo_or_nothing_by_check(
+    alloc: Global,
+    text: &str,
+) -> Result<ParseResult<bool, Rich<char>>, Stop> {
     let closure = custom::<_, &str, bool, RichText>(|inp| {
         let start = inp.save()?;
         match inp.check(just("foo")) {
