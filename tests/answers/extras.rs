@@ -1,4 +1,4 @@
-//! Extras of one's own. Such a type is a constant for the check of a parser, and so costs less than `extra::Err<..>`.
+//! Extras of one's own.
 ghost use Rattle.std.specs.Prelude.{◌≡◌};
 
 use chumsky::extra::ParserExtra;

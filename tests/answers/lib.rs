@@ -1,6 +1,5 @@
 //! What a parser answers of an input, as one line of text, and asserts of it; and extras of one's own. The tests of parsers
 //! stand on it.
-#![tactic(auto)]
 
 pub mod answer;
 pub mod asserts;

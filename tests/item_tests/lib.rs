@@ -1,5 +1,4 @@
 //! What lists, what is made of their items, and nodes of grammars answer on texts whose answers are known from outside.
-#![tactic(auto)]
 
 #[cfg(test)]
 mod collecting;

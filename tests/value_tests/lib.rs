@@ -1,6 +1,5 @@
 //! What parsers stand on: results, values, rules as data, reports of errors; how often values are cloned, and that what is
 //! let go is dropped; that nothing is refused for no reason.
-#![tactic(auto)]
 
 #[cfg(test)]
 mod clones;

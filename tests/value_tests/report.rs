@@ -28,7 +28,6 @@ fn assert_reports<
     P: IsParser<&'src str, O, Own> + Parser<'src, &'src str, O, Own>,
     R: Abort + AllocGlobal,
 >(rt: &R, parser: &P, rows: &[(&'src str, &str)])
-    requires { P.ready parser.now }
 {
     for (text, expected) in rows {
         let parsed = parser
