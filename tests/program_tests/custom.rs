@@ -5,7 +5,8 @@ use answers::leaves::{any_char, just_char, just_text};
 use chumsky::extra::RichText;
 use chumsky::prelude::*;
 use chumsky::{Failure, Stop};
-use closures::{AnX, TwoAndAnError, foo_or_nothing, foo_or_nothing_by_check};
+use guide::closure::foo_or_nothing;
+use own_types::readers::{AnX, FooOrNothing, FooOrNothingByCheck, TwoAndAnError};
 
 #[test]
 fn an_error_of_a_closure_stands_at_its_start(rt: HostRuntime) {
@@ -137,6 +138,9 @@ fn a_failure_within_a_closure_is_handed_out(rt: HostRuntime) {
     ];
     for (text, line) in rows {
         assert_line(&rt, foo_or_nothing(rt.alloc(), text), line);
-        assert_line(&rt, foo_or_nothing_by_check(rt.alloc(), text), line);
     }
+    let by_parse = custom_by::<_, &str, bool, RichText>(FooOrNothing);
+    assert_answers(&rt, &by_parse, &rows);
+    let by_check = custom_by::<_, &str, bool, RichText>(FooOrNothingByCheck);
+    assert_answers(&rt, &by_check, &rows);
 }

@@ -5,8 +5,8 @@ use answers::extras::{Own, Quiet};
 use answers::leaves::{any_char, just_char};
 use chumsky::prelude::*;
 use chumsky::primitive::Select;
-use contexts::under_output::UnderOutput;
-use contexts::within_output::WithinOutput;
+use own_types::under_output::UnderOutput;
+use own_types::within_output::WithinOutput;
 use std::marker::PhantomData;
 
 /// Whether a character is that of the context.

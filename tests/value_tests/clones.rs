@@ -5,7 +5,7 @@ use arrayvec::ArrayVec;
 use chumsky::combinator::To;
 use chumsky::prelude::*;
 use chumsky::primitive::{Just, select, select_ref};
-use contexts::under_output::UnderOutput;
+use own_types::under_output::UnderOutput;
 use std::alloc::AllocGlobal;
 use std::collections::BTreeMap;
 use std::marker::PhantomData;

@@ -1,2 +1,0 @@
-pub mod UnderLemmas
-pub mod WithinLemmas

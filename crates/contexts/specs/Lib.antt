@@ -1,4 +1,0 @@
-pub mod Under
-pub mod UnderLaws
-pub mod Within
-pub mod WithinLaws
