@@ -8,7 +8,7 @@ use std::alloc::Global;
 
 /// `true` of the text `foo`, and `false` of the empty text.
 pub fn foo_or_nothing(alloc: Global, text: &str) -> Result<ParseResult<bool, Rich<char>>, Stop> {
-    custom::<_, &str, bool, extra::Err<Rich<char>>>(|inp| {
+    custom::<_, &str, bool, RichText>(|inp| {
         let before = inp.save()?;
         match inp.parse(just("foo")) {
             Ok(_) => Ok(true),
@@ -32,7 +32,7 @@ fn no_such_day(alloc: Global, span: SimpleSpan) -> Failure<Rich<char>> {
 
 /// A day of the week, by its number from 1 to 7.
 pub fn day(alloc: Global, text: &str) -> Result<ParseResult<char, Rich<char>>, Stop> {
-    custom::<_, &str, char, extra::Err<Rich<char>>>(|inp| {
+    custom::<_, &str, char, RichText>(|inp| {
         let before = inp.cursor();
         match inp.next()? {
             Some(number) if matches!(number, '1'..='7') => Ok(number),

@@ -3,6 +3,7 @@ ghost use Rattle.std.specs.Prelude.{◌≡◌, [], IfOk, IsOk, IsTrue, is_some, 
 ghost use Rattle.std.specs.Str.{chars};
 
 use chumsky::Stop;
+use chumsky::extra::EmptyText;
 use chumsky::prelude::*;
 use std::alloc::Global;
 
@@ -11,7 +12,7 @@ pub fn two(alloc: Global, text: &str) -> Result<ParseResult<(char, char), EmptyE
     ensures output { IfOk result (λ parsed. parsed.errors.items ≡ [] → IsTrue (is_some parsed.output)) }
     ensures errors { IfOk result (λ parsed. parsed.output ≡ None → length parsed.errors.items ≡ 1) }
 {
-    let parser = any::<_, extra::Err<EmptyErr>>().then(any());
+    let parser = any::<_, EmptyText>().then(any());
     parser.parse(alloc, text)
 }
 
@@ -22,7 +23,7 @@ pub fn one(alloc: Global, text: &str) -> Result<ParseResult<char, EmptyErr>, Sto
     ensures output { IfOk result (λ parsed. option_to_list parsed.output ≡ chars text.now) }
     ensures errors { IfOk result (λ parsed. length parsed.errors.items ≡ 0) }
 {
-    any::<_, extra::Err<EmptyErr>>().parse(alloc, text)
+    any::<_, EmptyText>().parse(alloc, text)
 }
 
 /// Whether there is one, and nothing more. The same is said of it.
@@ -32,5 +33,5 @@ pub fn check_one(alloc: Global, text: &str) -> Result<ParseResult<(), EmptyErr>,
     ensures output { IfOk result (λ parsed. IsTrue (is_some parsed.output)) }
     ensures errors { IfOk result (λ parsed. length parsed.errors.items ≡ 0) }
 {
-    any::<_, extra::Err<EmptyErr>>().check(alloc, text)
+    any::<_, EmptyText>().check(alloc, text)
 }

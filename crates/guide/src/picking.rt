@@ -1,5 +1,6 @@
 //! Picking tokens.
 use chumsky::Stop;
+use chumsky::extra::RichText;
 use chumsky::prelude::*;
 use chumsky::primitive::Select;
 use std::alloc::Global;
@@ -9,7 +10,7 @@ pub fn span_past_x(
     alloc: Global,
     text: &str,
 ) -> Result<ParseResult<(char, SimpleSpan), Rich<char>>, Stop> {
-    let span: Select<_, &str, SimpleSpan, extra::Err<Rich<char>>> = select! {
+    let span: Select<_, &str, SimpleSpan, RichText> = select! {
         c = extra if c != 'a' => extra.span(),
     };
     just('x').then(span).parse(alloc, text)

@@ -1,11 +1,12 @@
 //! Parsers that are run again and again.
 use chumsky::Stop;
+use chumsky::extra::RichText;
 use chumsky::prelude::*;
 use std::alloc::Global;
 
 /// The text of one or more digits.
 pub fn number(alloc: Global, text: &str) -> Result<ParseResult<String, Rich<char>>, Stop> {
-    let digits = one_of::<_, _, extra::Err<Rich<char>>>('0'..='9')
+    let digits = one_of::<_, _, RichText>('0'..='9')
         .repeated()
         .at_least(1)
         .collect::<String>();
@@ -14,7 +15,7 @@ pub fn number(alloc: Global, text: &str) -> Result<ParseResult<String, Rich<char
 
 /// Numbers with commas between them, in brackets: `[12,3]`. A comma may stand after the last.
 pub fn numbers(alloc: Global, text: &str) -> Result<ParseResult<Vec<String>, Rich<char>>, Stop> {
-    let list = one_of::<_, _, extra::Err<Rich<char>>>('0'..='9')
+    let list = one_of::<_, _, RichText>('0'..='9')
         .repeated()
         .at_least(1)
         .collect::<String>()
