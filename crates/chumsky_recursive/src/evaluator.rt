@@ -19,9 +19,14 @@ use chumsky_rules::kinds::{Node, Recursive};
 use chumsky_rules::rules::Rules;
 
 /// One step of a run: the node that comes next begins, or the one that waits last hears of its part; where none waits, the
-/// answer is that of the run. Under whichever limit there was room before it, there is after it.
+/// answer is that of the run. `Grammar` does nothing but such steps, from no frames and the beginning of the body of its
+/// start rule; who wants to see how much waits, or to stop between two steps, can take them one by one.
+///
+/// Under whichever limit on open rules there was room before it, there is after it: at most one frame more than the limit
+/// times the nodes waits (`HasRoom`). A run begins with room, since nothing waits there. A frame more that there is no memory
+/// for is `Stop::Memory`.
 #[inline]
-fn step<'src, I: Input<'src>, E: ParserExtra<I>, A: Actions<'src, I, E>>(
+pub fn step<'src, I: Input<'src>, E: ParserExtra<I>, A: Actions<'src, I, E>>(
     actions: &A,
     rules: &Rules,
     frames: &mut Vec<Frame<A::Value, I::Cursor, <E::State as Inspector<I>>::Mark, E::Error>>,

@@ -9,7 +9,7 @@ use chumsky_rules::kinds::Node;
 /// A node that waits for one of its parts. A part runs under calls that may open so many more rules, and for its value
 /// or without it.
 #[derive(Drop)]
-pub(crate) enum Frame<V, P, M, R> {
+pub enum Frame<V, P, M, R> {
     /// Of `then`, its first part runs: the second, how many more rules, whether for its value.
     First(Node, usize, bool),
     /// Of `then`, its second part runs: the value of the first.
@@ -42,18 +42,18 @@ pub(crate) enum Frame<V, P, M, R> {
 /// A list node with the items that it has so far: the node, how many more rules, whether it runs for its value, how many
 /// items, and their values.
 #[derive(Drop)]
-pub(crate) struct Gathered<V> {
-    pub(crate) node: Node,
-    pub(crate) more: usize,
-    pub(crate) wanted: bool,
-    pub(crate) count: usize,
-    pub(crate) values: Option<Vec<V>>,
+pub struct Gathered<V> {
+    pub node: Node,
+    pub more: usize,
+    pub wanted: bool,
+    pub count: usize,
+    pub values: Option<Vec<V>>,
 }
 
 /// What comes next: a node begins, under calls that may open so many more rules, for its value or without it; or the
 /// node that ran last answers.
 #[derive(Drop)]
-pub(crate) enum Todo<V> {
+pub enum Todo<V> {
     Begin(Node, usize, bool),
     Answer(PResult<Option<V>>),
 }

@@ -3,8 +3,8 @@
 
 pub mod actions;
 mod ahead;
-mod evaluator;
-mod frames;
+pub mod evaluator;
+pub mod frames;
 pub mod grammar;
 mod judged;
 pub mod laws;
