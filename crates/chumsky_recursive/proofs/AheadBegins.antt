@@ -14,8 +14,7 @@ use Rattle.chumsky_shield.specs.Not.{MeansNot}
 use Rattle.chumsky_shield.specs.AndIs.{MeansRewind}
 use Rattle.chumsky_shield.proofs.AndIsLemmas.{and_is_unmarked}
 use Rattle.chumsky_shield.proofs.NotLemmas.{not_unmarked}
-use Rattle.chumsky_recursive.specs.declared.frames.Frame.{Frame}
-use Rattle.chumsky_recursive.specs.declared.frames.Frame.TheVariants.{Denied, Both, Rewound}
+use Rattle.chumsky_recursive.specs.Beside.{FullFrame, Denied, Both, Rewound}
 use Rattle.chumsky_recursive.specs.declared.frames.Todo.{Todo}
 use Rattle.chumsky_rules.specs.declared.kinds.NodeKind.TheVariants.{Not, AndIs, Rewind}
 use Rattle.chumsky_rules.specs.Tables.{Tables}
@@ -29,8 +28,8 @@ use Rattle.chumsky_recursive.proofs.Parts.{does}
 use Rattle.chumsky_recursive.proofs.Waiting.{waits}
 use Rattle.chumsky_recursive.proofs.Weights.{waits_lighter, answer_lighter, waits_bounded}
 
-module _ {I Tok Sp Cu Er St Mk Cx V : Type 0} (source : input_trait.Ghosts I Cu Tok Sp) (errors : error_trait.Ghosts Er I Tok Sp) (states : inspector_trait.Ghosts St I Mk Tok Sp) {old new : List (Frame V Cu Mk Er)} {wanted : Bool} {part more : ℕ} {was now : Held Tok Cx states.Seen errors.Seen} {todo : Todo V} (h : WaitsDenied source errors states old new wanted part more was now todo) where
-  pub denied_all : (P : Frame V Cu Mk Er → Type 0) → ((c : Checkpoint Cu Mk) (k : Option (Located Er)) → marks source states c ≡ marked_here states.mark was → P (Denied wanted c k)) → All P old → All P new
+module _ {I Tok Sp Cu Er St Mk Cx V : Type 0} (source : input_trait.Ghosts I Cu Tok Sp) (errors : error_trait.Ghosts Er I Tok Sp) (states : inspector_trait.Ghosts St I Mk Tok Sp) {old new : List (FullFrame V Cu Mk Er)} {wanted : Bool} {part more : ℕ} {was now : Held Tok Cx states.Seen errors.Seen} {todo : Todo V} (h : WaitsDenied source errors states old new wanted part more was now todo) where
+  pub denied_all : (P : FullFrame V Cu Mk Er → Type 0) → ((c : Checkpoint Cu Mk) (k : Option (Located Er)) → marks source states c ≡ marked_here states.mark was → P (Denied wanted c k)) → All P old → All P new
   denied_all P k all = elim h.cases [ inl e ↦ waits_all P e.5 (k e.0 e.1 e.2) all | inr e ↦ rw e.3 all ]
 
   pub denied_there : (nodes : ℕ) → part < nodes → IsThere nodes todo
@@ -42,11 +41,11 @@ module _ {I Tok Sp Cu Er St Mk Cx V : Type 0} (source : input_trait.Ghosts I Cu 
   pub denied_bounded : (nodes bound : ℕ) → 0 + length old ≤ bound → level nodes more part + length old < bound → IsBounded nodes bound 0 old → IsBounded nodes bound 0 new × Fits nodes bound (length new) todo
   denied_bounded nodes bound r l b = elim h.cases [ inl e ↦ waits_bounded nodes bound e.5 r l b | inr e ↦ rw (e.2, e.3) (b, tt) ]
 
-module _ {I Tok Sp Cu Er St Mk Cx V : Type 0} (source : input_trait.Ghosts I Cu Tok Sp) (errors : error_trait.Ghosts Er I Tok Sp) (states : inspector_trait.Ghosts St I Mk Tok Sp) (a : Acts Tok Cx states.Seen errors.Seen V) (g : Tables) (built : IsBuilt g) (fs : List (Frame V Cu Mk Er)) (more n : ℕ) (wanted : Bool) (was : Held Tok Cx states.Seen errors.Seen) where
+module _ {I Tok Sp Cu Er St Mk Cx V : Type 0} (source : input_trait.Ghosts I Cu Tok Sp) (errors : error_trait.Ghosts Er I Tok Sp) (states : inspector_trait.Ghosts St I Mk Tok Sp) (a : Acts Tok Cx states.Seen errors.Seen V) (g : Tables) (built : IsBuilt g) (fs : List (FullFrame V Cu Mk Er)) (more n : ℕ) (wanted : Bool) (was : Held Tok Cx states.Seen errors.Seen) where
   abbrev here : Begun Tok Cx states.Seen errors.Seen
   here = record { more = more; node = n; wanted = wanted; held = was }
 
-  pub not_left : {now : Held Tok Cx states.Seen errors.Seen} {new : List (Frame V Cu Mk Er)} {todo : Todo V} (p : ℕ) → slice_get g.nodes n ≡ Some (Not p) → p < length g.nodes → WaitsDenied source errors states fs new wanted p more was now todo
+  pub not_left : {now : Held Tok Cx states.Seen errors.Seen} {new : List (FullFrame V Cu Mk Er)} {todo : Todo V} (p : ℕ) → slice_get g.nodes n ≡ Some (Not p) → p < length g.nodes → WaitsDenied source errors states fs new wanted p more was now todo
       → (s : Begun Tok Cx states.Seen errors.Seen) → Wait source errors states a g fs s here → Left source errors states a g new s now todo
   not_left {now} {new} {todo} p e l h s w =
       let whole = Chained (MeansNot source errors states (part_means source errors states a g more p)) (Made a.units) in
@@ -61,7 +60,7 @@ module _ {I Tok Sp Cu Er St Mk Cx V : Type 0} (source : input_trait.Ghosts I Cu 
         | inr c ↦ rw (c.1, c.2, c.3) (here, w, does source errors states a g built more n (Not p) e (failed (not_unmarked source errors states (part_means source errors states a g more p) wanted was was refl c.0) refl refl), tt)
       ]
 
-  pub and_is_left : {new : List (Frame V Cu Mk Er)} {todo : Todo V} (p q : ℕ) → slice_get g.nodes n ≡ Some (AndIs p q) → p < length g.nodes → WaitsMarked source states fs new (Both q more) p more wanted was todo
+  pub and_is_left : {new : List (FullFrame V Cu Mk Er)} {todo : Todo V} (p q : ℕ) → slice_get g.nodes n ≡ Some (AndIs p q) → p < length g.nodes → WaitsMarked source states fs new (Both q more) p more wanted was todo
       → (s : Begun Tok Cx states.Seen errors.Seen) → Wait source errors states a g fs s here → Left source errors states a g new s was todo
   and_is_left {new} {todo} p q e l h s w =
       let k = node_at g.nodes p l in
@@ -70,7 +69,7 @@ module _ {I Tok Sp Cu Er St Mk Cx V : Type 0} (source : input_trait.Ghosts I Cu 
         | inr c ↦ rw (c.1, c.2) (here, w, does source errors states a g built more n (AndIs p q) e (and_is_unmarked errors.merged errors.takes_no_memory states.mark states.back states.takes_no_memory (part_means source errors states a g more p) (part_means source errors states a g more q) wanted was was refl c.0), tt)
       ]
 
-  pub rewind_left : {now : Held Tok Cx states.Seen errors.Seen} {new : List (Frame V Cu Mk Er)} {todo : Todo V} (p : ℕ) → slice_get g.nodes n ≡ Some (Rewind p) → p < length g.nodes → WaitsRewound source errors states fs new p more wanted was now todo
+  pub rewind_left : {now : Held Tok Cx states.Seen errors.Seen} {new : List (FullFrame V Cu Mk Er)} {todo : Todo V} (p : ℕ) → slice_get g.nodes n ≡ Some (Rewind p) → p < length g.nodes → WaitsRewound source errors states fs new p more wanted was now todo
       → (s : Begun Tok Cx states.Seen errors.Seen) → Wait source errors states a g fs s here → Left source errors states a g new s now todo
   rewind_left {now} {new} {todo} p e l h s w =
       let whole = MeansRewind errors.merged (part_means source errors states a g more p) in

@@ -23,8 +23,7 @@ use Rattle.chumsky_shield.specs.AndIs.{GivenAt, LooksFrom, MeansAndIs}
 use Rattle.chumsky_shield.proofs.AndIsLemmas.{and_is_stops, and_is_unrestored, and_is_no, rewind_stops, rewind_no, rewind_past, rewind_here, rewind_here_refused}
 use Rattle.chumsky_shield.proofs.NotLemmas.{not_unrestored, not_no, not_yes, not_stops}
 use Rattle.chumsky_shield.proofs.ShieldLemmas.{went_yes, went_no}
-use Rattle.chumsky_recursive.specs.declared.frames.Frame.{Frame}
-use Rattle.chumsky_recursive.specs.declared.frames.Frame.TheVariants.{Denied, Both, Looked, Rewound}
+use Rattle.chumsky_recursive.specs.Beside.{FullFrame, Denied, Both, Looked, Rewound}
 use Rattle.chumsky_recursive.specs.declared.frames.Todo.{Todo}
 use Rattle.chumsky_recursive.specs.declared.frames.Todo.TheVariants.{Answer}
 use Rattle.chumsky_rules.specs.Tables.{Tables}
@@ -40,8 +39,8 @@ use Rattle.chumsky_recursive.proofs.Waiting.{bared, waits, heard}
 use Rattle.chumsky_recursive.proofs.Making.{makes-ran, makes-there}
 use Rattle.chumsky_recursive.proofs.Weights.{waits_lighter, waits_bounded, fits_first, fits_none}
 
-module _ {I Tok Sp Cu Er St Mk Cx V : Type 0} (source : input_trait.Ghosts I Cu Tok Sp) (errors : error_trait.Ghosts Er I Tok Sp) (states : inspector_trait.Ghosts St I Mk Tok Sp) (old new : List (Frame V Cu Mk Er)) (other more : ℕ) (m : Marks Tok states.Marked) (was now : Held Tok Cx states.Seen errors.Seen) (todo : Todo V) where
-  pub looks_all : (answer : Result (Option V) Fault) → LooksNext source errors states old new other more m answer was now todo → (P : Frame V Cu Mk Er → Type 0) → ((v : Option V) (past : Cu) → source.cursor_tokens past ≡ was.tokens → P (Looked v past)) → All P old → All P new
+module _ {I Tok Sp Cu Er St Mk Cx V : Type 0} (source : input_trait.Ghosts I Cu Tok Sp) (errors : error_trait.Ghosts Er I Tok Sp) (states : inspector_trait.Ghosts St I Mk Tok Sp) (old new : List (FullFrame V Cu Mk Er)) (other more : ℕ) (m : Marks Tok states.Marked) (was now : Held Tok Cx states.Seen errors.Seen) (todo : Todo V) where
+  pub looks_all : (answer : Result (Option V) Fault) → LooksNext source errors states old new other more m answer was now todo → (P : FullFrame V Cu Mk Er → Type 0) → ((v : Option V) (past : Cu) → source.cursor_tokens past ≡ was.tokens → P (Looked v past)) → All P old → All P new
   looks_all (Ok v) z P k all = waits_all P z.4 (k v z.0 z.1) all
   looks_all (Err fault.Fail) z P k all = rw z.0 all
   looks_all (Err (fault.Stop s)) z P k all = rw z.0 all
@@ -72,8 +71,8 @@ module _ {Tok Cx St Mk Er V W : Type 0} (merged : Er → Er → Er) (safe : Type
       (ran-chained merged safe (OrElse mark back quiet part SaysNo) (LooksFrom old.place other) w old v mid new r (ran-first merged safe mark back quiet part SaysNo w old mid (Ok v) h (λ q. cc))
       (ran-moved {m = Chained (Asked false other) (λ _. GivenAt v mid.place)} {n = LooksFrom old.place other v} {old = mid} {mid = record mid { place = old.place }} (record { tokens = refl; context = refl }) refl refl refl (λ o z. z) there))
 
-module _ {I Tok Sp Cu Er St Mk Cx V : Type 0} (source : input_trait.Ghosts I Cu Tok Sp) (errors : error_trait.Ghosts Er I Tok Sp) (states : inspector_trait.Ghosts St I Mk Tok Sp) (a : Acts Tok Cx states.Seen errors.Seen V) (g : Tables) (fs : List (Frame V Cu Mk Er)) (was now : Held Tok Cx states.Seen errors.Seen) where
-  abbrev HeardOf : Result (Option V) Fault → Frame V Cu Mk Er → List (Frame V Cu Mk Er) → Todo V → Type 0
+module _ {I Tok Sp Cu Er St Mk Cx V : Type 0} (source : input_trait.Ghosts I Cu Tok Sp) (errors : error_trait.Ghosts Er I Tok Sp) (states : inspector_trait.Ghosts St I Mk Tok Sp) (a : Acts Tok Cx states.Seen errors.Seen V) (g : Tables) (fs : List (FullFrame V Cu Mk Er)) (was now : Held Tok Cx states.Seen errors.Seen) where
+  abbrev HeardOf : Result (Option V) Fault → FullFrame V Cu Mk Er → List (FullFrame V Cu Mk Er) → Todo V → Type 0
   HeardOf answer f new todo = Heard source errors states a g fs was answer f new now todo
 
   -- `not`
@@ -131,7 +130,7 @@ module _ {I Tok Sp Cu Er St Mk Cx V : Type 0} (source : input_trait.Ghosts I Cu 
         )
 
   -- `and_is`, after its first part
-  module _ (built : IsBuilt g) (other more : ℕ) (before : Checkpoint Cu Mk) (new : List (Frame V Cu Mk Er)) (todo : Todo V) (there_is : other < length g.nodes) where
+  module _ (built : IsBuilt g) (other more : ℕ) (before : Checkpoint Cu Mk) (new : List (FullFrame V Cu Mk Er)) (todo : Todo V) (there_is : other < length g.nodes) where
     pub and_is_looks : (answer : Result (Option V) Fault) → LooksNext source errors states fs new other more (marks source states before) answer was now todo → HeardOf answer (Both other more before) new todo
     and_is_looks (Ok v) z s u t w x h there =
         let part = part_means source errors states a g t.more t.node in

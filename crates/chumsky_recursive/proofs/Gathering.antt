@@ -2,8 +2,6 @@
 use Rattle.std.specs.Prelude.{IfOk, is_some}
 use Rattle.std.specs.Bool.{MatchBool}
 use Rattle.std.proofs.Common.{◌≡◌, ℕ, ◌+◌, ◌^◌, ◌<◌, ◌&&◌, not, Bool, true, false, Option, Some, None, List, [], ◌∷◌, ◌++◌, nat_eq, nat_lt, refl, sym, ◌∙◌, ap, subst, arith, Result, Ok, Err, inl, inr}
-use Rattle.std.specs.declared.vec.Vec.{Vec}
-use Rattle.std.specs.declared.alloc.Global.{Global}
 use Rattle.std.specs.declared.alloc.AllocError.{AllocError}
 use Rattle.chumsky_input.specs.declared.error.Error as error_trait
 use Rattle.chumsky_input.specs.declared.inspector.Inspector as inspector_trait
@@ -29,10 +27,10 @@ use Rattle.chumsky_items.specs.Separating.{Lead, Round, Separates}
 use Rattle.chumsky_items.proofs.RepeatingLemmas.{counted-failed, counted-given, counted-refused, step-tried}
 use Rattle.chumsky_items.proofs.SeparatingLemmas.{lead-between, lead-stands, round-unled, separated-tried}
 use Rattle.chumsky_rules.specs.Tables.{Tables}
-use Rattle.chumsky_recursive.specs.declared.frames.Gathered.{Gathered}
+use Rattle.chumsky_recursive.specs.Beside.{FullGathered}
 use Rattle.chumsky_recursive.specs.declared.lists.Listing.{Listing}
 use Rattle.chumsky_recursive.specs.Means.{Acts, AreThose, part_means}
-use Rattle.chumsky_recursive.specs.Frames.{Makes, Begun, Answers, items_of, bounds_at, asks_by, asks_at, unless, separator_at, step_by, step_of, Gathers, Turned, AtSeparator, AtItem}
+use Rattle.chumsky_recursive.specs.Frames.{Makes, Begun, Answers, bounds_at, asks_by, asks_at, unless, separator_at, step_by, step_of, Gathers, Turned, AtSeparator, AtItem}
 use Rattle.chumsky_recursive.specs.Lists.{NextCount, Appended}
 use Rattle.chumsky_recursive.proofs.Making.{makes-ran, makes-there}
 
@@ -46,23 +44,23 @@ module _ {Tok Cx St Er V : Type 0} {merged : Er → Er → Er} {safe : Type 0} {
   collected (Some xs) = ran-weaker merged safe (Given (Some xs)) (Collected AreThose (Some xs)) w mid mid (Ok (Some xs)) (λ o m. record { value = Some xs; is = refl; given = m }) ran-given
   collected None = ran-weaker merged safe (Given None) (Collected AreThose None) w mid mid (Ok None) (λ o m. record { value = None; is = tt; given = m }) ran-given
 
-  appended : (vs : Option (List V)) (v : Option V) (ws : Option (Vec V Global)) → Appended vs v (Ok ws) → Ran merged safe (Appends ⊥ vs v) w mid mid (Ok (items_of ws))
+  appended : (vs : Option (List V)) (v : Option V) (ws : Option (List V)) → Appended vs v (Ok ws) → Ran merged safe (Appends ⊥ vs v) w mid mid (Ok ws)
   appended (Some xs) (Some v) ws e = rw e (ran-weaker merged safe (Given (Some (xs ++ v ∷ []))) (Appends ⊥ (Some xs) (Some v)) w mid mid (Ok (Some (xs ++ v ∷ []))) (λ o m. inr m) ran-given)
-  appended (Some xs) None ws e = rw e ran-given
+  appended (Some xs) None ws e = absurd e
   appended None v ws e = rw e ran-given
 
-  not_appended : (vs : Option (List V)) (v : Option V) (e : AllocError) → Appended vs v (Err e) → Ran merged safe (Appends ⊥ vs v) w mid mid (Err (fault.Stop Memory))
-  not_appended (Some xs) (Some v) e h = ran-halts merged safe (Appends ⊥ (Some xs) (Some v)) w mid mid (record { tokens = refl; context = refl }) refl (λ o d s. inl (λ z. z, d, s))
-  not_appended (Some xs) None e h = absurd h
-  not_appended None v e h = absurd h
+  not_appended : (b : Bool) (vs : Option (List V)) (v : Option V) (e : AllocError) → is_some vs ≡ b → is_some v ≡ b → Appended vs v (Err e) → Ran merged safe (Appends ⊥ vs v) w mid mid (Err (fault.Stop Memory))
+  not_appended b (Some xs) (Some v) e s t h = ran-halts merged safe (Appends ⊥ (Some xs) (Some v)) w mid mid (record { tokens = refl; context = refl }) refl (λ o d z. inl (λ y. y, d, z))
+  not_appended b (Some xs) None e s t h = absurd (let no : ⊥ = cc in no)
+  not_appended b None v e s t h = absurd h
 
   closes : (few : Bool) (x : Result (Option (Next ℕ V)) Fault) → MatchBool few (x ≡ Err fault.Fail) (x ≡ Ok (Some End)) → Ran merged safe (Closes few) w mid mid x
   closes true x e = rw e ran-no
   closes false x e = rw e ran-given
 
-appended-there : {V : Type 0} (b : Bool) (vs : Option (List V)) (v : Option V) (ws : Option (Vec V Global)) → Appended vs v (Ok ws) → is_some vs ≡ b → is_some v ≡ b → is_some (items_of ws) ≡ b
+appended-there : {V : Type 0} (b : Bool) (vs : Option (List V)) (v : Option V) (ws : Option (List V)) → Appended vs v (Ok ws) → is_some vs ≡ b → is_some v ≡ b → is_some ws ≡ b
 appended-there b (Some xs) (Some v) ws e h k = rw e h
-appended-there b (Some xs) None ws e h k = rw e k
+appended-there b (Some xs) None ws e h k = absurd e
 appended-there b None v ws e h k = rw e h
 
 below : (k : ℕ) → k + 1 < 2 ^ 64 → k + 1 ≡ 2 ^ 64 → ⊥
@@ -94,39 +92,39 @@ module _ {Tok Cx St Er V : Type 0} {merged : Er → Er → Er} {safe : Type 0} {
 
 module _ {I Tok Sp Cu Er St Mk Cx V : Type 0} (source : input_trait.Ghosts I Cu Tok Sp) (errors : error_trait.Ghosts Er I Tok Sp) (states : inspector_trait.Ghosts St I Mk Tok Sp) (a : Acts Tok Cx states.Seen errors.Seen V) (g : Tables) where
   -- of a node in whose place this one runs
-  pub gathers_on : (l : Listing) (p : Gathered V) (s u : Begun Tok Cx states.Seen errors.Seen) {now : Held Tok Cx states.Seen errors.Seen} → u.wanted ≡ s.wanted → ((new : Held Tok Cx states.Seen errors.Seen) (r : Result (Option V) Fault) → Answers source errors states a g u new r → Answers source errors states a g s new r)
+  pub gathers_on : (l : Listing) (p : FullGathered V) (s u : Begun Tok Cx states.Seen errors.Seen) {now : Held Tok Cx states.Seen errors.Seen} → u.wanted ≡ s.wanted → ((new : Held Tok Cx states.Seen errors.Seen) (r : Result (Option V) Fault) → Answers source errors states a g u new r → Answers source errors states a g s new r)
       → Gathers source errors states a g l p u now → Gathers source errors states a g l p s now
   gathers_on l p s u q h k = record { wanted = k.wanted ∙ q; there = k.there; room = k.room; left = k.left; origin = k.origin; on = k.on; whole = λ new r x. h new r (k.whole new r x) }
 
-  module _ (l : Listing) (p : Gathered V) (u : Begun Tok Cx states.Seen errors.Seen) {now : Held Tok Cx states.Seen errors.Seen} (x : Gathers source errors states a g l p u now) where
+  module _ (l : Listing) (p : FullGathered V) (u : Begun Tok Cx states.Seen errors.Seen) {now : Held Tok Cx states.Seen errors.Seen} (x : Gathers source errors states a g l p u now) where
     abbrev step : ℕ → Meaning Tok Cx states.Seen errors.Seen (Next ℕ V)
     step = step_of source errors states a g l p.more
 
-    steps_from : StepsFrom errors.merged errors.takes_no_memory step (Appends ⊥) (Collected AreThose) (Given (Some 0)) [] p.wanted p.count (items_of p.values) p.count x.origin now
+    steps_from : StepsFrom errors.merged errors.takes_no_memory step (Appends ⊥) (Collected AreThose) (Given (Some 0)) [] p.wanted p.count p.values p.count x.origin now
     steps_from = record { room = x.room; left = x.left; on = x.on }
 
     -- its step fails, or is the end
     pub step_fails : {new : Held Tok Cx states.Seen errors.Seen} (f : Fault) → Ran errors.merged errors.takes_no_memory (step p.count) p.wanted now new (Err f) → Answers source errors states a g u new (Err f)
     step_fails {new} f h = x.whole new (Err f) (failed (steps-failed steps_from h {f = f} refl refl) refl refl)
 
-    pub step_ends : {new : Held Tok Cx states.Seen errors.Seen} (r : Result (Option V) Fault) → Ran errors.merged errors.takes_no_memory (step p.count) p.wanted now new (Ok (Some End)) → Makes a.lists (items_of p.values) r
+    pub step_ends : {new : Held Tok Cx states.Seen errors.Seen} (r : Result (Option V) Fault) → Ran errors.merged errors.takes_no_memory (step p.count) p.wanted now new (Ok (Some End)) → Makes a.lists p.values r
         → Answers source errors states a g u new r × IfOk r (λ v. is_some v ≡ u.wanted)
     step_ends {new} r h m = (
-      x.whole new r (chained (steps-ended steps_from h refl (collected (items_of p.values))) refl (makes-ran errors.merged errors.takes_no_memory a.lists p.wanted new (items_of p.values) r m)),
-      makes-there a.lists u.wanted (items_of p.values) r (x.there ∙ x.wanted) m,
+      x.whole new r (chained (steps-ended steps_from h refl (collected p.values)) refl (makes-ran errors.merged errors.takes_no_memory a.lists p.wanted new p.values r m)),
+      makes-there a.lists u.wanted p.values r (x.there ∙ x.wanted) m,
     )
 
     -- it gives an item, for which there is room or is none
     module _ {new : Held Tok Cx states.Seen errors.Seen} {v : Option V} {n : ℕ} (h : Ran errors.merged errors.takes_no_memory (step p.count) p.wanted now new (Ok (Some (More v n)))) (few : p.count + 1 < 2 ^ 64) where
-      pub step_lacks : (e : AllocError) → Appended (items_of p.values) v (Err e) → Answers source errors states a g u new (Err (fault.Stop Memory))
-      step_lacks e k = x.whole new (Err (fault.Stop Memory)) (failed (steps-refused steps_from h refl (below p.count few) (not_appended (items_of p.values) v e k)) refl refl)
+      pub step_lacks : (e : AllocError) → is_some v ≡ p.wanted → Appended p.values v (Err e) → Answers source errors states a g u new (Err (fault.Stop Memory))
+      step_lacks e there k = x.whole new (Err (fault.Stop Memory)) (failed (steps-refused steps_from h refl (below p.count few) (not_appended p.wanted p.values v e x.there there k)) refl refl)
 
-      pub step_goes : (ws : Option (Vec V Global)) → Appended (items_of p.values) v (Ok ws) → is_some v ≡ p.wanted → n ≡ p.count + 1 → Gathers source errors states a g l (record p { count = n; values = ws }) u new
+      pub step_goes : (ws : Option (List V)) → Appended p.values v (Ok ws) → is_some v ≡ p.wanted → n ≡ p.count + 1 → Gathers source errors states a g l (record p { count = n; values = ws }) u new
       step_goes ws k there e =
-          let next = steps-more steps_from h refl (below p.count few) (appended (items_of p.values) v ws k) in
+          let next = steps-more steps_from h refl (below p.count few) (appended p.values v ws k) in
           record {
             wanted = x.wanted;
-            there = appended-there p.wanted (items_of p.values) v ws k x.there there;
+            there = appended-there p.wanted p.values v ws k x.there there;
             room = next.room;
             left = left_over next.room p.count n e next.left;
             origin = x.origin;
@@ -165,7 +163,7 @@ module _ {I Tok Sp Cu Er St Mk Cx V : Type 0} (source : input_trait.Ghosts I Cu 
     led true false e n = absurd cc
     led false leading e n = lead-between states.mark states.back states.takes_no_memory leading refl h
 
-  module _ (p : Gathered V) (before : Checkpoint Cu Mk) (u t : Begun Tok Cx states.Seen errors.Seen) (x : AtSeparator source errors states a g p before u t) where
+  module _ (p : FullGathered V) (before : Checkpoint Cu Mk) (u t : Begun Tok Cx states.Seen errors.Seen) (x : AtSeparator source errors states a g p before u t) where
     -- what the separator ran
     pub separator_ran : {new : Held Tok Cx states.Seen errors.Seen} {y : Result (Option V) Fault} → Ran errors.merged errors.takes_no_memory (part_means source errors states a g t.more t.node) false t.held new y → Ran errors.merged errors.takes_no_memory (part_means source errors states a g p.more t.node) false t.held new y
     separator_ran {new} {y} h = subst (λ m. Ran errors.merged errors.takes_no_memory (part_means source errors states a g m t.node) false t.held new y) x.same h
@@ -182,7 +180,7 @@ module _ {I Tok Sp Cu Er St Mk Cx V : Type 0} (source : input_trait.Ghosts I Cu 
         (round_step x.list p.more p.count x.below t.node is.1
         (ran-first errors.merged errors.takes_no_memory states.mark states.back states.takes_no_memory (Round states.mark states.back states.takes_no_memory (part_means source errors states a g p.more t.node) (part_means source errors states a g p.more x.list.item) (bounds_at x.list) p.count t.held.place) (Closes (nat_lt p.count x.list.at_least)) p.wanted t.held new (Err (fault.Stop s)) (unled (fault.Stop s) (led (separator_ran h) (nat_eq p.count 0) x.list.leading is.0 (λ q. cc))) (λ q. cc)))
 
-  module _ (p : Gathered V) (start : ℕ) (back : Checkpoint Cu Mk) (u t : Begun Tok Cx states.Seen errors.Seen) (x : AtItem source errors states a g p start back u t) where
+  module _ (p : FullGathered V) (start : ℕ) (back : Checkpoint Cu Mk) (u t : Begun Tok Cx states.Seen errors.Seen) (x : AtItem source errors states a g p start back u t) where
     pub item_ran : {new : Held Tok Cx states.Seen errors.Seen} {y : Result (Option V) Fault} → Ran errors.merged errors.takes_no_memory (part_means source errors states a g t.more t.node) u.wanted t.held new y → Ran errors.merged errors.takes_no_memory (part_means source errors states a g t.more t.node) p.wanted t.held new y
     item_ran {new} {y} h = subst (λ b. Ran errors.merged errors.takes_no_memory (part_means source errors states a g t.more t.node) b t.held new y) (sym x.gathers.wanted) h
 

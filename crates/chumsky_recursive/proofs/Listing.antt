@@ -4,8 +4,6 @@ use Rattle.std.specs.Bool.{MatchBool}
 use Rattle.std.specs.List.{All}
 use Rattle.std.proofs.Common.{◌≡◌, ℕ, zero, suc, ◌+◌, ◌-◌, ◌*◌, ◌^◌, ◌<◌, ◌≤◌, ◌&&◌, not, Bool, true, false, Option, Some, None, List, [], ◌∷◌, slice_get, length, nat_eq, nat_lt, nat_le, refl, sym, ◌∙◌, ap, subst, arith, Result, Ok, Err, inl, inr}
 use Rattle.std.proofs.lemmas.Bool.{leb-true, le-ltb}
-use Rattle.std.specs.declared.vec.Vec.{Vec}
-use Rattle.std.specs.declared.alloc.Global.{Global}
 use Rattle.std.specs.declared.alloc.AllocError.{AllocError}
 use Rattle.chumsky_input.specs.declared.error.Error as error_trait
 use Rattle.chumsky_input.specs.declared.inspector.Inspector as inspector_trait
@@ -37,15 +35,13 @@ use Rattle.chumsky_rules.specs.declared.kinds.SepCfg.{SepCfg}
 use Rattle.chumsky_rules.specs.Tables.{Tables}
 use Rattle.chumsky_rules.specs.Built.{IsBuilt, parts_of}
 use Rattle.std.specs.List.{AllByRecursion}
-use Rattle.chumsky_recursive.specs.declared.frames.Frame.{Frame}
-use Rattle.chumsky_recursive.specs.declared.frames.Frame.TheVariants.{Separator, Item}
-use Rattle.chumsky_recursive.specs.declared.frames.Gathered.{Gathered}
+use Rattle.chumsky_recursive.specs.Beside.{FullFrame, FullGathered, Separator, Item}
 use Rattle.chumsky_recursive.specs.declared.frames.Todo.{Todo}
 use Rattle.chumsky_recursive.specs.declared.frames.Todo.TheVariants.{Begin, Answer}
 use Rattle.chumsky_recursive.specs.declared.lists.Listing.{Listing}
 use Rattle.chumsky_recursive.specs.Means.{Acts, AreThose, Listed, part_means}
 use Rattle.chumsky_recursive.specs.Ahead.{CantGoBack}
-use Rattle.chumsky_recursive.specs.Frames.{Makes, Waits, Begun, Answers, lists_of, items_of, bounds_at, asks_by, asks_at, unless, separator_at, stays_at, step_by, step_of, Gathers, Turned, AtSeparator, AtItem, WaitsFor, Wait, Left}
+use Rattle.chumsky_recursive.specs.Frames.{Makes, Waits, Begun, Answers, lists_of, bounds_at, asks_by, asks_at, unless, separator_at, stays_at, step_by, step_of, Gathers, Turned, AtSeparator, AtItem, WaitsFor, Wait, Left}
 use Rattle.chumsky_recursive.specs.Lists.{NextCount, Appended, Ends, ItemBegun, BeginsItem, RoundBegun, Unfull, NextRound, BeginsList, RoundFails, Unseparated, HearsSeparator, ItemTaken, ItemCounted, HearsItem}
 use Rattle.chumsky_recursive.proofs.Begins.{node_at}
 use Rattle.chumsky_recursive.proofs.Gathering.{tried_is, counts_on, counted, counted_answer, step_fails, step_ends, step_lacks, step_goes, item_step, round_step, turned_else, led, separator_ran, unled, separator_stops, item_ran, item_stops}
@@ -97,10 +93,10 @@ module _ {I Tok Sp Cu Er St Mk Cx V : Type 0} (source : input_trait.Ghosts I Cu 
   RanSo m w old new r = Ran errors.merged errors.takes_no_memory m w old new r
 
   -- an answer that is left to hear
-  answered : (fs : List (Frame V Cu Mk Er)) {new : Held Tok Cx states.Seen errors.Seen} (s u : Begun Tok Cx states.Seen errors.Seen) (r : Result (Option V) Fault) → Wait source errors states a g fs s u → Answers source errors states a g u new r × IfOk r (λ v. is_some v ≡ u.wanted) → Left source errors states a g fs s new (Answer r)
+  answered : (fs : List (FullFrame V Cu Mk Er)) {new : Held Tok Cx states.Seen errors.Seen} (s u : Begun Tok Cx states.Seen errors.Seen) (r : Result (Option V) Fault) → Wait source errors states a g fs s u → Answers source errors states a g u new r × IfOk r (λ v. is_some v ≡ u.wanted) → Left source errors states a g fs s new (Answer r)
   answered fs s u r w h = (u, w, h.0, h.1)
 
-  module _ (l : Listing) (p : Gathered V) (u : Begun Tok Cx states.Seen errors.Seen) (now : Held Tok Cx states.Seen errors.Seen) (is_list : lists_of (slice_get g.nodes p.node) ≡ Some l) (inside : p.node < length g.nodes) (x : Gathers source errors states a g l p u now) where
+  module _ (l : Listing) (p : FullGathered V) (u : Begun Tok Cx states.Seen errors.Seen) (now : Held Tok Cx states.Seen errors.Seen) (is_list : lists_of (slice_get g.nodes p.node) ≡ Some l) (inside : p.node < length g.nodes) (x : Gathers source errors states a g l p u now) where
     abbrev part : ℕ → Meaning Tok Cx states.Seen errors.Seen V
     part = part_means source errors states a g p.more
 
@@ -174,7 +170,7 @@ module _ {I Tok Sp Cu Er St Mk Cx V : Type 0} (source : input_trait.Ghosts I Cu 
       at_item : (back : Checkpoint Cu Mk) → ItemDoes back → WaitsFor source errors states a g (Item p (marks source states before).place back) u (record { more = p.more; node = l.item; wanted = p.wanted; held = here })
       at_item back k = record { asks = x.wanted; keeps = tt; goes = record { list = l; is_list = is_list; now = now; gathers = x; goes = k } }
 
-      module _ (old new : List (Frame V Cu Mk Er)) (todo : Todo V) (led_by : LedBy l.separator here) (s : Begun Tok Cx states.Seen errors.Seen) (w : Wait source errors states a g old s u) where
+      module _ (old new : List (FullFrame V Cu Mk Er)) (todo : Todo V) (led_by : LedBy l.separator here) (s : Begun Tok Cx states.Seen errors.Seen) (w : Wait source errors states a g old s u) where
         begun_left : (st : Bool) → stays_at l p.count ≡ st → ItemBegun source states l st old new p before here todo → Left source errors states a g new s here todo
         begun_left true e (inl k) = waits source errors states a g built here s u item_known.0 item_known.1 k.2 w (at_item k.0 (item_does l.separator refl led_by k.0 e k.1))
         begun_left true e (inr k) = rw (k.1, k.2) (u, w, step_fails source errors states a g l p u x (fault.Stop Memory) (no_mark l.separator refl led_by e k.0), tt)
@@ -185,7 +181,7 @@ module _ {I Tok Sp Cu Er St Mk Cx V : Type 0} (source : input_trait.Ghosts I Cu 
         item_left k = begun_left (stays_at l p.count) refl k.begun
 
     -- a round begins
-    module _ (old new : List (Frame V Cu Mk Er)) (todo : Todo V) (s : Begun Tok Cx states.Seen errors.Seen) (w : Wait source errors states a g old s u) where
+    module _ (old new : List (FullFrame V Cu Mk Er)) (todo : Todo V) (s : Begun Tok Cx states.Seen errors.Seen) (w : Wait source errors states a g old s u) where
       not_led : (sep : Option ℕ) → unless (nat_eq p.count 0 && not l.leading) sep ≡ None → LedBy sep now
       not_led None e = refl
       not_led (Some b) e = (None, skipped (nat_eq p.count 0) l.leading e)
@@ -221,9 +217,9 @@ module _ {I Tok Sp Cu Er St Mk Cx V : Type 0} (source : input_trait.Ghosts I Cu 
       round_left k = unfull_left (at_cap l.at_most p.count) refl k.round
 
     -- a round has failed
-    module _ (old new : List (Frame V Cu Mk Er)) (was here : Held Tok Cx states.Seen errors.Seen) (todo : Todo V) (s : Begun Tok Cx states.Seen errors.Seen) (w : Wait source errors states a g old s u) (back : Checkpoint Cu Mk)
+    module _ (old new : List (FullFrame V Cu Mk Er)) (was here : Held Tok Cx states.Seen errors.Seen) (todo : Todo V) (s : Begun Tok Cx states.Seen errors.Seen) (w : Wait source errors states a g old s u) (back : Checkpoint Cu Mk)
         (k : (y : Result (Option (Next ℕ V)) Fault) → Turned source errors states a g (nat_lt p.count l.at_least) (marks source states back) (Err fault.Fail) was here y → RanSo (step_of source errors states a g l p.more p.count) p.wanted now here y) where
-      ended_left : (few : Bool) → nat_lt p.count l.at_least ≡ few → here ≡ gone_back states.back was (marks source states back) → (r : Result (Option V) Fault) → Ends a.lists few (items_of p.values) r → Answers source errors states a g u here r × IfOk r (λ v. is_some v ≡ u.wanted)
+      ended_left : (few : Bool) → nat_lt p.count l.at_least ≡ few → here ≡ gone_back states.back was (marks source states back) → (r : Result (Option V) Fault) → Ends a.lists few p.values r → Answers source errors states a g u here r × IfOk r (λ v. is_some v ≡ u.wanted)
       ended_left true e gone r z = rw z (step_fails source errors states a g l p u x fault.Fail (k (Err fault.Fail) (inr (gone, rw e refl))), tt)
       ended_left false e gone r z = step_ends source errors states a g l p u x r (k (Ok (Some End)) (inr (gone, rw e refl))) z
 
@@ -232,11 +228,11 @@ module _ {I Tok Sp Cu Er St Mk Cx V : Type 0} (source : input_trait.Ghosts I Cu 
       fails_left (n, r, d, inr z) = rw (n, d, z.2) (u, w, step_fails source errors states a g l p u x (fault.Stop Memory) (k (Err (fault.Stop Memory)) (inl (z.0, z.1, refl))), tt)
 
   -- a list begins
-  module _ (fs : List (Frame V Cu Mk Er)) (more n : ℕ) (wanted : Bool) (now : Held Tok Cx states.Seen errors.Seen) (new : List (Frame V Cu Mk Er)) (todo : Todo V) (s : Begun Tok Cx states.Seen errors.Seen) where
+  module _ (fs : List (FullFrame V Cu Mk Er)) (more n : ℕ) (wanted : Bool) (now : Held Tok Cx states.Seen errors.Seen) (new : List (FullFrame V Cu Mk Er)) (todo : Todo V) (s : Begun Tok Cx states.Seen errors.Seen) where
     abbrev here : Begun Tok Cx states.Seen errors.Seen
     here = record { more = more; node = n; wanted = wanted; held = now }
 
-    first_gathers : (l : Listing) (vs : Option (Vec V Global)) → items_of vs ≡ wanting wanted [] → ((x : Held Tok Cx states.Seen errors.Seen) (r : Result (Option V) Fault) → RanSo (Listed (step_of source errors states a g l more) a.lists) wanted now x r → Answers source errors states a g here x r)
+    first_gathers : (l : Listing) (vs : Option (List V)) → vs ≡ wanting wanted [] → ((x : Held Tok Cx states.Seen errors.Seen) (r : Result (Option V) Fault) → RanSo (Listed (step_of source errors states a g l more) a.lists) wanted now x r → Answers source errors states a g here x r)
         → Gathers source errors states a g l (record { node = n; more = more; wanted = wanted; count = 0; values = vs }) here now
     first_gathers l vs e whole =
         let so : StepsFrom errors.merged errors.takes_no_memory (step_of source errors states a g l more) (Appends ⊥) (Collected AreThose) (Given (Some 0)) [] wanted 0 (wanting wanted []) 0 now now = items-made ran-given refl in
@@ -268,7 +264,7 @@ module _ {I Tok Sp Cu Er St Mk Cx V : Type 0} (source : input_trait.Ghosts I Cu 
   same_list e d = cc
 
   -- a list hears of its separator
-  module _ (fs new : List (Frame V Cu Mk Er)) (was now : Held Tok Cx states.Seen errors.Seen) (todo : Todo V) (l : Listing) (p : Gathered V) (is_list : lists_of (slice_get g.nodes p.node) ≡ Some l) where
+  module _ (fs new : List (FullFrame V Cu Mk Er)) (was now : Held Tok Cx states.Seen errors.Seen) (todo : Todo V) (l : Listing) (p : FullGathered V) (is_list : lists_of (slice_get g.nodes p.node) ≡ Some l) where
     leads : (first leading : Bool) → first ≡ true → (first && not leading) ≡ false → leading ≡ true
     leads true true e d = refl
     leads true false e d = absurd cc
@@ -346,10 +342,10 @@ module _ {I Tok Sp Cu Er St Mk Cx V : Type 0} (source : input_trait.Ghosts I Cu 
       stepped v (Err q) h = goes was was (counted_answer v (Err q)) (counted_answer v (Err q)) h (refl, refl)
 
       taken : (v : Option V) (n : ℕ) → is_some v ≡ p.wanted → RanSo (step_of source errors states a g l p.more p.count) p.wanted x.now was (Ok (Some (More v n))) → n ≡ p.count + 1 → p.count + 1 < 2 ^ 64
-          → (r : Result (Option (Vec V Global)) AllocError) → Appended (items_of p.values) v r → ItemTaken source states a.lists l fs new p was todo r n → Left source errors states a g new s was todo
+          → (r : Result (Option (List V)) AllocError) → Appended p.values v r → ItemTaken source states a.lists l fs new p was todo r n → Left source errors states a g new s was todo
       taken v n there h e few (Ok ws) k z =
           round_left l (record p { count = n; values = ws }) u was is_list (list_inside g.nodes p.node l is_list) (step_goes source errors states a g l p u gathers_here h few ws k there e) fs new todo s w z
-      taken v n there h e few (Err q) k z = rw (z.0, z.1) (u, w, step_lacks source errors states a g l p u gathers_here h few q k, tt)
+      taken v n there h e few (Err q) k z = rw (z.0, z.1) (u, w, step_lacks source errors states a g l p u gathers_here h few q there k, tt)
 
       item_counted : (v : Option V) (n : Result ℕ Stop) → is_some v ≡ p.wanted → RanSo (part_means source errors states a g t.more t.node) u.wanted t.held was (Ok v) → NextCount (is_stuck (asks_at l p.count) start was.place) (fits p.count) p.count n → ItemCounted source states a.lists l fs new p v was todo n → Left source errors states a g new s was todo
       item_counted v (Ok n) there h c z =

@@ -19,8 +19,7 @@ use Rattle.chumsky_parser.specs.Ignoring.{Gives}
 use Rattle.chumsky_parser.proofs.ChainedLemmas.{failed, chained, chained-weaker, ran-given, ran-weaker}
 use Rattle.chumsky_parser.proofs.ChoiceLemmas.{attempt-stands, attempt-after, attempt-unrestored, ran-unmarked, stands_at-marked}
 use Rattle.chumsky_parser.proofs.IgnoringLemmas.{ran-gives}
-use Rattle.chumsky_recursive.specs.declared.frames.Frame.{Frame}
-use Rattle.chumsky_recursive.specs.declared.frames.Frame.TheVariants.{Optional}
+use Rattle.chumsky_recursive.specs.Beside.{FullFrame, Optional}
 use Rattle.chumsky_recursive.specs.declared.frames.Todo.{Todo}
 use Rattle.chumsky_recursive.specs.declared.frames.Todo.TheVariants.{Answer}
 use Rattle.chumsky_rules.specs.declared.kinds.NodeKind.TheVariants.{OrNot}
@@ -54,8 +53,8 @@ pub wanting-there : {V : Type 0} (b : Bool) (v : V) → is_some (wanting b v) �
 wanting-there true v = refl
 wanting-there false v = refl
 
-module _ {I Tok Sp Cu Er Es St Mk Cx V : Type 0} (source : input_trait.Ghosts I Cu Tok Sp) (states : inspector_trait.Ghosts St I Mk Tok Sp) {old new : List (Frame V Cu Mk Er)} {f : Checkpoint Cu Mk → Frame V Cu Mk Er} {part more : ℕ} {wanted : Bool} {now : Held Tok Cx states.Seen Es} {todo : Todo V} where
-  pub marked_all : (P : Frame V Cu Mk Er → Type 0) → WaitsMarked source states old new f part more wanted now todo → ((c : Checkpoint Cu Mk) → marks source states c ≡ marked_here states.mark now → P (f c)) → All P old → All P new
+module _ {I Tok Sp Cu Er Es St Mk Cx V : Type 0} (source : input_trait.Ghosts I Cu Tok Sp) (states : inspector_trait.Ghosts St I Mk Tok Sp) {old new : List (FullFrame V Cu Mk Er)} {f : Checkpoint Cu Mk → FullFrame V Cu Mk Er} {part more : ℕ} {wanted : Bool} {now : Held Tok Cx states.Seen Es} {todo : Todo V} where
+  pub marked_all : (P : FullFrame V Cu Mk Er → Type 0) → WaitsMarked source states old new f part more wanted now todo → ((c : Checkpoint Cu Mk) → marks source states c ≡ marked_here states.mark now → P (f c)) → All P old → All P new
   marked_all P h k all = elim h.cases [ inl e ↦ waits_all P e.2 (k e.0 e.1) all | inr e ↦ rw e.2 all ]
 
   pub marked_there : (nodes : ℕ) → WaitsMarked source states old new f part more wanted now todo → part < nodes → IsThere nodes todo
@@ -69,7 +68,7 @@ module _ {I Tok Sp Cu Er Es St Mk Cx V : Type 0} (source : input_trait.Ghosts I 
 
 module _ {I Tok Sp Cu Er St Mk Cx V : Type 0} (source : input_trait.Ghosts I Cu Tok Sp) (errors : error_trait.Ghosts Er I Tok Sp) (states : inspector_trait.Ghosts St I Mk Tok Sp) (a : Acts Tok Cx states.Seen errors.Seen V) (g : Tables) where
   -- the node begins
-  pub or_not_left : (built : IsBuilt g) (fs : List (Frame V Cu Mk Er)) (more n : ℕ) (wanted : Bool) (now : Held Tok Cx states.Seen errors.Seen) {new : List (Frame V Cu Mk Er)} {todo : Todo V} (p : ℕ) → slice_get g.nodes n ≡ Some (OrNot p) → p < length g.nodes
+  pub or_not_left : (built : IsBuilt g) (fs : List (FullFrame V Cu Mk Er)) (more n : ℕ) (wanted : Bool) (now : Held Tok Cx states.Seen errors.Seen) {new : List (FullFrame V Cu Mk Er)} {todo : Todo V} (p : ℕ) → slice_get g.nodes n ≡ Some (OrNot p) → p < length g.nodes
       → WaitsMarked source states fs new (Optional wanted) p more wanted now todo → (s : Begun Tok Cx states.Seen errors.Seen) → Wait source errors states a g fs s (record { more = more; node = n; wanted = wanted; held = now }) → Left source errors states a g new s now todo
   or_not_left built fs more n wanted now {new} {todo} p e l h s w =
       let here : Begun Tok Cx states.Seen errors.Seen = record { more = more; node = n; wanted = wanted; held = now } in
@@ -86,7 +85,7 @@ module _ {I Tok Sp Cu Er St Mk Cx V : Type 0} (source : input_trait.Ghosts I Cu 
       ]
 
   -- its part has answered
-  module _ (fs : List (Frame V Cu Mk Er)) (now new : Held Tok Cx states.Seen errors.Seen) (wanted : Bool) (before : Checkpoint Cu Mk) (r : Result (Option V) Fault) where
+  module _ (fs : List (FullFrame V Cu Mk Er)) (now new : Held Tok Cx states.Seen errors.Seen) (wanted : Bool) (before : Checkpoint Cu Mk) (r : Result (Option V) Fault) where
     pub or_absent_left : (answer : Result (Option V) Fault) → OrAbsent states.back states.takes_no_memory a.options wanted (marks source states before) answer now new r → Heard source errors states a g fs now answer (Optional wanted before) fs new (Answer r)
     or_absent_left (Ok v) k s u t w x h there =
         let part : Ran errors.merged errors.takes_no_memory (part_means source errors states a g t.more t.node) u.wanted t.held now (Ok v) = heard source errors states a g x h in (

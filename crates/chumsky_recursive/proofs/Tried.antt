@@ -14,8 +14,7 @@ use Rattle.chumsky_input.specs.Run.{Ran}
 use Rattle.chumsky_parser.specs.Failure.{wanting}
 use Rattle.chumsky_shield.specs.Tried.{ruling_seen}
 use Rattle.chumsky_shield.proofs.VettedLemmas.{vetted_stops, vetted_no, vetted_yes, vetted_yes_refused, vetted_adds}
-use Rattle.chumsky_recursive.specs.declared.frames.Frame.{Frame}
-use Rattle.chumsky_recursive.specs.declared.frames.Frame.TheVariants.{Tried}
+use Rattle.chumsky_recursive.specs.Beside.{FullFrame, Tried}
 use Rattle.chumsky_recursive.specs.declared.frames.Todo.{Todo}
 use Rattle.chumsky_recursive.specs.declared.frames.Todo.TheVariants.{Answer}
 use Rattle.chumsky_rules.specs.declared.kinds.NodeKind.TheVariants.{TryMap}
@@ -33,7 +32,7 @@ use Rattle.chumsky_recursive.proofs.Waiting.{bared, waits, heard}
 
 module _ {I Tok Sp Cu Er St Mk Cx V : Type 0} (source : input_trait.Ghosts I Cu Tok Sp) (errors : error_trait.Ghosts Er I Tok Sp) (states : inspector_trait.Ghosts St I Mk Tok Sp) (a : Acts Tok Cx states.Seen errors.Seen V) (g : Tables) where
   -- the node begins
-  pub try_left : (built : IsBuilt g) (fs : List (Frame V Cu Mk Er)) (more n : ℕ) (wanted : Bool) (was : Held Tok Cx states.Seen errors.Seen) {now : Held Tok Cx states.Seen errors.Seen} {new : List (Frame V Cu Mk Er)} {todo : Todo V} (p f : ℕ) → slice_get g.nodes n ≡ Some (TryMap p f) → p < length g.nodes
+  pub try_left : (built : IsBuilt g) (fs : List (FullFrame V Cu Mk Er)) (more n : ℕ) (wanted : Bool) (was : Held Tok Cx states.Seen errors.Seen) {now : Held Tok Cx states.Seen errors.Seen} {new : List (FullFrame V Cu Mk Er)} {todo : Todo V} (p f : ℕ) → slice_get g.nodes n ≡ Some (TryMap p f) → p < length g.nodes
       → WaitsTried source errors states fs new f wanted p more was now todo → (s : Begun Tok Cx states.Seen errors.Seen) → Wait source errors states a g fs s (record { more = more; node = n; wanted = wanted; held = was }) → Left source errors states a g new s now todo
   try_left built fs more n wanted was {now} {new} {todo} p f e l h s w =
       let here : Begun Tok Cx states.Seen errors.Seen = record { more = more; node = n; wanted = wanted; held = was } in
@@ -47,7 +46,7 @@ module _ {I Tok Sp Cu Er St Mk Cx V : Type 0} (source : input_trait.Ghosts I Cu 
       }))
 
   -- its part has answered
-  module _ (fs : List (Frame V Cu Mk Er)) (was now : Held Tok Cx states.Seen errors.Seen) (f : ℕ) (gives : V → Sp → Result V Er → Type 0)
+  module _ (fs : List (FullFrame V Cu Mk Er)) (was now : Held Tok Cx states.Seen errors.Seen) (f : ℕ) (gives : V → Sp → Result V Er → Type 0)
       (vets : (b : Beginning Tok Cx states.Seen) (end : ℕ) (s : states.Seen) (v : V) (x : Result V Er) → gives v (source.span_between b.tokens b.start end) x → a.tries f b end s v (ruling_seen errors.seen x) s)
       (wanted : Bool) (start : Cu) (older : Option (Located Er)) (r : Result (Option V) Fault) where
     pub try_judges : (answer : Result (Option V) Fault) → Judges source errors states gives wanted (option_map (located errors.seen) older) start answer was now r → Heard source errors states a g fs was answer (Tried f wanted start older) fs now (Answer r)

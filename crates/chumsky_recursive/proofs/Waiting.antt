@@ -16,8 +16,7 @@ use Rattle.chumsky_parser.specs.Chained.{Given, both}
 use Rattle.chumsky_parser.proofs.ChainedLemmas.{ran-given, ran-weaker, ran-asked, failed}
 use Rattle.chumsky_parser.proofs.ChoiceLemmas.{attempt-stands}
 use Rattle.chumsky_parser.proofs.FailureLemmas.{ran-halts}
-use Rattle.chumsky_recursive.specs.declared.frames.Frame.{Frame}
-use Rattle.chumsky_recursive.specs.declared.frames.Frame.TheVariants.{First, Second, Alternative, Mapped, Optional, Denied, Both, Looked, Rewound, Tried, Separator, Item}
+use Rattle.chumsky_recursive.specs.Beside.{FullFrame, First, Second, Alternative, Mapped, Optional, Denied, Both, Looked, Rewound, Tried, Separator, Item}
 use Rattle.chumsky_recursive.specs.declared.frames.Todo.{Todo}
 use Rattle.chumsky_recursive.specs.declared.frames.Todo.TheVariants.{Begin, Answer}
 use Rattle.chumsky_rules.specs.declared.kinds.NodeKind.{NodeKind}
@@ -45,7 +44,7 @@ module _ {Tok Cx St Er V : Type 0} {merged : Er → Er → Er} {safe : Type 0} (
 
 module _ {I Tok Sp Cu Er St Mk Cx V : Type 0} (source : input_trait.Ghosts I Cu Tok Sp) (errors : error_trait.Ghosts Er I Tok Sp) (states : inspector_trait.Ghosts St I Mk Tok Sp) (a : Acts Tok Cx states.Seen errors.Seen V) (g : Tables) where
   -- a stop of its part is one of the node that waits
-  halts : (f : Frame V Cu Mk Er) (u t : Begun Tok Cx states.Seen errors.Seen) {new : Held Tok Cx states.Seen errors.Seen} (s : Stop) → Keeps source errors states a g f u.wanted t → Goes source errors states a g f u t
+  halts : (f : FullFrame V Cu Mk Er) (u t : Begun Tok Cx states.Seen errors.Seen) {new : Held Tok Cx states.Seen errors.Seen} (s : Stop) → Keeps source errors states a g f u.wanted t → Goes source errors states a g f u t
       → Ran errors.merged errors.takes_no_memory (part_means source errors states a g t.more t.node) (asked_of f u.wanted) t.held new (Err (fault.Stop s)) → Answers source errors states a g u new (Err (fault.Stop s))
   halts (First second more w) u t {new} s k x h = x new (Err (fault.Stop s)) (failed h refl refl)
   halts (Second v) u t {new} s k x h = x new (Err (fault.Stop s)) (failed h refl refl)
@@ -69,7 +68,7 @@ module _ {I Tok Sp Cu Er St Mk Cx V : Type 0} (source : input_trait.Ghosts I Cu 
   halts (Item p start back) u t {new} s k x h = item_stops source errors states a g p start back u t x new s h
 
   -- another node in the place of the one that runs
-  pub instead : (fs : List (Frame V Cu Mk Er)) (s u t : Begun Tok Cx states.Seen errors.Seen) → Wait source errors states a g fs s u → t.wanted ≡ u.wanted → ((new : Held Tok Cx states.Seen errors.Seen) (r : Result (Option V) Fault) → Answers source errors states a g t new r → Answers source errors states a g u new r) → Wait source errors states a g fs s t
+  pub instead : (fs : List (FullFrame V Cu Mk Er)) (s u t : Begun Tok Cx states.Seen errors.Seen) → Wait source errors states a g fs s u → t.wanted ≡ u.wanted → ((new : Held Tok Cx states.Seen errors.Seen) (r : Result (Option V) Fault) → Answers source errors states a g t new r → Answers source errors states a g u new r) → Wait source errors states a g fs s t
   instead [] s u t (q, h) w k = (w ∙ q, λ new r x. h new r (k new r x))
   instead (f ∷ fs) s u t (v, x, y) w k = (v, x, instead fs v u t y w k)
 
@@ -78,7 +77,7 @@ module _ {I Tok Sp Cu Er St Mk Cx V : Type 0} (source : input_trait.Ghosts I Cu 
     does_on : {m : Meaning Tok Cx states.Seen errors.Seen V} {held : Held Tok Cx states.Seen errors.Seen} → Does source errors states a g m held u → Does source errors states a g m held s
     does_on {m} {held} k new r x = h new r (k new r (subst (λ b. Ran errors.merged errors.takes_no_memory m b held new r) (sym q) x))
 
-    goes_on : (f : Frame V Cu Mk Er) (t : Begun Tok Cx states.Seen errors.Seen) → Goes source errors states a g f u t → Goes source errors states a g f s t
+    goes_on : (f : FullFrame V Cu Mk Er) (t : Begun Tok Cx states.Seen errors.Seen) → Goes source errors states a g f u t → Goes source errors states a g f s t
     goes_on (First second more w) t k = does_on k
     goes_on (Second v) t k = does_on k
     goes_on (Alternative node more w next before) t k = does_on k
@@ -92,7 +91,7 @@ module _ {I Tok Sp Cu Er St Mk Cx V : Type 0} (source : input_trait.Ghosts I Cu 
     goes_on (Separator p before) t k = record { list = k.list; is_list = k.is_list; gathers = gathers_on source errors states a g k.list p s u q h k.gathers; marked = k.marked; below = k.below; part = k.part; same = k.same }
     goes_on (Item p start back) t k = record { list = k.list; is_list = k.is_list; now = k.now; gathers = gathers_on source errors states a g k.list p s u q h k.gathers; goes = k.goes }
 
-    lifted : (f : Frame V Cu Mk Er) (t : Begun Tok Cx states.Seen errors.Seen) → WaitsFor source errors states a g f u t → WaitsFor source errors states a g f s t
+    lifted : (f : FullFrame V Cu Mk Er) (t : Begun Tok Cx states.Seen errors.Seen) → WaitsFor source errors states a g f u t → WaitsFor source errors states a g f s t
     lifted f t k =
         record {
           asks = k.asks ∙ ap (asked_of f) q;
@@ -101,19 +100,19 @@ module _ {I Tok Sp Cu Er St Mk Cx V : Type 0} (source : input_trait.Ghosts I Cu 
         }
 
   -- one frame more
-  pub pushed : (fs : List (Frame V Cu Mk Er)) (f : Frame V Cu Mk Er) (s u t : Begun Tok Cx states.Seen errors.Seen) → Wait source errors states a g fs s u → WaitsFor source errors states a g f u t → Wait source errors states a g (fs ++ f ∷ []) s t
+  pub pushed : (fs : List (FullFrame V Cu Mk Er)) (f : FullFrame V Cu Mk Er) (s u t : Begun Tok Cx states.Seen errors.Seen) → Wait source errors states a g fs s u → WaitsFor source errors states a g f u t → Wait source errors states a g (fs ++ f ∷ []) s t
   pushed [] f s u t (q, h) k = (t, lifted s u q h f t k, (refl, λ new r x. x))
   pushed (x ∷ fs) f s u t (v, y, z) k = (v, y, pushed fs f v u t z k)
 
   -- the last frame taken off: its node, and the part that it waits for
-  pub popped : (fs : List (Frame V Cu Mk Er)) (f : Frame V Cu Mk Er) (s t : Begun Tok Cx states.Seen errors.Seen) → Wait source errors states a g (fs ++ f ∷ []) s t
+  pub popped : (fs : List (FullFrame V Cu Mk Er)) (f : FullFrame V Cu Mk Er) (s t : Begun Tok Cx states.Seen errors.Seen) → Wait source errors states a g (fs ++ f ∷ []) s t
       → (u : Begun Tok Cx states.Seen errors.Seen) × (v : Begun Tok Cx states.Seen errors.Seen) × Wait source errors states a g fs s u × WaitsFor source errors states a g f u v × (t.wanted ≡ v.wanted) × ((new : Held Tok Cx states.Seen errors.Seen) (r : Result (Option V) Fault) → Answers source errors states a g t new r → Answers source errors states a g v new r)
   popped [] f s t (v, x, (q, h)) = (s, v, (refl, λ new r y. y), x, q, h)
   popped (y ∷ fs) f s t (w, x, z) = let p = popped fs f w t z in (p.0, p.1, (w, x, p.2), p.3, p.4, p.5)
 
   module _ (built : IsBuilt g) where
     -- a node waits for a part that is there, or there is no memory for it
-    pub waits : {old new : List (Frame V Cu Mk Er)} {f : Frame V Cu Mk Er} {part more : ℕ} {wanted : Bool} {todo : Todo V} (now : Held Tok Cx states.Seen errors.Seen) (s u : Begun Tok Cx states.Seen errors.Seen) (k : NodeKind) → slice_get g.nodes part ≡ Some k → Waits old new f part more wanted todo
+    pub waits : {old new : List (FullFrame V Cu Mk Er)} {f : FullFrame V Cu Mk Er} {part more : ℕ} {wanted : Bool} {todo : Todo V} (now : Held Tok Cx states.Seen errors.Seen) (s u : Begun Tok Cx states.Seen errors.Seen) (k : NodeKind) → slice_get g.nodes part ≡ Some k → Waits old new f part more wanted todo
         → Wait source errors states a g old s u → WaitsFor source errors states a g f u (record { more = more; node = part; wanted = wanted; held = now }) → Left source errors states a g new s now todo
     waits {old} {new} {f} {part} {more} {wanted} {todo} now s u k e h w x =
         elim h.cases [
@@ -122,12 +121,12 @@ module _ {I Tok Sp Cu Er St Mk Cx V : Type 0} (source : input_trait.Ghosts I Cu 
         ]
 
   -- what the part of a frame answered, for a value or without one as its node runs
-  pub heard : {f : Frame V Cu Mk Er} {u t : Begun Tok Cx states.Seen errors.Seen} {new : Held Tok Cx states.Seen errors.Seen} {r : Result (Option V) Fault} → WaitsFor source errors states a g f u t → Answers source errors states a g t new r → Ran errors.merged errors.takes_no_memory (part_means source errors states a g t.more t.node) (asked_of f u.wanted) t.held new r
+  pub heard : {f : FullFrame V Cu Mk Er} {u t : Begun Tok Cx states.Seen errors.Seen} {new : Held Tok Cx states.Seen errors.Seen} {r : Result (Option V) Fault} → WaitsFor source errors states a g f u t → Answers source errors states a g t new r → Ran errors.merged errors.takes_no_memory (part_means source errors states a g t.more t.node) (asked_of f u.wanted) t.held new r
   heard {f} {u} {t} {new} {r} x h = subst (λ b. Ran errors.merged errors.takes_no_memory (part_means source errors states a g t.more t.node) b t.held new r) x.asks h
 
 module _ {I Tok Sp Cu Er St Mk Cx V : Type 0} (source : input_trait.Ghosts I Cu Tok Sp) (errors : error_trait.Ghosts Er I Tok Sp) (states : inspector_trait.Ghosts St I Mk Tok Sp) (a : Acts Tok Cx states.Seen errors.Seen V) (g : Tables) where
   -- the last frame hears of its part
-  pub hears : {old : List (Frame V Cu Mk Er)} (fs new : List (Frame V Cu Mk Er)) (f : Frame V Cu Mk Er) {todo : Todo V} (next : Todo V) {r : Result (Option V) Fault} (now then : Held Tok Cx states.Seen errors.Seen) (s : Begun Tok Cx states.Seen errors.Seen) → old ≡ fs ++ f ∷ [] → todo ≡ Answer r → Left source errors states a g old s now todo
+  pub hears : {old : List (FullFrame V Cu Mk Er)} (fs new : List (FullFrame V Cu Mk Er)) (f : FullFrame V Cu Mk Er) {todo : Todo V} (next : Todo V) {r : Result (Option V) Fault} (now then : Held Tok Cx states.Seen errors.Seen) (s : Begun Tok Cx states.Seen errors.Seen) → old ≡ fs ++ f ∷ [] → todo ≡ Answer r → Left source errors states a g old s now todo
       → ((s u t : Begun Tok Cx states.Seen errors.Seen) → Wait source errors states a g fs s u → WaitsFor source errors states a g f u t → Answers source errors states a g t now r → IfOk r (λ v. is_some v ≡ t.wanted) → Left source errors states a g new s then next)
       → Left source errors states a g new s then next
   hears {old} fs new f {todo} next {r} now then s e d h k =
@@ -136,13 +135,13 @@ module _ {I Tok Sp Cu Er St Mk Cx V : Type 0} (source : input_trait.Ghosts I Cu 
       k s p.0 p.1 p.2 p.3 (p.5 now r l.2) (subst (λ b. IfOk r (λ v. is_some v ≡ b)) p.4 l.3)
 
   -- with no frame left, the node that began first has answered
-  pub answers : {old : List (Frame V Cu Mk Er)} {todo : Todo V} {r : Result (Option V) Fault} (now : Held Tok Cx states.Seen errors.Seen) (s : Begun Tok Cx states.Seen errors.Seen) → old ≡ [] → todo ≡ Answer r → Left source errors states a g old s now todo → Answers source errors states a g s now r × IfOk r (λ v. is_some v ≡ s.wanted)
+  pub answers : {old : List (FullFrame V Cu Mk Er)} {todo : Todo V} {r : Result (Option V) Fault} (now : Held Tok Cx states.Seen errors.Seen) (s : Begun Tok Cx states.Seen errors.Seen) → old ≡ [] → todo ≡ Answer r → Left source errors states a g old s now todo → Answers source errors states a g s now r × IfOk r (λ v. is_some v ≡ s.wanted)
   answers {old} {todo} {r} now s e d h =
       let l : Left source errors states a g [] s now (Answer r) = rw (e, d) at h in
       (l.1.1 now r l.2, subst (λ b. IfOk r (λ v. is_some v ≡ b)) l.1.0 l.3)
 
-  pub of_answer : {todo : Todo V} {r : Result (Option V) Fault} (fs : List (Frame V Cu Mk Er)) (now : Held Tok Cx states.Seen errors.Seen) (s : Begun Tok Cx states.Seen errors.Seen) → todo ≡ Answer r → Left source errors states a g fs s now todo → Left source errors states a g fs s now (Answer r)
+  pub of_answer : {todo : Todo V} {r : Result (Option V) Fault} (fs : List (FullFrame V Cu Mk Er)) (now : Held Tok Cx states.Seen errors.Seen) (s : Begun Tok Cx states.Seen errors.Seen) → todo ≡ Answer r → Left source errors states a g fs s now todo → Left source errors states a g fs s now (Answer r)
   of_answer {todo} {r} fs now s e h = rw e at h
 
-  pub of_begin : {todo : Todo V} {node more : ℕ} {wanted : Bool} (fs : List (Frame V Cu Mk Er)) (now : Held Tok Cx states.Seen errors.Seen) (s : Begun Tok Cx states.Seen errors.Seen) → todo ≡ Begin node more wanted → Left source errors states a g fs s now todo → Wait source errors states a g fs s (record { more = more; node = node; wanted = wanted; held = now })
+  pub of_begin : {todo : Todo V} {node more : ℕ} {wanted : Bool} (fs : List (FullFrame V Cu Mk Er)) (now : Held Tok Cx states.Seen errors.Seen) (s : Begun Tok Cx states.Seen errors.Seen) → todo ≡ Begin node more wanted → Left source errors states a g fs s now todo → Wait source errors states a g fs s (record { more = more; node = node; wanted = wanted; held = now })
   of_begin {todo} {node} {more} {wanted} fs now s e h = rw e at h

@@ -14,8 +14,7 @@ use Rattle.chumsky_input.specs.Outcome.{Event}
 use Rattle.chumsky_input.specs.Run.{Fails, KeepsPast, marked_here, gone_back}
 use Rattle.chumsky_parser.specs.Failure.{wanting}
 use Rattle.chumsky_shield.specs.Shielded.{something_else, FailsAsOne}
-use Rattle.chumsky_recursive.specs.declared.frames.Frame.{Frame}
-use Rattle.chumsky_recursive.specs.declared.frames.Frame.TheVariants.{Denied, Looked, Rewound}
+use Rattle.chumsky_recursive.specs.Beside.{FullFrame, Denied, Looked, Rewound}
 use Rattle.chumsky_recursive.specs.declared.frames.Todo.{Todo}
 use Rattle.chumsky_recursive.specs.declared.frames.Todo.TheVariants.{Answer}
 use Rattle.chumsky_recursive.specs.Frames.{Makes, Waits}
@@ -27,12 +26,12 @@ module _ {Tok Cx St Er V : Type 0} where
 
 module _ {I Tok Sp Cu Er St Mk Cx V : Type 0} (source : input_trait.Ghosts I Cu Tok Sp) (errors : error_trait.Ghosts Er I Tok Sp) (states : inspector_trait.Ghosts St I Mk Tok Sp) where
   -- `not` begins: its part runs without a value from a checkpoint of here, with nothing kept
-  pub record WaitsDenied (old new : List (Frame V Cu Mk Er)) (wanted : Bool) (part more : ℕ) (was now : Held Tok Cx states.Seen errors.Seen) (todo : Todo V) : Type 0 where
+  pub record WaitsDenied (old new : List (FullFrame V Cu Mk Er)) (wanted : Bool) (part more : ℕ) (was now : Held Tok Cx states.Seen errors.Seen) (todo : Todo V) : Type 0 where
     pub cases : ((before : Checkpoint Cu Mk) × (older : Option (Located Er)) × (marks source states before ≡ marked_here states.mark was) × (option_map (located errors.seen) older ≡ was.kept) × (now ≡ record was { kept = None }) × Waits old new (Denied wanted before older) part more false todo)
         ⊎ ((states.takes_no_memory → ⊥) × (now ≡ was) × (todo ≡ Answer (Err (fault.Stop Memory))) × (new ≡ old))
 
   -- `rewind` begins: its part runs from here, with nothing kept
-  pub record WaitsRewound (old new : List (Frame V Cu Mk Er)) (part more : ℕ) (wanted : Bool) (was now : Held Tok Cx states.Seen errors.Seen) (todo : Todo V) : Type 0 where
+  pub record WaitsRewound (old new : List (FullFrame V Cu Mk Er)) (part more : ℕ) (wanted : Bool) (was now : Held Tok Cx states.Seen errors.Seen) (todo : Todo V) : Type 0 where
     pub start : Cu
     pub older : Option (Located Er)
     pub tokens : source.cursor_tokens start ≡ was.tokens
@@ -42,7 +41,7 @@ module _ {I Tok Sp Cu Er St Mk Cx V : Type 0} (source : input_trait.Ghosts I Cu 
     pub waits : Waits old new (Rewound start older) part more wanted todo
 
   -- after its first part, `and_is` has the second run without a value from where the first began; after a no it has gone back
-  abbrev pub LooksNext : List (Frame V Cu Mk Er) → List (Frame V Cu Mk Er) → ℕ → ℕ → Marks Tok states.Marked → Result (Option V) Fault → Held Tok Cx states.Seen errors.Seen → Held Tok Cx states.Seen errors.Seen → Todo V → Type 0
+  abbrev pub LooksNext : List (FullFrame V Cu Mk Er) → List (FullFrame V Cu Mk Er) → ℕ → ℕ → Marks Tok states.Marked → Result (Option V) Fault → Held Tok Cx states.Seen errors.Seen → Held Tok Cx states.Seen errors.Seen → Todo V → Type 0
   LooksNext old new other more m (Ok v) was now todo = (past : Cu) × (source.cursor_tokens past ≡ was.tokens) × (source.place past ≡ was.place) × (now ≡ record was { tokens = m.tokens; place = m.place }) × Waits old new (Looked v past) other more false todo
   LooksNext old new other more m (Err fault.Fail) was now todo = (new ≡ old) × (r : Result (Option V) Fault) × (todo ≡ Answer r) × (((now ≡ gone_back states.back was m) × (r ≡ Err fault.Fail)) ⊎ CantGoBack states.takes_no_memory was now r)
   LooksNext old new other more m (Err (fault.Stop s)) was now todo = (new ≡ old) × (now ≡ was) × (todo ≡ Answer (Err (fault.Stop s)))

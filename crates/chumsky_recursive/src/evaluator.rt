@@ -4,11 +4,13 @@ ghost use Rattle.chumsky_input.specs.Held.{held};
 ghost use Rattle.chumsky_input.specs.Run.{Ran};
 ghost use Rattle.chumsky_rules.specs.Closed.{IsClosed};
 ghost use Rattle.chumsky_recursive.specs.Means.{acts_of, part_means, call_means};
+ghost use Rattle.chumsky_recursive.specs.Beside.{IsFlat};
 ghost use Rattle.chumsky_recursive.specs.Frames.{Begun, Left, IsKnown, IsThere};
 ghost use Rattle.chumsky_recursive.specs.Weight.{total, HasRoom};
 
 use crate::actions::Actions;
-use crate::frames::{Frame, Todo};
+use crate::frames::Todo;
+use crate::stack::Stack;
 use crate::steps::{begin, body_of, hear};
 use chumsky_input::extra::ParserExtra;
 use chumsky_input::input::Input;
@@ -29,28 +31,30 @@ use chumsky_rules::rules::Rules;
 pub fn step<'src, I: Input<'src>, E: ParserExtra<I>, A: Actions<'src, I, E>>(
     actions: &A,
     rules: &Rules,
-    frames: &mut Vec<Frame<A::Value, I::Cursor, <E::State as Inspector<I>>::Mark, E::Error>>,
+    stack: &mut Stack<A::Value, I::Cursor, <E::State as Inspector<I>>::Mark, E::Error>,
     todo: Todo<A::Value>,
     inp: &mut InputRef<'src, '_, I, E>,
 ) -> Result<Todo<A::Value>, PResult<Option<A::Value>>>
     requires closed { IsClosed rules.now (A.leaf_count actions.now) }
     requires ready { A.ready actions.now }
-    requires known { All (IsKnown I.Input E.State.Inspector rules.now.nodes (held I.Input E.Error.Error E.State.Inspector inp.old).tokens) frames.old.items }
+    requires known { All (IsKnown I.Input E.State.Inspector rules.now.nodes (held I.Input E.Error.Error E.State.Inspector inp.old).tokens) stack.old.frames }
     requires there { IsThere (length rules.now.nodes) todo }
-    ensures room { IfOk result (λ next. (limit : ℕ) → HasRoom limit (length rules.now.nodes) frames.old.items todo → HasRoom limit (length rules.now.nodes) frames.new.items next) }
-    ensures left { IfOk result (λ next. (s : Begun I.Token E.Context E.State.Seen E.Error.Seen) → Left I.Input E.Error.Error E.State.Inspector (acts_of I.Input E.Error.Error E.State.Inspector (A.leaf_meaning actions.now) (A.pair_gives actions.now) (A.option_gives actions.now) (A.unit_gives actions.now) (A.map_gives actions.now) (A.try_gives actions.now) (A.list_gives actions.now)) rules.now frames.old.items s (held I.Input E.Error.Error E.State.Inspector inp.old) todo → Left I.Input E.Error.Error E.State.Inspector (acts_of I.Input E.Error.Error E.State.Inspector (A.leaf_meaning actions.now) (A.pair_gives actions.now) (A.option_gives actions.now) (A.unit_gives actions.now) (A.map_gives actions.now) (A.try_gives actions.now) (A.list_gives actions.now)) rules.now frames.new.items s (held I.Input E.Error.Error E.State.Inspector inp.new) next) }
-    ensures known { All (IsKnown I.Input E.State.Inspector rules.now.nodes (held I.Input E.Error.Error E.State.Inspector inp.old).tokens) frames.new.items }
+    requires flat { IsFlat stack.old }
+    ensures room { IfOk result (λ next. (limit : ℕ) → HasRoom limit (length rules.now.nodes) stack.old.frames todo → HasRoom limit (length rules.now.nodes) stack.new.frames next) }
+    ensures left { IfOk result (λ next. (s : Begun I.Token E.Context E.State.Seen E.Error.Seen) → Left I.Input E.Error.Error E.State.Inspector (acts_of I.Input E.Error.Error E.State.Inspector (A.leaf_meaning actions.now) (A.pair_gives actions.now) (A.option_gives actions.now) (A.unit_gives actions.now) (A.map_gives actions.now) (A.try_gives actions.now) (A.list_gives actions.now)) rules.now stack.old.frames s (held I.Input E.Error.Error E.State.Inspector inp.old) todo → Left I.Input E.Error.Error E.State.Inspector (acts_of I.Input E.Error.Error E.State.Inspector (A.leaf_meaning actions.now) (A.pair_gives actions.now) (A.option_gives actions.now) (A.unit_gives actions.now) (A.map_gives actions.now) (A.try_gives actions.now) (A.list_gives actions.now)) rules.now stack.new.frames s (held I.Input E.Error.Error E.State.Inspector inp.new) next) }
+    ensures known { All (IsKnown I.Input E.State.Inspector rules.now.nodes (held I.Input E.Error.Error E.State.Inspector inp.old).tokens) stack.new.frames }
     ensures there { IfOk result (IsThere (length rules.now.nodes)) }
-    ensures lighter { IfOk result (λ next. total (length rules.now.nodes) frames.new.items next < total (length rules.now.nodes) frames.old.items todo) }
-    ensures ends { IfErr result (λ r. (todo ≡ Todo.Answer r) × (frames.old.items ≡ []) × (held I.Input E.Error.Error E.State.Inspector inp.new ≡ held I.Input E.Error.Error E.State.Inspector inp.old)) }
+    ensures flat { IsFlat stack.new }
+    ensures lighter { IfOk result (λ next. total (length rules.now.nodes) stack.new.frames next < total (length rules.now.nodes) stack.old.frames todo) }
+    ensures ends { IfErr result (λ r. (todo ≡ Todo.Answer r) × (stack.old.frames ≡ []) × (held I.Input E.Error.Error E.State.Inspector inp.new ≡ held I.Input E.Error.Error E.State.Inspector inp.old)) }
     ensures tokens { (held I.Input E.Error.Error E.State.Inspector inp.new).tokens ≡ (held I.Input E.Error.Error E.State.Inspector inp.old).tokens }
     ensures lent { inp.new.state.ghost_name ≡ inp.old.state.ghost_name }
 {
     match todo {
         Todo::Begin(node, more, wanted) => {
-            Ok(begin(actions, rules, frames, node, more, wanted, inp))
+            Ok(begin(actions, rules, stack, node, more, wanted, inp))
         }
-        Todo::Answer(answer) => hear(actions, rules, frames, answer, inp),
+        Todo::Answer(answer) => hear(actions, rules, stack, answer, inp),
     }
 }
 
@@ -70,10 +74,10 @@ fn run<'src, I: Input<'src>, E: ParserExtra<I>, A: Actions<'src, I, E>>(
     ensures there { IfOk result (λ v. is_some v ≡ wanted) }
     ensures lent { inp.new.state.ghost_name ≡ inp.old.state.ghost_name }
 {
-    let mut frames = Vec::new(inp.alloc);
+    let mut stack = Stack::new(inp.alloc);
     let mut todo = Todo::Begin(start, more, wanted);
     'steps: loop {
-        match step(actions, rules, &mut frames, todo, inp) {
+        match step(actions, rules, &mut stack, todo, inp) {
             Ok(next) => todo = next,
             Err(answer) => return answer,
         }

@@ -11,6 +11,8 @@ pub mod laws;
 pub mod leaves;
 mod lists;
 mod optional;
+pub mod stack;
 pub mod steady;
 mod steps;
 mod values;
+mod waits;
