@@ -1,10 +1,10 @@
 -- What is put on a stack and taken off it.
 use Rattle.std.specs.Prelude.{option_to_list}
 use Rattle.std.proofs.Common.{◌≡◌, ℕ, suc, ◌+◌, ◌≤◌, List, [], ◌∷◌, ◌++◌, length, take, drop, Option, Some, None, refl, sym, ◌∙◌, ap, ◌-◌, subst, arith, length-append, take-append-drop}
-use Rattle.std.proofs.lemmas.List.{drop-drop, drop-append-le, take-append-le, nil_from_length, take_all, drop_all, length-drop}
+use Rattle.std.proofs.lemmas.List.{drop-drop, drop-append-le, take-append-le, take_all, drop_all, length-drop}
 use Rattle.chumsky_input.specs.declared.input_ref.Located.{Located}
 use Rattle.chumsky_recursive.specs.declared.frames.Frame.{Frame}
-use Rattle.chumsky_recursive.specs.Beside.{FullFrame, first_of, values_at, kept_at, owned, whole, beside, Stacked, stacked, Suffices}
+use Rattle.chumsky_recursive.specs.Beside.{first_of, values_at, kept_at, owned, whole, beside, Stacked, stacked, Suffices}
 
 -- the value that there is, if any
 pub first_of-option_to_list : {V : Type 0} (v : Option V) → first_of (option_to_list v) ≡ v

@@ -1,7 +1,7 @@
 -- Frames, weights and bounds where a list node begins, and where it hears of a part.
-use Rattle.std.specs.Prelude.{IfOk, is_some}
+use Rattle.std.specs.Prelude.{is_some}
 use Rattle.std.specs.List.{All}
-use Rattle.std.proofs.Common.{◌≡◌, ℕ, zero, suc, ◌+◌, ◌-◌, ◌*◌, ◌^◌, ◌<◌, ◌≤◌, Bool, true, false, Option, Some, None, List, slice_get, length, nat_eq, refl, sym, ◌∙◌, ap, subst, arith, Result, Ok, Err, inl, inr}
+use Rattle.std.proofs.Common.{◌≡◌, ℕ, ◌+◌, ◌-◌, ◌*◌, ◌^◌, ◌<◌, ◌≤◌, Bool, true, false, Option, Some, None, List, slice_get, length, nat_eq, refl, sym, ◌∙◌, ap, subst, arith, Result, Ok, Err, inl, inr}
 use Rattle.std.specs.declared.alloc.AllocError.{AllocError}
 use Rattle.chumsky_input.specs.declared.inspector.Inspector as inspector_trait
 use Rattle.chumsky_input.specs.declared.input.Input as input_trait
@@ -10,14 +10,13 @@ use Rattle.chumsky_input.specs.declared.stop.Fault.{Fault}
 use Rattle.chumsky_input.specs.declared.stop.Fault.TheVariants as fault
 use Rattle.chumsky_input.specs.declared.stop.Stop.{Stop}
 use Rattle.chumsky_input.specs.Held.{Held, Marks, marks}
-use Rattle.chumsky_input.specs.Run.{marked_here, gone_back}
 use Rattle.chumsky_items.specs.Repeating.{at_cap, is_stuck, fits}
 use Rattle.chumsky_rules.specs.declared.kinds.NodeKind.{NodeKind}
-use Rattle.chumsky_recursive.specs.Beside.{FullFrame, FullGathered, Separator, Item}
+use Rattle.chumsky_recursive.specs.Beside.{FullFrame, FullGathered}
 use Rattle.chumsky_recursive.specs.declared.frames.Todo.{Todo}
 use Rattle.chumsky_recursive.specs.declared.lists.Listing.{Listing}
-use Rattle.chumsky_recursive.specs.Frames.{Waits, lists_of, unless, separator_at, stays_at, IsKnown, IsThere}
-use Rattle.chumsky_recursive.specs.Lists.{ItemBegun, BeginsItem, RoundBegun, Unfull, NextRound, BeginsList, RoundFails, Unseparated, HearsSeparator, ItemTaken, ItemCounted, HearsItem, NextCount}
+use Rattle.chumsky_recursive.specs.Frames.{lists_of, separator_at, stays_at, IsKnown, IsThere}
+use Rattle.chumsky_recursive.specs.Lists.{ItemBegun, BeginsItem, RoundBegun, Unfull, NextRound, BeginsList, Unseparated, HearsSeparator, ItemTaken, ItemCounted, HearsItem, NextCount}
 use Rattle.chumsky_recursive.specs.Weight.{level, power, rounds, weight, total, IsBounded, Fits}
 use Rattle.chumsky_recursive.proofs.Begins.{waits_all, waits_there}
 use Rattle.chumsky_recursive.proofs.Gathering.{tried_is, counts_on}

@@ -1,5 +1,5 @@
 -- Frames with what lies beside them.
-use Rattle.std.specs.Prelude.{true, false, ◌≡◌, ℕ, ◌+◌, ◌≤◌, Bool, List, [], ◌∷◌, length, take, drop, Option, Some, None}
+use Rattle.std.specs.Prelude.{◌≡◌, ℕ, ◌+◌, ◌≤◌, Bool, List, [], ◌∷◌, length, take, drop, Option, Some, None}
 use Rattle.chumsky_input.specs.declared.input_ref.Checkpoint.{Checkpoint}
 use Rattle.chumsky_input.specs.declared.input_ref.Located.{Located}
 use Rattle.chumsky_parser.specs.Failure.{wanting}

@@ -12,7 +12,6 @@ use Rattle.chumsky_input.specs.Held.{Held, Marks, located, marks}
 use Rattle.chumsky_input.specs.Outcome.{Meaning}
 use Rattle.chumsky_input.specs.Run.{Ran, marked_here, gone_back}
 use Rattle.std.specs.Bool.{MatchBool}
-use Rattle.std.specs.declared.alloc.Global.{Global}
 use Rattle.chumsky_parser.specs.Items.{Next, End}
 use Rattle.chumsky_parser.specs.Steps.{AllSteps}
 use Rattle.chumsky_items.specs.Consumers.{Appends, Collected}

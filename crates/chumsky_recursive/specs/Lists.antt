@@ -1,8 +1,7 @@
 -- What list nodes do where they begin, and after an answer of a part.
-use Rattle.std.specs.Prelude.{◌≡◌, ℕ, ◌+◌, ◌^◌, ◌<◌, Bool, true, false, not, ◌&&◌, List, ◌∷◌, [], ◌++◌, Option, Some, None, option_map, is_some, Result, Ok, Err, ◌⊎◌, ⊤, nat_eq, nat_lt, nat_le}
+use Rattle.std.specs.Prelude.{◌≡◌, ℕ, ◌+◌, ◌^◌, ◌<◌, Bool, true, false, List, ◌∷◌, [], ◌++◌, Option, Some, None, Result, Ok, Err, ◌⊎◌, ⊤, nat_eq, nat_lt}
 use Rattle.std.specs.Bool.{MatchBool}
 use Rattle.std.specs.declared.alloc.AllocError.{AllocError}
-use Rattle.chumsky_input.specs.declared.error.Error as error_trait
 use Rattle.chumsky_input.specs.declared.inspector.Inspector as inspector_trait
 use Rattle.chumsky_input.specs.declared.input.Input as input_trait
 use Rattle.chumsky_input.specs.declared.input_ref.Checkpoint.{Checkpoint}
@@ -11,18 +10,15 @@ use Rattle.chumsky_input.specs.declared.stop.Fault.TheVariants as fault
 use Rattle.chumsky_input.specs.declared.stop.Stop.{Stop}
 use Rattle.chumsky_input.specs.declared.stop.Stop.TheVariants.{Memory, NoProgress, CountTooLarge}
 use Rattle.chumsky_input.specs.Held.{Held, marks}
-use Rattle.chumsky_input.specs.Outcome.{Meaning}
 use Rattle.chumsky_input.specs.Run.{marked_here, gone_back}
 use Rattle.chumsky_parser.specs.Failure.{wanting}
 use Rattle.chumsky_items.specs.Repeating.{at_cap, fits, is_stuck}
-use Rattle.chumsky_rules.specs.declared.kinds.NodeKind.{NodeKind}
-use Rattle.chumsky_rules.specs.declared.kinds.NodeKind.TheVariants.{Leaf, Rule, Then, Choice, Repeated, SeparatedBy, OrNot, Not, AndIs, Rewind, Map, TryMap}
 use Rattle.chumsky_recursive.specs.Beside.{FullFrame, FullGathered, Separator, Item}
 use Rattle.chumsky_recursive.specs.declared.frames.Todo.{Todo}
 use Rattle.chumsky_recursive.specs.declared.frames.Todo.TheVariants.{Answer}
 use Rattle.chumsky_recursive.specs.declared.lists.Listing.{Listing}
 use Rattle.chumsky_recursive.specs.Ahead.{CantGoBack}
-use Rattle.chumsky_recursive.specs.Frames.{Makes, Waits, lists_of, asks_at, separator_at, stays_at}
+use Rattle.chumsky_recursive.specs.Frames.{Makes, Waits, asks_at, separator_at, stays_at}
 
 -- one more item is counted, or refused
 abbrev pub NextCount : Bool → Bool → ℕ → Result ℕ Stop → Type 0

@@ -55,7 +55,7 @@ impl Gathered {
     ghost use Rattle.chumsky_recursive.specs.CountWhere.{count_where};
 
     /// How many values of items lie beside its frame.
-    #[inline]
+    #[inline(always)]
     pub(crate) fn values(self) -> usize
         ensures { result ≡ count_where self.wanted self.count }
     {
@@ -63,7 +63,7 @@ impl Gathered {
     }
 
     /// The list with so many items.
-    #[inline]
+    #[inline(always)]
     pub(crate) fn with_count(self, count: usize) -> Gathered
         ensures { result ≡ record self { count = count } }
     {

@@ -33,7 +33,7 @@ pub(crate) struct Listing {
 }
 
 /// Of which parts `repeated` is made.
-#[inline]
+#[inline(always)]
 pub(crate) fn repeated_list(item: Node, at_least: usize, at_most: Option<usize>) -> Listing
     ensures { result ≡ record { item = item; separator = None; at_least = at_least; at_most = at_most; leading = false; trailing = false } }
 {
@@ -48,7 +48,7 @@ pub(crate) fn repeated_list(item: Node, at_least: usize, at_most: Option<usize>)
 }
 
 /// Of which parts `separated_by` is made.
-#[inline]
+#[inline(always)]
 pub(crate) fn separated_list(item: Node, separator: Node, bounds: &SepCfg) -> Listing
     ensures { result ≡ record { item = item; separator = Some separator; at_least = bounds.now.at_least; at_most = bounds.now.at_most; leading = bounds.now.allow_leading; trailing = bounds.now.allow_trailing } }
 {
@@ -63,7 +63,7 @@ pub(crate) fn separated_list(item: Node, separator: Node, bounds: &SepCfg) -> Li
 }
 
 /// What a list node is made of.
-#[inline]
+#[inline(always)]
 pub(crate) fn parts_of(kind: &NodeKind) -> Option<Listing>
     ensures { result ≡ lists_of (Some kind.now) }
 {
@@ -88,7 +88,7 @@ pub(crate) fn parts_of(kind: &NodeKind) -> Option<Listing>
 }
 
 /// Whether there are as many items as the cap allows.
-#[inline]
+#[inline(always)]
 fn is_full(at_most: Option<usize>, count: usize) -> bool
     ensures { result ≡ at_cap at_most count }
 {
@@ -99,7 +99,7 @@ fn is_full(at_most: Option<usize>, count: usize) -> bool
 }
 
 /// Whether progress is asked of the next item.
-#[inline]
+#[inline(always)]
 fn asks_progress(list: &Listing, count: usize) -> bool
     ensures { result ≡ asks_at list.now count }
 {
@@ -113,7 +113,7 @@ fn asks_progress(list: &Listing, count: usize) -> bool
 }
 
 /// The separator that is tried before the next item.
-#[inline]
+#[inline(always)]
 fn separator_before(list: &Listing, count: usize) -> Option<Node>
     ensures { result ≡ separator_at list.now count }
 {
@@ -125,7 +125,7 @@ fn separator_before(list: &Listing, count: usize) -> Option<Node>
 }
 
 /// Whether the separator before the next item stays though none follows.
-#[inline]
+#[inline(always)]
 fn stays_behind(list: &Listing, count: usize) -> bool
     ensures { result ≡ stays_at list.now count }
 {
@@ -133,7 +133,7 @@ fn stays_behind(list: &Listing, count: usize) -> bool
 }
 
 /// How many items there are with one more.
-#[inline]
+#[inline(always)]
 fn next_count(asked: bool, start: usize, end: usize, count: usize) -> Result<usize, Stop>
     ensures { NextCount (is_stuck asked start end) (fits count) count result }
 {
@@ -147,7 +147,7 @@ fn next_count(asked: bool, start: usize, end: usize, count: usize) -> Result<usi
 }
 
 /// Lets go of the values of a list, and answers with a stop.
-#[inline]
+#[inline(always)]
 fn give_up<V: Drop, P: Drop, M: Drop, R: Drop>(
     stack: &mut Stack<V, P, M, R>,
     list: Gathered,
@@ -184,7 +184,7 @@ fn wait_for<V: Drop, P: Drop, M: Drop, R: Drop>(
 }
 
 /// Puts a value to the others, where they are wanted. One that is missing there counts as want of memory.
-#[inline]
+#[inline(always)]
 fn append<V: Drop, P: Drop, M: Drop, R: Drop>(
     stack: &mut Stack<V, P, M, R>,
     wanted: bool,
@@ -218,7 +218,7 @@ fn append<V: Drop, P: Drop, M: Drop, R: Drop>(
 }
 
 /// The end of a list after its last item, unless it has too few.
-#[inline]
+#[inline(always)]
 fn end<'src, I: Input<'src>, E: ParserExtra<I>, A: Actions<'src, I, E>>(
     actions: &A,
     alloc: Global,
@@ -239,6 +239,7 @@ fn end<'src, I: Input<'src>, E: ParserExtra<I>, A: Actions<'src, I, E>>(
 }
 
 /// Begins an item; it has a checkpoint of its own where the separator before it stays though it fails.
+#[inline(always)]
 fn begin_item<'src, I: Input<'src>, E: ParserExtra<I>, V: Drop>(
     stack: &mut Stack<V, I::Cursor, <E::State as Inspector<I>>::Mark, E::Error>,
     list: &Listing,
@@ -271,6 +272,7 @@ fn begin_item<'src, I: Input<'src>, E: ParserExtra<I>, V: Drop>(
 }
 
 /// Begins the next round of a list, by its separator or its item; at the cap the list ends.
+#[inline(always)]
 pub(crate) fn next_round<'src, I: Input<'src>, E: ParserExtra<I>, A: Actions<'src, I, E>>(
     actions: &A,
     stack: &mut Stack<A::Value, I::Cursor, <E::State as Inspector<I>>::Mark, E::Error>,
@@ -304,7 +306,7 @@ pub(crate) fn next_round<'src, I: Input<'src>, E: ParserExtra<I>, A: Actions<'sr
 }
 
 /// Begins a list.
-#[inline]
+#[inline(always)]
 pub(crate) fn begin_list<'src, I: Input<'src>, E: ParserExtra<I>, A: Actions<'src, I, E>>(
     actions: &A,
     stack: &mut Stack<A::Value, I::Cursor, <E::State as Inspector<I>>::Mark, E::Error>,
@@ -329,6 +331,7 @@ pub(crate) fn begin_list<'src, I: Input<'src>, E: ParserExtra<I>, A: Actions<'sr
 
 /// What a list does after its separator: the item begins, or the round has failed. Before the first item a separator may
 /// be missing.
+#[inline(always)]
 pub(crate) fn hear_separator<'src, I: Input<'src>, E: ParserExtra<I>, A: Actions<'src, I, E>>(
     actions: &A,
     stack: &mut Stack<A::Value, I::Cursor, <E::State as Inspector<I>>::Mark, E::Error>,
@@ -361,6 +364,7 @@ pub(crate) fn hear_separator<'src, I: Input<'src>, E: ParserExtra<I>, A: Actions
 }
 
 /// What a list does after an item: it is put to the others, and a round begins; or the round has failed.
+#[inline(always)]
 pub(crate) fn hear_item<'src, I: Input<'src>, E: ParserExtra<I>, A: Actions<'src, I, E>>(
     actions: &A,
     stack: &mut Stack<A::Value, I::Cursor, <E::State as Inspector<I>>::Mark, E::Error>,

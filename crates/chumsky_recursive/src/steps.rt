@@ -27,7 +27,7 @@ use chumsky_rules::kinds::{Node, NodeKind, Recursive};
 use chumsky_rules::rules::Rules;
 
 /// What a node does.
-#[inline]
+#[inline(always)]
 fn kind_of(rules: &Rules, node: Node) -> &NodeKind
     requires { node < length rules.now.nodes }
     ensures { slice_get rules.now.nodes node ≡ Some result.now }
@@ -37,7 +37,7 @@ fn kind_of(rules: &Rules, node: Node) -> &NodeKind
 }
 
 /// The body of a rule.
-#[inline]
+#[inline(always)]
 pub(crate) fn body_of(rules: &Rules, rule: Recursive) -> Node
     requires defined { (r : ℕ) → r < length rules.now.bodies → (b : ℕ) × (slice_get rules.now.bodies r ≡ Some (Some b)) }
     requires rule { rule < length rules.now.bodies }
@@ -51,7 +51,7 @@ pub(crate) fn body_of(rules: &Rules, rule: Recursive) -> Node
 }
 
 /// The alternative of a choice at a place, if there is one.
-#[inline]
+#[inline(always)]
 fn alternative(rules: &Rules, node: Node, place: usize) -> Option<Node>
     requires { node < length rules.now.nodes }
     ensures is { result ≡ slice_get (alternatives_of (slice_get rules.now.nodes node)) place }
@@ -74,7 +74,7 @@ fn alternative(rules: &Rules, node: Node, place: usize) -> Option<Node>
 }
 
 /// Of what a list node is made.
-#[inline]
+#[inline(always)]
 fn list_at(rules: &Rules, node: Node) -> Listing
     requires { is_some (lists_of (slice_get rules.now.nodes node)) ≡ true }
     ensures { lists_of (slice_get rules.now.nodes node) ≡ Some result }
@@ -86,6 +86,7 @@ fn list_at(rules: &Rules, node: Node) -> Listing
 }
 
 /// Begins a node.
+#[inline(always)]
 pub(crate) fn begin<'src, I: Input<'src>, E: ParserExtra<I>, A: Actions<'src, I, E>>(
     actions: &A,
     rules: &Rules,
@@ -153,6 +154,7 @@ pub(crate) fn begin<'src, I: Input<'src>, E: ParserExtra<I>, A: Actions<'src, I,
 }
 
 /// Lets a node that waits hear what its part answered.
+#[inline(always)]
 fn resume<'src, I: Input<'src>, E: ParserExtra<I>, A: Actions<'src, I, E>>(
     actions: &A,
     rules: &Rules,
@@ -257,6 +259,7 @@ fn resume<'src, I: Input<'src>, E: ParserExtra<I>, A: Actions<'src, I, E>>(
 }
 
 /// Lets the node that waits last hear of its part; where none waits, the answer is that of the run.
+#[inline(always)]
 pub(crate) fn hear<'src, I: Input<'src>, E: ParserExtra<I>, A: Actions<'src, I, E>>(
     actions: &A,
     rules: &Rules,

@@ -20,6 +20,7 @@ use chumsky_input::util::Plain;
 use std::alloc::Global;
 
 /// Runs a leaf, for its value where one is wanted.
+#[inline(always)]
 pub(crate) fn leaf<'src, I: Input<'src>, E: ParserExtra<I>, A: Actions<'src, I, E>>(
     actions: &A,
     n: usize,
@@ -53,6 +54,7 @@ pub(crate) fn nothing<'src, I: Input<'src>, E: ParserExtra<I>>(
 }
 
 /// The value of two parts, where both have one.
+#[inline(always)]
 pub(crate) fn pair<'src, I: Input<'src>, E: ParserExtra<I>, A: Actions<'src, I, E>>(
     actions: &A,
     alloc: Global,
@@ -125,6 +127,7 @@ pub(crate) fn unit<'src, I: Input<'src>, E: ParserExtra<I>, A: Actions<'src, I, 
 }
 
 /// The value of a list, where its items have theirs, which it takes from the stack.
+#[inline(always)]
 pub(crate) fn listed<'src, I: Input<'src>, E: ParserExtra<I>, A: Actions<'src, I, E>>(
     actions: &A,
     alloc: Global,
@@ -149,6 +152,7 @@ pub(crate) fn listed<'src, I: Input<'src>, E: ParserExtra<I>, A: Actions<'src, I
 }
 
 /// A value through a mapper, where there is one.
+#[inline(always)]
 pub(crate) fn map<'src, I: Input<'src>, E: ParserExtra<I>, A: Actions<'src, I, E>>(
     actions: &A,
     alloc: Global,
