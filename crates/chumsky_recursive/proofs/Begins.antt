@@ -16,8 +16,7 @@ use Rattle.chumsky_input.specs.Held.{Held, Marks, marks}
 use Rattle.chumsky_input.specs.Run.{Ran, Fails, marked_here}
 use Rattle.chumsky_parser.specs.Failure.{expects}
 use Rattle.chumsky_parser.proofs.ChoiceLemmas.{stands_at-marked}
-use Rattle.chumsky_recursive.specs.declared.frames.Frame.{Frame}
-use Rattle.chumsky_recursive.specs.declared.frames.Frame.TheVariants.{First, Alternative, Mapped}
+use Rattle.chumsky_recursive.specs.Beside.{FullFrame, First, Alternative, Mapped}
 use Rattle.chumsky_recursive.specs.declared.frames.Todo.{Todo}
 use Rattle.chumsky_recursive.specs.declared.frames.Todo.TheVariants.{Begin, Answer}
 use Rattle.chumsky_rules.specs.declared.kinds.NodeKind.TheVariants.{Leaf, Rule, Then, Choice, Map}
@@ -29,8 +28,8 @@ use Rattle.chumsky_recursive.proofs.Parts.{does, too_deep, calls}
 use Rattle.chumsky_recursive.proofs.Tries.{among-nothing, among-one, among-many, among-unmarked}
 use Rattle.chumsky_recursive.proofs.Waiting.{waits, instead}
 
-module _ {V Cu Mk Er : Type 0} {old new : List (Frame V Cu Mk Er)} {f : Frame V Cu Mk Er} {part more : ℕ} {wanted : Bool} {todo : Todo V} where
-  pub waits_all : (P : Frame V Cu Mk Er → Type 0) → Waits old new f part more wanted todo → P f → All P old → All P new
+module _ {V Cu Mk Er : Type 0} {old new : List (FullFrame V Cu Mk Er)} {f : FullFrame V Cu Mk Er} {part more : ℕ} {wanted : Bool} {todo : Todo V} where
+  pub waits_all : (P : FullFrame V Cu Mk Er → Type 0) → Waits old new f part more wanted todo → P f → All P old → All P new
   waits_all P h k all = elim h.cases [ inl e ↦ rw e.1 (All-push P old f all k) | inr e ↦ rw e.1 all ]
 
   pub waits_there : (nodes : ℕ) → Waits old new f part more wanted todo → part < nodes → IsThere nodes todo
@@ -47,7 +46,7 @@ node_at [] n h = absurd (omega (arith, h))
 node_at (x ∷ xs) zero h = (x, refl)
 node_at (x ∷ xs) (suc n) h = node_at xs n (omega (arith, h))
 
-module _ {I Tok Sp Cu Er St Mk Cx V : Type 0} (source : input_trait.Ghosts I Cu Tok Sp) (errors : error_trait.Ghosts Er I Tok Sp) (states : inspector_trait.Ghosts St I Mk Tok Sp) (a : Acts Tok Cx states.Seen errors.Seen V) (g : Tables) (built : IsBuilt g) (fs : List (Frame V Cu Mk Er)) (more n : ℕ) (wanted : Bool) (now : Held Tok Cx states.Seen errors.Seen) where
+module _ {I Tok Sp Cu Er St Mk Cx V : Type 0} (source : input_trait.Ghosts I Cu Tok Sp) (errors : error_trait.Ghosts Er I Tok Sp) (states : inspector_trait.Ghosts St I Mk Tok Sp) (a : Acts Tok Cx states.Seen errors.Seen V) (g : Tables) (built : IsBuilt g) (fs : List (FullFrame V Cu Mk Er)) (more n : ℕ) (wanted : Bool) (now : Held Tok Cx states.Seen errors.Seen) where
   abbrev here : Begun Tok Cx states.Seen errors.Seen
   here = record { more = more; node = n; wanted = wanted; held = now }
 
@@ -61,13 +60,13 @@ module _ {I Tok Sp Cu Er St Mk Cx V : Type 0} (source : input_trait.Ghosts I Cu 
   pub rule_left : (r b : ℕ) → slice_get g.nodes n ≡ Some (Rule r) → (more ≡ 0 → ⊥) → slice_get g.bodies r ≡ Some (Some b) → (s : Begun Tok Cx states.Seen errors.Seen) → Wait source errors states a g fs s here → Left source errors states a g fs s now (Begin b (more - 1) wanted)
   rule_left r b e z f s w = instead source errors states a g fs s here (record { more = more - 1; node = b; wanted = wanted; held = now }) w refl (λ new x h. does source errors states a g built more n (Rule r) e (calls source errors states a g more r b z f h))
 
-  pub then_left : {new : List (Frame V Cu Mk Er)} {todo : Todo V} (p q : ℕ) → slice_get g.nodes n ≡ Some (Then p q) → p < length g.nodes → Waits fs new (First q more wanted) p more wanted todo
+  pub then_left : {new : List (FullFrame V Cu Mk Er)} {todo : Todo V} (p q : ℕ) → slice_get g.nodes n ≡ Some (Then p q) → p < length g.nodes → Waits fs new (First q more wanted) p more wanted todo
       → (s : Begun Tok Cx states.Seen errors.Seen) → Wait source errors states a g fs s here → Left source errors states a g new s now todo
   then_left p q e l h s w =
       let k = node_at g.nodes p l in
       waits source errors states a g built now s here k.0 k.1 h w (record { asks = refl; keeps = refl; goes = λ x r y. does source errors states a g built more n (Then p q) e y })
 
-  pub map_left : {new : List (Frame V Cu Mk Er)} {todo : Todo V} (p f : ℕ) → slice_get g.nodes n ≡ Some (Map p f) → p < length g.nodes → Waits fs new (Mapped f) p more wanted todo
+  pub map_left : {new : List (FullFrame V Cu Mk Er)} {todo : Todo V} (p f : ℕ) → slice_get g.nodes n ≡ Some (Map p f) → p < length g.nodes → Waits fs new (Mapped f) p more wanted todo
       → (s : Begun Tok Cx states.Seen errors.Seen) → Wait source errors states a g fs s here → Left source errors states a g new s now todo
   map_left p f e l h s w =
       let k = node_at g.nodes p l in
@@ -84,7 +83,7 @@ module _ {I Tok Sp Cu Er St Mk Cx V : Type 0} (source : input_trait.Ghosts I Cu 
         instead source errors states a g fs s here (record { more = more; node = p; wanted = wanted; held = now }) w refl
         (λ new x h. does source errors states a g built more n (Choice v) e (among-one source errors states (part_means source errors states a g more) wanted now v.items p (rw e at f) (rw e at z) h))
 
-    pub many_left : {new : List (Frame V Cu Mk Er)} {todo : Todo V} (p q : ℕ) (before : Checkpoint Cu Mk) → slice_get (alternatives_of (slice_get g.nodes n)) 0 ≡ Some p → slice_get (alternatives_of (slice_get g.nodes n)) 1 ≡ Some q → p < length g.nodes
+    pub many_left : {new : List (FullFrame V Cu Mk Er)} {todo : Todo V} (p q : ℕ) (before : Checkpoint Cu Mk) → slice_get (alternatives_of (slice_get g.nodes n)) 0 ≡ Some p → slice_get (alternatives_of (slice_get g.nodes n)) 1 ≡ Some q → p < length g.nodes
         → marks source states before ≡ marked_here states.mark now → Waits fs new (Alternative n more wanted 1 before) p more wanted todo
         → (s : Begun Tok Cx states.Seen errors.Seen) → Wait source errors states a g fs s here → Left source errors states a g new s now todo
     many_left p q before f z l m h s w =

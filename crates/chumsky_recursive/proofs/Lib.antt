@@ -1,3 +1,4 @@
+pub mod Dealing
 pub mod Parts
 pub mod Tries
 pub mod Vetting

@@ -1,9 +1,7 @@
 -- Frames, weights and bounds where a list node begins, and where it hears of a part.
-use Rattle.std.specs.Prelude.{IfOk, is_some}
+use Rattle.std.specs.Prelude.{is_some}
 use Rattle.std.specs.List.{All}
-use Rattle.std.proofs.Common.{◌≡◌, ℕ, zero, suc, ◌+◌, ◌-◌, ◌*◌, ◌^◌, ◌<◌, ◌≤◌, Bool, true, false, Option, Some, None, List, slice_get, length, nat_eq, refl, sym, ◌∙◌, ap, subst, arith, Result, Ok, Err, inl, inr}
-use Rattle.std.specs.declared.vec.Vec.{Vec}
-use Rattle.std.specs.declared.alloc.Global.{Global}
+use Rattle.std.proofs.Common.{◌≡◌, ℕ, ◌+◌, ◌-◌, ◌*◌, ◌^◌, ◌<◌, ◌≤◌, Bool, true, false, Option, Some, None, List, slice_get, length, nat_eq, refl, sym, ◌∙◌, ap, subst, arith, Result, Ok, Err, inl, inr}
 use Rattle.std.specs.declared.alloc.AllocError.{AllocError}
 use Rattle.chumsky_input.specs.declared.inspector.Inspector as inspector_trait
 use Rattle.chumsky_input.specs.declared.input.Input as input_trait
@@ -12,16 +10,13 @@ use Rattle.chumsky_input.specs.declared.stop.Fault.{Fault}
 use Rattle.chumsky_input.specs.declared.stop.Fault.TheVariants as fault
 use Rattle.chumsky_input.specs.declared.stop.Stop.{Stop}
 use Rattle.chumsky_input.specs.Held.{Held, Marks, marks}
-use Rattle.chumsky_input.specs.Run.{marked_here, gone_back}
 use Rattle.chumsky_items.specs.Repeating.{at_cap, is_stuck, fits}
 use Rattle.chumsky_rules.specs.declared.kinds.NodeKind.{NodeKind}
-use Rattle.chumsky_recursive.specs.declared.frames.Frame.{Frame}
-use Rattle.chumsky_recursive.specs.declared.frames.Frame.TheVariants.{Separator, Item}
-use Rattle.chumsky_recursive.specs.declared.frames.Gathered.{Gathered}
+use Rattle.chumsky_recursive.specs.Beside.{FullFrame, FullGathered}
 use Rattle.chumsky_recursive.specs.declared.frames.Todo.{Todo}
 use Rattle.chumsky_recursive.specs.declared.lists.Listing.{Listing}
-use Rattle.chumsky_recursive.specs.Frames.{Waits, lists_of, unless, separator_at, stays_at, IsKnown, IsThere}
-use Rattle.chumsky_recursive.specs.Lists.{ItemBegun, BeginsItem, RoundBegun, Unfull, NextRound, BeginsList, RoundFails, Unseparated, HearsSeparator, ItemTaken, ItemCounted, HearsItem, NextCount}
+use Rattle.chumsky_recursive.specs.Frames.{lists_of, separator_at, stays_at, IsKnown, IsThere}
+use Rattle.chumsky_recursive.specs.Lists.{ItemBegun, BeginsItem, RoundBegun, Unfull, NextRound, BeginsList, Unseparated, HearsSeparator, ItemTaken, ItemCounted, HearsItem, NextCount}
 use Rattle.chumsky_recursive.specs.Weight.{level, power, rounds, weight, total, IsBounded, Fits}
 use Rattle.chumsky_recursive.proofs.Begins.{waits_all, waits_there}
 use Rattle.chumsky_recursive.proofs.Gathering.{tried_is, counts_on}
@@ -62,7 +57,7 @@ one_round : (k x : ℕ) → 0 < x → 0 < rounds k * x
 one_round k x h = omega arith
 
 module _ {I Tok Sp Cu Er Es St Mk Cx V : Type 0} (source : input_trait.Ghosts I Cu Tok Sp) (states : inspector_trait.Ghosts St I Mk Tok Sp) (lists : List V → V → Type 0) (l : Listing) (nodes : List NodeKind) where
-  module _ (old new : List (Frame V Cu Mk Er)) (p : Gathered V) (now : Held Tok Cx states.Seen Es) (todo : Todo V) where
+  module _ (old new : List (FullFrame V Cu Mk Er)) (p : FullGathered V) (now : Held Tok Cx states.Seen Es) (todo : Todo V) where
     module _ (before : Checkpoint Cu Mk) where
       item_known : (st : Bool) → ItemBegun source states l st old new p before now todo → is_some (lists_of (slice_get nodes p.node)) ≡ true → (marks source states before).tokens ≡ now.tokens → All (IsKnown source states nodes now.tokens) old → All (IsKnown source states nodes now.tokens) new
       item_known true (inl h) is at all = waits_all (IsKnown source states nodes now.tokens) h.2 (is, ap (λ (m : Marks Tok states.Marked). m.tokens) h.1) all
@@ -137,8 +132,8 @@ module _ {I Tok Sp Cu Er Es St Mk Cx V : Type 0} (source : input_trait.Ghosts I 
       round_bounded h = unfull_bounded (at_cap l.at_most p.count) h.round
 
   -- a list begins
-  module _ (old new : List (Frame V Cu Mk Er)) (n more : ℕ) (wanted : Bool) (now : Held Tok Cx states.Seen Es) (todo : Todo V) (is_list : lists_of (slice_get nodes n) ≡ Some l) (below : (l.item < n) × ((b : ℕ) → l.separator ≡ Some b → b < n)) (h : BeginsList source states lists l old new n more wanted now todo) where
-    abbrev first : Gathered V
+  module _ (old new : List (FullFrame V Cu Mk Er)) (n more : ℕ) (wanted : Bool) (now : Held Tok Cx states.Seen Es) (todo : Todo V) (is_list : lists_of (slice_get nodes n) ≡ Some l) (below : (l.item < n) × ((b : ℕ) → l.separator ≡ Some b → b < n)) (h : BeginsList source states lists l old new n more wanted now todo) where
+    abbrev first : FullGathered V
     first = record { node = n; more = more; wanted = wanted; count = 0; values = h.values }
 
     pub begin_known : All (IsKnown source states nodes now.tokens) old → All (IsKnown source states nodes now.tokens) new
@@ -158,8 +153,8 @@ module _ {I Tok Sp Cu Er Es St Mk Cx V : Type 0} (source : input_trait.Ghosts I 
     begin_bounded m bound r b = round_bounded old new first now todo below h.round m bound r b
 
   -- what a list does that hears of a part
-  module _ (old new : List (Frame V Cu Mk Er)) (p : Gathered V) (was now : Held Tok Cx states.Seen Es) (todo : Todo V) (same : now.tokens ≡ was.tokens) (is : is_some (lists_of (slice_get nodes p.node)) ≡ true) (below : (l.item < p.node) × ((b : ℕ) → l.separator ≡ Some b → b < p.node)) where
-    abbrev Known : List (Frame V Cu Mk Er) → Type 0
+  module _ (old new : List (FullFrame V Cu Mk Er)) (p : FullGathered V) (was now : Held Tok Cx states.Seen Es) (todo : Todo V) (same : now.tokens ≡ was.tokens) (is : is_some (lists_of (slice_get nodes p.node)) ≡ true) (below : (l.item < p.node) × ((b : ℕ) → l.separator ≡ Some b → b < p.node)) where
+    abbrev Known : List (FullFrame V Cu Mk Er) → Type 0
     Known fs = All (IsKnown source states nodes was.tokens) fs
 
     begins_known : (before : Checkpoint Cu Mk) → BeginsItem source states l old new p before now todo → (marks source states before).tokens ≡ was.tokens → Known old → Known new
@@ -206,8 +201,8 @@ module _ {I Tok Sp Cu Er Es St Mk Cx V : Type 0} (source : input_trait.Ghosts I 
     separator_bounded before (Err (fault.Stop s)) h m bound r b = rw (h.0, h.2) (b, tt)
 
   -- and of an item
-  module _ (old new : List (Frame V Cu Mk Er)) (p : Gathered V) (was now : Held Tok Cx states.Seen Es) (todo : Todo V) (same : now.tokens ≡ was.tokens) (is : is_some (lists_of (slice_get nodes p.node)) ≡ true) (below : (l.item < p.node) × ((b : ℕ) → l.separator ≡ Some b → b < p.node)) where
-    taken_known : (r : Result (Option (Vec V Global)) AllocError) (n : ℕ) → ItemTaken source states lists l old new p was todo r n → All (IsKnown source states nodes was.tokens) old → All (IsKnown source states nodes was.tokens) new
+  module _ (old new : List (FullFrame V Cu Mk Er)) (p : FullGathered V) (was now : Held Tok Cx states.Seen Es) (todo : Todo V) (same : now.tokens ≡ was.tokens) (is : is_some (lists_of (slice_get nodes p.node)) ≡ true) (below : (l.item < p.node) × ((b : ℕ) → l.separator ≡ Some b → b < p.node)) where
+    taken_known : (r : Result (Option (List V)) AllocError) (n : ℕ) → ItemTaken source states lists l old new p was todo r n → All (IsKnown source states nodes was.tokens) old → All (IsKnown source states nodes was.tokens) new
     taken_known (Ok ws) n h all = round_known old new (record p { count = n; values = ws }) was todo below h is all
     taken_known (Err e) n h all = rw h.0 all
 
@@ -220,7 +215,7 @@ module _ {I Tok Sp Cu Er Es St Mk Cx V : Type 0} (source : input_trait.Ghosts I 
     item_all start back (Err fault.Fail) h all = rw h.0 all
     item_all start back (Err (fault.Stop s)) h all = rw h.0 all
 
-    taken_there : (r : Result (Option (Vec V Global)) AllocError) (n : ℕ) → ItemTaken source states lists l old new p was todo r n → p.node < length nodes → IsThere (length nodes) todo
+    taken_there : (r : Result (Option (List V)) AllocError) (n : ℕ) → ItemTaken source states lists l old new p was todo r n → p.node < length nodes → IsThere (length nodes) todo
     taken_there (Ok ws) n h k = round_there old new (record p { count = n; values = ws }) was todo below h k
     taken_there (Err e) n h k = rw h.1 tt
 
@@ -236,7 +231,7 @@ module _ {I Tok Sp Cu Er Es St Mk Cx V : Type 0} (source : input_trait.Ghosts I 
     ends_lighter : (m : ℕ) → weight m old + 0 < weight m old + rounds p.count * power (level m p.more p.node)
     ends_lighter m = let z = one_round p.count (power (level m p.more p.node)) (power_pos (level m p.more p.node)) in omega (arith, z)
 
-    taken_lighter : (r : Result (Option (Vec V Global)) AllocError) (n : ℕ) → n ≡ p.count + 1 → p.count + 1 < 2 ^ 64 → ItemTaken source states lists l old new p was todo r n → (m : ℕ) → total m new todo < weight m old + rounds p.count * power (level m p.more p.node)
+    taken_lighter : (r : Result (Option (List V)) AllocError) (n : ℕ) → n ≡ p.count + 1 → p.count + 1 < 2 ^ 64 → ItemTaken source states lists l old new p was todo r n → (m : ℕ) → total m new todo < weight m old + rounds p.count * power (level m p.more p.node)
     taken_lighter (Ok ws) n e few h m =
         let z = round_lighter old new (record p { count = n; values = ws }) was todo below h m in
         let d : (rounds n + 4) * power (level m p.more p.node) ≡ rounds p.count * power (level m p.more p.node) = rw e (next_round p.count (power (level m p.more p.node)) few) in
@@ -252,7 +247,7 @@ module _ {I Tok Sp Cu Er Es St Mk Cx V : Type 0} (source : input_trait.Ghosts I 
     item_is_lighter start back (Err fault.Fail) h m = rw (h.0, h.2) (ends_lighter m)
     item_is_lighter start back (Err (fault.Stop s)) h m = rw (h.0, h.2) (ends_lighter m)
 
-    taken_bounded : (r : Result (Option (Vec V Global)) AllocError) (n : ℕ) → ItemTaken source states lists l old new p was todo r n → (m bound : ℕ) → level m p.more p.node + length old ≤ bound → IsBounded m bound 0 old → IsBounded m bound 0 new × Fits m bound (length new) todo
+    taken_bounded : (r : Result (Option (List V)) AllocError) (n : ℕ) → ItemTaken source states lists l old new p was todo r n → (m bound : ℕ) → level m p.more p.node + length old ≤ bound → IsBounded m bound 0 old → IsBounded m bound 0 new × Fits m bound (length new) todo
     taken_bounded (Ok ws) n h m bound r b = round_bounded old new (record p { count = n; values = ws }) was todo below h m bound r b
     taken_bounded (Err e) n h m bound r b = rw (h.0, h.1) (b, tt)
 

@@ -12,8 +12,6 @@ use Rattle.chumsky_input.specs.Held.{Held, Marks, located, marks}
 use Rattle.chumsky_input.specs.Outcome.{Meaning}
 use Rattle.chumsky_input.specs.Run.{Ran, marked_here, gone_back}
 use Rattle.std.specs.Bool.{MatchBool}
-use Rattle.std.specs.declared.vec.Vec.{Vec}
-use Rattle.std.specs.declared.alloc.Global.{Global}
 use Rattle.chumsky_parser.specs.Items.{Next, End}
 use Rattle.chumsky_parser.specs.Steps.{AllSteps}
 use Rattle.chumsky_items.specs.Consumers.{Appends, Collected}
@@ -25,9 +23,7 @@ use Rattle.chumsky_parser.specs.Failure.{wanting}
 use Rattle.chumsky_parser.specs.Ignoring.{Gives}
 use Rattle.chumsky_shield.specs.Not.{MeansNot}
 use Rattle.chumsky_shield.specs.AndIs.{GivenAt, MeansAndIs, MeansRewind}
-use Rattle.chumsky_recursive.specs.declared.frames.Frame.{Frame}
-use Rattle.chumsky_recursive.specs.declared.frames.Frame.TheVariants.{First, Second, Alternative, Mapped, Optional, Denied, Both, Looked, Rewound, Tried, Separator, Item}
-use Rattle.chumsky_recursive.specs.declared.frames.Gathered.{Gathered}
+use Rattle.chumsky_recursive.specs.Beside.{FullFrame, FullGathered, First, Second, Alternative, Mapped, Optional, Denied, Both, Looked, Rewound, Tried, Separator, Item}
 use Rattle.chumsky_recursive.specs.declared.lists.Listing.{Listing}
 use Rattle.chumsky_recursive.specs.declared.frames.Todo.{Todo}
 use Rattle.chumsky_recursive.specs.declared.frames.Todo.TheVariants.{Begin, Answer}
@@ -46,12 +42,12 @@ module _ {V W : Type 0} (gives : V → W → Type 0) where
 
 module _ {V Cu Mk Er : Type 0} where
   -- a frame more, which waits for this part; or there is no memory for it
-  pub record Waits (old new : List (Frame V Cu Mk Er)) (f : Frame V Cu Mk Er) (part more : ℕ) (wanted : Bool) (todo : Todo V) : Type 0 where
+  pub record Waits (old new : List (FullFrame V Cu Mk Er)) (f : FullFrame V Cu Mk Er) (part more : ℕ) (wanted : Bool) (todo : Todo V) : Type 0 where
     pub cases : ((todo ≡ Begin part more wanted) × (new ≡ old ++ f ∷ [])) ⊎ ((todo ≡ Answer (Err (fault.Stop Memory))) × (new ≡ old))
 
 module _ {I Tok Sp Cu Er Es St Mk Cx V : Type 0} (source : input_trait.Ghosts I Cu Tok Sp) (states : inspector_trait.Ghosts St I Mk Tok Sp) where
   -- a frame more, with a checkpoint of what is held; or there is no memory for the one or the other
-  pub record WaitsMarked (old new : List (Frame V Cu Mk Er)) (f : Checkpoint Cu Mk → Frame V Cu Mk Er) (part more : ℕ) (wanted : Bool) (now : Held Tok Cx states.Seen Es) (todo : Todo V) : Type 0 where
+  pub record WaitsMarked (old new : List (FullFrame V Cu Mk Er)) (f : Checkpoint Cu Mk → FullFrame V Cu Mk Er) (part more : ℕ) (wanted : Bool) (now : Held Tok Cx states.Seen Es) (todo : Todo V) : Type 0 where
     pub cases : ((before : Checkpoint Cu Mk) × (marks source states before ≡ marked_here states.mark now) × Waits old new (f before) part more wanted todo) ⊎ ((states.takes_no_memory → ⊥) × (todo ≡ Answer (Err (fault.Stop Memory))) × (new ≡ old))
 
 module _ {Tok Cx St Mk Er V : Type 0} (back : St → Mk → St) (quiet : Type 0) (options : Option V → V → Type 0) (wanted : Bool) (m : Marks Tok Mk) where
@@ -117,12 +113,8 @@ separator_at l k = unless (nat_eq k 0 && not l.leading) l.separator
 abbrev pub stays_at : Listing → ℕ → Bool
 stays_at l k = l.trailing && nat_le l.at_least k
 
--- the values of items, where they are wanted
-abbrev pub items_of : {V : Type 0} → Option (Vec V Global) → Option (List V)
-items_of vs = option_map (λ (v : Vec _ Global). v.items) vs
-
 -- a part runs for its value where its node does, but for one that is only looked at, or judged
-abbrev pub asked_of : {V Cu Mk Er : Type 0} → Frame V Cu Mk Er → Bool → Bool
+abbrev pub asked_of : {V Cu Mk Er : Type 0} → FullFrame V Cu Mk Er → Bool → Bool
 asked_of (First second more wanted) w = w
 asked_of (Second v) w = w
 asked_of (Alternative node more wanted next before) w = w
@@ -166,13 +158,13 @@ module _ {I Tok Sp Cu Er St Mk Cx V : Type 0} (source : input_trait.Ghosts I Cu 
 
   -- a list node that began at s has so many items, and its next step begins here: what all its steps do from here, it does
   -- from s
-  pub record Gathers (l : Listing) (p : Gathered V) (s : Begun Tok Cx states.Seen errors.Seen) (now : Held Tok Cx states.Seen errors.Seen) : Type 0 where
+  pub record Gathers (l : Listing) (p : FullGathered V) (s : Begun Tok Cx states.Seen errors.Seen) (now : Held Tok Cx states.Seen errors.Seen) : Type 0 where
     pub wanted : p.wanted ≡ s.wanted
-    pub there : is_some (items_of p.values) ≡ p.wanted
+    pub there : is_some p.values ≡ p.wanted
     pub room : ℕ
     pub left : room + p.count + 1 ≡ 2 ^ 64
     pub origin : Held Tok Cx states.Seen errors.Seen
-    pub on : (new : Held Tok Cx states.Seen errors.Seen) (x : Result (Option (List V)) Fault) → Ran errors.merged errors.takes_no_memory (AllSteps (step_of l p.more) (Appends ⊥) (Collected AreThose) room (items_of p.values) p.count) p.wanted now new x
+    pub on : (new : Held Tok Cx states.Seen errors.Seen) (x : Result (Option (List V)) Fault) → Ran errors.merged errors.takes_no_memory (AllSteps (step_of l p.more) (Appends ⊥) (Collected AreThose) room p.values p.count) p.wanted now new x
         → Ran errors.merged errors.takes_no_memory (Values (step_of l p.more)) p.wanted origin new x
     pub whole : (new : Held Tok Cx states.Seen errors.Seen) (r : Result (Option V) Fault) → Ran errors.merged errors.takes_no_memory (Listed (step_of l p.more) a.lists) p.wanted origin new r → Answers s new r
 
@@ -183,7 +175,7 @@ module _ {I Tok Sp Cu Er St Mk Cx V : Type 0} (source : input_trait.Ghosts I Cu 
   Turned few m (Err (fault.Stop s)) mid new y = (new ≡ mid) × (y ≡ Err (fault.Stop s))
 
   -- the separator that begins at t is that of the next step
-  pub record AtSeparator (p : Gathered V) (before : Checkpoint Cu Mk) (s t : Begun Tok Cx states.Seen errors.Seen) : Type 0 where
+  pub record AtSeparator (p : FullGathered V) (before : Checkpoint Cu Mk) (s t : Begun Tok Cx states.Seen errors.Seen) : Type 0 where
     pub list : Listing
     pub is_list : lists_of (slice_get g.nodes p.node) ≡ Some list
     pub gathers : Gathers list p s t.held
@@ -193,7 +185,7 @@ module _ {I Tok Sp Cu Er St Mk Cx V : Type 0} (source : input_trait.Ghosts I Cu 
     pub same : t.more ≡ p.more
 
   -- the item that begins at t is that of the next step, which began earlier
-  pub record AtItem (p : Gathered V) (start : ℕ) (back : Checkpoint Cu Mk) (s t : Begun Tok Cx states.Seen errors.Seen) : Type 0 where
+  pub record AtItem (p : FullGathered V) (start : ℕ) (back : Checkpoint Cu Mk) (s t : Begun Tok Cx states.Seen errors.Seen) : Type 0 where
     pub list : Listing
     pub is_list : lists_of (slice_get g.nodes p.node) ≡ Some list
     pub now : Held Tok Cx states.Seen errors.Seen
@@ -202,7 +194,7 @@ module _ {I Tok Sp Cu Er St Mk Cx V : Type 0} (source : input_trait.Ghosts I Cu 
         → Turned (nat_lt p.count list.at_least) (marks source states back) z mid new y → Ran errors.merged errors.takes_no_memory (step_of list p.more p.count) p.wanted now new y
 
   -- what the frame of a node that began at s does with its part, which began at t, the node does
-  abbrev pub Goes : Frame V Cu Mk Er → Begun Tok Cx states.Seen errors.Seen → Begun Tok Cx states.Seen errors.Seen → Type 0
+  abbrev pub Goes : FullFrame V Cu Mk Er → Begun Tok Cx states.Seen errors.Seen → Begun Tok Cx states.Seen errors.Seen → Type 0
   Goes (First second more wanted) s t = Does (Chained (part_means source errors states a g t.more t.node) (λ v. Chained (part_means source errors states a g more second) (λ w. Made a.pairs (both v w)))) t.held s
   Goes (Second v) s t = Does (Chained (part_means source errors states a g t.more t.node) (λ w. Made a.pairs (both v w))) t.held s
   Goes (Alternative node more wanted next before) s t =
@@ -219,7 +211,7 @@ module _ {I Tok Sp Cu Er St Mk Cx V : Type 0} (source : input_trait.Ghosts I Cu 
   Goes (Item p start back) s t = AtItem p start back s t
 
   -- what a frame keeps is that of its node, which runs for its value or without it, and of its part, which began at t
-  abbrev pub Keeps : Frame V Cu Mk Er → Bool → Begun Tok Cx states.Seen errors.Seen → Type 0
+  abbrev pub Keeps : FullFrame V Cu Mk Er → Bool → Begun Tok Cx states.Seen errors.Seen → Type 0
   Keeps (First second more wanted) asked t = wanted ≡ asked
   Keeps (Second v) asked t = is_some v ≡ asked
   Keeps (Alternative node more wanted next before) asked t = (wanted ≡ asked) × StandsAt (marks source states before) t.held
@@ -234,24 +226,24 @@ module _ {I Tok Sp Cu Er St Mk Cx V : Type 0} (source : input_trait.Ghosts I Cu 
   Keeps (Item p start back) asked t = ⊤
 
   -- the frame of the node that began at s waits for the part that began at t
-  pub record WaitsFor (f : Frame V Cu Mk Er) (s t : Begun Tok Cx states.Seen errors.Seen) : Type 0 where
+  pub record WaitsFor (f : FullFrame V Cu Mk Er) (s t : Begun Tok Cx states.Seen errors.Seen) : Type 0 where
     pub asks : t.wanted ≡ asked_of f s.wanted
     pub keeps : Keeps f s.wanted t
     pub goes : Goes f s t
 
   -- frames, the last on top, of nodes of which the first began at s, and each waits for the next; the last waits for the part that began at t
-  abbrev pub Wait : List (Frame V Cu Mk Er) → Begun Tok Cx states.Seen errors.Seen → Begun Tok Cx states.Seen errors.Seen → Type 0
+  abbrev pub Wait : List (FullFrame V Cu Mk Er) → Begun Tok Cx states.Seen errors.Seen → Begun Tok Cx states.Seen errors.Seen → Type 0
   Wait [] s t = (t.wanted ≡ s.wanted) × ((new : Held Tok Cx states.Seen errors.Seen) (r : Result (Option V) Fault) → Answers t new r → Answers s new r)
   Wait (f ∷ fs) s t = (u : Begun Tok Cx states.Seen errors.Seen) × WaitsFor f s u × Wait fs u t
 
   -- what is left to do, with these frames and held so: a part begins, or one has answered
-  abbrev pub Left : List (Frame V Cu Mk Er) → Begun Tok Cx states.Seen errors.Seen → Held Tok Cx states.Seen errors.Seen → Todo V → Type 0
+  abbrev pub Left : List (FullFrame V Cu Mk Er) → Begun Tok Cx states.Seen errors.Seen → Held Tok Cx states.Seen errors.Seen → Todo V → Type 0
   Left fs s now (Begin node more wanted) = Wait fs s (record { more = more; node = node; wanted = wanted; held = now })
   Left fs s now (Answer r) = (t : Begun Tok Cx states.Seen errors.Seen) × Wait fs s t × Answers t now r × IfOk r (λ v. is_some v ≡ t.wanted)
 
 -- the nodes that a frame names are there, and its checkpoint or cursor is one of this input
 module _ {I Tok Sp Cu Er St Mk V : Type 0} (source : input_trait.Ghosts I Cu Tok Sp) (states : inspector_trait.Ghosts St I Mk Tok Sp) where
-  abbrev pub IsKnown : List NodeKind → List Tok → Frame V Cu Mk Er → Type 0
+  abbrev pub IsKnown : List NodeKind → List Tok → FullFrame V Cu Mk Er → Type 0
   IsKnown nodes tokens (First second more wanted) = second < length nodes
   IsKnown nodes tokens (Second v) = ⊤
   IsKnown nodes tokens (Alternative node more wanted next before) = (node < length nodes) × ((marks source states before).tokens ≡ tokens)

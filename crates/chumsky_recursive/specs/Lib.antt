@@ -1,5 +1,7 @@
 pub mod Means
 pub mod MeansLaws
+pub mod CountWhere
+pub mod Beside
 pub mod Frames
 pub mod Ahead
 pub mod Judged

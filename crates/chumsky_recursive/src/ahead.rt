@@ -3,11 +3,13 @@ ghost use Rattle.std.specs.Prelude.{◌≡◌, option_map};
 ghost use Rattle.chumsky_input.specs.Held.{held, marks, located};
 ghost use Rattle.chumsky_recursive.specs.Frames.{WaitsMarked};
 ghost use Rattle.chumsky_recursive.specs.Ahead.{WaitsDenied, WaitsRewound, LooksNext, StandsAgain, Turns, ReturnsAfter};
-ghost use Rattle.chumsky_recursive.specs.declared.frames.Frame.TheVariants.{Both};
+ghost use Rattle.chumsky_recursive.specs.Beside.{Both, IsFlat};
 
 use crate::actions::Actions;
-use crate::frames::{Frame, Todo, wait};
+use crate::frames::{Frame, Todo};
+use crate::stack::Stack;
 use crate::values::unit;
+use crate::waits::{wait, wait_with_kept, wait_with_value};
 use chumsky_input::error::Error;
 use chumsky_input::extra::ParserExtra;
 use chumsky_input::input::Input;
@@ -20,22 +22,25 @@ use chumsky_rules::kinds::Node;
 /// Begins `not`: its part runs without a value, from a checkpoint of here, with nothing kept.
 #[inline]
 pub(crate) fn begin_not<'src, I: Input<'src>, E: ParserExtra<I>, V: Drop>(
-    frames: &mut Vec<Frame<V, I::Cursor, <E::State as Inspector<I>>::Mark, E::Error>>,
+    stack: &mut Stack<V, I::Cursor, <E::State as Inspector<I>>::Mark, E::Error>,
     part: Node,
     more: usize,
     wanted: bool,
     inp: &mut InputRef<'src, '_, I, E>,
 ) -> Todo<V>
-    ensures waits { WaitsDenied I.Input E.Error.Error E.State.Inspector frames.old.items frames.new.items wanted part more (held I.Input E.Error.Error E.State.Inspector inp.old) (held I.Input E.Error.Error E.State.Inspector inp.new) result }
+    requires flat { IsFlat stack.old }
+    ensures waits { WaitsDenied I.Input E.Error.Error E.State.Inspector stack.old.frames stack.new.frames wanted part more (held I.Input E.Error.Error E.State.Inspector inp.old) (held I.Input E.Error.Error E.State.Inspector inp.new) result }
+    ensures flat { IsFlat stack.new }
     ensures tokens { (held I.Input E.Error.Error E.State.Inspector inp.new).tokens ≡ (held I.Input E.Error.Error E.State.Inspector inp.old).tokens }
     ensures lent { inp.new.state.ghost_name ≡ inp.old.state.ghost_name }
 {
     match inp.save() {
         Ok(before) => {
             let older = inp.take_kept();
-            wait(
-                frames,
-                Frame::Denied(wanted, before, older),
+            wait_with_kept(
+                stack,
+                older,
+                Frame::Denied(wanted, before),
                 part,
                 more,
                 false,
@@ -48,17 +53,19 @@ pub(crate) fn begin_not<'src, I: Input<'src>, E: ParserExtra<I>, V: Drop>(
 /// Begins `and_is`: its first part runs from a checkpoint of here.
 #[inline]
 pub(crate) fn begin_and_is<'src, I: Input<'src>, E: ParserExtra<I>, V: Drop>(
-    frames: &mut Vec<Frame<V, I::Cursor, <E::State as Inspector<I>>::Mark, E::Error>>,
+    stack: &mut Stack<V, I::Cursor, <E::State as Inspector<I>>::Mark, E::Error>,
     part: Node,
     other: Node,
     more: usize,
     wanted: bool,
     inp: &InputRef<'src, '_, I, E>,
 ) -> Todo<V>
-    ensures { WaitsMarked I.Input E.State.Inspector frames.old.items frames.new.items (Both other more) part more wanted (held I.Input E.Error.Error E.State.Inspector inp.now) result }
+    requires flat { IsFlat stack.old }
+    ensures waits { WaitsMarked I.Input E.State.Inspector stack.old.frames stack.new.frames (Both other more) part more wanted (held I.Input E.Error.Error E.State.Inspector inp.now) result }
+    ensures flat { IsFlat stack.new }
 {
     match inp.save() {
-        Ok(before) => wait(frames, Frame::Both(other, more, before), part, more, wanted),
+        Ok(before) => wait(stack, Frame::Both(other, more, before), part, more, wanted),
         Err(_) => Todo::Answer(Err(Fault::Stop(Stop::Memory))),
     }
 }
@@ -66,18 +73,20 @@ pub(crate) fn begin_and_is<'src, I: Input<'src>, E: ParserExtra<I>, V: Drop>(
 /// Begins `rewind`: its part runs with nothing kept.
 #[inline]
 pub(crate) fn begin_rewind<'src, I: Input<'src>, E: ParserExtra<I>, V: Drop>(
-    frames: &mut Vec<Frame<V, I::Cursor, <E::State as Inspector<I>>::Mark, E::Error>>,
+    stack: &mut Stack<V, I::Cursor, <E::State as Inspector<I>>::Mark, E::Error>,
     part: Node,
     more: usize,
     wanted: bool,
     inp: &mut InputRef<'src, '_, I, E>,
 ) -> Todo<V>
-    ensures waits { WaitsRewound I.Input E.Error.Error E.State.Inspector frames.old.items frames.new.items part more wanted (held I.Input E.Error.Error E.State.Inspector inp.old) (held I.Input E.Error.Error E.State.Inspector inp.new) result }
+    requires flat { IsFlat stack.old }
+    ensures waits { WaitsRewound I.Input E.Error.Error E.State.Inspector stack.old.frames stack.new.frames part more wanted (held I.Input E.Error.Error E.State.Inspector inp.old) (held I.Input E.Error.Error E.State.Inspector inp.new) result }
+    ensures flat { IsFlat stack.new }
     ensures lent { inp.new.state.ghost_name ≡ inp.old.state.ghost_name }
 {
     let start = inp.cursor;
     let older = inp.take_kept();
-    wait(frames, Frame::Rewound(start, older), part, more, wanted)
+    wait_with_kept(stack, older, Frame::Rewound(start), part, more, wanted)
 }
 
 /// The answer of `not`, of that of its part: the run goes back, what was kept before is kept again, and a yes of the part
@@ -122,15 +131,17 @@ pub(crate) fn turn<'src, I: Input<'src>, E: ParserExtra<I>, A: Actions<'src, I, 
 /// What `and_is` does after its first part: the second runs without a value from where the first began, or the run goes
 /// back.
 pub(crate) fn look<'src, I: Input<'src>, E: ParserExtra<I>, V: Drop>(
-    frames: &mut Vec<Frame<V, I::Cursor, <E::State as Inspector<I>>::Mark, E::Error>>,
+    stack: &mut Stack<V, I::Cursor, <E::State as Inspector<I>>::Mark, E::Error>,
     other: Node,
     more: usize,
     before: &Checkpoint<I::Cursor, <E::State as Inspector<I>>::Mark>,
     answer: PResult<Option<V>>,
     inp: &mut InputRef<'src, '_, I, E>,
 ) -> Todo<V>
+    requires flat { IsFlat stack.old }
     requires known { (marks I.Input E.State.Inspector before.now).tokens ≡ (held I.Input E.Error.Error E.State.Inspector inp.old).tokens }
-    ensures looks { LooksNext I.Input E.Error.Error E.State.Inspector frames.old.items frames.new.items other more (marks I.Input E.State.Inspector before.now) answer (held I.Input E.Error.Error E.State.Inspector inp.old) (held I.Input E.Error.Error E.State.Inspector inp.new) result }
+    ensures looks { LooksNext I.Input E.Error.Error E.State.Inspector stack.old.frames stack.new.frames other more (marks I.Input E.State.Inspector before.now) answer (held I.Input E.Error.Error E.State.Inspector inp.old) (held I.Input E.Error.Error E.State.Inspector inp.new) result }
+    ensures flat { IsFlat stack.new }
     ensures tokens { (held I.Input E.Error.Error E.State.Inspector inp.new).tokens ≡ (held I.Input E.Error.Error E.State.Inspector inp.old).tokens }
     ensures lent { inp.new.state.ghost_name ≡ inp.old.state.ghost_name }
 {
@@ -138,7 +149,8 @@ pub(crate) fn look<'src, I: Input<'src>, E: ParserExtra<I>, V: Drop>(
         Ok(value) => {
             let past = inp.cursor;
             inp.cursor = before.cursor;
-            wait(frames, Frame::Looked(value, past), other, more, false)
+            let there = value.is_some();
+            wait_with_value(stack, value, Frame::Looked(there, past), other, more, false)
         }
         Err(Fault::Fail) => match inp.rewind(before) {
             Ok(_) => Todo::Answer(Err(Fault::Fail)),

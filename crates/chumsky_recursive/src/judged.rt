@@ -1,10 +1,13 @@
 //! Nodes `try_map`, whose part's value is judged.
 ghost use Rattle.std.specs.Prelude.{◌≡◌, option_map};
 ghost use Rattle.chumsky_input.specs.Held.{held, located};
+ghost use Rattle.chumsky_recursive.specs.Beside.{IsFlat};
 ghost use Rattle.chumsky_recursive.specs.Judged.{WaitsTried, Judges};
 
 use crate::actions::Actions;
-use crate::frames::{Frame, Todo, wait};
+use crate::frames::{Frame, Todo};
+use crate::stack::Stack;
+use crate::waits::wait_with_kept;
 use chumsky_input::extra::ParserExtra;
 use chumsky_input::input::Input;
 use chumsky_input::input_ref::{InputRef, Located};
@@ -15,21 +18,24 @@ use chumsky_rules::kinds::Node;
 /// Begins `try_map`: its part runs for its value, with nothing kept.
 #[inline]
 pub(crate) fn begin_try<'src, I: Input<'src>, E: ParserExtra<I>, V: Drop>(
-    frames: &mut Vec<Frame<V, I::Cursor, <E::State as Inspector<I>>::Mark, E::Error>>,
+    stack: &mut Stack<V, I::Cursor, <E::State as Inspector<I>>::Mark, E::Error>,
     part: Node,
     more: usize,
     f: usize,
     wanted: bool,
     inp: &mut InputRef<'src, '_, I, E>,
 ) -> Todo<V>
-    ensures waits { WaitsTried I.Input E.Error.Error E.State.Inspector frames.old.items frames.new.items f wanted part more (held I.Input E.Error.Error E.State.Inspector inp.old) (held I.Input E.Error.Error E.State.Inspector inp.new) result }
+    requires flat { IsFlat stack.old }
+    ensures waits { WaitsTried I.Input E.Error.Error E.State.Inspector stack.old.frames stack.new.frames f wanted part more (held I.Input E.Error.Error E.State.Inspector inp.old) (held I.Input E.Error.Error E.State.Inspector inp.new) result }
+    ensures flat { IsFlat stack.new }
     ensures lent { inp.new.state.ghost_name ≡ inp.old.state.ghost_name }
 {
     let start = inp.cursor;
     let older = inp.take_kept();
-    wait(
-        frames,
-        Frame::Tried(f, wanted, start, older),
+    wait_with_kept(
+        stack,
+        older,
+        Frame::Tried(wanted, f, start),
         part,
         more,
         true,

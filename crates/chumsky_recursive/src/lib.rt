@@ -3,14 +3,16 @@
 
 pub mod actions;
 mod ahead;
-mod evaluator;
-mod frames;
+pub mod evaluator;
+pub mod frames;
 pub mod grammar;
 mod judged;
 pub mod laws;
 pub mod leaves;
 mod lists;
 mod optional;
+pub mod stack;
 pub mod steady;
 mod steps;
 mod values;
+mod waits;

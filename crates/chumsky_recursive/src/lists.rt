@@ -1,12 +1,16 @@
 //! Nodes `repeated` and `separated_by`: items one after another.
-ghost use Rattle.std.specs.Prelude.{◌≡◌, ℕ, Some, None, false, slice_get, nat_lt, option_map, length, ◌<◌};
+ghost use Rattle.std.specs.Prelude.{◌≡◌, ◌+◌, [], Ok, Err, Some, None, false, nat_lt, length, OnOk, OnErr};
 ghost use Rattle.chumsky_input.specs.Held.{held, marks};
 ghost use Rattle.chumsky_items.specs.Repeating.{at_cap, is_stuck, fits};
-ghost use Rattle.chumsky_recursive.specs.Frames.{lists_of, asks_at, separator_at, stays_at, items_of};
-ghost use Rattle.chumsky_recursive.specs.Lists.{NextCount, Appended, Ends, BeginsItem, NextRound, BeginsList, HearsSeparator, HearsItem};
+ghost use Rattle.chumsky_parser.specs.Failure.{wanting};
+ghost use Rattle.chumsky_recursive.specs.Beside.{values_at, kept_at, values_of_list, full_list, whole, HasItems, IsFlat};
+ghost use Rattle.chumsky_recursive.specs.CountWhere.{count_where};
+ghost use Rattle.chumsky_recursive.specs.Frames.{Waits, lists_of, asks_at, separator_at, stays_at};
+ghost use Rattle.chumsky_recursive.specs.Lists.{NextCount, Appended, gathered_by, Ends, BeginsItem, NextRound, BeginsList, HearsSeparator, HearsItem};
 
 use crate::actions::Actions;
-use crate::frames::{Frame, Gathered, Todo, wait};
+use crate::frames::{Frame, Gathered, Todo};
+use crate::stack::Stack;
 use crate::values::listed;
 use chumsky_input::extra::ParserExtra;
 use chumsky_input::input::Input;
@@ -29,7 +33,7 @@ pub(crate) struct Listing {
 }
 
 /// Of which parts `repeated` is made.
-#[inline]
+#[inline(always)]
 pub(crate) fn repeated_list(item: Node, at_least: usize, at_most: Option<usize>) -> Listing
     ensures { result ≡ record { item = item; separator = None; at_least = at_least; at_most = at_most; leading = false; trailing = false } }
 {
@@ -44,7 +48,7 @@ pub(crate) fn repeated_list(item: Node, at_least: usize, at_most: Option<usize>)
 }
 
 /// Of which parts `separated_by` is made.
-#[inline]
+#[inline(always)]
 pub(crate) fn separated_list(item: Node, separator: Node, bounds: &SepCfg) -> Listing
     ensures { result ≡ record { item = item; separator = Some separator; at_least = bounds.now.at_least; at_most = bounds.now.at_most; leading = bounds.now.allow_leading; trailing = bounds.now.allow_trailing } }
 {
@@ -59,7 +63,7 @@ pub(crate) fn separated_list(item: Node, separator: Node, bounds: &SepCfg) -> Li
 }
 
 /// What a list node is made of.
-#[inline]
+#[inline(always)]
 pub(crate) fn parts_of(kind: &NodeKind) -> Option<Listing>
     ensures { result ≡ lists_of (Some kind.now) }
 {
@@ -84,7 +88,7 @@ pub(crate) fn parts_of(kind: &NodeKind) -> Option<Listing>
 }
 
 /// Whether there are as many items as the cap allows.
-#[inline]
+#[inline(always)]
 fn is_full(at_most: Option<usize>, count: usize) -> bool
     ensures { result ≡ at_cap at_most count }
 {
@@ -95,7 +99,7 @@ fn is_full(at_most: Option<usize>, count: usize) -> bool
 }
 
 /// Whether progress is asked of the next item.
-#[inline]
+#[inline(always)]
 fn asks_progress(list: &Listing, count: usize) -> bool
     ensures { result ≡ asks_at list.now count }
 {
@@ -109,7 +113,7 @@ fn asks_progress(list: &Listing, count: usize) -> bool
 }
 
 /// The separator that is tried before the next item.
-#[inline]
+#[inline(always)]
 fn separator_before(list: &Listing, count: usize) -> Option<Node>
     ensures { result ≡ separator_at list.now count }
 {
@@ -121,7 +125,7 @@ fn separator_before(list: &Listing, count: usize) -> Option<Node>
 }
 
 /// Whether the separator before the next item stays though none follows.
-#[inline]
+#[inline(always)]
 fn stays_behind(list: &Listing, count: usize) -> bool
     ensures { result ≡ stays_at list.now count }
 {
@@ -129,7 +133,7 @@ fn stays_behind(list: &Listing, count: usize) -> bool
 }
 
 /// How many items there are with one more.
-#[inline]
+#[inline(always)]
 fn next_count(asked: bool, start: usize, end: usize, count: usize) -> Result<usize, Stop>
     ensures { NextCount (is_stuck asked start end) (fits count) count result }
 {
@@ -142,183 +146,239 @@ fn next_count(asked: bool, start: usize, end: usize, count: usize) -> Result<usi
     Ok(count + 1)
 }
 
-/// Puts a value behind the others, where there are any.
-#[inline]
-fn append<V: Drop>(values: Option<Vec<V>>, value: Option<V>) -> Result<Option<Vec<V>>, AllocError>
-    ensures { Appended (items_of values) value result }
+/// Lets go of the values of a list, and answers with a stop.
+#[inline(always)]
+fn give_up<V: Drop, P: Drop, M: Drop, R: Drop>(
+    stack: &mut Stack<V, P, M, R>,
+    list: Gathered,
+    stop: Stop,
+) -> Todo<V>
+    requires items { HasItems stack.old list }
+    ensures stops { result ≡ Todo.Answer (Err (Fault.Stop stop)) }
+    ensures frames { stack.new.frames ≡ stack.old.frames }
+    ensures flat { IsFlat stack.new }
 {
-    match values {
-        None => Ok(None),
-        Some(mut values) => match value {
-            None => Ok(None),
-            Some(value) => match values.push(value) {
-                Ok(_) => Ok(Some(values)),
-                Err(_) => Err(AllocError),
-            },
+    stack.let_go(list.values());
+    Todo::Answer(Err(Fault::Stop(stop)))
+}
+
+/// Has a list wait for a part, with the values of its items beside it.
+#[inline(always)]
+fn wait_for<V: Drop, P: Drop, M: Drop, R: Drop>(
+    stack: &mut Stack<V, P, M, R>,
+    list: Gathered,
+    frame: Frame<P, M>,
+    part: Node,
+    wanted: bool,
+) -> Todo<V>
+    requires items { HasItems stack.old list }
+    requires values { values_at frame ≡ values_of_list list }
+    requires kept { kept_at frame ≡ 0 }
+    ensures waits { Waits stack.old.frames stack.new.frames (whole frame stack.old.loose []) part list.more wanted result }
+    ensures flat { IsFlat stack.new }
+{
+    match stack.push(frame) {
+        Ok(_) => Todo::Begin(part, list.more, wanted),
+        Err(_) => give_up(stack, list, Stop::Memory),
+    }
+}
+
+/// Puts a value to the others, where they are wanted. One that is missing there counts as want of memory.
+#[inline(always)]
+fn append<V: Drop, P: Drop, M: Drop, R: Drop>(
+    stack: &mut Stack<V, P, M, R>,
+    wanted: bool,
+    count: usize,
+    value: Option<V>,
+) -> Result<(), AllocError>
+    requires items { length stack.old.loose ≡ count_where wanted count }
+    requires aside { stack.old.aside ≡ [] }
+    ensures appends { Appended (wanting wanted stack.old.loose) value (gathered_by wanted stack.new.loose result) }
+    ensures frames { stack.new.frames ≡ stack.old.frames }
+    ensures aside { stack.new.aside ≡ [] }
+    ensures ok { OnOk result (length stack.new.loose ≡ count_where wanted (count + 1)) }
+    ensures err { OnErr result (stack.new.loose ≡ []) }
+{
+    if !wanted {
+        return Ok(());
+    }
+    match value {
+        Some(value) => match stack.put(Some(value)) {
+            Ok(_) => Ok(()),
+            Err(_) => {
+                stack.let_go(count);
+                Err(AllocError)
+            }
         },
+        None => {
+            stack.let_go(count);
+            Err(AllocError)
+        }
     }
 }
 
 /// The end of a list after its last item, unless it has too few.
-#[inline]
+#[inline(always)]
 fn end<'src, I: Input<'src>, E: ParserExtra<I>, A: Actions<'src, I, E>>(
     actions: &A,
     alloc: Global,
+    stack: &mut Stack<A::Value, I::Cursor, <E::State as Inspector<I>>::Mark, E::Error>,
     at_least: usize,
-    count: usize,
-    values: Option<Vec<A::Value>>,
+    list: Gathered,
 ) -> PResult<Option<A::Value>>
-    ensures { Ends (A.list_gives actions.now) (nat_lt count at_least) (items_of values) result }
+    requires items { HasItems stack.old list }
+    ensures ends { Ends (A.list_gives actions.now) (nat_lt list.count at_least) (wanting list.wanted stack.old.loose) result }
+    ensures frames { stack.new.frames ≡ stack.old.frames }
+    ensures flat { IsFlat stack.new }
 {
-    if count < at_least {
+    if list.count < at_least {
+        stack.let_go(list.values());
         return Err(Fault::Fail);
     }
-    listed(actions, alloc, values)
+    listed(actions, alloc, stack, list)
 }
 
 /// Begins an item; it has a checkpoint of its own where the separator before it stays though it fails.
+#[inline(always)]
 fn begin_item<'src, I: Input<'src>, E: ParserExtra<I>, V: Drop>(
-    frames: &mut Vec<Frame<V, I::Cursor, <E::State as Inspector<I>>::Mark, E::Error>>,
+    stack: &mut Stack<V, I::Cursor, <E::State as Inspector<I>>::Mark, E::Error>,
     list: &Listing,
-    so_far: Gathered<V>,
+    so_far: Gathered,
     before: Checkpoint<I::Cursor, <E::State as Inspector<I>>::Mark>,
     inp: &InputRef<'src, '_, I, E>,
 ) -> Todo<V>
-    ensures { BeginsItem I.Input E.State.Inspector list.now frames.old.items frames.new.items so_far before (held I.Input E.Error.Error E.State.Inspector inp.now) result }
+    requires items { HasItems stack.old so_far }
+    ensures begins { BeginsItem I.Input E.State.Inspector list.now stack.old.frames stack.new.frames (full_list so_far stack.old.loose) before (held I.Input E.Error.Error E.State.Inspector inp.now) result }
+    ensures flat { IsFlat stack.new }
 {
     let start = I::place(&before.cursor);
-    let more = so_far.more;
-    let wanted = so_far.wanted;
-    if !stays_behind(list, so_far.count) {
-        return wait(
-            frames,
-            Frame::Item(so_far, start, before),
-            list.item,
-            more,
-            wanted,
-        );
+    let Gathered {
+        node,
+        more,
+        wanted,
+        count,
+    } = so_far;
+    if !stays_behind(list, count) {
+        let frame = Frame::Item(wanted, node, more, count, start, before);
+        return wait_for(stack, so_far, frame, list.item, wanted);
     }
     match inp.save() {
-        Ok(own) => wait(
-            frames,
-            Frame::Item(so_far, start, own),
-            list.item,
-            more,
-            wanted,
-        ),
-        Err(_) => Todo::Answer(Err(Fault::Stop(Stop::Memory))),
+        Ok(own) => {
+            let frame = Frame::Item(wanted, node, more, count, start, own);
+            wait_for(stack, so_far, frame, list.item, wanted)
+        }
+        Err(_) => give_up(stack, so_far, Stop::Memory),
     }
 }
 
 /// Begins the next round of a list, by its separator or its item; at the cap the list ends.
+#[inline(always)]
 pub(crate) fn next_round<'src, I: Input<'src>, E: ParserExtra<I>, A: Actions<'src, I, E>>(
     actions: &A,
-    frames: &mut Vec<Frame<A::Value, I::Cursor, <E::State as Inspector<I>>::Mark, E::Error>>,
+    stack: &mut Stack<A::Value, I::Cursor, <E::State as Inspector<I>>::Mark, E::Error>,
     list: &Listing,
-    so_far: Gathered<A::Value>,
+    so_far: Gathered,
     inp: &InputRef<'src, '_, I, E>,
 ) -> Todo<A::Value>
-    ensures { NextRound I.Input E.State.Inspector (A.list_gives actions.now) list.now frames.old.items frames.new.items so_far (held I.Input E.Error.Error E.State.Inspector inp.now) result }
+    requires items { HasItems stack.old so_far }
+    ensures begins { NextRound I.Input E.State.Inspector (A.list_gives actions.now) list.now stack.old.frames stack.new.frames (full_list so_far stack.old.loose) (held I.Input E.Error.Error E.State.Inspector inp.now) result }
+    ensures flat { IsFlat stack.new }
 {
     if is_full(list.at_most, so_far.count) {
-        return Todo::Answer(listed(actions, inp.alloc, so_far.values));
+        return Todo::Answer(listed(actions, inp.alloc, stack, so_far));
     }
     match inp.save() {
         Ok(before) => match separator_before(list, so_far.count) {
             Some(separator) => {
-                let more = so_far.more;
-                wait(
-                    frames,
-                    Frame::Separator(so_far, before),
-                    separator,
+                let Gathered {
+                    node,
                     more,
-                    false,
-                )
+                    wanted,
+                    count,
+                } = so_far;
+                let frame = Frame::Separator(wanted, node, more, count, before);
+                wait_for(stack, so_far, frame, separator, false)
             }
-            None => begin_item(frames, list, so_far, before, inp),
+            None => begin_item(stack, list, so_far, before, inp),
         },
-        Err(_) => Todo::Answer(Err(Fault::Stop(Stop::Memory))),
+        Err(_) => give_up(stack, so_far, Stop::Memory),
     }
 }
 
 /// Begins a list.
-#[inline]
+#[inline(always)]
 pub(crate) fn begin_list<'src, I: Input<'src>, E: ParserExtra<I>, A: Actions<'src, I, E>>(
     actions: &A,
-    frames: &mut Vec<Frame<A::Value, I::Cursor, <E::State as Inspector<I>>::Mark, E::Error>>,
+    stack: &mut Stack<A::Value, I::Cursor, <E::State as Inspector<I>>::Mark, E::Error>,
     list: &Listing,
     node: Node,
     more: usize,
     wanted: bool,
     inp: &InputRef<'src, '_, I, E>,
 ) -> Todo<A::Value>
-    ensures { BeginsList I.Input E.State.Inspector (A.list_gives actions.now) list.now frames.old.items frames.new.items node more wanted (held I.Input E.Error.Error E.State.Inspector inp.now) result }
+    requires flat { IsFlat stack.old }
+    ensures begins { BeginsList I.Input E.State.Inspector (A.list_gives actions.now) list.now stack.old.frames stack.new.frames node more wanted (held I.Input E.Error.Error E.State.Inspector inp.now) result }
+    ensures flat { IsFlat stack.new }
 {
-    let values = if wanted {
-        Some(Vec::new(inp.alloc))
-    } else {
-        None
-    };
     let so_far = Gathered {
         node,
         more,
         wanted,
         count: 0,
-        values,
     };
-    next_round(actions, frames, list, so_far, inp)
+    next_round(actions, stack, list, so_far, inp)
 }
 
 /// What a list does after its separator: the item begins, or the round has failed. Before the first item a separator may
 /// be missing.
+#[inline(always)]
 pub(crate) fn hear_separator<'src, I: Input<'src>, E: ParserExtra<I>, A: Actions<'src, I, E>>(
     actions: &A,
-    frames: &mut Vec<Frame<A::Value, I::Cursor, <E::State as Inspector<I>>::Mark, E::Error>>,
+    stack: &mut Stack<A::Value, I::Cursor, <E::State as Inspector<I>>::Mark, E::Error>,
     list: &Listing,
-    so_far: Gathered<A::Value>,
+    so_far: Gathered,
     before: Checkpoint<I::Cursor, <E::State as Inspector<I>>::Mark>,
     answer: PResult<Option<A::Value>>,
     inp: &mut InputRef<'src, '_, I, E>,
 ) -> Todo<A::Value>
     requires known { (marks I.Input E.State.Inspector before).tokens ≡ (held I.Input E.Error.Error E.State.Inspector inp.old).tokens }
-    ensures hears { HearsSeparator I.Input E.State.Inspector (A.list_gives actions.now) list.now answer frames.old.items frames.new.items so_far before (held I.Input E.Error.Error E.State.Inspector inp.old) (held I.Input E.Error.Error E.State.Inspector inp.new) result }
+    requires items { HasItems stack.old so_far }
+    ensures hears { HearsSeparator I.Input E.State.Inspector (A.list_gives actions.now) list.now answer stack.old.frames stack.new.frames (full_list so_far stack.old.loose) before (held I.Input E.Error.Error E.State.Inspector inp.old) (held I.Input E.Error.Error E.State.Inspector inp.new) result }
+    ensures flat { IsFlat stack.new }
     ensures tokens { (held I.Input E.Error.Error E.State.Inspector inp.new).tokens ≡ (held I.Input E.Error.Error E.State.Inspector inp.old).tokens }
     ensures lent { inp.new.state.ghost_name ≡ inp.old.state.ghost_name }
 {
     match answer {
-        Ok(_) => begin_item(frames, list, so_far, before, inp),
-        Err(Fault::Stop(stop)) => Todo::Answer(Err(Fault::Stop(stop))),
+        Ok(_) => begin_item(stack, list, so_far, before, inp),
+        Err(Fault::Stop(stop)) => give_up(stack, so_far, stop),
         Err(Fault::Fail) => match inp.rewind(&before) {
             Ok(_) => {
                 if so_far.count == 0 {
-                    return begin_item(frames, list, so_far, before, inp);
+                    return begin_item(stack, list, so_far, before, inp);
                 }
-                Todo::Answer(end(
-                    actions,
-                    inp.alloc,
-                    list.at_least,
-                    so_far.count,
-                    so_far.values,
-                ))
+                Todo::Answer(end(actions, inp.alloc, stack, list.at_least, so_far))
             }
-            Err(_) => Todo::Answer(Err(Fault::Stop(Stop::Memory))),
+            Err(_) => give_up(stack, so_far, Stop::Memory),
         },
     }
 }
 
 /// What a list does after an item: it is put to the others, and a round begins; or the round has failed.
+#[inline(always)]
 pub(crate) fn hear_item<'src, I: Input<'src>, E: ParserExtra<I>, A: Actions<'src, I, E>>(
     actions: &A,
-    frames: &mut Vec<Frame<A::Value, I::Cursor, <E::State as Inspector<I>>::Mark, E::Error>>,
+    stack: &mut Stack<A::Value, I::Cursor, <E::State as Inspector<I>>::Mark, E::Error>,
     list: &Listing,
-    so_far: Gathered<A::Value>,
+    so_far: Gathered,
     start: usize,
     back: &Checkpoint<I::Cursor, <E::State as Inspector<I>>::Mark>,
     answer: PResult<Option<A::Value>>,
     inp: &mut InputRef<'src, '_, I, E>,
 ) -> Todo<A::Value>
     requires known { (marks I.Input E.State.Inspector back.now).tokens ≡ (held I.Input E.Error.Error E.State.Inspector inp.old).tokens }
-    ensures hears { HearsItem I.Input E.State.Inspector (A.list_gives actions.now) list.now answer frames.old.items frames.new.items so_far start back.now (held I.Input E.Error.Error E.State.Inspector inp.old) (held I.Input E.Error.Error E.State.Inspector inp.new) result }
+    requires items { HasItems stack.old so_far }
+    ensures hears { HearsItem I.Input E.State.Inspector (A.list_gives actions.now) list.now answer stack.old.frames stack.new.frames (full_list so_far stack.old.loose) start back.now (held I.Input E.Error.Error E.State.Inspector inp.old) (held I.Input E.Error.Error E.State.Inspector inp.new) result }
+    ensures flat { IsFlat stack.new }
     ensures tokens { (held I.Input E.Error.Error E.State.Inspector inp.new).tokens ≡ (held I.Input E.Error.Error E.State.Inspector inp.old).tokens }
     ensures lent { inp.new.state.ghost_name ≡ inp.old.state.ghost_name }
 {
@@ -326,34 +386,17 @@ pub(crate) fn hear_item<'src, I: Input<'src>, E: ParserExtra<I>, A: Actions<'src
         Ok(value) => {
             let asked = asks_progress(list, so_far.count);
             match next_count(asked, start, I::place(&inp.cursor), so_far.count) {
-                Ok(count) => match append(so_far.values, value) {
-                    Ok(values) => {
-                        let so_far = Gathered {
-                            node: so_far.node,
-                            more: so_far.more,
-                            wanted: so_far.wanted,
-                            count,
-                            values,
-                        };
-                        next_round(actions, frames, list, so_far, inp)
-                    }
+                Ok(count) => match append(stack, so_far.wanted, so_far.count, value) {
+                    Ok(_) => next_round(actions, stack, list, so_far.with_count(count), inp),
                     Err(_) => Todo::Answer(Err(Fault::Stop(Stop::Memory))),
                 },
-                Err(stop) => Todo::Answer(Err(Fault::Stop(stop))),
+                Err(stop) => give_up(stack, so_far, stop),
             }
         }
-        Err(Fault::Stop(stop)) => Todo::Answer(Err(Fault::Stop(stop))),
+        Err(Fault::Stop(stop)) => give_up(stack, so_far, stop),
         Err(Fault::Fail) => match inp.rewind(back) {
-            Ok(_) => {
-                Todo::Answer(end(
-                    actions,
-                    inp.alloc,
-                    list.at_least,
-                    so_far.count,
-                    so_far.values,
-                ))
-            }
-            Err(_) => Todo::Answer(Err(Fault::Stop(Stop::Memory))),
+            Ok(_) => Todo::Answer(end(actions, inp.alloc, stack, list.at_least, so_far)),
+            Err(_) => give_up(stack, so_far, Stop::Memory),
         },
     }
 }

@@ -2,11 +2,13 @@
 ghost use Rattle.std.specs.Prelude.{◌≡◌};
 ghost use Rattle.chumsky_input.specs.Held.{held, marks};
 ghost use Rattle.chumsky_recursive.specs.Frames.{WaitsMarked, OrAbsent};
-ghost use Rattle.chumsky_recursive.specs.declared.frames.Frame.TheVariants.{Optional};
+ghost use Rattle.chumsky_recursive.specs.Beside.{Optional, IsFlat};
 
 use crate::actions::Actions;
-use crate::frames::{Frame, Todo, wait};
+use crate::frames::{Frame, Todo};
+use crate::stack::Stack;
 use crate::values::{absent, present};
+use crate::waits::wait;
 use chumsky_input::extra::ParserExtra;
 use chumsky_input::input::Input;
 use chumsky_input::input_ref::{Checkpoint, InputRef};
@@ -17,16 +19,18 @@ use chumsky_rules::kinds::Node;
 /// Has the part begin, from a checkpoint of here.
 #[inline]
 pub(crate) fn begin_part<'src, I: Input<'src>, E: ParserExtra<I>, V: Drop>(
-    frames: &mut Vec<Frame<V, I::Cursor, <E::State as Inspector<I>>::Mark, E::Error>>,
+    stack: &mut Stack<V, I::Cursor, <E::State as Inspector<I>>::Mark, E::Error>,
     part: Node,
     more: usize,
     wanted: bool,
     inp: &InputRef<'src, '_, I, E>,
 ) -> Todo<V>
-    ensures { WaitsMarked I.Input E.State.Inspector frames.old.items frames.new.items (Optional wanted) part more wanted (held I.Input E.Error.Error E.State.Inspector inp.now) result }
+    requires flat { IsFlat stack.old }
+    ensures waits { WaitsMarked I.Input E.State.Inspector stack.old.frames stack.new.frames (Optional wanted) part more wanted (held I.Input E.Error.Error E.State.Inspector inp.now) result }
+    ensures flat { IsFlat stack.new }
 {
     match inp.save() {
-        Ok(before) => wait(frames, Frame::Optional(wanted, before), part, more, wanted),
+        Ok(before) => wait(stack, Frame::Optional(wanted, before), part, more, wanted),
         Err(_) => Todo::Answer(Err(Fault::Stop(Stop::Memory))),
     }
 }

@@ -3,18 +3,21 @@ ghost use Rattle.std.specs.Prelude.{◌≡◌, true, ℕ, ◌<◌, ◌≤◌, �
 ghost use Rattle.chumsky_input.specs.Held.{Held, held, marks};
 ghost use Rattle.chumsky_rules.specs.Closed.{IsClosed};
 ghost use Rattle.chumsky_recursive.specs.Means.{acts_of};
+ghost use Rattle.chumsky_recursive.specs.Beside.{whole, IsFlat, LiesLoose};
 ghost use Rattle.chumsky_recursive.specs.Frames.{Begun, Answers, WaitsFor, Wait, Left, IsKnown, IsThere, alternatives_of, lists_of};
 ghost use Rattle.chumsky_recursive.specs.Weight.{level, weight, weight_of, total, reach, IsBounded, Fits};
 
 use crate::actions::Actions;
 use crate::ahead::{begin_and_is, begin_not, begin_rewind, go_back, look, stand, turn};
-use crate::frames::{Frame, Todo, wait};
+use crate::frames::{Frame, Gathered, Todo};
 use crate::judged::{begin_try, judge};
 use crate::lists::{
     Listing, begin_list, hear_item, hear_separator, parts_of, repeated_list, separated_list,
 };
 use crate::optional::{begin_part, or_absent};
+use crate::stack::Stack;
 use crate::values::{leaf, map, nothing, pair};
+use crate::waits::{wait, wait_with_value};
 use chumsky_input::extra::ParserExtra;
 use chumsky_input::input::Input;
 use chumsky_input::input_ref::InputRef;
@@ -24,7 +27,7 @@ use chumsky_rules::kinds::{Node, NodeKind, Recursive};
 use chumsky_rules::rules::Rules;
 
 /// What a node does.
-#[inline]
+#[inline(always)]
 fn kind_of(rules: &Rules, node: Node) -> &NodeKind
     requires { node < length rules.now.nodes }
     ensures { slice_get rules.now.nodes node ≡ Some result.now }
@@ -34,7 +37,7 @@ fn kind_of(rules: &Rules, node: Node) -> &NodeKind
 }
 
 /// The body of a rule.
-#[inline]
+#[inline(always)]
 pub(crate) fn body_of(rules: &Rules, rule: Recursive) -> Node
     requires defined { (r : ℕ) → r < length rules.now.bodies → (b : ℕ) × (slice_get rules.now.bodies r ≡ Some (Some b)) }
     requires rule { rule < length rules.now.bodies }
@@ -48,7 +51,7 @@ pub(crate) fn body_of(rules: &Rules, rule: Recursive) -> Node
 }
 
 /// The alternative of a choice at a place, if there is one.
-#[inline]
+#[inline(always)]
 fn alternative(rules: &Rules, node: Node, place: usize) -> Option<Node>
     requires { node < length rules.now.nodes }
     ensures is { result ≡ slice_get (alternatives_of (slice_get rules.now.nodes node)) place }
@@ -71,7 +74,7 @@ fn alternative(rules: &Rules, node: Node, place: usize) -> Option<Node>
 }
 
 /// Of what a list node is made.
-#[inline]
+#[inline(always)]
 fn list_at(rules: &Rules, node: Node) -> Listing
     requires { is_some (lists_of (slice_get rules.now.nodes node)) ≡ true }
     ensures { lists_of (slice_get rules.now.nodes node) ≡ Some result }
@@ -83,10 +86,11 @@ fn list_at(rules: &Rules, node: Node) -> Listing
 }
 
 /// Begins a node.
+#[inline(always)]
 pub(crate) fn begin<'src, I: Input<'src>, E: ParserExtra<I>, A: Actions<'src, I, E>>(
     actions: &A,
     rules: &Rules,
-    frames: &mut Vec<Frame<A::Value, I::Cursor, <E::State as Inspector<I>>::Mark, E::Error>>,
+    stack: &mut Stack<A::Value, I::Cursor, <E::State as Inspector<I>>::Mark, E::Error>,
     node: Node,
     more: usize,
     wanted: bool,
@@ -95,11 +99,13 @@ pub(crate) fn begin<'src, I: Input<'src>, E: ParserExtra<I>, A: Actions<'src, I,
     requires closed { IsClosed rules.now (A.leaf_count actions.now) }
     requires ready { A.ready actions.now }
     requires node { node < length rules.now.nodes }
-    ensures left { (s : Begun I.Token E.Context E.State.Seen E.Error.Seen) → Wait I.Input E.Error.Error E.State.Inspector (acts_of I.Input E.Error.Error E.State.Inspector (A.leaf_meaning actions.now) (A.pair_gives actions.now) (A.option_gives actions.now) (A.unit_gives actions.now) (A.map_gives actions.now) (A.try_gives actions.now) (A.list_gives actions.now)) rules.now frames.old.items s (record { more = more; node = node; wanted = wanted; held = held I.Input E.Error.Error E.State.Inspector inp.old }) → Left I.Input E.Error.Error E.State.Inspector (acts_of I.Input E.Error.Error E.State.Inspector (A.leaf_meaning actions.now) (A.pair_gives actions.now) (A.option_gives actions.now) (A.unit_gives actions.now) (A.map_gives actions.now) (A.try_gives actions.now) (A.list_gives actions.now)) rules.now frames.new.items s (held I.Input E.Error.Error E.State.Inspector inp.new) result }
-    ensures known { All (IsKnown I.Input E.State.Inspector rules.now.nodes (held I.Input E.Error.Error E.State.Inspector inp.old).tokens) frames.old.items → All (IsKnown I.Input E.State.Inspector rules.now.nodes (held I.Input E.Error.Error E.State.Inspector inp.old).tokens) frames.new.items }
+    requires flat { IsFlat stack.old }
+    ensures left { (s : Begun I.Token E.Context E.State.Seen E.Error.Seen) → Wait I.Input E.Error.Error E.State.Inspector (acts_of I.Input E.Error.Error E.State.Inspector (A.leaf_meaning actions.now) (A.pair_gives actions.now) (A.option_gives actions.now) (A.unit_gives actions.now) (A.map_gives actions.now) (A.try_gives actions.now) (A.list_gives actions.now)) rules.now stack.old.frames s (record { more = more; node = node; wanted = wanted; held = held I.Input E.Error.Error E.State.Inspector inp.old }) → Left I.Input E.Error.Error E.State.Inspector (acts_of I.Input E.Error.Error E.State.Inspector (A.leaf_meaning actions.now) (A.pair_gives actions.now) (A.option_gives actions.now) (A.unit_gives actions.now) (A.map_gives actions.now) (A.try_gives actions.now) (A.list_gives actions.now)) rules.now stack.new.frames s (held I.Input E.Error.Error E.State.Inspector inp.new) result }
+    ensures known { All (IsKnown I.Input E.State.Inspector rules.now.nodes (held I.Input E.Error.Error E.State.Inspector inp.old).tokens) stack.old.frames → All (IsKnown I.Input E.State.Inspector rules.now.nodes (held I.Input E.Error.Error E.State.Inspector inp.old).tokens) stack.new.frames }
     ensures there { IsThere (length rules.now.nodes) result }
-    ensures lighter { total (length rules.now.nodes) frames.new.items result < total (length rules.now.nodes) frames.old.items (Todo.Begin node more wanted) }
-    ensures bounded { (bound : ℕ) → IsBounded (length rules.now.nodes) bound 0 frames.old.items → level (length rules.now.nodes) more node + length frames.old.items ≤ bound → IsBounded (length rules.now.nodes) bound 0 frames.new.items × Fits (length rules.now.nodes) bound (length frames.new.items) result }
+    ensures flat { IsFlat stack.new }
+    ensures lighter { total (length rules.now.nodes) stack.new.frames result < total (length rules.now.nodes) stack.old.frames (Todo.Begin node more wanted) }
+    ensures bounded { (bound : ℕ) → IsBounded (length rules.now.nodes) bound 0 stack.old.frames → level (length rules.now.nodes) more node + length stack.old.frames ≤ bound → IsBounded (length rules.now.nodes) bound 0 stack.new.frames × Fits (length rules.now.nodes) bound (length stack.new.frames) result }
     ensures tokens { (held I.Input E.Error.Error E.State.Inspector inp.new).tokens ≡ (held I.Input E.Error.Error E.State.Inspector inp.old).tokens }
     ensures lent { inp.new.state.ghost_name ≡ inp.old.state.ghost_name }
 {
@@ -111,7 +117,7 @@ pub(crate) fn begin<'src, I: Input<'src>, E: ParserExtra<I>, A: Actions<'src, I,
             }
             Todo::Begin(body_of(rules, *r), more - 1, wanted)
         }
-        NodeKind::Then(a, b) => wait(frames, Frame::First(*b, more, wanted), *a, more, wanted),
+        NodeKind::Then(a, b) => wait(stack, Frame::First(wanted, *b, more), *a, more, wanted),
         NodeKind::Choice(_) => {
             let Some(first) = alternative(rules, node, 0) else {
                 return Todo::Answer(Err(nothing(inp)));
@@ -121,8 +127,8 @@ pub(crate) fn begin<'src, I: Input<'src>, E: ParserExtra<I>, A: Actions<'src, I,
             };
             match inp.save() {
                 Ok(before) => wait(
-                    frames,
-                    Frame::Alternative(node, more, wanted, 1, before),
+                    stack,
+                    Frame::Alternative(wanted, node, more, 1, before),
                     first,
                     more,
                     wanted,
@@ -130,52 +136,61 @@ pub(crate) fn begin<'src, I: Input<'src>, E: ParserExtra<I>, A: Actions<'src, I,
                 Err(_) => Todo::Answer(Err(Fault::Stop(Stop::Memory))),
             }
         }
-        NodeKind::Map(a, f) => wait(frames, Frame::Mapped(*f), *a, more, wanted),
+        NodeKind::Map(a, f) => wait(stack, Frame::Mapped(*f), *a, more, wanted),
         NodeKind::Repeated(a, at_least, at_most) => {
             let list = repeated_list(*a, *at_least, *at_most);
-            begin_list(actions, frames, &list, node, more, wanted, inp)
+            begin_list(actions, stack, &list, node, more, wanted, inp)
         }
         NodeKind::SeparatedBy(a, b, bounds) => {
             let list = separated_list(*a, *b, bounds);
-            begin_list(actions, frames, &list, node, more, wanted, inp)
+            begin_list(actions, stack, &list, node, more, wanted, inp)
         }
-        NodeKind::OrNot(a) => begin_part(frames, *a, more, wanted, inp),
-        NodeKind::Not(a) => begin_not(frames, *a, more, wanted, inp),
-        NodeKind::AndIs(a, b) => begin_and_is(frames, *a, *b, more, wanted, inp),
-        NodeKind::Rewind(a) => begin_rewind(frames, *a, more, wanted, inp),
-        NodeKind::TryMap(a, f) => begin_try(frames, *a, more, *f, wanted, inp),
+        NodeKind::OrNot(a) => begin_part(stack, *a, more, wanted, inp),
+        NodeKind::Not(a) => begin_not(stack, *a, more, wanted, inp),
+        NodeKind::AndIs(a, b) => begin_and_is(stack, *a, *b, more, wanted, inp),
+        NodeKind::Rewind(a) => begin_rewind(stack, *a, more, wanted, inp),
+        NodeKind::TryMap(a, f) => begin_try(stack, *a, more, *f, wanted, inp),
     }
 }
 
 /// Lets a node that waits hear what its part answered.
+#[inline(always)]
 fn resume<'src, I: Input<'src>, E: ParserExtra<I>, A: Actions<'src, I, E>>(
     actions: &A,
     rules: &Rules,
-    frames: &mut Vec<Frame<A::Value, I::Cursor, <E::State as Inspector<I>>::Mark, E::Error>>,
-    frame: Frame<A::Value, I::Cursor, <E::State as Inspector<I>>::Mark, E::Error>,
+    stack: &mut Stack<A::Value, I::Cursor, <E::State as Inspector<I>>::Mark, E::Error>,
+    frame: Frame<I::Cursor, <E::State as Inspector<I>>::Mark>,
     answer: PResult<Option<A::Value>>,
     inp: &mut InputRef<'src, '_, I, E>,
 ) -> Todo<A::Value>
     requires closed { IsClosed rules.now (A.leaf_count actions.now) }
-    requires known { IsKnown I.Input E.State.Inspector rules.now.nodes (held I.Input E.Error.Error E.State.Inspector inp.old).tokens frame }
-    ensures left { (s u t : Begun I.Token E.Context E.State.Seen E.Error.Seen) → Wait I.Input E.Error.Error E.State.Inspector (acts_of I.Input E.Error.Error E.State.Inspector (A.leaf_meaning actions.now) (A.pair_gives actions.now) (A.option_gives actions.now) (A.unit_gives actions.now) (A.map_gives actions.now) (A.try_gives actions.now) (A.list_gives actions.now)) rules.now frames.old.items s u → WaitsFor I.Input E.Error.Error E.State.Inspector (acts_of I.Input E.Error.Error E.State.Inspector (A.leaf_meaning actions.now) (A.pair_gives actions.now) (A.option_gives actions.now) (A.unit_gives actions.now) (A.map_gives actions.now) (A.try_gives actions.now) (A.list_gives actions.now)) rules.now frame u t → Answers I.Input E.Error.Error E.State.Inspector (acts_of I.Input E.Error.Error E.State.Inspector (A.leaf_meaning actions.now) (A.pair_gives actions.now) (A.option_gives actions.now) (A.unit_gives actions.now) (A.map_gives actions.now) (A.try_gives actions.now) (A.list_gives actions.now)) rules.now t (held I.Input E.Error.Error E.State.Inspector inp.old) answer → IfOk answer (λ v. is_some v ≡ t.wanted) → Left I.Input E.Error.Error E.State.Inspector (acts_of I.Input E.Error.Error E.State.Inspector (A.leaf_meaning actions.now) (A.pair_gives actions.now) (A.option_gives actions.now) (A.unit_gives actions.now) (A.map_gives actions.now) (A.try_gives actions.now) (A.list_gives actions.now)) rules.now frames.new.items s (held I.Input E.Error.Error E.State.Inspector inp.new) result }
-    ensures known { All (IsKnown I.Input E.State.Inspector rules.now.nodes (held I.Input E.Error.Error E.State.Inspector inp.old).tokens) frames.old.items → All (IsKnown I.Input E.State.Inspector rules.now.nodes (held I.Input E.Error.Error E.State.Inspector inp.old).tokens) frames.new.items }
+    requires known { IsKnown I.Input E.State.Inspector rules.now.nodes (held I.Input E.Error.Error E.State.Inspector inp.old).tokens (whole frame stack.old.loose stack.old.aside) }
+    requires loose { LiesLoose stack.old frame }
+    ensures left { (s u t : Begun I.Token E.Context E.State.Seen E.Error.Seen) → Wait I.Input E.Error.Error E.State.Inspector (acts_of I.Input E.Error.Error E.State.Inspector (A.leaf_meaning actions.now) (A.pair_gives actions.now) (A.option_gives actions.now) (A.unit_gives actions.now) (A.map_gives actions.now) (A.try_gives actions.now) (A.list_gives actions.now)) rules.now stack.old.frames s u → WaitsFor I.Input E.Error.Error E.State.Inspector (acts_of I.Input E.Error.Error E.State.Inspector (A.leaf_meaning actions.now) (A.pair_gives actions.now) (A.option_gives actions.now) (A.unit_gives actions.now) (A.map_gives actions.now) (A.try_gives actions.now) (A.list_gives actions.now)) rules.now (whole frame stack.old.loose stack.old.aside) u t → Answers I.Input E.Error.Error E.State.Inspector (acts_of I.Input E.Error.Error E.State.Inspector (A.leaf_meaning actions.now) (A.pair_gives actions.now) (A.option_gives actions.now) (A.unit_gives actions.now) (A.map_gives actions.now) (A.try_gives actions.now) (A.list_gives actions.now)) rules.now t (held I.Input E.Error.Error E.State.Inspector inp.old) answer → IfOk answer (λ v. is_some v ≡ t.wanted) → Left I.Input E.Error.Error E.State.Inspector (acts_of I.Input E.Error.Error E.State.Inspector (A.leaf_meaning actions.now) (A.pair_gives actions.now) (A.option_gives actions.now) (A.unit_gives actions.now) (A.map_gives actions.now) (A.try_gives actions.now) (A.list_gives actions.now)) rules.now stack.new.frames s (held I.Input E.Error.Error E.State.Inspector inp.new) result }
+    ensures known { All (IsKnown I.Input E.State.Inspector rules.now.nodes (held I.Input E.Error.Error E.State.Inspector inp.old).tokens) stack.old.frames → All (IsKnown I.Input E.State.Inspector rules.now.nodes (held I.Input E.Error.Error E.State.Inspector inp.old).tokens) stack.new.frames }
     ensures there { IsThere (length rules.now.nodes) result }
-    ensures lighter { total (length rules.now.nodes) frames.new.items result < weight (length rules.now.nodes) frames.old.items + weight_of (length rules.now.nodes) frame }
-    ensures bounded { (bound : ℕ) → IsBounded (length rules.now.nodes) bound 0 frames.old.items → reach (length rules.now.nodes) frame + length frames.old.items ≤ bound → IsBounded (length rules.now.nodes) bound 0 frames.new.items × Fits (length rules.now.nodes) bound (length frames.new.items) result }
+    ensures flat { IsFlat stack.new }
+    ensures lighter { total (length rules.now.nodes) stack.new.frames result < weight (length rules.now.nodes) stack.old.frames + weight_of (length rules.now.nodes) (whole frame stack.old.loose stack.old.aside) }
+    ensures bounded { (bound : ℕ) → IsBounded (length rules.now.nodes) bound 0 stack.old.frames → reach (length rules.now.nodes) (whole frame stack.old.loose stack.old.aside) + length stack.old.frames ≤ bound → IsBounded (length rules.now.nodes) bound 0 stack.new.frames × Fits (length rules.now.nodes) bound (length stack.new.frames) result }
     ensures tokens { (held I.Input E.Error.Error E.State.Inspector inp.new).tokens ≡ (held I.Input E.Error.Error E.State.Inspector inp.old).tokens }
     ensures lent { inp.new.state.ghost_name ≡ inp.old.state.ghost_name }
 {
     match frame {
-        Frame::First(second, more, wanted) => match answer {
-            Ok(first) => wait(frames, Frame::Second(first), second, more, wanted),
+        Frame::First(wanted, second, more) => match answer {
+            Ok(first) => {
+                let there = first.is_some();
+                wait_with_value(stack, first, Frame::Second(there), second, more, wanted)
+            }
             Err(fault) => Todo::Answer(Err(fault)),
         },
-        Frame::Second(first) => match answer {
-            Ok(second) => Todo::Answer(pair(actions, inp.alloc, first, second)),
-            Err(fault) => Todo::Answer(Err(fault)),
-        },
-        Frame::Alternative(node, more, wanted, next, before) => match answer {
+        Frame::Second(there) => {
+            let first = stack.take(there);
+            match answer {
+                Ok(second) => Todo::Answer(pair(actions, inp.alloc, first, second)),
+                Err(fault) => Todo::Answer(Err(fault)),
+            }
+        }
+        Frame::Alternative(wanted, node, more, next, before) => match answer {
             Ok(value) => Todo::Answer(Ok(value)),
             Err(fault) => match fault {
                 Fault::Stop(stop) => Todo::Answer(Err(Fault::Stop(stop))),
@@ -185,8 +200,8 @@ fn resume<'src, I: Input<'src>, E: ParserExtra<I>, A: Actions<'src, I, E>>(
                     };
                     match inp.rewind(&before) {
                         Ok(_) => wait(
-                            frames,
-                            Frame::Alternative(node, more, wanted, next + 1, before),
+                            stack,
+                            Frame::Alternative(wanted, node, more, next + 1, before),
                             part,
                             more,
                             wanted,
@@ -203,47 +218,70 @@ fn resume<'src, I: Input<'src>, E: ParserExtra<I>, A: Actions<'src, I, E>>(
         Frame::Optional(wanted, before) => {
             Todo::Answer(or_absent(actions, wanted, &before, answer, inp))
         }
-        Frame::Denied(wanted, before, older) => {
+        Frame::Denied(wanted, before) => {
+            let older = stack.take_kept();
             Todo::Answer(turn(actions, wanted, &before, older, answer, inp))
         }
-        Frame::Both(other, more, before) => look(frames, other, more, &before, answer, inp),
-        Frame::Looked(value, end) => Todo::Answer(stand(value, end, answer, inp)),
-        Frame::Rewound(start, older) => Todo::Answer(go_back(start, older, answer, inp)),
-        Frame::Tried(f, wanted, start, older) => {
+        Frame::Both(other, more, before) => look(stack, other, more, &before, answer, inp),
+        Frame::Looked(there, end) => {
+            let value = stack.take(there);
+            Todo::Answer(stand(value, end, answer, inp))
+        }
+        Frame::Rewound(start) => {
+            let older = stack.take_kept();
+            Todo::Answer(go_back(start, older, answer, inp))
+        }
+        Frame::Tried(wanted, f, start) => {
+            let older = stack.take_kept();
             Todo::Answer(judge(actions, f, wanted, start, older, answer, inp))
         }
-        Frame::Separator(so_far, before) => {
-            let list = list_at(rules, so_far.node);
-            hear_separator(actions, frames, &list, so_far, before, answer, inp)
+        Frame::Separator(wanted, node, more, count, before) => {
+            let list = list_at(rules, node);
+            let so_far = Gathered {
+                node,
+                more,
+                wanted,
+                count,
+            };
+            hear_separator(actions, stack, &list, so_far, before, answer, inp)
         }
-        Frame::Item(so_far, start, back) => {
-            let list = list_at(rules, so_far.node);
-            hear_item(actions, frames, &list, so_far, start, &back, answer, inp)
+        Frame::Item(wanted, node, more, count, start, back) => {
+            let list = list_at(rules, node);
+            let so_far = Gathered {
+                node,
+                more,
+                wanted,
+                count,
+            };
+            hear_item(actions, stack, &list, so_far, start, &back, answer, inp)
         }
     }
 }
 
 /// Lets the node that waits last hear of its part; where none waits, the answer is that of the run.
+#[inline(always)]
 pub(crate) fn hear<'src, I: Input<'src>, E: ParserExtra<I>, A: Actions<'src, I, E>>(
     actions: &A,
     rules: &Rules,
-    frames: &mut Vec<Frame<A::Value, I::Cursor, <E::State as Inspector<I>>::Mark, E::Error>>,
+    stack: &mut Stack<A::Value, I::Cursor, <E::State as Inspector<I>>::Mark, E::Error>,
     answer: PResult<Option<A::Value>>,
     inp: &mut InputRef<'src, '_, I, E>,
 ) -> Result<Todo<A::Value>, PResult<Option<A::Value>>>
     requires closed { IsClosed rules.now (A.leaf_count actions.now) }
-    requires known { All (IsKnown I.Input E.State.Inspector rules.now.nodes (held I.Input E.Error.Error E.State.Inspector inp.old).tokens) frames.old.items }
-    ensures left { IfOk result (λ todo. (s : Begun I.Token E.Context E.State.Seen E.Error.Seen) → Left I.Input E.Error.Error E.State.Inspector (acts_of I.Input E.Error.Error E.State.Inspector (A.leaf_meaning actions.now) (A.pair_gives actions.now) (A.option_gives actions.now) (A.unit_gives actions.now) (A.map_gives actions.now) (A.try_gives actions.now) (A.list_gives actions.now)) rules.now frames.old.items s (held I.Input E.Error.Error E.State.Inspector inp.old) (Todo.Answer answer) → Left I.Input E.Error.Error E.State.Inspector (acts_of I.Input E.Error.Error E.State.Inspector (A.leaf_meaning actions.now) (A.pair_gives actions.now) (A.option_gives actions.now) (A.unit_gives actions.now) (A.map_gives actions.now) (A.try_gives actions.now) (A.list_gives actions.now)) rules.now frames.new.items s (held I.Input E.Error.Error E.State.Inspector inp.new) todo) }
-    ensures known { All (IsKnown I.Input E.State.Inspector rules.now.nodes (held I.Input E.Error.Error E.State.Inspector inp.old).tokens) frames.new.items }
+    requires known { All (IsKnown I.Input E.State.Inspector rules.now.nodes (held I.Input E.Error.Error E.State.Inspector inp.old).tokens) stack.old.frames }
+    requires flat { IsFlat stack.old }
+    ensures left { IfOk result (λ todo. (s : Begun I.Token E.Context E.State.Seen E.Error.Seen) → Left I.Input E.Error.Error E.State.Inspector (acts_of I.Input E.Error.Error E.State.Inspector (A.leaf_meaning actions.now) (A.pair_gives actions.now) (A.option_gives actions.now) (A.unit_gives actions.now) (A.map_gives actions.now) (A.try_gives actions.now) (A.list_gives actions.now)) rules.now stack.old.frames s (held I.Input E.Error.Error E.State.Inspector inp.old) (Todo.Answer answer) → Left I.Input E.Error.Error E.State.Inspector (acts_of I.Input E.Error.Error E.State.Inspector (A.leaf_meaning actions.now) (A.pair_gives actions.now) (A.option_gives actions.now) (A.unit_gives actions.now) (A.map_gives actions.now) (A.try_gives actions.now) (A.list_gives actions.now)) rules.now stack.new.frames s (held I.Input E.Error.Error E.State.Inspector inp.new) todo) }
+    ensures known { All (IsKnown I.Input E.State.Inspector rules.now.nodes (held I.Input E.Error.Error E.State.Inspector inp.old).tokens) stack.new.frames }
     ensures there { IfOk result (IsThere (length rules.now.nodes)) }
-    ensures lighter { IfOk result (λ todo. total (length rules.now.nodes) frames.new.items todo < weight (length rules.now.nodes) frames.old.items) }
-    ensures ends { IfErr result (λ r. (r ≡ answer) × (frames.old.items ≡ []) × (held I.Input E.Error.Error E.State.Inspector inp.new ≡ held I.Input E.Error.Error E.State.Inspector inp.old)) }
-    ensures bounded { IfOk result (λ todo. (bound : ℕ) → IsBounded (length rules.now.nodes) bound 0 frames.old.items → IsBounded (length rules.now.nodes) bound 0 frames.new.items × Fits (length rules.now.nodes) bound (length frames.new.items) todo) }
+    ensures flat { IsFlat stack.new }
+    ensures lighter { IfOk result (λ todo. total (length rules.now.nodes) stack.new.frames todo < weight (length rules.now.nodes) stack.old.frames) }
+    ensures ends { IfErr result (λ r. (r ≡ answer) × (stack.old.frames ≡ []) × (held I.Input E.Error.Error E.State.Inspector inp.new ≡ held I.Input E.Error.Error E.State.Inspector inp.old)) }
+    ensures bounded { IfOk result (λ todo. (bound : ℕ) → IsBounded (length rules.now.nodes) bound 0 stack.old.frames → IsBounded (length rules.now.nodes) bound 0 stack.new.frames × Fits (length rules.now.nodes) bound (length stack.new.frames) todo) }
     ensures tokens { (held I.Input E.Error.Error E.State.Inspector inp.new).tokens ≡ (held I.Input E.Error.Error E.State.Inspector inp.old).tokens }
     ensures lent { inp.new.state.ghost_name ≡ inp.old.state.ghost_name }
 {
-    match frames.pop() {
-        Some(frame) => Ok(resume(actions, rules, frames, frame, answer, inp)),
+    match stack.pop() {
+        Some(frame) => Ok(resume(actions, rules, stack, frame, answer, inp)),
         None => Err(answer),
     }
 }

@@ -4,18 +4,23 @@ ghost use Rattle.chumsky_input.specs.Held.{held};
 ghost use Rattle.chumsky_input.specs.Run.{Ran, Fails};
 ghost use Rattle.chumsky_parser.specs.Chained.{both};
 ghost use Rattle.chumsky_parser.specs.Failure.{expects, wanting};
-ghost use Rattle.chumsky_recursive.specs.Frames.{Makes, items_of};
+ghost use Rattle.chumsky_recursive.specs.Beside.{HasItems, IsFlat};
+ghost use Rattle.chumsky_recursive.specs.Frames.{Makes};
 
 use crate::actions::Actions;
+use crate::frames::Gathered;
+use crate::stack::Stack;
 use chumsky_input::error::Error;
 use chumsky_input::extra::ParserExtra;
 use chumsky_input::input::Input;
 use chumsky_input::input_ref::InputRef;
+use chumsky_input::inspector::Inspector;
 use chumsky_input::stop::{Fault, PResult, Stop};
 use chumsky_input::util::Plain;
 use std::alloc::Global;
 
 /// Runs a leaf, for its value where one is wanted.
+#[inline(always)]
 pub(crate) fn leaf<'src, I: Input<'src>, E: ParserExtra<I>, A: Actions<'src, I, E>>(
     actions: &A,
     n: usize,
@@ -49,6 +54,7 @@ pub(crate) fn nothing<'src, I: Input<'src>, E: ParserExtra<I>>(
 }
 
 /// The value of two parts, where both have one.
+#[inline(always)]
 pub(crate) fn pair<'src, I: Input<'src>, E: ParserExtra<I>, A: Actions<'src, I, E>>(
     actions: &A,
     alloc: Global,
@@ -120,24 +126,33 @@ pub(crate) fn unit<'src, I: Input<'src>, E: ParserExtra<I>, A: Actions<'src, I, 
     }
 }
 
-/// The value of a list, where its items have theirs.
+/// The value of a list, where its items have theirs, which it takes from the stack.
+#[inline(always)]
 pub(crate) fn listed<'src, I: Input<'src>, E: ParserExtra<I>, A: Actions<'src, I, E>>(
     actions: &A,
     alloc: Global,
-    values: Option<Vec<A::Value>>,
+    stack: &mut Stack<A::Value, I::Cursor, <E::State as Inspector<I>>::Mark, E::Error>,
+    list: Gathered,
 ) -> PResult<Option<A::Value>>
-    ensures { Makes (A.list_gives actions.now) (items_of values) result }
+    requires items { HasItems stack.old list }
+    ensures makes { Makes (A.list_gives actions.now) (wanting list.wanted stack.old.loose) result }
+    ensures frames { stack.new.frames ≡ stack.old.frames }
+    ensures flat { IsFlat stack.new }
 {
-    match values {
-        None => Ok(None),
-        Some(values) => match actions.list(alloc, values) {
+    if !list.wanted {
+        return Ok(None);
+    }
+    match stack.take_all(list.count) {
+        Ok(values) => match actions.list(alloc, values) {
             Ok(value) => Ok(Some(value)),
             Err(_) => Err(Fault::Stop(Stop::Memory)),
         },
+        Err(_) => Err(Fault::Stop(Stop::Memory)),
     }
 }
 
 /// A value through a mapper, where there is one.
+#[inline(always)]
 pub(crate) fn map<'src, I: Input<'src>, E: ParserExtra<I>, A: Actions<'src, I, E>>(
     actions: &A,
     alloc: Global,

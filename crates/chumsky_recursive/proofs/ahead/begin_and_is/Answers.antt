@@ -1,5 +1,5 @@
 use Rattle.std.proofs.Common.{inl}
 use Rattle.chumsky_recursive.proofs.ahead.begin_and_is.Goals as goal
 
-pub returns-in-Ok : goal.returns-in-Ok
-returns-in-Ok g c = record { cases = inl (c.in-Ok.before, c.in-Ok.ensures, c.wait.ensures) }
+pub returns-in-Ok-clause-waits : goal.returns-in-Ok-clause-waits
+returns-in-Ok-clause-waits g c = record { cases = inl (c.in-Ok.before, c.in-Ok.ensures, c.wait.ensures.waits) }

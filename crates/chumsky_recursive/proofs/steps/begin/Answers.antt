@@ -52,52 +52,52 @@ returns-else-more-eq0-clause-lighter g c = below_lighter _ _ _ (body_level _ _ _
 pub returns-in-Then-clause-left : goal.returns-in-Then-clause-left
 returns-in-Then-clause-left g c =
     let b = parts_below c.args.rules.now c.args.node _ _ c.requires.closed.built c.kind_of.ensures c.in-Then.is in
-    then_left _ _ _ _ _ c.requires.closed.built _ _ _ _ _ _ _ (c.kind_of.ensures ∙ ap Some c.in-Then.is) (less b.0 c.requires.node) c.wait.ensures
+    then_left _ _ _ _ _ c.requires.closed.built _ _ _ _ _ _ _ (c.kind_of.ensures ∙ ap Some c.in-Then.is) (less b.0 c.requires.node) c.wait.ensures.waits
 
 pub returns-in-Then-clause-known : goal.returns-in-Then-clause-known
 returns-in-Then-clause-known g c =
     let b = parts_below c.args.rules.now c.args.node _ _ c.requires.closed.built c.kind_of.ensures c.in-Then.is in
-    λ all. waits_all (IsKnown g.I.Input g.E.State.Inspector c.args.rules.now.nodes (held g.I.Input g.E.Error.Error g.E.State.Inspector c.args.inp.now).tokens) c.wait.ensures (less b.1.0 c.requires.node) all
+    λ all. waits_all (IsKnown g.I.Input g.E.State.Inspector c.args.rules.now.nodes (held g.I.Input g.E.Error.Error g.E.State.Inspector c.args.inp.now).tokens) c.wait.ensures.waits (less b.1.0 c.requires.node) all
 
 pub returns-in-Then-clause-there : goal.returns-in-Then-clause-there
 returns-in-Then-clause-there g c =
     let b = parts_below c.args.rules.now c.args.node _ _ c.requires.closed.built c.kind_of.ensures c.in-Then.is in
-    waits_there (length c.args.rules.now.nodes) c.wait.ensures (less b.0 c.requires.node)
+    waits_there (length c.args.rules.now.nodes) c.wait.ensures.waits (less b.0 c.requires.node)
 
 pub returns-in-Then-clause-lighter : goal.returns-in-Then-clause-lighter
 returns-in-Then-clause-lighter g c =
     let b = parts_below c.args.rules.now c.args.node _ _ c.requires.closed.built c.kind_of.ensures c.in-Then.is in
-    waits_lighter (length c.args.rules.now.nodes) _ c.wait.ensures (two_lighter _ _ _ (part_level (length c.args.rules.now.nodes) c.args.more c.in-Then.a c.args.node b.0) (part_level (length c.args.rules.now.nodes) c.args.more c.in-Then.b c.args.node b.1.0))
+    waits_lighter (length c.args.rules.now.nodes) _ c.wait.ensures.waits (two_lighter _ _ _ (part_level (length c.args.rules.now.nodes) c.args.more c.in-Then.a c.args.node b.0) (part_level (length c.args.rules.now.nodes) c.args.more c.in-Then.b c.args.node b.1.0))
 
 pub returns-in-Map-clause-left : goal.returns-in-Map-clause-left
 returns-in-Map-clause-left g c =
     let b = parts_below c.args.rules.now c.args.node _ _ c.requires.closed.built c.kind_of.ensures c.in-Map.is in
-    map_left _ _ _ _ _ c.requires.closed.built _ _ _ _ _ _ _ (c.kind_of.ensures ∙ ap Some c.in-Map.is) (less b.0 c.requires.node) c.wait-in-Map.ensures
+    map_left _ _ _ _ _ c.requires.closed.built _ _ _ _ _ _ _ (c.kind_of.ensures ∙ ap Some c.in-Map.is) (less b.0 c.requires.node) c.wait-in-Map.ensures.waits
 
 pub returns-in-Map-clause-known : goal.returns-in-Map-clause-known
-returns-in-Map-clause-known g c = λ all. waits_all (IsKnown g.I.Input g.E.State.Inspector c.args.rules.now.nodes (held g.I.Input g.E.Error.Error g.E.State.Inspector c.args.inp.now).tokens) c.wait-in-Map.ensures tt all
+returns-in-Map-clause-known g c = λ all. waits_all (IsKnown g.I.Input g.E.State.Inspector c.args.rules.now.nodes (held g.I.Input g.E.Error.Error g.E.State.Inspector c.args.inp.now).tokens) c.wait-in-Map.ensures.waits tt all
 
 pub returns-in-Map-clause-there : goal.returns-in-Map-clause-there
 returns-in-Map-clause-there g c =
     let b = parts_below c.args.rules.now c.args.node _ _ c.requires.closed.built c.kind_of.ensures c.in-Map.is in
-    waits_there (length c.args.rules.now.nodes) c.wait-in-Map.ensures (less b.0 c.requires.node)
+    waits_there (length c.args.rules.now.nodes) c.wait-in-Map.ensures.waits (less b.0 c.requires.node)
 
 pub returns-in-Map-clause-lighter : goal.returns-in-Map-clause-lighter
 returns-in-Map-clause-lighter g c =
     let b = parts_below c.args.rules.now c.args.node _ _ c.requires.closed.built c.kind_of.ensures c.in-Map.is in
-    waits_lighter (length c.args.rules.now.nodes) _ c.wait-in-Map.ensures (one_lighter _ _ (part_level (length c.args.rules.now.nodes) c.args.more c.in-Map.a c.args.node b.0))
+    waits_lighter (length c.args.rules.now.nodes) _ c.wait-in-Map.ensures.waits (one_lighter _ _ (part_level (length c.args.rules.now.nodes) c.args.more c.in-Map.a c.args.node b.0))
 
 pub returns-in-Ok-clause-left : goal.returns-in-Ok-clause-left
-returns-in-Ok-clause-left g c = many_left _ _ _ _ _ c.requires.closed.built _ _ _ _ _ _ (c.kind_of.ensures ∙ ap Some c.in-Choice.is) _ _ c.in-Ok.before (sym c.alternative.ensures.is ∙ c.in-Some.is) (sym c.alternative-in-Choice.ensures.is ∙ c.in-Some-alternative.is) (less (alternative_below c.args.rules.now c.args.node 0 c.in-Some.first c.requires.closed.built (sym c.alternative.ensures.is ∙ c.in-Some.is)) c.requires.node) c.in-Ok.ensures c.wait-in-Ok.ensures
+returns-in-Ok-clause-left g c = many_left _ _ _ _ _ c.requires.closed.built _ _ _ _ _ _ (c.kind_of.ensures ∙ ap Some c.in-Choice.is) _ _ c.in-Ok.before (sym c.alternative.ensures.is ∙ c.in-Some.is) (sym c.alternative-in-Choice.ensures.is ∙ c.in-Some-alternative.is) (less (alternative_below c.args.rules.now c.args.node 0 c.in-Some.first c.requires.closed.built (sym c.alternative.ensures.is ∙ c.in-Some.is)) c.requires.node) c.in-Ok.ensures c.wait-in-Ok.ensures.waits
 
 pub returns-in-Ok-clause-known : goal.returns-in-Ok-clause-known
-returns-in-Ok-clause-known g c = λ all. waits_all (IsKnown g.I.Input g.E.State.Inspector c.args.rules.now.nodes (held g.I.Input g.E.Error.Error g.E.State.Inspector c.args.inp.now).tokens) c.wait-in-Ok.ensures (c.requires.node, ap tokens_of c.in-Ok.ensures) all
+returns-in-Ok-clause-known g c = λ all. waits_all (IsKnown g.I.Input g.E.State.Inspector c.args.rules.now.nodes (held g.I.Input g.E.Error.Error g.E.State.Inspector c.args.inp.now).tokens) c.wait-in-Ok.ensures.waits (c.requires.node, ap tokens_of c.in-Ok.ensures) all
 
 pub returns-in-Ok-clause-there : goal.returns-in-Ok-clause-there
-returns-in-Ok-clause-there g c = waits_there (length c.args.rules.now.nodes) c.wait-in-Ok.ensures (less (alternative_below c.args.rules.now c.args.node 0 c.in-Some.first c.requires.closed.built (sym c.alternative.ensures.is ∙ c.in-Some.is)) c.requires.node)
+returns-in-Ok-clause-there g c = waits_there (length c.args.rules.now.nodes) c.wait-in-Ok.ensures.waits (less (alternative_below c.args.rules.now c.args.node 0 c.in-Some.first c.requires.closed.built (sym c.alternative.ensures.is ∙ c.in-Some.is)) c.requires.node)
 
 pub returns-in-Ok-clause-lighter : goal.returns-in-Ok-clause-lighter
-returns-in-Ok-clause-lighter g c = waits_lighter (length c.args.rules.now.nodes) _ c.wait-in-Ok.ensures (first_lighter _ _ (part_level (length c.args.rules.now.nodes) c.args.more c.in-Some.first c.args.node (alternative_below c.args.rules.now c.args.node 0 c.in-Some.first c.requires.closed.built (sym c.alternative.ensures.is ∙ c.in-Some.is))))
+returns-in-Ok-clause-lighter g c = waits_lighter (length c.args.rules.now.nodes) _ c.wait-in-Ok.ensures.waits (first_lighter _ _ (part_level (length c.args.rules.now.nodes) c.args.more c.in-Some.first c.args.node (alternative_below c.args.rules.now c.args.node 0 c.in-Some.first c.requires.closed.built (sym c.alternative.ensures.is ∙ c.in-Some.is))))
 
 pub returns-in-Err-clause-left : goal.returns-in-Err-clause-left
 returns-in-Err-clause-left g c = unmarked_left _ _ _ _ _ c.requires.closed.built _ _ _ _ _ _ (c.kind_of.ensures ∙ ap Some c.in-Choice.is) _ _ (sym c.alternative.ensures.is ∙ c.in-Some.is) (sym c.alternative-in-Choice.ensures.is ∙ c.in-Some-alternative.is) c.in-Err.ensures
@@ -132,39 +132,39 @@ returns-else-more-eq0-clause-bounded g c =
 pub returns-in-Then-clause-bounded : goal.returns-in-Then-clause-bounded
 returns-in-Then-clause-bounded g c =
     let b = parts_below c.args.rules.now c.args.node _ _ c.requires.closed.built c.kind_of.ensures c.in-Then.is in
-    λ bound m l. waits_bounded (length c.args.rules.now.nodes) bound c.wait.ensures (fits_over _ _ _ _ (part_level (length c.args.rules.now.nodes) c.args.more c.in-Then.b c.args.node b.1.0) l) (fits_under _ _ _ _ (part_level (length c.args.rules.now.nodes) c.args.more c.in-Then.a c.args.node b.0) l) m
+    λ bound m l. waits_bounded (length c.args.rules.now.nodes) bound c.wait.ensures.waits (fits_over _ _ _ _ (part_level (length c.args.rules.now.nodes) c.args.more c.in-Then.b c.args.node b.1.0) l) (fits_under _ _ _ _ (part_level (length c.args.rules.now.nodes) c.args.more c.in-Then.a c.args.node b.0) l) m
 
 pub returns-in-Ok-clause-bounded : goal.returns-in-Ok-clause-bounded
 returns-in-Ok-clause-bounded g c =
-    λ bound m l. waits_bounded (length c.args.rules.now.nodes) bound c.wait-in-Ok.ensures l (fits_under _ _ _ _ (part_level (length c.args.rules.now.nodes) c.args.more c.in-Some.first c.args.node (alternative_below c.args.rules.now c.args.node 0 c.in-Some.first c.requires.closed.built (sym c.alternative.ensures.is ∙ c.in-Some.is))) l) m
+    λ bound m l. waits_bounded (length c.args.rules.now.nodes) bound c.wait-in-Ok.ensures.waits l (fits_under _ _ _ _ (part_level (length c.args.rules.now.nodes) c.args.more c.in-Some.first c.args.node (alternative_below c.args.rules.now c.args.node 0 c.in-Some.first c.requires.closed.built (sym c.alternative.ensures.is ∙ c.in-Some.is))) l) m
 
 pub returns-in-Map-clause-bounded : goal.returns-in-Map-clause-bounded
 returns-in-Map-clause-bounded g c =
     let b = parts_below c.args.rules.now c.args.node _ _ c.requires.closed.built c.kind_of.ensures c.in-Map.is in
-    λ bound m l. waits_bounded (length c.args.rules.now.nodes) bound c.wait-in-Map.ensures (fits_none _ _ _ l) (fits_under _ _ _ _ (part_level (length c.args.rules.now.nodes) c.args.more c.in-Map.a c.args.node b.0) l) m
+    λ bound m l. waits_bounded (length c.args.rules.now.nodes) bound c.wait-in-Map.ensures.waits (fits_none _ _ _ l) (fits_under _ _ _ _ (part_level (length c.args.rules.now.nodes) c.args.more c.in-Map.a c.args.node b.0) l) m
 
 pub returns-in-OrNot-clause-left : goal.returns-in-OrNot-clause-left
 returns-in-OrNot-clause-left g c =
     let b = parts_below c.args.rules.now c.args.node _ _ c.requires.closed.built c.kind_of.ensures c.in-OrNot.is in
-    or_not_left _ _ _ _ _ c.requires.closed.built _ _ _ _ _ _ (c.kind_of.ensures ∙ ap Some c.in-OrNot.is) (less b.0 c.requires.node) c.begin_part.ensures
+    or_not_left _ _ _ _ _ c.requires.closed.built _ _ _ _ _ _ (c.kind_of.ensures ∙ ap Some c.in-OrNot.is) (less b.0 c.requires.node) c.begin_part.ensures.waits
 
 pub returns-in-OrNot-clause-known : goal.returns-in-OrNot-clause-known
-returns-in-OrNot-clause-known g c = λ all. marked_all _ _ (IsKnown g.I.Input g.E.State.Inspector c.args.rules.now.nodes (held g.I.Input g.E.Error.Error g.E.State.Inspector c.args.inp.now).tokens) c.begin_part.ensures (λ d e. ap tokens_of e) all
+returns-in-OrNot-clause-known g c = λ all. marked_all _ _ (IsKnown g.I.Input g.E.State.Inspector c.args.rules.now.nodes (held g.I.Input g.E.Error.Error g.E.State.Inspector c.args.inp.now).tokens) c.begin_part.ensures.waits (λ d e. ap tokens_of e) all
 
 pub returns-in-OrNot-clause-there : goal.returns-in-OrNot-clause-there
 returns-in-OrNot-clause-there g c =
     let b = parts_below c.args.rules.now c.args.node _ _ c.requires.closed.built c.kind_of.ensures c.in-OrNot.is in
-    marked_there _ _ (length c.args.rules.now.nodes) c.begin_part.ensures (less b.0 c.requires.node)
+    marked_there _ _ (length c.args.rules.now.nodes) c.begin_part.ensures.waits (less b.0 c.requires.node)
 
 pub returns-in-OrNot-clause-lighter : goal.returns-in-OrNot-clause-lighter
 returns-in-OrNot-clause-lighter g c =
     let b = parts_below c.args.rules.now c.args.node _ _ c.requires.closed.built c.kind_of.ensures c.in-OrNot.is in
-    marked_lighter _ _ (length c.args.rules.now.nodes) _ c.begin_part.ensures (λ d. one_lighter _ _ (part_level (length c.args.rules.now.nodes) c.args.more c.in-OrNot.a c.args.node b.0))
+    marked_lighter _ _ (length c.args.rules.now.nodes) _ c.begin_part.ensures.waits (λ d. one_lighter _ _ (part_level (length c.args.rules.now.nodes) c.args.more c.in-OrNot.a c.args.node b.0))
 
 pub returns-in-OrNot-clause-bounded : goal.returns-in-OrNot-clause-bounded
 returns-in-OrNot-clause-bounded g c =
     let b = parts_below c.args.rules.now c.args.node _ _ c.requires.closed.built c.kind_of.ensures c.in-OrNot.is in
-    λ bound m l. marked_bounded _ _ (length c.args.rules.now.nodes) bound c.begin_part.ensures (λ d. fits_none _ _ _ l) (fits_under _ _ _ _ (part_level (length c.args.rules.now.nodes) c.args.more c.in-OrNot.a c.args.node b.0) l) m
+    λ bound m l. marked_bounded _ _ (length c.args.rules.now.nodes) bound c.begin_part.ensures.waits (λ d. fits_none _ _ _ l) (fits_under _ _ _ _ (part_level (length c.args.rules.now.nodes) c.args.more c.in-OrNot.a c.args.node b.0) l) m
 
 pub returns-in-Not-clause-left : goal.returns-in-Not-clause-left
 returns-in-Not-clause-left g c =
@@ -192,27 +192,27 @@ returns-in-Not-clause-bounded g c =
 pub returns-in-AndIs-clause-left : goal.returns-in-AndIs-clause-left
 returns-in-AndIs-clause-left g c =
     let b = parts_below c.args.rules.now c.args.node _ _ c.requires.closed.built c.kind_of.ensures c.in-AndIs.is in
-    and_is_left _ _ _ _ _ c.requires.closed.built _ _ _ _ _ _ _ (c.kind_of.ensures ∙ ap Some c.in-AndIs.is) (less b.0 c.requires.node) c.begin_and_is.ensures
+    and_is_left _ _ _ _ _ c.requires.closed.built _ _ _ _ _ _ _ (c.kind_of.ensures ∙ ap Some c.in-AndIs.is) (less b.0 c.requires.node) c.begin_and_is.ensures.waits
 
 pub returns-in-AndIs-clause-known : goal.returns-in-AndIs-clause-known
 returns-in-AndIs-clause-known g c =
     let b = parts_below c.args.rules.now c.args.node _ _ c.requires.closed.built c.kind_of.ensures c.in-AndIs.is in
-    λ all. marked_all _ _ (IsKnown g.I.Input g.E.State.Inspector c.args.rules.now.nodes (held g.I.Input g.E.Error.Error g.E.State.Inspector c.args.inp.now).tokens) c.begin_and_is.ensures (λ d e. (less b.1.0 c.requires.node, ap tokens_of e)) all
+    λ all. marked_all _ _ (IsKnown g.I.Input g.E.State.Inspector c.args.rules.now.nodes (held g.I.Input g.E.Error.Error g.E.State.Inspector c.args.inp.now).tokens) c.begin_and_is.ensures.waits (λ d e. (less b.1.0 c.requires.node, ap tokens_of e)) all
 
 pub returns-in-AndIs-clause-there : goal.returns-in-AndIs-clause-there
 returns-in-AndIs-clause-there g c =
     let b = parts_below c.args.rules.now c.args.node _ _ c.requires.closed.built c.kind_of.ensures c.in-AndIs.is in
-    marked_there _ _ (length c.args.rules.now.nodes) c.begin_and_is.ensures (less b.0 c.requires.node)
+    marked_there _ _ (length c.args.rules.now.nodes) c.begin_and_is.ensures.waits (less b.0 c.requires.node)
 
 pub returns-in-AndIs-clause-lighter : goal.returns-in-AndIs-clause-lighter
 returns-in-AndIs-clause-lighter g c =
     let b = parts_below c.args.rules.now c.args.node _ _ c.requires.closed.built c.kind_of.ensures c.in-AndIs.is in
-    marked_lighter _ _ (length c.args.rules.now.nodes) _ c.begin_and_is.ensures (λ d. two_lighter _ _ _ (part_level (length c.args.rules.now.nodes) c.args.more c.in-AndIs.a c.args.node b.0) (part_level (length c.args.rules.now.nodes) c.args.more c.in-AndIs.b c.args.node b.1.0))
+    marked_lighter _ _ (length c.args.rules.now.nodes) _ c.begin_and_is.ensures.waits (λ d. two_lighter _ _ _ (part_level (length c.args.rules.now.nodes) c.args.more c.in-AndIs.a c.args.node b.0) (part_level (length c.args.rules.now.nodes) c.args.more c.in-AndIs.b c.args.node b.1.0))
 
 pub returns-in-AndIs-clause-bounded : goal.returns-in-AndIs-clause-bounded
 returns-in-AndIs-clause-bounded g c =
     let b = parts_below c.args.rules.now c.args.node _ _ c.requires.closed.built c.kind_of.ensures c.in-AndIs.is in
-    λ bound m l. marked_bounded _ _ (length c.args.rules.now.nodes) bound c.begin_and_is.ensures (λ d. fits_over _ _ _ _ (part_level (length c.args.rules.now.nodes) c.args.more c.in-AndIs.b c.args.node b.1.0) l) (fits_under _ _ _ _ (part_level (length c.args.rules.now.nodes) c.args.more c.in-AndIs.a c.args.node b.0) l) m
+    λ bound m l. marked_bounded _ _ (length c.args.rules.now.nodes) bound c.begin_and_is.ensures.waits (λ d. fits_over _ _ _ _ (part_level (length c.args.rules.now.nodes) c.args.more c.in-AndIs.b c.args.node b.1.0) l) (fits_under _ _ _ _ (part_level (length c.args.rules.now.nodes) c.args.more c.in-AndIs.a c.args.node b.0) l) m
 
 pub returns-in-Rewind-clause-left : goal.returns-in-Rewind-clause-left
 returns-in-Rewind-clause-left g c =
@@ -261,55 +261,55 @@ returns-in-TryMap-clause-bounded g c =
     λ bound m l. waits_bounded (length c.args.rules.now.nodes) bound c.begin_try.ensures.waits.waits (fits_none _ _ _ l) (fits_under _ _ _ _ (part_level (length c.args.rules.now.nodes) c.args.more c.in-TryMap.a c.args.node b.0) l) m
 
 pub returns-in-Repeated-clause-left : goal.returns-in-Repeated-clause-left
-returns-in-Repeated-clause-left g c = λ s w. repeated_left _ _ _ _ _ c.requires.closed.built _ _ _ _ _ _ _ s _ _ _ (c.kind_of.ensures ∙ ap Some c.in-Repeated.is) w (rw c.repeated_list-list.ensures at c.begin_list.ensures)
+returns-in-Repeated-clause-left g c = λ s w. repeated_left _ _ _ _ _ c.requires.closed.built _ _ _ _ _ _ _ s _ _ _ (c.kind_of.ensures ∙ ap Some c.in-Repeated.is) w (rw c.repeated_list-list.ensures at c.begin_list.ensures.begins)
 
 pub returns-in-Repeated-clause-known : goal.returns-in-Repeated-clause-known
 returns-in-Repeated-clause-known g c =
     let e : lists_of (slice_get c.args.rules.now.nodes c.args.node) ≡ Some c.repeated_list-list.result = rw (c.kind_of.ensures ∙ ap Some c.in-Repeated.is, c.repeated_list-list.ensures) refl in
     let b = list_below c.args.rules.now c.args.node c.repeated_list-list.result c.requires.closed.built e in
-    begin_known g.I.Input g.E.State.Inspector (g.A.Actions.list_gives c.args.actions.now) c.repeated_list-list.result c.args.rules.now.nodes c.args.frames.now.items c.begin_list.new.frames.items c.args.node c.args.more c.args.wanted (held g.I.Input g.E.Error.Error g.E.State.Inspector c.args.inp.now) c.begin_list.result e b c.begin_list.ensures
+    begin_known g.I.Input g.E.State.Inspector (g.A.Actions.list_gives c.args.actions.now) c.repeated_list-list.result c.args.rules.now.nodes c.args.stack.now.frames c.begin_list.new.stack.frames c.args.node c.args.more c.args.wanted (held g.I.Input g.E.Error.Error g.E.State.Inspector c.args.inp.now) c.begin_list.result e b c.begin_list.ensures.begins
 
 pub returns-in-Repeated-clause-there : goal.returns-in-Repeated-clause-there
 returns-in-Repeated-clause-there g c =
     let e : lists_of (slice_get c.args.rules.now.nodes c.args.node) ≡ Some c.repeated_list-list.result = rw (c.kind_of.ensures ∙ ap Some c.in-Repeated.is, c.repeated_list-list.ensures) refl in
     let b = list_below c.args.rules.now c.args.node c.repeated_list-list.result c.requires.closed.built e in
-    begin_there g.I.Input g.E.State.Inspector (g.A.Actions.list_gives c.args.actions.now) c.repeated_list-list.result c.args.rules.now.nodes c.args.frames.now.items c.begin_list.new.frames.items c.args.node c.args.more c.args.wanted (held g.I.Input g.E.Error.Error g.E.State.Inspector c.args.inp.now) c.begin_list.result e b c.begin_list.ensures c.requires.node
+    begin_there g.I.Input g.E.State.Inspector (g.A.Actions.list_gives c.args.actions.now) c.repeated_list-list.result c.args.rules.now.nodes c.args.stack.now.frames c.begin_list.new.stack.frames c.args.node c.args.more c.args.wanted (held g.I.Input g.E.Error.Error g.E.State.Inspector c.args.inp.now) c.begin_list.result e b c.begin_list.ensures.begins c.requires.node
 
 pub returns-in-Repeated-clause-lighter : goal.returns-in-Repeated-clause-lighter
 returns-in-Repeated-clause-lighter g c =
     let e : lists_of (slice_get c.args.rules.now.nodes c.args.node) ≡ Some c.repeated_list-list.result = rw (c.kind_of.ensures ∙ ap Some c.in-Repeated.is, c.repeated_list-list.ensures) refl in
     let b = list_below c.args.rules.now c.args.node c.repeated_list-list.result c.requires.closed.built e in
-    begin_lighter g.I.Input g.E.State.Inspector (g.A.Actions.list_gives c.args.actions.now) c.repeated_list-list.result c.args.rules.now.nodes c.args.frames.now.items c.begin_list.new.frames.items c.args.node c.args.more c.args.wanted (held g.I.Input g.E.Error.Error g.E.State.Inspector c.args.inp.now) c.begin_list.result e b c.begin_list.ensures (length c.args.rules.now.nodes)
+    begin_lighter g.I.Input g.E.State.Inspector (g.A.Actions.list_gives c.args.actions.now) c.repeated_list-list.result c.args.rules.now.nodes c.args.stack.now.frames c.begin_list.new.stack.frames c.args.node c.args.more c.args.wanted (held g.I.Input g.E.Error.Error g.E.State.Inspector c.args.inp.now) c.begin_list.result e b c.begin_list.ensures.begins (length c.args.rules.now.nodes)
 
 pub returns-in-Repeated-clause-bounded : goal.returns-in-Repeated-clause-bounded
 returns-in-Repeated-clause-bounded g c =
     let e : lists_of (slice_get c.args.rules.now.nodes c.args.node) ≡ Some c.repeated_list-list.result = rw (c.kind_of.ensures ∙ ap Some c.in-Repeated.is, c.repeated_list-list.ensures) refl in
     let b = list_below c.args.rules.now c.args.node c.repeated_list-list.result c.requires.closed.built e in
-    λ bound m l. begin_bounded g.I.Input g.E.State.Inspector (g.A.Actions.list_gives c.args.actions.now) c.repeated_list-list.result c.args.rules.now.nodes c.args.frames.now.items c.begin_list.new.frames.items c.args.node c.args.more c.args.wanted (held g.I.Input g.E.Error.Error g.E.State.Inspector c.args.inp.now) c.begin_list.result e b c.begin_list.ensures (length c.args.rules.now.nodes) bound l m
+    λ bound m l. begin_bounded g.I.Input g.E.State.Inspector (g.A.Actions.list_gives c.args.actions.now) c.repeated_list-list.result c.args.rules.now.nodes c.args.stack.now.frames c.begin_list.new.stack.frames c.args.node c.args.more c.args.wanted (held g.I.Input g.E.Error.Error g.E.State.Inspector c.args.inp.now) c.begin_list.result e b c.begin_list.ensures.begins (length c.args.rules.now.nodes) bound l m
 
 pub returns-in-SeparatedBy-clause-left : goal.returns-in-SeparatedBy-clause-left
-returns-in-SeparatedBy-clause-left g c = λ s w. separated_left _ _ _ _ _ c.requires.closed.built _ _ _ _ _ _ _ s _ _ _ (c.kind_of.ensures ∙ ap Some c.in-SeparatedBy.is) w (rw c.separated_list-list.ensures at c.begin_list-in-SeparatedBy.ensures)
+returns-in-SeparatedBy-clause-left g c = λ s w. separated_left _ _ _ _ _ c.requires.closed.built _ _ _ _ _ _ _ s _ _ _ (c.kind_of.ensures ∙ ap Some c.in-SeparatedBy.is) w (rw c.separated_list-list.ensures at c.begin_list-in-SeparatedBy.ensures.begins)
 
 pub returns-in-SeparatedBy-clause-known : goal.returns-in-SeparatedBy-clause-known
 returns-in-SeparatedBy-clause-known g c =
     let e : lists_of (slice_get c.args.rules.now.nodes c.args.node) ≡ Some c.separated_list-list.result = rw (c.kind_of.ensures ∙ ap Some c.in-SeparatedBy.is, c.separated_list-list.ensures) refl in
     let b = list_below c.args.rules.now c.args.node c.separated_list-list.result c.requires.closed.built e in
-    begin_known g.I.Input g.E.State.Inspector (g.A.Actions.list_gives c.args.actions.now) c.separated_list-list.result c.args.rules.now.nodes c.args.frames.now.items c.begin_list-in-SeparatedBy.new.frames.items c.args.node c.args.more c.args.wanted (held g.I.Input g.E.Error.Error g.E.State.Inspector c.args.inp.now) c.begin_list-in-SeparatedBy.result e b c.begin_list-in-SeparatedBy.ensures
+    begin_known g.I.Input g.E.State.Inspector (g.A.Actions.list_gives c.args.actions.now) c.separated_list-list.result c.args.rules.now.nodes c.args.stack.now.frames c.begin_list-in-SeparatedBy.new.stack.frames c.args.node c.args.more c.args.wanted (held g.I.Input g.E.Error.Error g.E.State.Inspector c.args.inp.now) c.begin_list-in-SeparatedBy.result e b c.begin_list-in-SeparatedBy.ensures.begins
 
 pub returns-in-SeparatedBy-clause-there : goal.returns-in-SeparatedBy-clause-there
 returns-in-SeparatedBy-clause-there g c =
     let e : lists_of (slice_get c.args.rules.now.nodes c.args.node) ≡ Some c.separated_list-list.result = rw (c.kind_of.ensures ∙ ap Some c.in-SeparatedBy.is, c.separated_list-list.ensures) refl in
     let b = list_below c.args.rules.now c.args.node c.separated_list-list.result c.requires.closed.built e in
-    begin_there g.I.Input g.E.State.Inspector (g.A.Actions.list_gives c.args.actions.now) c.separated_list-list.result c.args.rules.now.nodes c.args.frames.now.items c.begin_list-in-SeparatedBy.new.frames.items c.args.node c.args.more c.args.wanted (held g.I.Input g.E.Error.Error g.E.State.Inspector c.args.inp.now) c.begin_list-in-SeparatedBy.result e b c.begin_list-in-SeparatedBy.ensures c.requires.node
+    begin_there g.I.Input g.E.State.Inspector (g.A.Actions.list_gives c.args.actions.now) c.separated_list-list.result c.args.rules.now.nodes c.args.stack.now.frames c.begin_list-in-SeparatedBy.new.stack.frames c.args.node c.args.more c.args.wanted (held g.I.Input g.E.Error.Error g.E.State.Inspector c.args.inp.now) c.begin_list-in-SeparatedBy.result e b c.begin_list-in-SeparatedBy.ensures.begins c.requires.node
 
 pub returns-in-SeparatedBy-clause-lighter : goal.returns-in-SeparatedBy-clause-lighter
 returns-in-SeparatedBy-clause-lighter g c =
     let e : lists_of (slice_get c.args.rules.now.nodes c.args.node) ≡ Some c.separated_list-list.result = rw (c.kind_of.ensures ∙ ap Some c.in-SeparatedBy.is, c.separated_list-list.ensures) refl in
     let b = list_below c.args.rules.now c.args.node c.separated_list-list.result c.requires.closed.built e in
-    begin_lighter g.I.Input g.E.State.Inspector (g.A.Actions.list_gives c.args.actions.now) c.separated_list-list.result c.args.rules.now.nodes c.args.frames.now.items c.begin_list-in-SeparatedBy.new.frames.items c.args.node c.args.more c.args.wanted (held g.I.Input g.E.Error.Error g.E.State.Inspector c.args.inp.now) c.begin_list-in-SeparatedBy.result e b c.begin_list-in-SeparatedBy.ensures (length c.args.rules.now.nodes)
+    begin_lighter g.I.Input g.E.State.Inspector (g.A.Actions.list_gives c.args.actions.now) c.separated_list-list.result c.args.rules.now.nodes c.args.stack.now.frames c.begin_list-in-SeparatedBy.new.stack.frames c.args.node c.args.more c.args.wanted (held g.I.Input g.E.Error.Error g.E.State.Inspector c.args.inp.now) c.begin_list-in-SeparatedBy.result e b c.begin_list-in-SeparatedBy.ensures.begins (length c.args.rules.now.nodes)
 
 pub returns-in-SeparatedBy-clause-bounded : goal.returns-in-SeparatedBy-clause-bounded
 returns-in-SeparatedBy-clause-bounded g c =
     let e : lists_of (slice_get c.args.rules.now.nodes c.args.node) ≡ Some c.separated_list-list.result = rw (c.kind_of.ensures ∙ ap Some c.in-SeparatedBy.is, c.separated_list-list.ensures) refl in
     let b = list_below c.args.rules.now c.args.node c.separated_list-list.result c.requires.closed.built e in
-    λ bound m l. begin_bounded g.I.Input g.E.State.Inspector (g.A.Actions.list_gives c.args.actions.now) c.separated_list-list.result c.args.rules.now.nodes c.args.frames.now.items c.begin_list-in-SeparatedBy.new.frames.items c.args.node c.args.more c.args.wanted (held g.I.Input g.E.Error.Error g.E.State.Inspector c.args.inp.now) c.begin_list-in-SeparatedBy.result e b c.begin_list-in-SeparatedBy.ensures (length c.args.rules.now.nodes) bound l m
+    λ bound m l. begin_bounded g.I.Input g.E.State.Inspector (g.A.Actions.list_gives c.args.actions.now) c.separated_list-list.result c.args.rules.now.nodes c.args.stack.now.frames c.begin_list-in-SeparatedBy.new.stack.frames c.args.node c.args.more c.args.wanted (held g.I.Input g.E.Error.Error g.E.State.Inspector c.args.inp.now) c.begin_list-in-SeparatedBy.result e b c.begin_list-in-SeparatedBy.ensures.begins (length c.args.rules.now.nodes) bound l m
