@@ -135,8 +135,11 @@ pub mod combinator {
 /// Rules as data: recursive grammars, the parser that runs them, and why a call on them is refused.
 pub mod recursive {
     pub use chumsky_recursive::actions::Actions;
+    pub use chumsky_recursive::evaluator::step;
+    pub use chumsky_recursive::frames::Todo;
     pub use chumsky_recursive::grammar::{Grammar, close};
     pub use chumsky_recursive::leaves::{Leaves, Values};
+    pub use chumsky_recursive::stack::Stack;
     pub use chumsky_rules::closed::Closed;
     pub use chumsky_rules::errors::{BuildError, CloseError, DefineError, RecursiveError};
     pub use chumsky_rules::kinds::{Node, Recursive, SepCfg};
@@ -191,7 +194,7 @@ pub mod laws {
         one_of_is_steady, select_is_steady, select_ref_is_steady,
     };
     pub use chumsky_recursive::laws::{
-        answers_agree_under_any_limit, answers_stand_under_a_greater_limit,
+        a_run_begins_with_room, answers_agree_under_any_limit, answers_stand_under_a_greater_limit,
     };
     pub use chumsky_recursive::steady::grammar_is_steady;
     pub use chumsky_set::laws::{
