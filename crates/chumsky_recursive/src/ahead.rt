@@ -9,7 +9,7 @@ use crate::actions::Actions;
 use crate::frames::{Frame, Todo};
 use crate::stack::Stack;
 use crate::values::unit;
-use crate::waits::{wait, wait_with_kept, wait_with_value};
+use crate::waits::{wait_at, wait_at_with_kept, wait_with_kept, wait_with_value};
 use chumsky_input::error::Error;
 use chumsky_input::extra::ParserExtra;
 use chumsky_input::input::Input;
@@ -37,10 +37,11 @@ pub(crate) fn begin_not<'src, I: Input<'src>, E: ParserExtra<I>, V: Drop>(
     match inp.save() {
         Ok(before) => {
             let older = inp.take_kept();
-            wait_with_kept(
+            wait_at_with_kept(
                 stack,
+                before,
                 older,
-                Frame::Denied(wanted, before),
+                Frame::Denied(wanted),
                 part,
                 more,
                 false,
@@ -65,7 +66,7 @@ pub(crate) fn begin_and_is<'src, I: Input<'src>, E: ParserExtra<I>, V: Drop>(
     ensures flat { IsFlat stack.new }
 {
     match inp.save() {
-        Ok(before) => wait(stack, Frame::Both(other, more, before), part, more, wanted),
+        Ok(before) => wait_at(stack, before, Frame::Both(other, more), part, more, wanted),
         Err(_) => Todo::Answer(Err(Fault::Stop(Stop::Memory))),
     }
 }

@@ -20,8 +20,8 @@ use chumsky_rules::rules::Rules;
 /// Closed rules with their actions: the parser that calls the start rule.
 ///
 /// `close` makes it. No more rules than the limit are open at once: a call that would open one more is refused with
-/// `Stop::TooDeep`. Nodes that wait for their parts stand in one vector, with values of finished parts in another beside it, so
-/// how deep rules go costs memory and no stack; want of memory for either is `Stop::Memory`.
+/// `Stop::TooDeep`. Nodes that wait for their parts stand in one vector, with what is theirs in others beside it, so how
+/// deep rules go costs memory and no stack; want of memory for any of them is `Stop::Memory`.
 #[derive_where(Clone, Copy)]
 pub struct Grammar<'r, A> {
     pub rules: Closed<'r>,

@@ -1,9 +1,9 @@
 //! Nodes `repeated` and `separated_by`: items one after another.
-ghost use Rattle.std.specs.Prelude.{◌≡◌, ◌+◌, [], Ok, Err, Some, None, false, nat_lt, length, OnOk, OnErr};
+ghost use Rattle.std.specs.Prelude.{◌≡◌, ◌+◌, [], ◌∷◌, Ok, Err, Some, None, false, nat_lt, length, OnOk, OnErr};
 ghost use Rattle.chumsky_input.specs.Held.{held, marks};
 ghost use Rattle.chumsky_items.specs.Repeating.{at_cap, is_stuck, fits};
 ghost use Rattle.chumsky_parser.specs.Failure.{wanting};
-ghost use Rattle.chumsky_recursive.specs.Beside.{values_at, kept_at, values_of_list, full_list, whole, HasItems, IsFlat};
+ghost use Rattle.chumsky_recursive.specs.Beside.{values_at, points_at, kept_at, values_of_list, full_list, whole, HasItems, IsFlat};
 ghost use Rattle.chumsky_recursive.specs.CountWhere.{count_where};
 ghost use Rattle.chumsky_recursive.specs.Frames.{Waits, lists_of, asks_at, separator_at, stays_at};
 ghost use Rattle.chumsky_recursive.specs.Lists.{NextCount, Appended, gathered_by, Ends, BeginsItem, NextRound, BeginsList, HearsSeparator, HearsItem};
@@ -162,23 +162,32 @@ fn give_up<V: Drop, P: Drop, M: Drop, R: Drop>(
     Todo::Answer(Err(Fault::Stop(stop)))
 }
 
-/// Has a list wait for a part, with the values of its items beside it.
+/// Has a list wait for a part, with the values of its items and a checkpoint beside it.
 #[inline(always)]
 fn wait_for<V: Drop, P: Drop, M: Drop, R: Drop>(
     stack: &mut Stack<V, P, M, R>,
     list: Gathered,
-    frame: Frame<P, M>,
+    point: Checkpoint<P, M>,
+    frame: Frame<P>,
     part: Node,
     wanted: bool,
 ) -> Todo<V>
     requires items { HasItems stack.old list }
     requires values { values_at frame ≡ values_of_list list }
+    requires points { points_at frame ≡ 1 }
     requires kept { kept_at frame ≡ 0 }
-    ensures waits { Waits stack.old.frames stack.new.frames (whole frame stack.old.loose []) part list.more wanted result }
+    ensures waits { Waits stack.old.frames stack.new.frames (whole frame stack.old.loose (point ∷ []) []) part list.more wanted result }
     ensures flat { IsFlat stack.new }
 {
-    match stack.push(frame) {
-        Ok(_) => Todo::Begin(part, list.more, wanted),
+    match stack.put_point(point) {
+        Ok(_) => match stack.push(frame) {
+            Ok(_) => Todo::Begin(part, list.more, wanted),
+            Err(_) => {
+                let point = stack.take_point();
+                drop(point);
+                give_up(stack, list, Stop::Memory)
+            }
+        },
         Err(_) => give_up(stack, list, Stop::Memory),
     }
 }
@@ -192,9 +201,11 @@ fn append<V: Drop, P: Drop, M: Drop, R: Drop>(
     value: Option<V>,
 ) -> Result<(), AllocError>
     requires items { length stack.old.loose ≡ count_where wanted count }
+    requires points { stack.old.points ≡ [] }
     requires aside { stack.old.aside ≡ [] }
     ensures appends { Appended (wanting wanted stack.old.loose) value (gathered_by wanted stack.new.loose result) }
     ensures frames { stack.new.frames ≡ stack.old.frames }
+    ensures points { stack.new.points ≡ [] }
     ensures aside { stack.new.aside ≡ [] }
     ensures ok { OnOk result (length stack.new.loose ≡ count_where wanted (count + 1)) }
     ensures err { OnErr result (stack.new.loose ≡ []) }
@@ -259,13 +270,13 @@ fn begin_item<'src, I: Input<'src>, E: ParserExtra<I>, V: Drop>(
         count,
     } = so_far;
     if !stays_behind(list, count) {
-        let frame = Frame::Item(wanted, node, more, count, start, before);
-        return wait_for(stack, so_far, frame, list.item, wanted);
+        let frame = Frame::Item(wanted, node, more, count, start);
+        return wait_for(stack, so_far, before, frame, list.item, wanted);
     }
     match inp.save() {
         Ok(own) => {
-            let frame = Frame::Item(wanted, node, more, count, start, own);
-            wait_for(stack, so_far, frame, list.item, wanted)
+            let frame = Frame::Item(wanted, node, more, count, start);
+            wait_for(stack, so_far, own, frame, list.item, wanted)
         }
         Err(_) => give_up(stack, so_far, Stop::Memory),
     }
@@ -296,8 +307,8 @@ pub(crate) fn next_round<'src, I: Input<'src>, E: ParserExtra<I>, A: Actions<'sr
                     wanted,
                     count,
                 } = so_far;
-                let frame = Frame::Separator(wanted, node, more, count, before);
-                wait_for(stack, so_far, frame, separator, false)
+                let frame = Frame::Separator(wanted, node, more, count);
+                wait_for(stack, so_far, before, frame, separator, false)
             }
             None => begin_item(stack, list, so_far, before, inp),
         },

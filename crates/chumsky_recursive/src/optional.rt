@@ -8,7 +8,7 @@ use crate::actions::Actions;
 use crate::frames::{Frame, Todo};
 use crate::stack::Stack;
 use crate::values::{absent, present};
-use crate::waits::wait;
+use crate::waits::wait_at;
 use chumsky_input::extra::ParserExtra;
 use chumsky_input::input::Input;
 use chumsky_input::input_ref::{Checkpoint, InputRef};
@@ -30,7 +30,7 @@ pub(crate) fn begin_part<'src, I: Input<'src>, E: ParserExtra<I>, V: Drop>(
     ensures flat { IsFlat stack.new }
 {
     match inp.save() {
-        Ok(before) => wait(stack, Frame::Optional(wanted, before), part, more, wanted),
+        Ok(before) => wait_at(stack, before, Frame::Optional(wanted), part, more, wanted),
         Err(_) => Todo::Answer(Err(Fault::Stop(Stop::Memory))),
     }
 }

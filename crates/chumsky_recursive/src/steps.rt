@@ -17,7 +17,7 @@ use crate::lists::{
 use crate::optional::{begin_part, or_absent};
 use crate::stack::Stack;
 use crate::values::{leaf, map, nothing, pair};
-use crate::waits::{wait, wait_with_value};
+use crate::waits::{wait, wait_at, wait_with_value};
 use chumsky_input::extra::ParserExtra;
 use chumsky_input::input::Input;
 use chumsky_input::input_ref::InputRef;
@@ -126,9 +126,10 @@ pub(crate) fn begin<'src, I: Input<'src>, E: ParserExtra<I>, A: Actions<'src, I,
                 return Todo::Begin(first, more, wanted);
             };
             match inp.save() {
-                Ok(before) => wait(
+                Ok(before) => wait_at(
                     stack,
-                    Frame::Alternative(wanted, node, more, 1, before),
+                    before,
+                    Frame::Alternative(wanted, node, more, 1),
                     first,
                     more,
                     wanted,
@@ -159,19 +160,19 @@ fn resume<'src, I: Input<'src>, E: ParserExtra<I>, A: Actions<'src, I, E>>(
     actions: &A,
     rules: &Rules,
     stack: &mut Stack<A::Value, I::Cursor, <E::State as Inspector<I>>::Mark, E::Error>,
-    frame: Frame<I::Cursor, <E::State as Inspector<I>>::Mark>,
+    frame: Frame<I::Cursor>,
     answer: PResult<Option<A::Value>>,
     inp: &mut InputRef<'src, '_, I, E>,
 ) -> Todo<A::Value>
     requires closed { IsClosed rules.now (A.leaf_count actions.now) }
-    requires known { IsKnown I.Input E.State.Inspector rules.now.nodes (held I.Input E.Error.Error E.State.Inspector inp.old).tokens (whole frame stack.old.loose stack.old.aside) }
+    requires known { IsKnown I.Input E.State.Inspector rules.now.nodes (held I.Input E.Error.Error E.State.Inspector inp.old).tokens (whole frame stack.old.loose stack.old.points stack.old.aside) }
     requires loose { LiesLoose stack.old frame }
-    ensures left { (s u t : Begun I.Token E.Context E.State.Seen E.Error.Seen) → Wait I.Input E.Error.Error E.State.Inspector (acts_of I.Input E.Error.Error E.State.Inspector (A.leaf_meaning actions.now) (A.pair_gives actions.now) (A.option_gives actions.now) (A.unit_gives actions.now) (A.map_gives actions.now) (A.try_gives actions.now) (A.list_gives actions.now)) rules.now stack.old.frames s u → WaitsFor I.Input E.Error.Error E.State.Inspector (acts_of I.Input E.Error.Error E.State.Inspector (A.leaf_meaning actions.now) (A.pair_gives actions.now) (A.option_gives actions.now) (A.unit_gives actions.now) (A.map_gives actions.now) (A.try_gives actions.now) (A.list_gives actions.now)) rules.now (whole frame stack.old.loose stack.old.aside) u t → Answers I.Input E.Error.Error E.State.Inspector (acts_of I.Input E.Error.Error E.State.Inspector (A.leaf_meaning actions.now) (A.pair_gives actions.now) (A.option_gives actions.now) (A.unit_gives actions.now) (A.map_gives actions.now) (A.try_gives actions.now) (A.list_gives actions.now)) rules.now t (held I.Input E.Error.Error E.State.Inspector inp.old) answer → IfOk answer (λ v. is_some v ≡ t.wanted) → Left I.Input E.Error.Error E.State.Inspector (acts_of I.Input E.Error.Error E.State.Inspector (A.leaf_meaning actions.now) (A.pair_gives actions.now) (A.option_gives actions.now) (A.unit_gives actions.now) (A.map_gives actions.now) (A.try_gives actions.now) (A.list_gives actions.now)) rules.now stack.new.frames s (held I.Input E.Error.Error E.State.Inspector inp.new) result }
+    ensures left { (s u t : Begun I.Token E.Context E.State.Seen E.Error.Seen) → Wait I.Input E.Error.Error E.State.Inspector (acts_of I.Input E.Error.Error E.State.Inspector (A.leaf_meaning actions.now) (A.pair_gives actions.now) (A.option_gives actions.now) (A.unit_gives actions.now) (A.map_gives actions.now) (A.try_gives actions.now) (A.list_gives actions.now)) rules.now stack.old.frames s u → WaitsFor I.Input E.Error.Error E.State.Inspector (acts_of I.Input E.Error.Error E.State.Inspector (A.leaf_meaning actions.now) (A.pair_gives actions.now) (A.option_gives actions.now) (A.unit_gives actions.now) (A.map_gives actions.now) (A.try_gives actions.now) (A.list_gives actions.now)) rules.now (whole frame stack.old.loose stack.old.points stack.old.aside) u t → Answers I.Input E.Error.Error E.State.Inspector (acts_of I.Input E.Error.Error E.State.Inspector (A.leaf_meaning actions.now) (A.pair_gives actions.now) (A.option_gives actions.now) (A.unit_gives actions.now) (A.map_gives actions.now) (A.try_gives actions.now) (A.list_gives actions.now)) rules.now t (held I.Input E.Error.Error E.State.Inspector inp.old) answer → IfOk answer (λ v. is_some v ≡ t.wanted) → Left I.Input E.Error.Error E.State.Inspector (acts_of I.Input E.Error.Error E.State.Inspector (A.leaf_meaning actions.now) (A.pair_gives actions.now) (A.option_gives actions.now) (A.unit_gives actions.now) (A.map_gives actions.now) (A.try_gives actions.now) (A.list_gives actions.now)) rules.now stack.new.frames s (held I.Input E.Error.Error E.State.Inspector inp.new) result }
     ensures known { All (IsKnown I.Input E.State.Inspector rules.now.nodes (held I.Input E.Error.Error E.State.Inspector inp.old).tokens) stack.old.frames → All (IsKnown I.Input E.State.Inspector rules.now.nodes (held I.Input E.Error.Error E.State.Inspector inp.old).tokens) stack.new.frames }
     ensures there { IsThere (length rules.now.nodes) result }
     ensures flat { IsFlat stack.new }
-    ensures lighter { total (length rules.now.nodes) stack.new.frames result < weight (length rules.now.nodes) stack.old.frames + weight_of (length rules.now.nodes) (whole frame stack.old.loose stack.old.aside) }
-    ensures bounded { (bound : ℕ) → IsBounded (length rules.now.nodes) bound 0 stack.old.frames → reach (length rules.now.nodes) (whole frame stack.old.loose stack.old.aside) + length stack.old.frames ≤ bound → IsBounded (length rules.now.nodes) bound 0 stack.new.frames × Fits (length rules.now.nodes) bound (length stack.new.frames) result }
+    ensures lighter { total (length rules.now.nodes) stack.new.frames result < weight (length rules.now.nodes) stack.old.frames + weight_of (length rules.now.nodes) (whole frame stack.old.loose stack.old.points stack.old.aside) }
+    ensures bounded { (bound : ℕ) → IsBounded (length rules.now.nodes) bound 0 stack.old.frames → reach (length rules.now.nodes) (whole frame stack.old.loose stack.old.points stack.old.aside) + length stack.old.frames ≤ bound → IsBounded (length rules.now.nodes) bound 0 stack.new.frames × Fits (length rules.now.nodes) bound (length stack.new.frames) result }
     ensures tokens { (held I.Input E.Error.Error E.State.Inspector inp.new).tokens ≡ (held I.Input E.Error.Error E.State.Inspector inp.old).tokens }
     ensures lent { inp.new.state.ghost_name ≡ inp.old.state.ghost_name }
 {
@@ -190,39 +191,48 @@ fn resume<'src, I: Input<'src>, E: ParserExtra<I>, A: Actions<'src, I, E>>(
                 Err(fault) => Todo::Answer(Err(fault)),
             }
         }
-        Frame::Alternative(wanted, node, more, next, before) => match answer {
-            Ok(value) => Todo::Answer(Ok(value)),
-            Err(fault) => match fault {
-                Fault::Stop(stop) => Todo::Answer(Err(Fault::Stop(stop))),
-                Fault::Fail => {
-                    let Some(part) = alternative(rules, node, next) else {
-                        return Todo::Answer(Err(Fault::Fail));
-                    };
-                    match inp.rewind(&before) {
-                        Ok(_) => wait(
-                            stack,
-                            Frame::Alternative(wanted, node, more, next + 1, before),
-                            part,
-                            more,
-                            wanted,
-                        ),
-                        Err(_) => Todo::Answer(Err(Fault::Stop(Stop::Memory))),
+        Frame::Alternative(wanted, node, more, next) => {
+            let before = stack.take_point();
+            match answer {
+                Ok(value) => Todo::Answer(Ok(value)),
+                Err(fault) => match fault {
+                    Fault::Stop(stop) => Todo::Answer(Err(Fault::Stop(stop))),
+                    Fault::Fail => {
+                        let Some(part) = alternative(rules, node, next) else {
+                            return Todo::Answer(Err(Fault::Fail));
+                        };
+                        match inp.rewind(&before) {
+                            Ok(_) => wait_at(
+                                stack,
+                                before,
+                                Frame::Alternative(wanted, node, more, next + 1),
+                                part,
+                                more,
+                                wanted,
+                            ),
+                            Err(_) => Todo::Answer(Err(Fault::Stop(Stop::Memory))),
+                        }
                     }
-                }
-            },
-        },
+                },
+            }
+        }
         Frame::Mapped(f) => match answer {
             Ok(value) => Todo::Answer(map(actions, inp.alloc, f, value)),
             Err(fault) => Todo::Answer(Err(fault)),
         },
-        Frame::Optional(wanted, before) => {
+        Frame::Optional(wanted) => {
+            let before = stack.take_point();
             Todo::Answer(or_absent(actions, wanted, &before, answer, inp))
         }
-        Frame::Denied(wanted, before) => {
+        Frame::Denied(wanted) => {
+            let before = stack.take_point();
             let older = stack.take_kept();
             Todo::Answer(turn(actions, wanted, &before, older, answer, inp))
         }
-        Frame::Both(other, more, before) => look(stack, other, more, &before, answer, inp),
+        Frame::Both(other, more) => {
+            let before = stack.take_point();
+            look(stack, other, more, &before, answer, inp)
+        }
         Frame::Looked(there, end) => {
             let value = stack.take(there);
             Todo::Answer(stand(value, end, answer, inp))
@@ -235,7 +245,8 @@ fn resume<'src, I: Input<'src>, E: ParserExtra<I>, A: Actions<'src, I, E>>(
             let older = stack.take_kept();
             Todo::Answer(judge(actions, f, wanted, start, older, answer, inp))
         }
-        Frame::Separator(wanted, node, more, count, before) => {
+        Frame::Separator(wanted, node, more, count) => {
+            let before = stack.take_point();
             let list = list_at(rules, node);
             let so_far = Gathered {
                 node,
@@ -245,7 +256,8 @@ fn resume<'src, I: Input<'src>, E: ParserExtra<I>, A: Actions<'src, I, E>>(
             };
             hear_separator(actions, stack, &list, so_far, before, answer, inp)
         }
-        Frame::Item(wanted, node, more, count, start, back) => {
+        Frame::Item(wanted, node, more, count, start) => {
+            let back = stack.take_point();
             let list = list_at(rules, node);
             let so_far = Gathered {
                 node,

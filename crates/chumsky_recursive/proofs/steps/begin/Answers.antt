@@ -88,16 +88,16 @@ returns-in-Map-clause-lighter g c =
     waits_lighter (length c.args.rules.now.nodes) _ c.wait-in-Map.ensures.waits (one_lighter _ _ (part_level (length c.args.rules.now.nodes) c.args.more c.in-Map.a c.args.node b.0))
 
 pub returns-in-Ok-clause-left : goal.returns-in-Ok-clause-left
-returns-in-Ok-clause-left g c = many_left _ _ _ _ _ c.requires.closed.built _ _ _ _ _ _ (c.kind_of.ensures ∙ ap Some c.in-Choice.is) _ _ c.in-Ok.before (sym c.alternative.ensures.is ∙ c.in-Some.is) (sym c.alternative-in-Choice.ensures.is ∙ c.in-Some-alternative.is) (less (alternative_below c.args.rules.now c.args.node 0 c.in-Some.first c.requires.closed.built (sym c.alternative.ensures.is ∙ c.in-Some.is)) c.requires.node) c.in-Ok.ensures c.wait-in-Ok.ensures.waits
+returns-in-Ok-clause-left g c = many_left _ _ _ _ _ c.requires.closed.built _ _ _ _ _ _ (c.kind_of.ensures ∙ ap Some c.in-Choice.is) _ _ c.in-Ok.before (sym c.alternative.ensures.is ∙ c.in-Some.is) (sym c.alternative-in-Choice.ensures.is ∙ c.in-Some-alternative.is) (less (alternative_below c.args.rules.now c.args.node 0 c.in-Some.first c.requires.closed.built (sym c.alternative.ensures.is ∙ c.in-Some.is)) c.requires.node) c.in-Ok.ensures c.wait_at.ensures.waits
 
 pub returns-in-Ok-clause-known : goal.returns-in-Ok-clause-known
-returns-in-Ok-clause-known g c = λ all. waits_all (IsKnown g.I.Input g.E.State.Inspector c.args.rules.now.nodes (held g.I.Input g.E.Error.Error g.E.State.Inspector c.args.inp.now).tokens) c.wait-in-Ok.ensures.waits (c.requires.node, ap tokens_of c.in-Ok.ensures) all
+returns-in-Ok-clause-known g c = λ all. waits_all (IsKnown g.I.Input g.E.State.Inspector c.args.rules.now.nodes (held g.I.Input g.E.Error.Error g.E.State.Inspector c.args.inp.now).tokens) c.wait_at.ensures.waits (c.requires.node, ap tokens_of c.in-Ok.ensures) all
 
 pub returns-in-Ok-clause-there : goal.returns-in-Ok-clause-there
-returns-in-Ok-clause-there g c = waits_there (length c.args.rules.now.nodes) c.wait-in-Ok.ensures.waits (less (alternative_below c.args.rules.now c.args.node 0 c.in-Some.first c.requires.closed.built (sym c.alternative.ensures.is ∙ c.in-Some.is)) c.requires.node)
+returns-in-Ok-clause-there g c = waits_there (length c.args.rules.now.nodes) c.wait_at.ensures.waits (less (alternative_below c.args.rules.now c.args.node 0 c.in-Some.first c.requires.closed.built (sym c.alternative.ensures.is ∙ c.in-Some.is)) c.requires.node)
 
 pub returns-in-Ok-clause-lighter : goal.returns-in-Ok-clause-lighter
-returns-in-Ok-clause-lighter g c = waits_lighter (length c.args.rules.now.nodes) _ c.wait-in-Ok.ensures.waits (first_lighter _ _ (part_level (length c.args.rules.now.nodes) c.args.more c.in-Some.first c.args.node (alternative_below c.args.rules.now c.args.node 0 c.in-Some.first c.requires.closed.built (sym c.alternative.ensures.is ∙ c.in-Some.is))))
+returns-in-Ok-clause-lighter g c = waits_lighter (length c.args.rules.now.nodes) _ c.wait_at.ensures.waits (first_lighter _ _ (part_level (length c.args.rules.now.nodes) c.args.more c.in-Some.first c.args.node (alternative_below c.args.rules.now c.args.node 0 c.in-Some.first c.requires.closed.built (sym c.alternative.ensures.is ∙ c.in-Some.is))))
 
 pub returns-in-Err-clause-left : goal.returns-in-Err-clause-left
 returns-in-Err-clause-left g c = unmarked_left _ _ _ _ _ c.requires.closed.built _ _ _ _ _ _ (c.kind_of.ensures ∙ ap Some c.in-Choice.is) _ _ (sym c.alternative.ensures.is ∙ c.in-Some.is) (sym c.alternative-in-Choice.ensures.is ∙ c.in-Some-alternative.is) c.in-Err.ensures
@@ -136,7 +136,7 @@ returns-in-Then-clause-bounded g c =
 
 pub returns-in-Ok-clause-bounded : goal.returns-in-Ok-clause-bounded
 returns-in-Ok-clause-bounded g c =
-    λ bound m l. waits_bounded (length c.args.rules.now.nodes) bound c.wait-in-Ok.ensures.waits l (fits_under _ _ _ _ (part_level (length c.args.rules.now.nodes) c.args.more c.in-Some.first c.args.node (alternative_below c.args.rules.now c.args.node 0 c.in-Some.first c.requires.closed.built (sym c.alternative.ensures.is ∙ c.in-Some.is))) l) m
+    λ bound m l. waits_bounded (length c.args.rules.now.nodes) bound c.wait_at.ensures.waits l (fits_under _ _ _ _ (part_level (length c.args.rules.now.nodes) c.args.more c.in-Some.first c.args.node (alternative_below c.args.rules.now c.args.node 0 c.in-Some.first c.requires.closed.built (sym c.alternative.ensures.is ∙ c.in-Some.is))) l) m
 
 pub returns-in-Map-clause-bounded : goal.returns-in-Map-clause-bounded
 returns-in-Map-clause-bounded g c =
