@@ -6,7 +6,7 @@ ghost use Rattle.chumsky_parser.specs.Failure.{wanting};
 ghost use Rattle.chumsky_recursive.specs.Beside.{values_at, points_at, kept_at, values_of_list, full_list, whole, HasItems, IsFlat};
 ghost use Rattle.chumsky_recursive.specs.CountWhere.{count_where};
 ghost use Rattle.chumsky_recursive.specs.Frames.{Waits, lists_of, asks_at, separator_at, stays_at};
-ghost use Rattle.chumsky_recursive.specs.Lists.{NextCount, Appended, gathered_by, Ends, BeginsItem, NextRound, BeginsList, HearsSeparator, HearsItem};
+ghost use Rattle.chumsky_recursive.specs.Lists.{NextCount, Appended, gathered_by, ItemPoint, Ends, BeginsItem, NextRound, BeginsList, HearsSeparator, HearsItem};
 
 use crate::actions::Actions;
 use crate::frames::{Frame, Gathered, Todo};
@@ -249,7 +249,26 @@ fn end<'src, I: Input<'src>, E: ParserExtra<I>, A: Actions<'src, I, E>>(
     listed(actions, alloc, stack, list)
 }
 
-/// Begins an item; it has a checkpoint of its own where the separator before it stays though it fails.
+/// The checkpoint that an item goes back to: one of its own where the separator before it stays though it fails.
+#[inline(always)]
+fn point_of_item<'src, I: Input<'src>, E: ParserExtra<I>>(
+    list: &Listing,
+    count: usize,
+    before: Checkpoint<I::Cursor, <E::State as Inspector<I>>::Mark>,
+    inp: &InputRef<'src, '_, I, E>,
+) -> Result<Checkpoint<I::Cursor, <E::State as Inspector<I>>::Mark>, AllocError>
+    ensures { ItemPoint I.Input E.State.Inspector (stays_at list.now count) before (held I.Input E.Error.Error E.State.Inspector inp.now) result }
+{
+    if !stays_behind(list, count) {
+        return Ok(before);
+    }
+    match inp.save() {
+        Ok(own) => Ok(own),
+        Err(error) => Err(error),
+    }
+}
+
+/// Begins an item.
 #[inline(always)]
 fn begin_item<'src, I: Input<'src>, E: ParserExtra<I>, V: Drop>(
     stack: &mut Stack<V, I::Cursor, <E::State as Inspector<I>>::Mark, E::Error>,
@@ -269,14 +288,10 @@ fn begin_item<'src, I: Input<'src>, E: ParserExtra<I>, V: Drop>(
         wanted,
         count,
     } = so_far;
-    if !stays_behind(list, count) {
-        let frame = Frame::Item(wanted, node, more, count, start);
-        return wait_for(stack, so_far, before, frame, list.item, wanted);
-    }
-    match inp.save() {
-        Ok(own) => {
+    match point_of_item(list, count, before, inp) {
+        Ok(point) => {
             let frame = Frame::Item(wanted, node, more, count, start);
-            wait_for(stack, so_far, own, frame, list.item, wanted)
+            wait_for(stack, so_far, point, frame, list.item, wanted)
         }
         Err(_) => give_up(stack, so_far, Stop::Memory),
     }

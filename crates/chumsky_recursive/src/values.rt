@@ -76,6 +76,7 @@ pub(crate) fn pair<'src, I: Input<'src>, E: ParserExtra<I>, A: Actions<'src, I, 
 }
 
 /// The value of a part that is there, where it has one.
+#[inline(always)]
 pub(crate) fn present<'src, I: Input<'src>, E: ParserExtra<I>, A: Actions<'src, I, E>>(
     actions: &A,
     alloc: Global,
@@ -93,6 +94,7 @@ pub(crate) fn present<'src, I: Input<'src>, E: ParserExtra<I>, A: Actions<'src, 
 }
 
 /// The value of a part that is absent, where one is wanted.
+#[inline(always)]
 pub(crate) fn absent<'src, I: Input<'src>, E: ParserExtra<I>, A: Actions<'src, I, E>>(
     actions: &A,
     alloc: Global,
@@ -110,6 +112,7 @@ pub(crate) fn absent<'src, I: Input<'src>, E: ParserExtra<I>, A: Actions<'src, I
 }
 
 /// The value of nothing, where one is wanted.
+#[inline(always)]
 pub(crate) fn unit<'src, I: Input<'src>, E: ParserExtra<I>, A: Actions<'src, I, E>>(
     actions: &A,
     alloc: Global,
