@@ -131,3 +131,8 @@ impl<A: SameClone, B: SameClone> SameClone for (A, B) {
 
     ghost eq_same = { λ x y. both_equal (A.eq_same x.0 y.0) (B.eq_same x.1 y.1) };
 }
+
+/// Two pairs count as equal where both of their parts do.
+pub fn pairs_are_the_same_by_both_parts<A: SameClone, B: SameClone>(a: &(A, B), b: &(A, B))
+    ensures { ⟦<(A, B) as SameClone>⟧.same (⟦<(A, B) as SameClone>⟧.seen a.now) (⟦<(A, B) as SameClone>⟧.seen b.now) ≡ (A.same (A.seen a.now.0) (A.seen b.now.0) && B.same (B.seen a.now.1) (B.seen b.now.1)) }
+{}
