@@ -9,6 +9,7 @@ pub mod Weights
 pub mod Room
 pub mod Begins
 pub mod Resumes
+pub mod Follows
 pub mod Options
 pub mod AheadBegins
 pub mod AheadResumes

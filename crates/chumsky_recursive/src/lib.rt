@@ -4,6 +4,7 @@
 pub mod actions;
 mod ahead;
 pub mod evaluator;
+mod following;
 pub mod frames;
 pub mod grammar;
 mod judged;

@@ -1,14 +1,15 @@
 //! One step of a run: a node begins, or one that waits hears of its part.
-ghost use Rattle.std.specs.Prelude.{◌≡◌, true, ℕ, ◌<◌, ◌≤◌, ◌+◌, length, Some, slice_get, [], All, IfOk, IfErr, is_some, MatchOption, ⊤};
-ghost use Rattle.chumsky_input.specs.Held.{Held, held, marks};
+ghost use Rattle.std.specs.Prelude.{◌≡◌, true, ℕ, ◌<◌, ◌≤◌, ◌+◌, length, Some, slice_get, [], All, IfOk, IfErr, is_some};
+ghost use Rattle.chumsky_input.specs.Held.{held};
 ghost use Rattle.chumsky_rules.specs.Closed.{IsClosed};
 ghost use Rattle.chumsky_recursive.specs.Means.{acts_of};
 ghost use Rattle.chumsky_recursive.specs.Beside.{whole, IsFlat, LiesLoose};
-ghost use Rattle.chumsky_recursive.specs.Frames.{Begun, Answers, WaitsFor, Wait, Left, IsKnown, IsThere, alternatives_of, lists_of};
+ghost use Rattle.chumsky_recursive.specs.Frames.{Begun, Answers, WaitsFor, Wait, Left, IsKnown, IsThere, lists_of};
 ghost use Rattle.chumsky_recursive.specs.Weight.{level, weight, weight_of, total, reach, IsBounded, Fits};
 
 use crate::actions::Actions;
 use crate::ahead::{begin_and_is, begin_not, begin_rewind, go_back, look, stand, turn};
+use crate::following::{Place, alternative, begin_second, kind_of, try_next};
 use crate::frames::{Frame, Gathered, Todo};
 use crate::judged::{begin_try, judge};
 use crate::lists::{
@@ -17,7 +18,7 @@ use crate::lists::{
 use crate::optional::{begin_part, or_absent};
 use crate::stack::Stack;
 use crate::values::{leaf, map, nothing, pair};
-use crate::waits::{wait, wait_at, wait_with_value};
+use crate::waits::{wait, wait_at};
 use chumsky_input::extra::ParserExtra;
 use chumsky_input::input::Input;
 use chumsky_input::input_ref::InputRef;
@@ -25,16 +26,6 @@ use chumsky_input::inspector::Inspector;
 use chumsky_input::stop::{Fault, PResult, Stop};
 use chumsky_rules::kinds::{Node, NodeKind, Recursive};
 use chumsky_rules::rules::Rules;
-
-/// What a node does.
-#[inline(always)]
-fn kind_of(rules: &Rules, node: Node) -> &NodeKind
-    requires { node < length rules.now.nodes }
-    ensures { slice_get rules.now.nodes node ≡ Some result.now }
-{
-    let kinds = rules.nodes();
-    &kinds[node.number()]
-}
 
 /// The body of a rule.
 #[inline(always)]
@@ -47,29 +38,6 @@ pub(crate) fn body_of(rules: &Rules, rule: Recursive) -> Node
     match bodies[rule.number()] {
         Some(body) => body,
         None => unreachable!(),
-    }
-}
-
-/// The alternative of a choice at a place, if there is one.
-#[inline(always)]
-fn alternative(rules: &Rules, node: Node, place: usize) -> Option<Node>
-    requires { node < length rules.now.nodes }
-    ensures is { result ≡ slice_get (alternatives_of (slice_get rules.now.nodes node)) place }
-    ensures small { MatchOption result ⊤ (λ _. place + 1 < 18446744073709551616) }
-{
-    match kind_of(rules, node) {
-        NodeKind::Leaf(_) => None,
-        NodeKind::Rule(_) => None,
-        NodeKind::Then(_, _) => None,
-        NodeKind::Choice(v) => v.as_slice().get(place).copied(),
-        NodeKind::Map(_, _) => None,
-        NodeKind::Repeated(_, _, _) => None,
-        NodeKind::SeparatedBy(_, _, _) => None,
-        NodeKind::OrNot(_) => None,
-        NodeKind::Not(_) => None,
-        NodeKind::AndIs(_, _) => None,
-        NodeKind::Rewind(_) => None,
-        NodeKind::TryMap(_, _) => None,
     }
 }
 
@@ -177,13 +145,7 @@ fn resume<'src, I: Input<'src>, E: ParserExtra<I>, A: Actions<'src, I, E>>(
     ensures lent { inp.new.state.ghost_name ≡ inp.old.state.ghost_name }
 {
     match frame {
-        Frame::First(wanted, second, more) => match answer {
-            Ok(first) => {
-                let there = first.is_some();
-                wait_with_value(stack, first, Frame::Second(there), second, more, wanted)
-            }
-            Err(fault) => Todo::Answer(Err(fault)),
-        },
+        Frame::First(wanted, second, more) => begin_second(stack, second, more, wanted, answer),
         Frame::Second(there) => {
             let first = stack.take(there);
             match answer {
@@ -193,28 +155,13 @@ fn resume<'src, I: Input<'src>, E: ParserExtra<I>, A: Actions<'src, I, E>>(
         }
         Frame::Alternative(wanted, node, more, next) => {
             let before = stack.take_point();
-            match answer {
-                Ok(value) => Todo::Answer(Ok(value)),
-                Err(fault) => match fault {
-                    Fault::Stop(stop) => Todo::Answer(Err(Fault::Stop(stop))),
-                    Fault::Fail => {
-                        let Some(part) = alternative(rules, node, next) else {
-                            return Todo::Answer(Err(Fault::Fail));
-                        };
-                        match inp.rewind(&before) {
-                            Ok(_) => wait_at(
-                                stack,
-                                before,
-                                Frame::Alternative(wanted, node, more, next + 1),
-                                part,
-                                more,
-                                wanted,
-                            ),
-                            Err(_) => Todo::Answer(Err(Fault::Stop(Stop::Memory))),
-                        }
-                    }
-                },
-            }
+            let place = Place {
+                node,
+                more,
+                wanted,
+                next,
+            };
+            try_next(rules, stack, place, before, answer, inp)
         }
         Frame::Mapped(f) => match answer {
             Ok(value) => Todo::Answer(map(actions, inp.alloc, f, value)),

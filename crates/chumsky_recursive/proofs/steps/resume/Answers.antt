@@ -1,14 +1,12 @@
 use Rattle.std.specs.Prelude.{is_some}
-use Rattle.std.proofs.Common.{arith, ◌≡◌, ◌<◌, ◌^◌, true, length, slice_get, Err, refl, ◌∙◌, ap, sym}
-use Rattle.chumsky_input.specs.declared.stop.Fault.TheVariants as fault
+use Rattle.std.proofs.Common.{◌≡◌, ◌<◌, true, length, slice_get, refl}
 use Rattle.chumsky_input.specs.Held.{held, marks}
 use Rattle.chumsky_recursive.specs.Beside.{full_list}
-use Rattle.chumsky_recursive.specs.Frames.{IsKnown, lists_of}
-use Rattle.chumsky_recursive.proofs.Dealing.{first_of-option_to_list}
+use Rattle.chumsky_recursive.specs.Frames.{IsKnown, alternatives_of, lists_of}
 use Rattle.chumsky_recursive.proofs.Parts.{alternative_below}
-use Rattle.chumsky_recursive.proofs.Begins.{waits_all, waits_there, less}
-use Rattle.chumsky_recursive.proofs.Resumes.{first_fails, second_fails, mapped_fails, second_made, mapped_made, alternative_stands, alternative_ends, alternative_unrestored, second_left, next_left}
-use Rattle.chumsky_recursive.proofs.Weights.{waits_lighter, part_level, next_lighter, choice_lighter, next_small, waits_bounded, fits_under, fits_first, fits_none}
+use Rattle.chumsky_recursive.proofs.Begins.{less}
+use Rattle.chumsky_recursive.proofs.Resumes.{second_fails, mapped_fails, second_made, mapped_made}
+use Rattle.chumsky_recursive.proofs.Follows.{second_all, second_there, second_lighter, second_bounded, then_hears, tries_all, tries_there, tries_lighter, tries_bounded, choice_hears}
 use Rattle.chumsky_recursive.proofs.Options.{or_absent_left}
 use Rattle.chumsky_recursive.proofs.AheadResumes.{looks_all, looks_there, looks_lighter, looks_bounded, not_turns, and_is_looks, and_is_stands, rewind_returns}
 use Rattle.chumsky_recursive.proofs.Tried.{try_judges}
@@ -16,131 +14,78 @@ use Rattle.chumsky_recursive.proofs.Listing.{list_below, list_inside, hears_sepa
 use Rattle.chumsky_recursive.proofs.ListSteps.{separator_known, separator_there, separator_lighter, separator_bounded, item_all, item_is_there, item_is_lighter, item_is_bounded}
 use Rattle.chumsky_recursive.proofs.steps.resume.Goals as goal
 
-pub returns-in-Ok-clause-left : goal.returns-in-Ok-clause-left
-returns-in-Ok-clause-left g c =
+pub returns-in-First-clause-left : goal.returns-in-First-clause-left
+returns-in-First-clause-left g c =
     let k : c.in-First.second < length c.args.rules.now.nodes = rw c.in-First.is at c.requires.known in
-    let w = rw first_of-option_to_list at c.wait_with_value.ensures.waits in
-    rw c.in-First.is (second_left _ _ _ _ _ _ _ _ c.requires.closed.built _ _ _ _ c.in-Ok.is k w)
+    rw c.in-First.is (then_hears _ _ _ _ _ c.requires.closed.built _ _ _ _ _ _ _ k _ c.begin_second.ensures.begins)
 
-pub returns-in-Ok-clause-known : goal.returns-in-Ok-clause-known
-returns-in-Ok-clause-known g c = λ all. waits_all (IsKnown g.I.Input g.E.State.Inspector c.args.rules.now.nodes (held g.I.Input g.E.Error.Error g.E.State.Inspector c.args.inp.now).tokens) c.wait_with_value.ensures.waits tt all
+pub returns-in-First-clause-known : goal.returns-in-First-clause-known
+returns-in-First-clause-known g c =
+    λ all. second_all c.args.stack.now.frames c.begin_second.new.stack.frames c.in-First.second c.in-First.more c.in-First.wanted c.begin_second.result c.args.answer c.begin_second.ensures.begins (IsKnown g.I.Input g.E.State.Inspector c.args.rules.now.nodes (held g.I.Input g.E.Error.Error g.E.State.Inspector c.args.inp.now).tokens) (λ v. tt) all
 
-pub returns-in-Ok-clause-lighter : goal.returns-in-Ok-clause-lighter
-returns-in-Ok-clause-lighter g c = rw c.in-First.is (waits_lighter (length c.args.rules.now.nodes) _ c.wait_with_value.ensures.waits (omega arith))
+pub returns-in-First-clause-there : goal.returns-in-First-clause-there
+returns-in-First-clause-there g c =
+    let k : c.in-First.second < length c.args.rules.now.nodes = rw c.in-First.is at c.requires.known in
+    second_there c.args.stack.now.frames c.begin_second.new.stack.frames c.in-First.second c.in-First.more c.in-First.wanted c.begin_second.result c.args.answer c.begin_second.ensures.begins (length c.args.rules.now.nodes) k
+
+pub returns-in-First-clause-lighter : goal.returns-in-First-clause-lighter
+returns-in-First-clause-lighter g c =
+    rw c.in-First.is (second_lighter c.args.stack.now.frames c.begin_second.new.stack.frames c.in-First.second c.in-First.more c.in-First.wanted c.begin_second.result c.args.answer c.begin_second.ensures.begins (length c.args.rules.now.nodes))
+
+pub returns-in-First-clause-bounded : goal.returns-in-First-clause-bounded
+returns-in-First-clause-bounded g c =
+    λ bound b l. (let m = rw c.in-First.is at l in second_bounded c.args.stack.now.frames c.begin_second.new.stack.frames c.in-First.second c.in-First.more c.in-First.wanted c.begin_second.result c.args.answer c.begin_second.ensures.begins (length c.args.rules.now.nodes) bound m b)
+
+pub returns-in-Alternative-clause-left : goal.returns-in-Alternative-clause-left
+returns-in-Alternative-clause-left g c =
+    let k : (c.in-Alternative.node < length c.args.rules.now.nodes) × ((marks g.I.Input g.E.State.Inspector c.take_point-before.result).tokens ≡ (held g.I.Input g.E.Error.Error g.E.State.Inspector c.args.inp.now).tokens) = rw (c.in-Alternative.is, c.take_point-before.ensures.point) at c.requires.known in
+    rw (c.in-Alternative.is, c.take_point-before.ensures.point) (choice_hears _ _ _ _ _ c.requires.closed.built _ _ _ _ _ (record { node = c.in-Alternative.node; more = c.in-Alternative.more; wanted = c.in-Alternative.wanted; next = c.in-Alternative.next }) _ k.0 _ refl _ (rw c.take_point-before.ensures.new at c.try_next.ensures.tries))
+
+pub returns-in-Alternative-clause-known : goal.returns-in-Alternative-clause-known
+returns-in-Alternative-clause-known g c =
+    let k : (c.in-Alternative.node < length c.args.rules.now.nodes) × ((marks g.I.Input g.E.State.Inspector c.take_point-before.result).tokens ≡ (held g.I.Input g.E.Error.Error g.E.State.Inspector c.args.inp.now).tokens) = rw (c.in-Alternative.is, c.take_point-before.ensures.point) at c.requires.known in
+    λ all. tries_all g.I.Input g.E.State.Inspector c.args.stack.now.frames c.try_next.new.stack.frames (record { node = c.in-Alternative.node; more = c.in-Alternative.more; wanted = c.in-Alternative.wanted; next = c.in-Alternative.next }) c.take_point-before.result (held g.I.Input g.E.Error.Error g.E.State.Inspector c.args.inp.now) (held g.I.Input g.E.Error.Error g.E.State.Inspector c.try_next.new.inp) c.try_next.result (slice_get (alternatives_of (slice_get c.args.rules.now.nodes c.in-Alternative.node)) c.in-Alternative.next) c.args.answer (rw c.take_point-before.ensures.new at c.try_next.ensures.tries) (IsKnown g.I.Input g.E.State.Inspector c.args.rules.now.nodes (held g.I.Input g.E.Error.Error g.E.State.Inspector c.args.inp.now).tokens) k all
+
+pub returns-in-Alternative-clause-there : goal.returns-in-Alternative-clause-there
+returns-in-Alternative-clause-there g c =
+    let k : (c.in-Alternative.node < length c.args.rules.now.nodes) × ((marks g.I.Input g.E.State.Inspector c.take_point-before.result).tokens ≡ (held g.I.Input g.E.Error.Error g.E.State.Inspector c.args.inp.now).tokens) = rw (c.in-Alternative.is, c.take_point-before.ensures.point) at c.requires.known in
+    tries_there g.I.Input g.E.State.Inspector c.args.stack.now.frames c.try_next.new.stack.frames (record { node = c.in-Alternative.node; more = c.in-Alternative.more; wanted = c.in-Alternative.wanted; next = c.in-Alternative.next }) c.take_point-before.result (held g.I.Input g.E.Error.Error g.E.State.Inspector c.args.inp.now) (held g.I.Input g.E.Error.Error g.E.State.Inspector c.try_next.new.inp) c.try_next.result (slice_get (alternatives_of (slice_get c.args.rules.now.nodes c.in-Alternative.node)) c.in-Alternative.next) c.args.answer (rw c.take_point-before.ensures.new at c.try_next.ensures.tries) (length c.args.rules.now.nodes) (λ a e. less (alternative_below c.args.rules.now c.in-Alternative.node c.in-Alternative.next a c.requires.closed.built e) k.0)
+
+pub returns-in-Alternative-clause-lighter : goal.returns-in-Alternative-clause-lighter
+returns-in-Alternative-clause-lighter g c =
+    rw (c.in-Alternative.is, c.take_point-before.ensures.point) (tries_lighter g.I.Input g.E.State.Inspector c.args.stack.now.frames c.try_next.new.stack.frames (record { node = c.in-Alternative.node; more = c.in-Alternative.more; wanted = c.in-Alternative.wanted; next = c.in-Alternative.next }) c.take_point-before.result (held g.I.Input g.E.Error.Error g.E.State.Inspector c.args.inp.now) (held g.I.Input g.E.Error.Error g.E.State.Inspector c.try_next.new.inp) c.try_next.result (slice_get (alternatives_of (slice_get c.args.rules.now.nodes c.in-Alternative.node)) c.in-Alternative.next) c.args.answer (rw c.take_point-before.ensures.new at c.try_next.ensures.tries) (length c.args.rules.now.nodes) (λ a e. alternative_below c.args.rules.now c.in-Alternative.node c.in-Alternative.next a c.requires.closed.built e))
+
+pub returns-in-Alternative-clause-bounded : goal.returns-in-Alternative-clause-bounded
+returns-in-Alternative-clause-bounded g c =
+    λ bound b l. (let m = rw (c.in-Alternative.is, c.take_point-before.ensures.point) at l in tries_bounded g.I.Input g.E.State.Inspector c.args.stack.now.frames c.try_next.new.stack.frames (record { node = c.in-Alternative.node; more = c.in-Alternative.more; wanted = c.in-Alternative.wanted; next = c.in-Alternative.next }) c.take_point-before.result (held g.I.Input g.E.Error.Error g.E.State.Inspector c.args.inp.now) (held g.I.Input g.E.Error.Error g.E.State.Inspector c.try_next.new.inp) c.try_next.result (slice_get (alternatives_of (slice_get c.args.rules.now.nodes c.in-Alternative.node)) c.in-Alternative.next) c.args.answer (rw c.take_point-before.ensures.new at c.try_next.ensures.tries) (length c.args.rules.now.nodes) bound (λ a e. alternative_below c.args.rules.now c.in-Alternative.node c.in-Alternative.next a c.requires.closed.built e) m b)
+
+pub returns-in-Ok-clause-left : goal.returns-in-Ok-clause-left
+returns-in-Ok-clause-left g c = rw (c.in-Second.is, c.take-first.ensures.new, ← c.take-first.ensures.value) (second_made _ _ _ _ _ _ _ _ _ _ _ c.in-Ok.is c.pair.ensures)
 
 pub returns-in-Err-clause-left : goal.returns-in-Err-clause-left
-returns-in-Err-clause-left g c = rw c.in-First.is (first_fails _ _ _ _ _ _ _ _ _ _ _ _ c.in-Err.is)
+returns-in-Err-clause-left g c = rw (c.in-Second.is, c.take-first.ensures.new) (second_fails _ _ _ _ _ _ _ _ _ _ c.in-Err.is)
 
 pub returns-in-Ok-answer-clause-left : goal.returns-in-Ok-answer-clause-left
-returns-in-Ok-answer-clause-left g c = rw (c.in-Second.is, c.take-first.ensures.new, ← c.take-first.ensures.value) (second_made _ _ _ _ _ _ _ _ _ _ _ c.in-Ok-answer.is c.pair.ensures)
+returns-in-Ok-answer-clause-left g c = rw c.in-Mapped.is (mapped_made _ _ _ _ _ _ _ _ _ _ _ c.in-Ok-answer.is c.map.ensures)
 
 pub returns-in-Err-answer-clause-left : goal.returns-in-Err-answer-clause-left
-returns-in-Err-answer-clause-left g c = rw (c.in-Second.is, c.take-first.ensures.new) (second_fails _ _ _ _ _ _ _ _ _ _ c.in-Err-answer.is)
-
-pub returns-in-Ok-answer-2-clause-left : goal.returns-in-Ok-answer-2-clause-left
-returns-in-Ok-answer-2-clause-left g c = rw (c.in-Alternative.is, c.take_point-before.ensures.point, c.take_point-before.ensures.new) (alternative_stands _ _ _ _ _ _ _ _ _ _ _ _ _ _ c.in-Ok-answer-2.is (λ q. cc))
-
-pub returns-in-Ok-answer-2-clause-lighter : goal.returns-in-Ok-answer-2-clause-lighter
-returns-in-Ok-answer-2-clause-lighter g c = rw (c.in-Alternative.is, c.take_point-before.ensures.point, c.take_point-before.ensures.new) (choice_lighter _ _ _)
-
-pub returns-in-Stop-clause-left : goal.returns-in-Stop-clause-left
-returns-in-Stop-clause-left g c =
-    let e : c.args.answer ≡ Err (fault.Stop c.in-Stop.stop) = c.in-Err-answer-2.is ∙ ap Err c.in-Stop.is in
-    rw (c.in-Alternative.is, c.take_point-before.ensures.point, c.take_point-before.ensures.new) (alternative_stands _ _ _ _ _ _ _ _ _ _ _ _ _ _ e (λ q. cc))
-
-pub returns-in-Stop-clause-lighter : goal.returns-in-Stop-clause-lighter
-returns-in-Stop-clause-lighter g c = rw (c.in-Alternative.is, c.take_point-before.ensures.point, c.take_point-before.ensures.new) (choice_lighter _ _ _)
-
-pub returns-in_default-clause-left : goal.returns-in_default-clause-left
-returns-in_default-clause-left g c =
-    let e : c.args.answer ≡ Err fault.Fail = c.in-Err-answer-2.is ∙ ap Err c.in-Fail.is in
-    rw (c.in-Alternative.is, c.take_point-before.ensures.point, c.take_point-before.ensures.new) (alternative_ends _ _ _ _ _ _ _ _ _ _ _ _ _ e (sym c.alternative.ensures.is ∙ c.in_default.is))
-
-pub returns-in_default-clause-lighter : goal.returns-in_default-clause-lighter
-returns-in_default-clause-lighter g c = rw (c.in-Alternative.is, c.take_point-before.ensures.point, c.take_point-before.ensures.new) (choice_lighter _ _ _)
-
-pub returns-in-Ok-rewind-clause-left : goal.returns-in-Ok-rewind-clause-left
-returns-in-Ok-rewind-clause-left g c =
-    let e : c.args.answer ≡ Err fault.Fail = c.in-Err-answer-2.is ∙ ap Err c.in-Fail.is in
-    let k : (c.in-Alternative.node < length c.args.rules.now.nodes) × ((marks g.I.Input g.E.State.Inspector c.take_point-before.result).tokens ≡ (held g.I.Input g.E.Error.Error g.E.State.Inspector c.args.inp.now).tokens) = rw (c.in-Alternative.is, c.take_point-before.ensures.point) at c.requires.known in
-    let l : c.in-Some.part < c.in-Alternative.node = alternative_below c.args.rules.now c.in-Alternative.node c.in-Alternative.next c.in-Some.part c.requires.closed.built (sym c.alternative.ensures.is ∙ c.in-Some.is) in
-    rw (c.in-Alternative.is, c.take_point-before.ensures.point) (next_left _ _ _ _ _ _ _ _ c.requires.closed.built _ _ _ _ _ _ e (sym c.alternative.ensures.is ∙ c.in-Some.is) (less l k.0) c.in-Ok-rewind.ensures.back (rw c.take_point-before.ensures.new at c.wait_at.ensures.waits))
-
-pub returns-in-Ok-rewind-clause-known : goal.returns-in-Ok-rewind-clause-known
-returns-in-Ok-rewind-clause-known g c =
-    let k : (c.in-Alternative.node < length c.args.rules.now.nodes) × ((marks g.I.Input g.E.State.Inspector c.take_point-before.result).tokens ≡ (held g.I.Input g.E.Error.Error g.E.State.Inspector c.args.inp.now).tokens) = rw (c.in-Alternative.is, c.take_point-before.ensures.point) at c.requires.known in
-    λ all. waits_all (IsKnown g.I.Input g.E.State.Inspector c.args.rules.now.nodes (held g.I.Input g.E.Error.Error g.E.State.Inspector c.args.inp.now).tokens) (rw c.take_point-before.ensures.new at c.wait_at.ensures.waits) k all
-
-pub returns-in-Ok-rewind-clause-there : goal.returns-in-Ok-rewind-clause-there
-returns-in-Ok-rewind-clause-there g c =
-    let k : (c.in-Alternative.node < length c.args.rules.now.nodes) × ((marks g.I.Input g.E.State.Inspector c.take_point-before.result).tokens ≡ (held g.I.Input g.E.Error.Error g.E.State.Inspector c.args.inp.now).tokens) = rw (c.in-Alternative.is, c.take_point-before.ensures.point) at c.requires.known in
-    let l : c.in-Some.part < c.in-Alternative.node = alternative_below c.args.rules.now c.in-Alternative.node c.in-Alternative.next c.in-Some.part c.requires.closed.built (sym c.alternative.ensures.is ∙ c.in-Some.is) in
-    waits_there (length c.args.rules.now.nodes) (rw c.take_point-before.ensures.new at c.wait_at.ensures.waits) (less l k.0)
-
-pub returns-in-Ok-rewind-clause-lighter : goal.returns-in-Ok-rewind-clause-lighter
-returns-in-Ok-rewind-clause-lighter g c =
-    let l : c.in-Some.part < c.in-Alternative.node = alternative_below c.args.rules.now c.in-Alternative.node c.in-Alternative.next c.in-Some.part c.requires.closed.built (sym c.alternative.ensures.is ∙ c.in-Some.is) in
-    let small : c.in-Alternative.next < 2 ^ 64 = next_small c.alternative.result c.in-Some.part c.in-Some.is c.alternative.ensures.small in
-    rw (c.in-Alternative.is, c.take_point-before.ensures.point) (waits_lighter (length c.args.rules.now.nodes) _ (rw c.take_point-before.ensures.new at c.wait_at.ensures.waits) (next_lighter _ _ c.in-Alternative.next small (part_level (length c.args.rules.now.nodes) c.in-Alternative.more c.in-Some.part c.in-Alternative.node l)))
-
-pub returns-in-Err-rewind-clause-left : goal.returns-in-Err-rewind-clause-left
-returns-in-Err-rewind-clause-left g c =
-    let e : c.args.answer ≡ Err fault.Fail = c.in-Err-answer-2.is ∙ ap Err c.in-Fail.is in
-    rw (c.in-Alternative.is, c.take_point-before.ensures.point, c.take_point-before.ensures.new) (alternative_unrestored _ _ _ _ _ _ _ _ _ _ _ _ _ _ e (sym c.alternative.ensures.is ∙ c.in-Some.is) c.in-Err-rewind.ensures.back)
-
-pub returns-in-Err-rewind-clause-lighter : goal.returns-in-Err-rewind-clause-lighter
-returns-in-Err-rewind-clause-lighter g c = rw (c.in-Alternative.is, c.take_point-before.ensures.point, c.take_point-before.ensures.new) (choice_lighter _ _ _)
-
-pub returns-in-Ok-answer-3-clause-left : goal.returns-in-Ok-answer-3-clause-left
-returns-in-Ok-answer-3-clause-left g c = rw c.in-Mapped.is (mapped_made _ _ _ _ _ _ _ _ _ _ _ c.in-Ok-answer-3.is c.map.ensures)
-
-pub returns-in-Err-answer-3-clause-left : goal.returns-in-Err-answer-3-clause-left
-returns-in-Err-answer-3-clause-left g c = rw c.in-Mapped.is (mapped_fails _ _ _ _ _ _ _ _ _ _ c.in-Err-answer-3.is)
-
-pub returns-in_default-clause-bounded : goal.returns-in_default-clause-bounded
-returns-in_default-clause-bounded g c =
-    λ bound b l. rw c.take_point-before.ensures.new (b, tt)
-
-pub returns-in-Err-clause-bounded : goal.returns-in-Err-clause-bounded
-returns-in-Err-clause-bounded g c =
-    λ bound b l. (b, tt)
-
-pub returns-in-Ok-answer-clause-bounded : goal.returns-in-Ok-answer-clause-bounded
-returns-in-Ok-answer-clause-bounded g c =
-    λ bound b l. rw c.take-first.ensures.new (b, tt)
-
-pub returns-in-Err-answer-clause-bounded : goal.returns-in-Err-answer-clause-bounded
-returns-in-Err-answer-clause-bounded g c =
-    λ bound b l. rw c.take-first.ensures.new (b, tt)
-
-pub returns-in-Ok-answer-2-clause-bounded : goal.returns-in-Ok-answer-2-clause-bounded
-returns-in-Ok-answer-2-clause-bounded g c =
-    λ bound b l. rw c.take_point-before.ensures.new (b, tt)
-
-pub returns-in-Stop-clause-bounded : goal.returns-in-Stop-clause-bounded
-returns-in-Stop-clause-bounded g c =
-    λ bound b l. rw c.take_point-before.ensures.new (b, tt)
-
-pub returns-in-Err-rewind-clause-bounded : goal.returns-in-Err-rewind-clause-bounded
-returns-in-Err-rewind-clause-bounded g c =
-    λ bound b l. rw c.take_point-before.ensures.new (b, tt)
-
-pub returns-in-Ok-answer-3-clause-bounded : goal.returns-in-Ok-answer-3-clause-bounded
-returns-in-Ok-answer-3-clause-bounded g c =
-    λ bound b l. (b, tt)
-
-pub returns-in-Err-answer-3-clause-bounded : goal.returns-in-Err-answer-3-clause-bounded
-returns-in-Err-answer-3-clause-bounded g c =
-    λ bound b l. (b, tt)
+returns-in-Err-answer-clause-left g c = rw c.in-Mapped.is (mapped_fails _ _ _ _ _ _ _ _ _ _ c.in-Err-answer.is)
 
 pub returns-in-Ok-clause-bounded : goal.returns-in-Ok-clause-bounded
 returns-in-Ok-clause-bounded g c =
-    λ bound b l. (let m = rw c.in-First.is at l in waits_bounded (length c.args.rules.now.nodes) bound c.wait_with_value.ensures.waits (fits_none _ _ _ m) (fits_first _ _ _ m) b)
+    λ bound b l. rw c.take-first.ensures.new (b, tt)
 
-pub returns-in-Ok-rewind-clause-bounded : goal.returns-in-Ok-rewind-clause-bounded
-returns-in-Ok-rewind-clause-bounded g c =
-    let p : c.in-Some.part < c.in-Alternative.node = alternative_below c.args.rules.now c.in-Alternative.node c.in-Alternative.next c.in-Some.part c.requires.closed.built (sym c.alternative.ensures.is ∙ c.in-Some.is) in
-    λ bound b l. (let m = rw (c.in-Alternative.is, c.take_point-before.ensures.point) at l in waits_bounded (length c.args.rules.now.nodes) bound (rw c.take_point-before.ensures.new at c.wait_at.ensures.waits) m (fits_under _ _ _ _ (part_level (length c.args.rules.now.nodes) c.in-Alternative.more c.in-Some.part c.in-Alternative.node p) m) b)
+pub returns-in-Err-clause-bounded : goal.returns-in-Err-clause-bounded
+returns-in-Err-clause-bounded g c =
+    λ bound b l. rw c.take-first.ensures.new (b, tt)
+
+pub returns-in-Ok-answer-clause-bounded : goal.returns-in-Ok-answer-clause-bounded
+returns-in-Ok-answer-clause-bounded g c =
+    λ bound b l. (b, tt)
+
+pub returns-in-Err-answer-clause-bounded : goal.returns-in-Err-answer-clause-bounded
+returns-in-Err-answer-clause-bounded g c =
+    λ bound b l. (b, tt)
 
 pub returns-in-Optional-clause-left : goal.returns-in-Optional-clause-left
 returns-in-Optional-clause-left g c = rw (c.in-Optional.is, c.take_point-before-in-Optional.ensures.point, c.take_point-before-in-Optional.ensures.new) (or_absent_left _ _ _ _ _ _ _ _ _ _ _ _ c.or_absent.ensures.is)
