@@ -1,7 +1,10 @@
 //! Grammars that call themselves: what they answer, and how deep they go.
 use chumsky::Stop;
+use chumsky::extra::RichText;
 use chumsky::prelude::*;
+use chumsky::recursive::{Leaves, RecursiveError, Stack, Todo, Values, step};
 use guide::recursion::{Refused, depth};
+use std::alloc::{AllocError, Global};
 
 #[test]
 fn brackets_tell_how_deep_they_go(rt: HostRuntime) {
@@ -45,5 +48,98 @@ fn one_rule_more_than_the_limit_is_too_deep(rt: HostRuntime) {
             Err(Refused::Running(stop)) => assert!(rt; stop == Stop::TooDeep),
             _ => assert!(rt; false),
         }
+    }
+}
+
+/// Values are how many leaves there are.
+#[derive(Drop)]
+struct Counts;
+
+impl Values<SimpleSpan, Rich<char>> for Counts {
+    type Value = usize;
+
+    fn pair(&self, _alloc: Global, a: usize, b: usize) -> Result<usize, AllocError> {
+        Ok(a + b)
+    }
+
+    fn option(&self, _alloc: Global, count: Option<usize>) -> Result<usize, AllocError> {
+        Ok(count.unwrap_or(0))
+    }
+
+    fn unit(&self, _alloc: Global) -> Result<usize, AllocError> {
+        Ok(0)
+    }
+
+    fn map(&self, _alloc: Global, _mapper: usize, count: usize) -> Result<usize, AllocError> {
+        Ok(count)
+    }
+
+    fn list(&self, _alloc: Global, counts: Vec<usize>) -> Result<usize, AllocError> {
+        let mut all = 0;
+        for count in counts.as_slice() {
+            all = all + *count;
+        }
+        Ok(all)
+    }
+
+    fn try_map(
+        &self,
+        _alloc: Global,
+        _mapper: usize,
+        count: usize,
+        _span: SimpleSpan,
+    ) -> Result<Result<usize, Rich<char>>, AllocError> {
+        Ok(Ok(count))
+    }
+}
+
+/// Brackets within one another, and beside one another.
+fn nested(rules: &mut Rules) -> Result<Recursive, RecursiveError> {
+    rules.recursive(|rules, brackets| {
+        let opening = rules.leaf(0)?;
+        let inside = rules.rule(brackets)?;
+        let closing = rules.leaf(1)?;
+        let opened = rules.then(opening, inside)?;
+        let pair = rules.then(opened, closing)?;
+        rules.repeated(pair, 0, None)
+    })
+}
+
+/// A run that a caller takes step by step has the answer of the grammar, and never more frames than one and the limit times
+/// the nodes.
+#[test]
+fn steps_by_hand_end_with_the_answer_and_have_room(rt: HostRuntime) {
+    let mut rules = Rules::new(rt.alloc());
+    let start = nested(&mut rules).expect(&rt, "refused");
+    let leaves = [just::<_, &str, RichText>("[").to(1), just("]").to(1)];
+    let actions = Leaves {
+        leaves: &leaves,
+        values: Counts,
+    };
+    let limit = 4;
+    let most = 1 + limit * rules.nodes().len();
+    let body = rules.bodies()[start.number()].expect(&rt, "a rule without a body");
+    for (text, count, frames) in [("", 0, 3), ("[]", 2, 6), ("[][]", 4, 6), ("[[[]][]]", 8, 12)] {
+        let by_steps = custom::<_, &str, (usize, usize), RichText>(|inp| {
+            let mut stack = Stack::new(inp.alloc());
+            let mut todo = Todo::Begin(body, limit - 1, true);
+            let mut deepest = 0;
+            loop {
+                match step(&actions, &rules, &mut stack, todo, inp) {
+                    Ok(next) => todo = next,
+                    Err(Ok(Some(value))) => return Ok((value, deepest)),
+                    Err(_) => return Err(inp.stop(Stop::Memory)),
+                }
+                if deepest < stack.len() {
+                    deepest = stack.len();
+                }
+            }
+        });
+        let parsed = by_steps.parse(rt.alloc(), text).expect(&rt, "refused");
+        assert!(rt; parsed.output() == Some(&(count, frames)));
+        assert!(rt; frames <= most);
+        let grammar = close(&rules, start, &actions, limit).expect(&rt, "not closed");
+        let whole = grammar.parse(rt.alloc(), text).expect(&rt, "refused");
+        assert!(rt; whole.output() == Some(&count));
     }
 }
