@@ -1,8 +1,8 @@
 //! Grammars that call themselves: what they answer, and how deep they go.
-use chumsky::Stop;
 use chumsky::extra::RichText;
 use chumsky::prelude::*;
 use chumsky::recursive::{Leaves, RecursiveError, Stack, Todo, Values, step};
+use chumsky::{Failure, Fault, Stop};
 use guide::recursion::{Refused, depth};
 use std::alloc::{AllocError, Global};
 
@@ -119,27 +119,35 @@ fn steps_by_hand_end_with_the_answer_and_have_room(rt: HostRuntime) {
     let limit = 4;
     let most = 1 + limit * rules.nodes().len();
     let body = rules.bodies()[start.number()].expect(&rt, "a rule without a body");
-    for (text, count, frames) in [("", 0, 3), ("[]", 2, 6), ("[][]", 4, 6), ("[[[]][]]", 8, 12)] {
-        let by_steps = custom::<_, &str, (usize, usize), RichText>(|inp| {
-            let mut stack = Stack::new(inp.alloc());
-            let mut todo = Todo::Begin(body, limit - 1, true);
-            let mut deepest = 0;
-            loop {
-                match step(&actions, &rules, &mut stack, todo, inp) {
-                    Ok(next) => todo = next,
-                    Err(Ok(Some(value))) => return Ok((value, deepest)),
-                    Err(_) => return Err(inp.stop(Stop::Memory)),
-                }
-                if deepest < stack.len() {
-                    deepest = stack.len();
+    let by_steps = custom::<_, &str, (Option<usize>, usize), RichText>(|inp| {
+        let mut stack = Stack::new(inp.alloc());
+        let mut todo = Todo::Begin(body, limit - 1, true);
+        let mut deepest = 0;
+        loop {
+            match step(&actions, &rules, &mut stack, todo, inp) {
+                Ok(next) => todo = next,
+                Err(Ok(value)) => return Ok((value, deepest)),
+                Err(Err(Fault::Stop(stop))) => return Err(inp.stop(stop)),
+                Err(Err(Fault::Fail)) => {
+                    return match inp.last_error() {
+                        Ok(error) => Err(Failure::Error(error)),
+                        Err(_) => Err(inp.stop(Stop::Memory)),
+                    };
                 }
             }
-        });
+            deepest = deepest.max(stack.len());
+        }
+    });
+    let grammar = close(&rules, start, &actions, limit).expect(&rt, "not closed");
+    for (text, count, frames) in [("", 0, 3), ("[]", 2, 6), ("[][]", 4, 6), ("[[[]][]]", 8, 12)] {
         let parsed = by_steps.parse(rt.alloc(), text).expect(&rt, "refused");
-        assert!(rt; parsed.output() == Some(&(count, frames)));
+        assert!(rt; parsed.output() == Some(&(Some(count), frames)));
         assert!(rt; frames <= most);
-        let grammar = close(&rules, start, &actions, limit).expect(&rt, "not closed");
         let whole = grammar.parse(rt.alloc(), text).expect(&rt, "refused");
         assert!(rt; whole.output() == Some(&count));
+    }
+    match by_steps.parse(rt.alloc(), "[[[[]]]]") {
+        Err(stop) => assert!(rt; stop == Stop::TooDeep),
+        Ok(_) => assert!(rt; false),
     }
 }
