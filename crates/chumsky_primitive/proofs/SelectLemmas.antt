@@ -15,7 +15,7 @@ use Rattle.chumsky_input.specs.Run.{Ran, begin, took, with_value, without_value,
 use Rattle.chumsky_parser.proofs.ChainedLemmas.{ran-moved}
 use Rattle.chumsky_parser.specs.Failure.{Misses, expects, wanting, asked}
 use Rattle.chumsky_parser.proofs.FailureLemmas.{ran-yes, ran-halts, ran-misses}
-use Rattle.chumsky_primitive.specs.Select.{Picks, MeansSelect, over}
+use Rattle.chumsky_primitive.specs.Select.{Picks, MeansSelect, MissesFrom, over}
 
 module _ {I Tok Sp Cu Er St Mk Cx V : Type 0} (source : input_trait.Ghosts I Cu Tok Sp) (safe : Tok → Type 0) (errors : error_trait.Ghosts Er I Tok Sp) (states : inspector_trait.Ghosts St I Mk Tok Sp) (picks : Picks Tok Cx states.Seen V) (w : Bool) (old : Held Tok Cx states.Seen errors.Seen) where
   pub select_unmarked : (x : Result V Fault) → x ≡ Err (fault.Stop Memory) → (states.takes_no_memory → ⊥)
@@ -53,7 +53,7 @@ module _ {I Tok Sp Cu Er St Mk Cx V : Type 0} (source : input_trait.Ghosts I Cu 
           rw left_there (ran-yes errors.merged errors.takes_no_memory (MeansSelect source safe errors states picks) w old (wanting w v) (old.place + 1) s
           (record { by_token = rw (sym there) (inr (inr (record { answer = Some v; state = s; picked = shown_there (Some v) h; outcome = refl }))) }))
 
-      pub select_unrestored : (new : Held Tok Cx states.Seen errors.Seen) (x : Result V Fault) → picks t (shown_from m.place mid) None s → new ≡ left → x ≡ Err (fault.Stop Memory) → (states.takes_no_memory → ⊥)
+      select_unrestored : (new : Held Tok Cx states.Seen errors.Seen) (x : Result V Fault) → picks t (shown_from m.place mid) None s → new ≡ left → x ≡ Err (fault.Stop Memory) → (states.takes_no_memory → ⊥)
           → Ran errors.merged errors.takes_no_memory (MeansSelect source safe errors states picks) w old new (asked w x)
       select_unrestored new x h n e may =
           rw (e, n, left_there) (ran-halts errors.merged errors.takes_no_memory (MeansSelect source safe errors states picks) w old (record old { place = old.place + 1; state = s }) (record { tokens = refl; context = refl }) refl
@@ -69,7 +69,7 @@ module _ {I Tok Sp Cu Er St Mk Cx V : Type 0} (source : input_trait.Ghosts I Cu 
           (λ b o. Misses errors.takes_no_memory (expects source errors b.tokens (wanted.SomethingElse ∷ []) (Some t) b.start (b.start + 1)) b.start (states.back s (states.mark old.state)) o)
           w (record old { state = states.back s (states.mark old.state) }) _ new f k (λ o q. q))
 
-      pub select_misses : (past : ℕ) (back new : Held Tok Cx states.Seen errors.Seen) (f : Fault) → picks t (shown_from m.place mid) None s
+      select_misses : (past : ℕ) (back new : Held Tok Cx states.Seen errors.Seen) (f : Fault) → picks t (shown_from m.place mid) None s
           → past ≡ left.place → back ≡ gone_back states.back left m
           → Fails errors.merged errors.takes_no_memory (expects source errors m.tokens (wanted.SomethingElse ∷ []) (Some t) m.place past) back new f
           → Ran errors.merged errors.takes_no_memory (MeansSelect source safe errors states picks) w old new (Err f)
@@ -78,6 +78,11 @@ module _ {I Tok Sp Cu Er St Mk Cx V : Type 0} (source : input_trait.Ghosts I Cu 
           let gone : back ≡ record old { state = states.back s (states.mark old.state) } = n ∙ ap (λ (x : Held Tok Cx states.Seen errors.Seen). gone_back states.back x m) left_there ∙ ap (gone_back states.back (record old { place = old.place + 1; state = s })) marked ∙ ap (λ es. record old { state = states.back s (states.mark old.state); emitted = es }) uncut in
           let far : past ≡ old.place + 1 = l ∙ ap (λ (x : Held Tok Cx states.Seen errors.Seen). x.place) left_there in
           back_from new f h (rw (gone, marked, far) at k)
+
+      pub select_not_picked : (new : Held Tok Cx states.Seen errors.Seen) (f : Fault) → picks t (shown_from m.place mid) None s → MissesFrom source errors states m t left new f
+          → Ran errors.merged errors.takes_no_memory (MeansSelect source safe errors states picks) w old new (Err f)
+      select_not_picked new f h (inl (n, may, e)) = select_unrestored new (Err f) h n (ap Err e) may
+      select_not_picked new f h (inr k) = select_misses left.place (gone_back states.back left m) new f h refl refl k
 
 pub asked_value : {V : Type 0} (x : Result V Fault) → asked true x ≡ with_value x
 asked_value (Ok v) = refl

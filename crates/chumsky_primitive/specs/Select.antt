@@ -6,7 +6,12 @@ use Rattle.chumsky_input.specs.declared.error.Error as error_trait
 use Rattle.chumsky_input.specs.declared.inspector.Inspector as inspector_trait
 use Rattle.chumsky_input.specs.declared.input.Input as input_trait
 use Rattle.chumsky_input.specs.declared.map_extra.MapExtra.{MapExtra}
+use Rattle.chumsky_input.specs.declared.stop.Stop.TheVariants.{Memory}
+use Rattle.chumsky_input.specs.declared.stop.Fault.{Fault}
+use Rattle.chumsky_input.specs.declared.stop.Fault.TheVariants as fault
 use Rattle.chumsky_input.specs.Extra.{Shown, Answers}
+use Rattle.chumsky_input.specs.Held.{Held, Marks}
+use Rattle.chumsky_input.specs.Run.{Fails, gone_back}
 use Rattle.chumsky_input.specs.Wanted as wanted
 use Rattle.chumsky_input.specs.Outcome.{Meaning, Beginning, Outcome, Yes}
 use Rattle.chumsky_parser.specs.Failure.{Refuses, Misses, expects, wanting}
@@ -67,3 +72,9 @@ module _ {I Tok Sp Cu Er St Mk Cx V : Type 0} (source : input_trait.Ghosts I Cu 
 
     pub record MeansSelect (b : Beginning Tok Cx states.Seen) (o : Outcome V errors.Seen states.Seen) : Type 0 where
       pub by_token : Refuses (states.takes_no_memory → ⊥) b.state o ⊎ MeansSelectAt (slice_get b.tokens b.start) b o
+
+module _ {I Tok Sp Cu Er St Mk Cx : Type 0} (source : input_trait.Ghosts I Cu Tok Sp) (errors : error_trait.Ghosts Er I Tok Sp) (states : inspector_trait.Ghosts St I Mk Tok Sp) where
+  -- the run goes back from a token to the checkpoint before it, and fails there; or there is no memory to go back, and nothing is done
+  abbrev pub MissesFrom : Marks Tok states.Marked → Tok → Held Tok Cx states.Seen errors.Seen → Held Tok Cx states.Seen errors.Seen → Fault → Type 0
+  MissesFrom before t old new f =
+      ((new ≡ old) × (states.takes_no_memory → ⊥) × (f ≡ fault.Stop Memory)) ⊎ Fails errors.merged errors.takes_no_memory (expects source errors before.tokens (wanted.SomethingElse ∷ []) (Some t) before.place old.place) (gone_back states.back old before) new f

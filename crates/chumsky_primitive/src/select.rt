@@ -1,17 +1,19 @@
 //! A token that a closure picks.
 ghost use Rattle.std.specs.Prelude.{◌≡◌, Bool};
-ghost use Rattle.chumsky_input.specs.Held.{held};
+ghost use Rattle.chumsky_input.specs.Held.{held, marks};
+ghost use Rattle.chumsky_input.specs.Maybe.{maybe_value};
 ghost use Rattle.chumsky_input.specs.Run.{Ran};
 ghost use Rattle.chumsky_input.specs.Extra.{KeepsState};
 ghost use Rattle.chumsky_parser.specs.Failure.{asked};
-ghost use Rattle.chumsky_primitive.specs.Select.{PicksValue, MeansSelect};
+ghost use Rattle.chumsky_primitive.specs.Select.{PicksValue, MeansSelect, MissesFrom};
 
 use chumsky_input::extra::ParserExtra;
-use chumsky_input::input::{Tokens, ValueInput};
-use chumsky_input::input_ref::InputRef;
+use chumsky_input::input::{Input, Tokens, ValueInput};
+use chumsky_input::input_ref::{Checkpoint, InputRef};
+use chumsky_input::inspector::Inspector;
 use chumsky_input::map_extra::{MapExtra, call_with_extra};
-use chumsky_input::stop::PResult;
-use chumsky_input::util::Plain;
+use chumsky_input::stop::{Fault, PResult, Stop};
+use chumsky_input::util::{MaybeRef, Plain};
 use chumsky_parser::parser::{IsParser, Parser};
 use std::marker::PhantomData;
 
@@ -81,12 +83,26 @@ where
             let token = I::value_of(found.get())?;
             match call_with_extra(filter, token, &before.cursor, inp) {
                 Some(output) => Ok(output),
-                None => {
-                    let past = inp.cursor;
-                    inp.rewind(&before)?;
-                    Err(inp.expected(&before.cursor, &past, Plain::SomethingElse, Some(found)))
-                }
+                None => Err(miss(&before, found, inp)),
             }
         }
+    }
+}
+
+/// Goes back from a token that was not picked, and fails where it stood.
+#[inline]
+pub(crate) fn miss<'src, I: Input<'src>, E: ParserExtra<I>>(
+    before: &Checkpoint<I::Cursor, <E::State as Inspector<I>>::Mark>,
+    found: MaybeRef<'src, I::Token>,
+    inp: &mut InputRef<'src, '_, I, E>,
+) -> Fault
+    requires { (marks I.Input E.State.Inspector before.now).tokens ≡ (held I.Input E.Error.Error E.State.Inspector inp.old).tokens }
+    ensures misses { MissesFrom I.Input E.Error.Error E.State.Inspector (marks I.Input E.State.Inspector before.now) (maybe_value found.entry) (held I.Input E.Error.Error E.State.Inspector inp.old) (held I.Input E.Error.Error E.State.Inspector inp.new) result }
+    ensures lent { inp.new.state.ghost_name ≡ inp.old.state.ghost_name }
+{
+    let past = inp.cursor;
+    match inp.rewind(before) {
+        Ok(_) => inp.expected(&before.cursor, &past, Plain::SomethingElse, Some(found)),
+        Err(_) => Fault::Stop(Stop::Memory),
     }
 }

@@ -6,6 +6,7 @@ ghost use Rattle.chumsky_input.specs.Extra.{KeepsState};
 ghost use Rattle.chumsky_parser.specs.Failure.{asked};
 ghost use Rattle.chumsky_primitive.specs.Select.{PicksRef, MeansSelect};
 
+use crate::select::miss;
 use chumsky_input::extra::ParserExtra;
 use chumsky_input::input::{BorrowInput, Tokens};
 use chumsky_input::input_ref::InputRef;
@@ -81,12 +82,7 @@ where
         }
         Some(token) => match call_with_extra(filter, token, &before.cursor, inp) {
             Some(output) => Ok(output),
-            None => {
-                let past = inp.cursor;
-                let found = Some(MaybeRef::Ref(token));
-                inp.rewind(&before)?;
-                Err(inp.expected(&before.cursor, &past, Plain::SomethingElse, found))
-            }
+            None => Err(miss(&before, MaybeRef::Ref(token), inp)),
         },
     }
 }

@@ -72,6 +72,10 @@ module _ {I Tok Sp Cu Er St Mk Cx V : Type 0} (source : input_trait.Ghosts I Cu 
         ap (known_means source errors states a (call_means source errors states a g more) (node_means source errors states a (call_means source errors states a g more) g.nodes n)) e
         ∙ ap OrNoMemory (kind_same (call_means source errors states a g more) (node_means source errors states a (call_means source errors states a g more) g.nodes n) (part_means source errors states a g more) n (λ m s. node_same g built (call_means source errors states a g more) n (suc m) m s (omega arith)) k (built.parts n k e))
 
+    -- a part that is a leaf: what that does, or want of memory
+    pub leaf_part : (n l : ℕ) → slice_get g.nodes n ≡ Some (Leaf l) → part_means source errors states a g more n ≡ OrNoMemory (a.leaf l)
+    leaf_part n l e = part_is n (Leaf l) e
+
     -- what the operation does, the node does
     pub does : {wanted : Bool} {old new : Held Tok Cx states.Seen errors.Seen} {r : Result (Option V) Fault} (n : ℕ) (k : NodeKind) → slice_get g.nodes n ≡ Some k → Ran errors.merged errors.takes_no_memory (kind_means source errors states a (call_means source errors states a g more) (part_means source errors states a g more) k) wanted old new r → Ran errors.merged errors.takes_no_memory (part_means source errors states a g more n) wanted old new r
     does {wanted} {old} {new} {r} n k e h =

@@ -12,6 +12,7 @@ use crate::ahead::{begin_and_is, begin_not, begin_rewind, go_back, look, stand, 
 use crate::following::{Place, alternative, begin_second, kind_of, try_next};
 use crate::frames::{Frame, Gathered, Todo};
 use crate::judged::{begin_try, judge};
+use crate::leaf_list::repeat_leaf;
 use crate::lists::{
     Listing, begin_list, hear_item, hear_separator, parts_of, repeated_list, separated_list,
 };
@@ -107,6 +108,9 @@ pub(crate) fn begin<'src, I: Input<'src>, E: ParserExtra<I>, A: Actions<'src, I,
         }
         NodeKind::Map(a, f) => wait(stack, Frame::Mapped(*f), *a, more, wanted),
         NodeKind::Repeated(a, at_least, at_most) => {
+            if let NodeKind::Leaf(n) = kind_of(rules, *a) {
+                return Todo::Answer(repeat_leaf(actions, *n, *at_least, *at_most, wanted, inp));
+            }
             let list = repeated_list(*a, *at_least, *at_most);
             begin_list(actions, stack, &list, node, more, wanted, inp)
         }

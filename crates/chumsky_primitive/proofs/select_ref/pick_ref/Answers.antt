@@ -4,7 +4,7 @@ use Rattle.chumsky_input.specs.declared.stop.Fault.TheVariants as fault
 use Rattle.chumsky_input.specs.declared.stop.Stop.TheVariants.{Memory}
 use Rattle.chumsky_input.specs.Held.{held, marks}
 use Rattle.chumsky_primitive.specs.Select.{PicksRef}
-use Rattle.chumsky_primitive.proofs.SelectLemmas.{select_unmarked, select_ends_input, select_takes, select_unrestored, select_misses}
+use Rattle.chumsky_primitive.proofs.SelectLemmas.{select_unmarked, select_ends_input, select_takes, select_not_picked}
 use Rattle.chumsky_primitive.proofs.select_ref.pick_ref.Goals as goal
 
 pub returns-in_err-before-clause-ran : goal.returns-in_err-before-clause-ran
@@ -24,19 +24,9 @@ returns-in-Some-call_with_extra-clause-ran g c =
     (held g.I.Input g.E.Error.Error g.E.State.Inspector c.args.inp.now) c.in-Some.token.now c.in-Some.ensures.taken (held g.I.Input g.E.Error.Error g.E.State.Inspector c.next_ref.new.self) c.in-Some.ensures.moves
     (marks g.I.Input g.E.State.Inspector c.in_ok-before.before) c.in_ok-before.ensures _ _ c.in-Some-call_with_extra.ensures.moves _ (record { token = _; is_there = refl; answers = c.in-Some-call_with_extra.ensures.answers })
 
-pub returns-in_err-rewind-in-None-call_with_extra-clause-ran : goal.returns-in_err-rewind-in-None-call_with_extra-clause-ran
-returns-in_err-rewind-in-None-call_with_extra-clause-ran g c =
-    let e : c.from_residual-in_err-rewind-in-None-call_with_extra.result ≡ Err (fault.Stop Memory) = search rules in
-    let h = c.in_err-rewind-in-None-call_with_extra.ensures.back in
-    λ w. select_unrestored g.I.Input (λ _. ⊤) g.E.Error.Error g.E.State.Inspector (PicksRef g.I.Input g.E.State.Inspector g.F.Fn c.args.filter.now) w
-    (held g.I.Input g.E.Error.Error g.E.State.Inspector c.args.inp.now) c.in-Some.token.now c.in-Some.ensures.taken (held g.I.Input g.E.Error.Error g.E.State.Inspector c.next_ref.new.self) c.in-Some.ensures.moves
-    (marks g.I.Input g.E.State.Inspector c.in_ok-before.before) c.in_ok-before.ensures (held g.I.Input g.E.Error.Error g.E.State.Inspector c.call_with_extra.new.inp) (held g.I.Input g.E.Error.Error g.E.State.Inspector c.call_with_extra.new.inp).state c.in-None-call_with_extra.ensures.moves
-    (held g.I.Input g.E.Error.Error g.E.State.Inspector c.rewind.new.self) _ (record { token = _; is_there = refl; answers = c.in-None-call_with_extra.ensures.answers }) h.0 e h.1
-
 pub returns-clause-ran : goal.returns-clause-ran
 returns-clause-ran g c =
-    λ w. select_misses g.I.Input (λ _. ⊤) g.E.Error.Error g.E.State.Inspector (PicksRef g.I.Input g.E.State.Inspector g.F.Fn c.args.filter.now) w
+    λ w. select_not_picked g.I.Input (λ _. ⊤) g.E.Error.Error g.E.State.Inspector (PicksRef g.I.Input g.E.State.Inspector g.F.Fn c.args.filter.now) w
     (held g.I.Input g.E.Error.Error g.E.State.Inspector c.args.inp.now) c.in-Some.token.now c.in-Some.ensures.taken (held g.I.Input g.E.Error.Error g.E.State.Inspector c.next_ref.new.self) c.in-Some.ensures.moves
     (marks g.I.Input g.E.State.Inspector c.in_ok-before.before) c.in_ok-before.ensures (held g.I.Input g.E.Error.Error g.E.State.Inspector c.call_with_extra.new.inp) (held g.I.Input g.E.Error.Error g.E.State.Inspector c.call_with_extra.new.inp).state c.in-None-call_with_extra.ensures.moves
-    _ (held g.I.Input g.E.Error.Error g.E.State.Inspector c.rewind.new.self) _ _
-    (record { token = _; is_there = refl; answers = c.in-None-call_with_extra.ensures.answers }) refl c.in_ok-rewind-in-None-call_with_extra.ensures.back c.expected-in-None-call_with_extra.ensures.fails
+    _ _ (record { token = _; is_there = refl; answers = c.in-None-call_with_extra.ensures.answers }) c.miss.ensures.misses

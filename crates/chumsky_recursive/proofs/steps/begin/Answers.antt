@@ -2,7 +2,7 @@ use Rattle.std.proofs.Common.{rules, ◌≡◌, ◌<◌, length, slice_get, Some
 use Rattle.chumsky_input.specs.Held.{held}
 use Rattle.chumsky_recursive.specs.Frames.{IsKnown, lists_of}
 use Rattle.chumsky_recursive.proofs.Parts.{parts_below, calls_within, alternative_below}
-use Rattle.chumsky_recursive.proofs.Begins.{leaf_left, deep_left, rule_left, then_left, map_left, none_left, one_left, many_left, unmarked_left, waits_all, waits_there, less, tokens_of}
+use Rattle.chumsky_recursive.proofs.Begins.{leaf_left, leaf_list_left, deep_left, rule_left, then_left, map_left, none_left, one_left, many_left, unmarked_left, waits_all, waits_there, less, tokens_of}
 use Rattle.chumsky_recursive.proofs.Weights.{waits_lighter, part_level, body_level, two_lighter, one_lighter, first_lighter, below_lighter, answer_lighter, waits_bounded, fits_below, fits_under, fits_over, fits_none}
 use Rattle.chumsky_recursive.proofs.Options.{marked_all, marked_there, marked_lighter, marked_bounded, or_not_left}
 use Rattle.chumsky_recursive.proofs.AheadBegins.{denied_all, denied_there, denied_lighter, denied_bounded, not_left, and_is_left, rewind_left}
@@ -260,29 +260,40 @@ returns-in-TryMap-clause-bounded g c =
     let b = parts_below c.args.rules.now c.args.node _ _ c.requires.closed.built c.kind_of.ensures c.in-TryMap.is in
     λ bound m l. waits_bounded (length c.args.rules.now.nodes) bound c.begin_try.ensures.waits.waits (fits_none _ _ _ l) (fits_under _ _ _ _ (part_level (length c.args.rules.now.nodes) c.args.more c.in-TryMap.a c.args.node b.0) l) m
 
-pub returns-in-Repeated-clause-left : goal.returns-in-Repeated-clause-left
-returns-in-Repeated-clause-left g c = λ s w. repeated_left _ _ _ _ _ c.requires.closed.built _ _ _ _ _ _ _ s _ _ _ (c.kind_of.ensures ∙ ap Some c.in-Repeated.is) w (rw c.repeated_list-list.ensures at c.begin_list.ensures.begins)
+pub kind_of-requires-in-Repeated : goal.kind_of-requires-in-Repeated
+kind_of-requires-in-Repeated g c =
+    let b = parts_below c.args.rules.now c.args.node _ _ c.requires.closed.built c.kind_of.ensures c.in-Repeated.is in
+    less b.0 c.requires.node
 
-pub returns-in-Repeated-clause-known : goal.returns-in-Repeated-clause-known
-returns-in-Repeated-clause-known g c =
+pub returns-in-Leaf-kind_of-clause-left : goal.returns-in-Leaf-kind_of-clause-left
+returns-in-Leaf-kind_of-clause-left g c = leaf_list_left _ _ _ _ _ c.requires.closed.built _ _ _ _ _ _ _ _ _ (c.kind_of.ensures ∙ ap Some c.in-Repeated.is) (c.kind_of-in-Repeated.ensures ∙ ap Some c.in-Leaf-kind_of.is) c.repeat_leaf.ensures.ran c.repeat_leaf.ensures.there
+
+pub returns-in-Leaf-kind_of-clause-lighter : goal.returns-in-Leaf-kind_of-clause-lighter
+returns-in-Leaf-kind_of-clause-lighter g c = answer_lighter _ _
+
+pub returns-in_default-kind_of-clause-left : goal.returns-in_default-kind_of-clause-left
+returns-in_default-kind_of-clause-left g c = λ s w. repeated_left _ _ _ _ _ c.requires.closed.built _ _ _ _ _ _ _ s _ _ _ (c.kind_of.ensures ∙ ap Some c.in-Repeated.is) w (rw c.repeated_list-list.ensures at c.begin_list.ensures.begins)
+
+pub returns-in_default-kind_of-clause-known : goal.returns-in_default-kind_of-clause-known
+returns-in_default-kind_of-clause-known g c =
     let e : lists_of (slice_get c.args.rules.now.nodes c.args.node) ≡ Some c.repeated_list-list.result = rw (c.kind_of.ensures ∙ ap Some c.in-Repeated.is, c.repeated_list-list.ensures) refl in
     let b = list_below c.args.rules.now c.args.node c.repeated_list-list.result c.requires.closed.built e in
     begin_known g.I.Input g.E.State.Inspector (g.A.Actions.list_gives c.args.actions.now) c.repeated_list-list.result c.args.rules.now.nodes c.args.stack.now.frames c.begin_list.new.stack.frames c.args.node c.args.more c.args.wanted (held g.I.Input g.E.Error.Error g.E.State.Inspector c.args.inp.now) c.begin_list.result e b c.begin_list.ensures.begins
 
-pub returns-in-Repeated-clause-there : goal.returns-in-Repeated-clause-there
-returns-in-Repeated-clause-there g c =
+pub returns-in_default-kind_of-clause-there : goal.returns-in_default-kind_of-clause-there
+returns-in_default-kind_of-clause-there g c =
     let e : lists_of (slice_get c.args.rules.now.nodes c.args.node) ≡ Some c.repeated_list-list.result = rw (c.kind_of.ensures ∙ ap Some c.in-Repeated.is, c.repeated_list-list.ensures) refl in
     let b = list_below c.args.rules.now c.args.node c.repeated_list-list.result c.requires.closed.built e in
     begin_there g.I.Input g.E.State.Inspector (g.A.Actions.list_gives c.args.actions.now) c.repeated_list-list.result c.args.rules.now.nodes c.args.stack.now.frames c.begin_list.new.stack.frames c.args.node c.args.more c.args.wanted (held g.I.Input g.E.Error.Error g.E.State.Inspector c.args.inp.now) c.begin_list.result e b c.begin_list.ensures.begins c.requires.node
 
-pub returns-in-Repeated-clause-lighter : goal.returns-in-Repeated-clause-lighter
-returns-in-Repeated-clause-lighter g c =
+pub returns-in_default-kind_of-clause-lighter : goal.returns-in_default-kind_of-clause-lighter
+returns-in_default-kind_of-clause-lighter g c =
     let e : lists_of (slice_get c.args.rules.now.nodes c.args.node) ≡ Some c.repeated_list-list.result = rw (c.kind_of.ensures ∙ ap Some c.in-Repeated.is, c.repeated_list-list.ensures) refl in
     let b = list_below c.args.rules.now c.args.node c.repeated_list-list.result c.requires.closed.built e in
     begin_lighter g.I.Input g.E.State.Inspector (g.A.Actions.list_gives c.args.actions.now) c.repeated_list-list.result c.args.rules.now.nodes c.args.stack.now.frames c.begin_list.new.stack.frames c.args.node c.args.more c.args.wanted (held g.I.Input g.E.Error.Error g.E.State.Inspector c.args.inp.now) c.begin_list.result e b c.begin_list.ensures.begins (length c.args.rules.now.nodes)
 
-pub returns-in-Repeated-clause-bounded : goal.returns-in-Repeated-clause-bounded
-returns-in-Repeated-clause-bounded g c =
+pub returns-in_default-kind_of-clause-bounded : goal.returns-in_default-kind_of-clause-bounded
+returns-in_default-kind_of-clause-bounded g c =
     let e : lists_of (slice_get c.args.rules.now.nodes c.args.node) ≡ Some c.repeated_list-list.result = rw (c.kind_of.ensures ∙ ap Some c.in-Repeated.is, c.repeated_list-list.ensures) refl in
     let b = list_below c.args.rules.now c.args.node c.repeated_list-list.result c.requires.closed.built e in
     λ bound m l. begin_bounded g.I.Input g.E.State.Inspector (g.A.Actions.list_gives c.args.actions.now) c.repeated_list-list.result c.args.rules.now.nodes c.args.stack.now.frames c.begin_list.new.stack.frames c.args.node c.args.more c.args.wanted (held g.I.Input g.E.Error.Error g.E.State.Inspector c.args.inp.now) c.begin_list.result e b c.begin_list.ensures.begins (length c.args.rules.now.nodes) bound l m
