@@ -115,6 +115,7 @@ impl<
         self.leaves.len()
     }
 
+    #[inline(always)]
     fn leaf_emit(&self, n: usize, inp: &mut InputRef<'src, '_, I, E>) -> PResult<W::Value> {
         match self.leaves.get(n) {
             Some(leaf) => leaf.go_emit(inp),
@@ -122,6 +123,7 @@ impl<
         }
     }
 
+    #[inline(always)]
     fn leaf_check(&self, n: usize, inp: &mut InputRef<'src, '_, I, E>) -> PResult<()> {
         match self.leaves.get(n) {
             Some(leaf) => leaf.go_check(inp),

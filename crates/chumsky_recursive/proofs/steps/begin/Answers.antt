@@ -2,7 +2,8 @@ use Rattle.std.proofs.Common.{rules, ◌≡◌, ◌<◌, length, slice_get, Some
 use Rattle.chumsky_input.specs.Held.{held}
 use Rattle.chumsky_recursive.specs.Frames.{IsKnown, lists_of}
 use Rattle.chumsky_recursive.proofs.Parts.{parts_below, calls_within, alternative_below}
-use Rattle.chumsky_recursive.proofs.Begins.{leaf_left, leaf_list_left, deep_left, rule_left, then_left, map_left, none_left, one_left, many_left, unmarked_left, waits_all, waits_there, less, tokens_of}
+use Rattle.chumsky_recursive.proofs.Begins.{leaf_left, leaf_list_left, deep_left, rule_left, map_left, none_left, one_left, many_left, unmarked_left, waits_all, waits_there, less, tokens_of}
+use Rattle.chumsky_recursive.proofs.Follows.{then_begins, then_all, then_there, then_lighter, then_bounded}
 use Rattle.chumsky_recursive.proofs.Weights.{waits_lighter, part_level, body_level, two_lighter, one_lighter, first_lighter, below_lighter, answer_lighter, waits_bounded, fits_below, fits_under, fits_over, fits_none}
 use Rattle.chumsky_recursive.proofs.Options.{marked_all, marked_there, marked_lighter, marked_bounded, or_not_left}
 use Rattle.chumsky_recursive.proofs.AheadBegins.{denied_all, denied_there, denied_lighter, denied_bounded, not_left, and_is_left, rewind_left}
@@ -52,40 +53,40 @@ returns-else-more-eq0-clause-lighter g c = below_lighter _ _ _ (body_level _ _ _
 pub returns-in-Then-clause-left : goal.returns-in-Then-clause-left
 returns-in-Then-clause-left g c =
     let b = parts_below c.args.rules.now c.args.node _ _ c.requires.closed.built c.kind_of.ensures c.in-Then.is in
-    then_left _ _ _ _ _ c.requires.closed.built _ _ _ _ _ _ _ (c.kind_of.ensures ∙ ap Some c.in-Then.is) (less b.0 c.requires.node) c.wait.ensures.waits
+    then_begins _ _ _ _ _ c.requires.closed.built _ _ _ c.in-Then.b _ _ (less b.1.0 c.requires.node) _ c.in-Then.a c.args.node (c.kind_of.ensures ∙ ap Some c.in-Then.is) (less b.0 c.requires.node) _ c.begin_then.ensures.begins
 
 pub returns-in-Then-clause-known : goal.returns-in-Then-clause-known
 returns-in-Then-clause-known g c =
     let b = parts_below c.args.rules.now c.args.node _ _ c.requires.closed.built c.kind_of.ensures c.in-Then.is in
-    λ all. waits_all (IsKnown g.I.Input g.E.State.Inspector c.args.rules.now.nodes (held g.I.Input g.E.Error.Error g.E.State.Inspector c.args.inp.now).tokens) c.wait.ensures.waits (less b.1.0 c.requires.node) all
+    λ all. then_all _ _ _ _ c.args.stack.now.frames c.begin_then.new.stack.frames _ c.in-Then.b c.args.more c.args.wanted _ c.begin_then.result _ c.in-Then.a _ c.begin_then.ensures.begins (IsKnown g.I.Input g.E.State.Inspector c.args.rules.now.nodes (held g.I.Input g.E.Error.Error g.E.State.Inspector c.args.inp.now).tokens) (less b.1.0 c.requires.node) (λ v. tt) all
 
 pub returns-in-Then-clause-there : goal.returns-in-Then-clause-there
 returns-in-Then-clause-there g c =
     let b = parts_below c.args.rules.now c.args.node _ _ c.requires.closed.built c.kind_of.ensures c.in-Then.is in
-    waits_there (length c.args.rules.now.nodes) c.wait.ensures.waits (less b.0 c.requires.node)
+    then_there _ _ _ _ c.args.stack.now.frames c.begin_then.new.stack.frames _ c.in-Then.b c.args.more c.args.wanted _ c.begin_then.result _ c.in-Then.a _ c.begin_then.ensures.begins (length c.args.rules.now.nodes) (less b.0 c.requires.node) (less b.1.0 c.requires.node)
 
 pub returns-in-Then-clause-lighter : goal.returns-in-Then-clause-lighter
 returns-in-Then-clause-lighter g c =
     let b = parts_below c.args.rules.now c.args.node _ _ c.requires.closed.built c.kind_of.ensures c.in-Then.is in
-    waits_lighter (length c.args.rules.now.nodes) _ c.wait.ensures.waits (two_lighter _ _ _ (part_level (length c.args.rules.now.nodes) c.args.more c.in-Then.a c.args.node b.0) (part_level (length c.args.rules.now.nodes) c.args.more c.in-Then.b c.args.node b.1.0))
+    then_lighter _ _ _ _ c.args.stack.now.frames c.begin_then.new.stack.frames _ c.in-Then.b c.args.more c.args.wanted _ c.begin_then.result _ c.in-Then.a _ c.begin_then.ensures.begins (length c.args.rules.now.nodes) c.args.node b.0 b.1.0
 
 pub returns-in-Map-clause-left : goal.returns-in-Map-clause-left
 returns-in-Map-clause-left g c =
     let b = parts_below c.args.rules.now c.args.node _ _ c.requires.closed.built c.kind_of.ensures c.in-Map.is in
-    map_left _ _ _ _ _ c.requires.closed.built _ _ _ _ _ _ _ (c.kind_of.ensures ∙ ap Some c.in-Map.is) (less b.0 c.requires.node) c.wait-in-Map.ensures.waits
+    map_left _ _ _ _ _ c.requires.closed.built _ _ _ _ _ _ _ (c.kind_of.ensures ∙ ap Some c.in-Map.is) (less b.0 c.requires.node) c.wait.ensures.waits
 
 pub returns-in-Map-clause-known : goal.returns-in-Map-clause-known
-returns-in-Map-clause-known g c = λ all. waits_all (IsKnown g.I.Input g.E.State.Inspector c.args.rules.now.nodes (held g.I.Input g.E.Error.Error g.E.State.Inspector c.args.inp.now).tokens) c.wait-in-Map.ensures.waits tt all
+returns-in-Map-clause-known g c = λ all. waits_all (IsKnown g.I.Input g.E.State.Inspector c.args.rules.now.nodes (held g.I.Input g.E.Error.Error g.E.State.Inspector c.args.inp.now).tokens) c.wait.ensures.waits tt all
 
 pub returns-in-Map-clause-there : goal.returns-in-Map-clause-there
 returns-in-Map-clause-there g c =
     let b = parts_below c.args.rules.now c.args.node _ _ c.requires.closed.built c.kind_of.ensures c.in-Map.is in
-    waits_there (length c.args.rules.now.nodes) c.wait-in-Map.ensures.waits (less b.0 c.requires.node)
+    waits_there (length c.args.rules.now.nodes) c.wait.ensures.waits (less b.0 c.requires.node)
 
 pub returns-in-Map-clause-lighter : goal.returns-in-Map-clause-lighter
 returns-in-Map-clause-lighter g c =
     let b = parts_below c.args.rules.now c.args.node _ _ c.requires.closed.built c.kind_of.ensures c.in-Map.is in
-    waits_lighter (length c.args.rules.now.nodes) _ c.wait-in-Map.ensures.waits (one_lighter _ _ (part_level (length c.args.rules.now.nodes) c.args.more c.in-Map.a c.args.node b.0))
+    waits_lighter (length c.args.rules.now.nodes) _ c.wait.ensures.waits (one_lighter _ _ (part_level (length c.args.rules.now.nodes) c.args.more c.in-Map.a c.args.node b.0))
 
 pub returns-in-Ok-clause-left : goal.returns-in-Ok-clause-left
 returns-in-Ok-clause-left g c = many_left _ _ _ _ _ c.requires.closed.built _ _ _ _ _ _ (c.kind_of.ensures ∙ ap Some c.in-Choice.is) _ _ c.in-Ok.before (sym c.alternative.ensures.is ∙ c.in-Some.is) (sym c.alternative-in-Choice.ensures.is ∙ c.in-Some-alternative.is) (less (alternative_below c.args.rules.now c.args.node 0 c.in-Some.first c.requires.closed.built (sym c.alternative.ensures.is ∙ c.in-Some.is)) c.requires.node) c.in-Ok.ensures c.wait_at.ensures.waits
@@ -132,7 +133,7 @@ returns-else-more-eq0-clause-bounded g c =
 pub returns-in-Then-clause-bounded : goal.returns-in-Then-clause-bounded
 returns-in-Then-clause-bounded g c =
     let b = parts_below c.args.rules.now c.args.node _ _ c.requires.closed.built c.kind_of.ensures c.in-Then.is in
-    λ bound m l. waits_bounded (length c.args.rules.now.nodes) bound c.wait.ensures.waits (fits_over _ _ _ _ (part_level (length c.args.rules.now.nodes) c.args.more c.in-Then.b c.args.node b.1.0) l) (fits_under _ _ _ _ (part_level (length c.args.rules.now.nodes) c.args.more c.in-Then.a c.args.node b.0) l) m
+    λ bound m l. then_bounded _ _ _ _ c.args.stack.now.frames c.begin_then.new.stack.frames _ c.in-Then.b c.args.more c.args.wanted _ c.begin_then.result _ c.in-Then.a _ c.begin_then.ensures.begins (length c.args.rules.now.nodes) c.args.node bound b.0 b.1.0 l m
 
 pub returns-in-Ok-clause-bounded : goal.returns-in-Ok-clause-bounded
 returns-in-Ok-clause-bounded g c =
@@ -141,7 +142,7 @@ returns-in-Ok-clause-bounded g c =
 pub returns-in-Map-clause-bounded : goal.returns-in-Map-clause-bounded
 returns-in-Map-clause-bounded g c =
     let b = parts_below c.args.rules.now c.args.node _ _ c.requires.closed.built c.kind_of.ensures c.in-Map.is in
-    λ bound m l. waits_bounded (length c.args.rules.now.nodes) bound c.wait-in-Map.ensures.waits (fits_none _ _ _ l) (fits_under _ _ _ _ (part_level (length c.args.rules.now.nodes) c.args.more c.in-Map.a c.args.node b.0) l) m
+    λ bound m l. waits_bounded (length c.args.rules.now.nodes) bound c.wait.ensures.waits (fits_none _ _ _ l) (fits_under _ _ _ _ (part_level (length c.args.rules.now.nodes) c.args.more c.in-Map.a c.args.node b.0) l) m
 
 pub returns-in-OrNot-clause-left : goal.returns-in-OrNot-clause-left
 returns-in-OrNot-clause-left g c =
@@ -260,40 +261,35 @@ returns-in-TryMap-clause-bounded g c =
     let b = parts_below c.args.rules.now c.args.node _ _ c.requires.closed.built c.kind_of.ensures c.in-TryMap.is in
     λ bound m l. waits_bounded (length c.args.rules.now.nodes) bound c.begin_try.ensures.waits.waits (fits_none _ _ _ l) (fits_under _ _ _ _ (part_level (length c.args.rules.now.nodes) c.args.more c.in-TryMap.a c.args.node b.0) l) m
 
-pub kind_of-requires-in-Repeated : goal.kind_of-requires-in-Repeated
-kind_of-requires-in-Repeated g c =
-    let b = parts_below c.args.rules.now c.args.node _ _ c.requires.closed.built c.kind_of.ensures c.in-Repeated.is in
-    less b.0 c.requires.node
+pub returns-in-Some-leaf_at-clause-left : goal.returns-in-Some-leaf_at-clause-left
+returns-in-Some-leaf_at-clause-left g c = leaf_list_left _ _ _ _ _ c.requires.closed.built _ _ _ _ _ _ _ _ _ (c.kind_of.ensures ∙ ap Some c.in-Repeated.is) (rw c.in-Some-leaf_at.is at c.leaf_at.ensures.is) c.repeat_leaf.ensures.ran c.repeat_leaf.ensures.there
 
-pub returns-in-Leaf-kind_of-clause-left : goal.returns-in-Leaf-kind_of-clause-left
-returns-in-Leaf-kind_of-clause-left g c = leaf_list_left _ _ _ _ _ c.requires.closed.built _ _ _ _ _ _ _ _ _ (c.kind_of.ensures ∙ ap Some c.in-Repeated.is) (c.kind_of-in-Repeated.ensures ∙ ap Some c.in-Leaf-kind_of.is) c.repeat_leaf.ensures.ran c.repeat_leaf.ensures.there
+pub returns-in-Some-leaf_at-clause-lighter : goal.returns-in-Some-leaf_at-clause-lighter
+returns-in-Some-leaf_at-clause-lighter g c = answer_lighter _ _
 
-pub returns-in-Leaf-kind_of-clause-lighter : goal.returns-in-Leaf-kind_of-clause-lighter
-returns-in-Leaf-kind_of-clause-lighter g c = answer_lighter _ _
+pub returns-in_default-leaf_at-clause-left : goal.returns-in_default-leaf_at-clause-left
+returns-in_default-leaf_at-clause-left g c = λ s w. repeated_left _ _ _ _ _ c.requires.closed.built _ _ _ _ _ _ _ s _ _ _ (c.kind_of.ensures ∙ ap Some c.in-Repeated.is) w (rw c.repeated_list-list.ensures at c.begin_list.ensures.begins)
 
-pub returns-in_default-kind_of-clause-left : goal.returns-in_default-kind_of-clause-left
-returns-in_default-kind_of-clause-left g c = λ s w. repeated_left _ _ _ _ _ c.requires.closed.built _ _ _ _ _ _ _ s _ _ _ (c.kind_of.ensures ∙ ap Some c.in-Repeated.is) w (rw c.repeated_list-list.ensures at c.begin_list.ensures.begins)
-
-pub returns-in_default-kind_of-clause-known : goal.returns-in_default-kind_of-clause-known
-returns-in_default-kind_of-clause-known g c =
+pub returns-in_default-leaf_at-clause-known : goal.returns-in_default-leaf_at-clause-known
+returns-in_default-leaf_at-clause-known g c =
     let e : lists_of (slice_get c.args.rules.now.nodes c.args.node) ≡ Some c.repeated_list-list.result = rw (c.kind_of.ensures ∙ ap Some c.in-Repeated.is, c.repeated_list-list.ensures) refl in
     let b = list_below c.args.rules.now c.args.node c.repeated_list-list.result c.requires.closed.built e in
     begin_known g.I.Input g.E.State.Inspector (g.A.Actions.list_gives c.args.actions.now) c.repeated_list-list.result c.args.rules.now.nodes c.args.stack.now.frames c.begin_list.new.stack.frames c.args.node c.args.more c.args.wanted (held g.I.Input g.E.Error.Error g.E.State.Inspector c.args.inp.now) c.begin_list.result e b c.begin_list.ensures.begins
 
-pub returns-in_default-kind_of-clause-there : goal.returns-in_default-kind_of-clause-there
-returns-in_default-kind_of-clause-there g c =
+pub returns-in_default-leaf_at-clause-there : goal.returns-in_default-leaf_at-clause-there
+returns-in_default-leaf_at-clause-there g c =
     let e : lists_of (slice_get c.args.rules.now.nodes c.args.node) ≡ Some c.repeated_list-list.result = rw (c.kind_of.ensures ∙ ap Some c.in-Repeated.is, c.repeated_list-list.ensures) refl in
     let b = list_below c.args.rules.now c.args.node c.repeated_list-list.result c.requires.closed.built e in
     begin_there g.I.Input g.E.State.Inspector (g.A.Actions.list_gives c.args.actions.now) c.repeated_list-list.result c.args.rules.now.nodes c.args.stack.now.frames c.begin_list.new.stack.frames c.args.node c.args.more c.args.wanted (held g.I.Input g.E.Error.Error g.E.State.Inspector c.args.inp.now) c.begin_list.result e b c.begin_list.ensures.begins c.requires.node
 
-pub returns-in_default-kind_of-clause-lighter : goal.returns-in_default-kind_of-clause-lighter
-returns-in_default-kind_of-clause-lighter g c =
+pub returns-in_default-leaf_at-clause-lighter : goal.returns-in_default-leaf_at-clause-lighter
+returns-in_default-leaf_at-clause-lighter g c =
     let e : lists_of (slice_get c.args.rules.now.nodes c.args.node) ≡ Some c.repeated_list-list.result = rw (c.kind_of.ensures ∙ ap Some c.in-Repeated.is, c.repeated_list-list.ensures) refl in
     let b = list_below c.args.rules.now c.args.node c.repeated_list-list.result c.requires.closed.built e in
     begin_lighter g.I.Input g.E.State.Inspector (g.A.Actions.list_gives c.args.actions.now) c.repeated_list-list.result c.args.rules.now.nodes c.args.stack.now.frames c.begin_list.new.stack.frames c.args.node c.args.more c.args.wanted (held g.I.Input g.E.Error.Error g.E.State.Inspector c.args.inp.now) c.begin_list.result e b c.begin_list.ensures.begins (length c.args.rules.now.nodes)
 
-pub returns-in_default-kind_of-clause-bounded : goal.returns-in_default-kind_of-clause-bounded
-returns-in_default-kind_of-clause-bounded g c =
+pub returns-in_default-leaf_at-clause-bounded : goal.returns-in_default-leaf_at-clause-bounded
+returns-in_default-leaf_at-clause-bounded g c =
     let e : lists_of (slice_get c.args.rules.now.nodes c.args.node) ≡ Some c.repeated_list-list.result = rw (c.kind_of.ensures ∙ ap Some c.in-Repeated.is, c.repeated_list-list.ensures) refl in
     let b = list_below c.args.rules.now c.args.node c.repeated_list-list.result c.requires.closed.built e in
     λ bound m l. begin_bounded g.I.Input g.E.State.Inspector (g.A.Actions.list_gives c.args.actions.now) c.repeated_list-list.result c.args.rules.now.nodes c.args.stack.now.frames c.begin_list.new.stack.frames c.args.node c.args.more c.args.wanted (held g.I.Input g.E.Error.Error g.E.State.Inspector c.args.inp.now) c.begin_list.result e b c.begin_list.ensures.begins (length c.args.rules.now.nodes) bound l m
