@@ -139,7 +139,7 @@ fn steps_by_hand_end_with_the_answer_and_have_room(rt: HostRuntime) {
         }
     });
     let grammar = close(&rules, start, &actions, limit).expect(&rt, "not closed");
-    for (text, count, frames) in [("", 0, 3), ("[]", 2, 6), ("[][]", 4, 6), ("[[[]][]]", 8, 12)] {
+    for (text, count, frames) in [("", 0, 2), ("[]", 2, 5), ("[][]", 4, 5), ("[[[]][]]", 8, 11)] {
         let parsed = by_steps.parse(rt.alloc(), text).expect(&rt, "refused");
         assert!(rt; parsed.output() == Some(&(Some(count), frames)));
         assert!(rt; frames <= most);

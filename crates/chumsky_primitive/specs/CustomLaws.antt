@@ -1,5 +1,5 @@
 -- The laws of parsers given by closures.
-use Rattle.std.proofs.Common.{◌≡◌, Bool, true, false, Result, Ok, Err, option_to_list, refl, ◌∙◌, ap, subst, inl, inr}
+use Rattle.std.proofs.Common.{◌≡◌, Bool, true, false, Result, Ok, Err, option_to_list, refl, ap, subst, inl, inr}
 use Rattle.chumsky_input.specs.declared.stop.Failure.{Failure}
 use Rattle.chumsky_input.specs.declared.stop.Failure.TheVariants as failure
 use Rattle.chumsky_input.specs.Held.{Held}

@@ -1,4 +1,4 @@
-//! Nodes `then` and `choice`: after an answer of a part perhaps another.
+//! Nodes `then` and `choice`: how `then` begins, and after an answer of a part perhaps another.
 ghost use Rattle.std.specs.Prelude.{◌≡◌, ◌<◌, ◌+◌, length, Some, slice_get, [], MatchOption, IfSome, ⊤};
 ghost use Rattle.chumsky_rules.specs.declared.kinds.NodeKind.TheVariants.{Leaf};
 ghost use Rattle.chumsky_input.specs.Held.{held, marks};
