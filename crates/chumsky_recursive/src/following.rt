@@ -105,7 +105,10 @@ pub(crate) fn begin_then<'src, I: Input<'src>, E: ParserExtra<I>, A: Actions<'sr
             let answer = leaf(actions, n, wanted, inp);
             begin_second(actions, rules, stack, second, more, wanted, answer, inp)
         }
-        None => wait(stack, Frame::First(wanted, second, more), first, more, wanted),
+        None => {
+            let frame = Frame::First(wanted, second, more);
+            wait(stack, frame, first, more, wanted)
+        }
     }
 }
 

@@ -18,3 +18,4 @@ pub mod readme;
 pub mod recursion;
 pub mod repeating;
 pub mod running;
+pub mod stepping;
