@@ -71,9 +71,9 @@ fn brackets(rules: &mut Rules) -> Result<Recursive, RecursiveError> {
         let opening = rules.leaf(0)?;
         let inside = rules.rule(brackets)?;
         let closing = rules.leaf(1)?;
-        let opened = rules.then(opening, inside)?;
-        let closed = rules.then(opened, closing)?;
-        let pair = rules.map(closed, 0)?;
+        let closed = rules.then(inside, closing)?;
+        let opened = rules.then(opening, closed)?;
+        let pair = rules.map(opened, 0)?;
         rules.repeated(pair, 0, None)
     })
 }
@@ -158,9 +158,9 @@ fn string(rules: &mut Rules) -> Result<Node, BuildError> {
     let quote = rules.leaf(QUOTE)?;
     let letter = rules.leaf(LETTER)?;
     let letters = rules.repeated(letter, 0, None)?;
-    let opened = rules.then(quote, letters)?;
-    let closed = rules.then(opened, quote)?;
-    rules.map(closed, 0)
+    let closed = rules.then(letters, quote)?;
+    let opened = rules.then(quote, closed)?;
+    rules.map(opened, 0)
 }
 
 fn number(rules: &mut Rules) -> Result<Node, BuildError> {
@@ -186,8 +186,8 @@ fn listed(
     };
     let items = rules.separated_by(item, comma, bounds)?;
     let closing = rules.leaf(closing)?;
-    let opened = rules.then(opening, items)?;
-    rules.then(opened, closing)
+    let closed = rules.then(items, closing)?;
+    rules.then(opening, closed)
 }
 
 fn run_json(alloc: Global, bytes: &[u8], wanted: bool) -> u64 {

@@ -66,9 +66,9 @@ fn loops(rules: &mut Rules) -> Result<Recursive, RecursiveError> {
         let opening = rules.leaf(OPENING)?;
         let inside = rules.rule(loops)?;
         let closing = rules.leaf(CLOSING)?;
-        let opened = rules.then(opening, inside)?;
-        let closed = rules.then(opened, closing)?;
-        let pair = rules.map(closed, 0)?;
+        let closed = rules.then(inside, closing)?;
+        let opened = rules.then(opening, closed)?;
+        let pair = rules.map(opened, 0)?;
         let item = rules.choice(&[plus, pair])?;
         rules.repeated(item, 0, None)
     })

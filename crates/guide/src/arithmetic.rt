@@ -105,8 +105,8 @@ fn expression(rules: &mut Rules) -> Result<Recursive, RecursiveError> {
         let opening = rules.leaf(OPENING)?;
         let inside = rules.rule(expression)?;
         let closing = rules.leaf(CLOSING)?;
-        let opened = rules.then(opening, inside)?;
-        let in_brackets = rules.then(opened, closing)?;
+        let closed = rules.then(inside, closing)?;
+        let in_brackets = rules.then(opening, closed)?;
         let atom = rules.choice(&[digit, in_brackets])?;
 
         let times = rules.leaf(TIMES)?;

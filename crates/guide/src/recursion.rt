@@ -65,9 +65,9 @@ fn brackets(rules: &mut Rules) -> Result<Recursive, RecursiveError> {
         let opening = rules.leaf(OPENING)?;
         let inside = rules.rule(brackets)?;
         let closing = rules.leaf(CLOSING)?;
-        let opened = rules.then(opening, inside)?;
-        let closed = rules.then(opened, closing)?;
-        let pair = rules.map(closed, 0)?;
+        let closed = rules.then(inside, closing)?;
+        let opened = rules.then(opening, closed)?;
+        let pair = rules.map(opened, 0)?;
         rules.repeated(pair, 0, None)
     })
 }
