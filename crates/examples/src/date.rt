@@ -34,13 +34,18 @@ impl Picker<(char, char), u8> for Within {
     }
 }
 
+/// The year that four digits make.
+fn year_of(digits: (char, char, char, char)) -> u16 {
+    let (thousands, hundreds, tens, ones) = digits;
+    number_of(thousands, hundreds) as u16 * 100 + number_of(tens, ones) as u16
+}
+
 /// A date, as `2026-11-23`. How many days that month has is not asked.
 pub fn parse_date(alloc: Global, text: &str) -> Result<ParseResult<Date, Rich<char>>, Stop>
     ensures month { IfOk result (λ parsed. IfSome parsed.output (λ date. (1 ≤ date.month) × (date.month ≤ 12))) }
     ensures day { IfOk result (λ parsed. IfSome parsed.output (λ date. (1 ≤ date.day) × (date.day ≤ 31))) }
 {
-    let year = group((any_digit(), any_digit(), any_digit(), any_digit()))
-        .map(|(a, b, c, d)| number_of(a, b) as u16 * 100 + number_of(c, d) as u16);
+    let year = group((any_digit(), any_digit(), any_digit(), any_digit())).map(year_of);
     let month = any_digit()
         .then(any_digit())
         .filter_map_by(Within { least: 1, most: 12 });
