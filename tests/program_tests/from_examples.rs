@@ -12,6 +12,7 @@ fn a_date_has_a_month_and_a_day(rt: HostRuntime) {
         ("0099-01-31", "ok Date { year: 99, month: 1, day: 31 }"),
         ("9999-12-09", "ok Date { year: 9999, month: 12, day: 9 }"),
         ("2026-13-01", "error 5..7 expected something else found '1'"),
+        ("2026-20-01", "error 5..7 expected something else found '2'"),
         ("2026-00-01", "error 5..7 expected something else found '0'"),
         (
             "2026-1-01",
