@@ -1,5 +1,8 @@
 //! A run of a grammar, taken step by step.
-ghost use Rattle.std.specs.Prelude.{ℕ, ◌≡◌, ◌+◌, ◌*◌, ◌<◌, ◌≤◌, length};
+ghost use Rattle.std.specs.Prelude.{◌≡◌, true, ◌+◌, ◌-◌, ◌*◌, ◌<◌, ◌≤◌, length};
+ghost use Rattle.chumsky_input.specs.Held.{held};
+ghost use Rattle.chumsky_input.specs.Run.{Ran};
+ghost use Rattle.chumsky_recursive.specs.Means.{acts_of, part_means};
 ghost use Rattle.chumsky_rules.specs.Closed.{IsClosed};
 
 use chumsky::PResult;
@@ -8,7 +11,7 @@ use chumsky::input::{Input, InputRef};
 use chumsky::prelude::*;
 use chumsky::recursive::{Actions, Node, Stack, Todo, step};
 
-/// Runs a node under a limit on open rules, and tells how many nodes waited at most beside its answer.
+/// Runs a node under a limit on open rules, and tells beside its answer how many nodes waited at most.
 pub fn run_watched<'src, I: Input<'src>, E: ParserExtra<I>, A: Actions<'src, I, E>>(
     actions: &A,
     rules: &Rules,
@@ -20,6 +23,7 @@ pub fn run_watched<'src, I: Input<'src>, E: ParserExtra<I>, A: Actions<'src, I, 
     requires ready { A.ready actions.now }
     requires node { node < length rules.now.nodes }
     requires limit { 0 < limit }
+    ensures ran { Ran E.Error.merged E.Error.takes_no_memory (part_means I.Input E.Error.Error E.State.Inspector (acts_of I.Input E.Error.Error E.State.Inspector (A.leaf_meaning actions.now) (A.pair_gives actions.now) (A.option_gives actions.now) (A.unit_gives actions.now) (A.map_gives actions.now) (A.try_gives actions.now) (A.list_gives actions.now)) rules.now (limit - 1) node) true (held I.Input E.Error.Error E.State.Inspector inp.old) (held I.Input E.Error.Error E.State.Inspector inp.new) result.0 }
     ensures few { result.1 ≤ 1 + limit * length rules.now.nodes }
     ensures lent { inp.new.state.ghost_name ≡ inp.old.state.ghost_name }
 {
