@@ -3,7 +3,7 @@ use answers::asserts::{assert_answers, assert_line};
 use chumsky::laws::{end_is_steady, just_is_steady, or_not_never_says_no, then_is_associative};
 use chumsky::prelude::*;
 use guide::arithmetic::value_of;
-use guide::checking::minute;
+use guide::checking::{minute, port};
 use guide::closure::{day, foo_or_nothing, one_x};
 use guide::conclusion::two;
 use guide::extras::Plain;
@@ -16,6 +16,7 @@ use guide::parts::{on_or_off, switch_is_steady, ticket, time_of_day};
 use guide::picking::span_past_x;
 use guide::readme::tell_level;
 use guide::running::{keyword, one_two, pair};
+use guide::tokens::{Token, sum_of, tokens_of};
 
 #[test]
 fn a_pair_is_taken(rt: HostRuntime) {
@@ -39,6 +40,28 @@ fn a_minute_is_below_sixty(rt: HostRuntime) {
     let not_a_digit =
         "error 1..2 expected '0', '1', '2', '3', '4', '5', '6', '7', '8', '9' found 'x'";
     assert_line(&rt, minute(rt.alloc(), "5x"), not_a_digit);
+}
+
+#[test]
+fn a_port_fits_its_type(rt: HostRuntime) {
+    assert_line(&rt, port(rt.alloc(), "65535"), "ok 65535");
+    let too_large = "error 0..5 expected something else found '6'";
+    assert_line(&rt, port(rt.alloc(), "65536"), too_large);
+    let no_digit = "error 0..0 expected '0', '1', '2', '3', '4', '5', '6', '7', '8', '9' found end";
+    assert_line(&rt, port(rt.alloc(), ""), no_digit);
+}
+
+#[test]
+fn a_text_is_read_as_tokens_and_tokens_as_a_sum(rt: HostRuntime) {
+    let tokens = "ok [Number(1), Plus, Number(23), Plus]";
+    assert_line(&rt, tokens_of(rt.alloc(), "1 +23+  "), tokens);
+    let no_token = "error 2..3 expected ' ', '0', '1', '2', '3', '4', '5', '6', '7', '8', '9', '+', end of input found 'x'";
+    assert_line(&rt, tokens_of(rt.alloc(), "1 x"), no_token);
+    let sum = [Token::Number(1), Token::Plus, Token::Number(23)];
+    assert_line(&rt, sum_of(rt.alloc(), &sum), "ok 24");
+    let two_plus = [Token::Number(1), Token::Plus, Token::Plus];
+    let no_number = "error 2..3 expected something else found Plus";
+    assert_line(&rt, sum_of(rt.alloc(), &two_plus), no_number);
 }
 
 #[test]

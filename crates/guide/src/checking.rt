@@ -7,6 +7,7 @@ use chumsky::combinator::Picker;
 use chumsky::extra::RichText;
 use chumsky::prelude::*;
 use std::alloc::Global;
+use std::num::ParseIntError;
 
 /// A minute of an hour: two digits, below 60.
 pub fn minute(alloc: Global, text: &str) -> Result<ParseResult<u8, Rich<char>>, Stop> {
@@ -41,5 +42,16 @@ pub fn minutes(alloc: Global, text: &str) -> Result<ParseResult<u8, Rich<char>>,
         .then(one_of('0'..='9'))
         .filter_map_by(BelowSixty)
         .then_ignore(just('m'))
+        .parse(alloc, text)
+}
+
+/// A port, as `8080`.
+pub fn port(alloc: Global, text: &str) -> Result<ParseResult<u16, Rich<char>>, Stop> {
+    one_of::<_, _, RichText>('0'..='9')
+        .repeated()
+        .at_least(1)
+        .collect::<String>()
+        .from_str::<u16>()
+        .filter_map(|port: Result<u16, ParseIntError>| port.ok())
         .parse(alloc, text)
 }

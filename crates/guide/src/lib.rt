@@ -19,3 +19,4 @@ pub mod recursion;
 pub mod repeating;
 pub mod running;
 pub mod stepping;
+pub mod tokens;
