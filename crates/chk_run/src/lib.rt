@@ -1,8 +1,9 @@
 //! What the program `chk` does, over any input and any outputs: its grammars, and how their answers print.
 #![tactic(auto)]
 
-pub mod ab;
-pub mod list;
-pub mod loops;
+mod ab;
+mod grammar;
+mod list;
+mod loops;
 pub mod run;
 pub mod show;

@@ -1,7 +1,9 @@
 //! The grammar `loops`: plus signs and pairs of brackets, one after another, with the same between the brackets.
 ghost use Rattle.std.specs.Prelude.{IfOk, ⊤};
 
+use crate::grammar::{Answer, Command, run_parser};
 use chumsky::Stop;
+use chumsky::extra::RichText;
 use chumsky::prelude::*;
 use chumsky::recursive::{Leaves, RecursiveError, Values};
 use std::alloc::{AllocError, Global};
@@ -75,13 +77,13 @@ fn loops(rules: &mut Rules) -> Result<Recursive, RecursiveError> {
 }
 
 /// How many pairs of brackets the text has.
-pub fn parse_loops(alloc: Global, text: &str) -> Result<ParseResult<usize, Rich<char>>, Stop> {
+pub fn run_loops(alloc: Global, command: Command, text: &str) -> Result<Answer<usize>, Stop> {
     let mut rules = Rules::new(alloc);
     let Ok(start) = loops(&mut rules) else {
         return Err(Stop::Memory);
     };
     let leaves = [
-        just::<_, _, extra::Err<Rich<char>>>('+').to(0),
+        just::<_, _, RichText>('+').to(0),
         just('[').to(0),
         just(']').to(0),
     ];
@@ -91,29 +93,7 @@ pub fn parse_loops(alloc: Global, text: &str) -> Result<ParseResult<usize, Rich<
     };
     let limit = rules.limit_for(text.chars().count()).unwrap_or(usize::MAX);
     match close(&rules, start, &actions, limit) {
-        Ok(grammar) => grammar.parse(alloc, text),
-        Err(_) => Err(Stop::Memory),
-    }
-}
-
-/// The same without the output.
-pub fn check_loops(alloc: Global, text: &str) -> Result<ParseResult<(), Rich<char>>, Stop> {
-    let mut rules = Rules::new(alloc);
-    let Ok(start) = loops(&mut rules) else {
-        return Err(Stop::Memory);
-    };
-    let leaves = [
-        just::<_, _, extra::Err<Rich<char>>>('+').to(0),
-        just('[').to(0),
-        just(']').to(0),
-    ];
-    let actions = Leaves {
-        leaves: &leaves,
-        values: Pairs,
-    };
-    let limit = rules.limit_for(text.chars().count()).unwrap_or(usize::MAX);
-    match close(&rules, start, &actions, limit) {
-        Ok(grammar) => grammar.check(alloc, text),
+        Ok(grammar) => run_parser(&grammar, alloc, command, text),
         Err(_) => Err(Stop::Memory),
     }
 }

@@ -6,9 +6,10 @@ ghost use Rattle.chk_run.specs.Lines.{error_lines, alone, pair_text, count_text,
 ghost use Rattle.chk_run.specs.Show.{items_text, stop_text};
 ghost use Rattle.chk_run.specs.declared.run.Failure.TheVariants.{Refused, Unwritable};
 
-use crate::ab::{check_ab, parse_ab};
-use crate::list::{check_list, parse_list};
-use crate::loops::{check_loops, parse_loops};
+use crate::ab::run_ab;
+use crate::grammar::{Answer, Command};
+use crate::list::run_list;
+use crate::loops::run_loops;
 use crate::show::{ErrorLine, Items, stop_name};
 use chumsky::error::Rich;
 use chumsky::{ParseResult, Stop};
@@ -23,13 +24,6 @@ const REJECTED: u8 = 1;
 const FAILED: u8 = 2;
 
 const REFUSED: u8 = 3;
-
-/// What the program is to do with its input.
-#[derive(Clone, Copy)]
-enum Command {
-    Parse,
-    Check,
-}
 
 /// The grammars.
 #[derive(Clone, Copy)]
@@ -111,10 +105,7 @@ fn answer<R: Read, W: Write>(
 {
     let (command, grammar) = request(words).ok_or(Failure::Usage)?;
     let text = read_text(alloc, input)?;
-    match command {
-        Command::Parse => parse(alloc, grammar, text.as_str(), out),
-        Command::Check => check(alloc, grammar, text.as_str(), out),
-    }
+    tell(alloc, command, grammar, text.as_str(), out)
 }
 
 /// What the words ask for, if they ask for anything.
@@ -146,27 +137,30 @@ fn read_text<R: Read>(alloc: Global, input: &mut R) -> Result<String, Failure> {
     }
 }
 
-/// Prints the output of the text, or its errors.
-fn parse<W: Write>(alloc: Global, grammar: Grammar, text: &str, out: &mut W) -> Result<u8, Failure>
+/// Runs a grammar over the text, and prints what it answers.
+fn tell<W: Write>(
+    alloc: Global,
+    command: Command,
+    grammar: Grammar,
+    text: &str,
+    out: &mut W,
+) -> Result<u8, Failure>
     ensures told { IfOk result (λ status. TellsSome (W.contents out.old) (W.contents out.new) status) }
     ensures unprinted { IfErr result (λ why. (why ≡ Unwritable) ⊎ (out.new ≡ out.old)) }
 {
     match grammar {
-        Grammar::Ab => tell_pair(out, &parse_ab(alloc, text)?),
-        Grammar::List => tell_items(out, &parse_list(alloc, text)?),
-        Grammar::Loops => tell_count(out, &parse_loops(alloc, text)?),
-    }
-}
-
-/// Prints whether the text is right, or its errors.
-fn check<W: Write>(alloc: Global, grammar: Grammar, text: &str, out: &mut W) -> Result<u8, Failure>
-    ensures told { IfOk result (λ status. TellsSome (W.contents out.old) (W.contents out.new) status) }
-    ensures unprinted { IfErr result (λ why. (why ≡ Unwritable) ⊎ (out.new ≡ out.old)) }
-{
-    match grammar {
-        Grammar::Ab => tell_checked(out, &check_ab(alloc, text)?),
-        Grammar::List => tell_checked(out, &check_list(alloc, text)?),
-        Grammar::Loops => tell_checked(out, &check_loops(alloc, text)?),
+        Grammar::Ab => match run_ab(alloc, command, text)? {
+            Answer::Parsed(answer) => tell_pair(out, &answer),
+            Answer::Checked(answer) => tell_checked(out, &answer),
+        },
+        Grammar::List => match run_list(alloc, command, text)? {
+            Answer::Parsed(answer) => tell_items(out, &answer),
+            Answer::Checked(answer) => tell_checked(out, &answer),
+        },
+        Grammar::Loops => match run_loops(alloc, command, text)? {
+            Answer::Parsed(answer) => tell_count(out, &answer),
+            Answer::Checked(answer) => tell_checked(out, &answer),
+        },
     }
 }
 
