@@ -132,6 +132,44 @@ pub mod combinator {
     pub use chumsky_shield::validate::Validate;
 }
 
+/// Labels: names for what parsers expect.
+pub mod label {
+    pub use chumsky_label::label_error::LabelError;
+    pub use chumsky_label::labelled::Labelled;
+
+    /// What holds of labelled parsers, as those of `chumsky::laws`.
+    pub mod laws {
+        pub use chumsky_label::laws::labelled_answers_as_its_part;
+        pub use chumsky_label::steady::labelled_is_steady;
+    }
+}
+
+/// Parsers of text: white space, ends of lines, numbers, identifiers and keywords, over texts and bytes; and the kinds of
+/// tokens that they are made of.
+pub mod text {
+    pub use chumsky_text::chars::{Char, TextInput};
+    pub use chumsky_text::ident::{AsciiIdent, AsciiIdentRest, UnicodeIdent, UnicodeIdentRest};
+    pub use chumsky_text::keyword::Keyword;
+    pub use chumsky_text::kind::{Kind, Lexeme};
+    pub use chumsky_text::make::{
+        digits, inline_whitespace, int, newline, run_of, whitespace, word_of,
+    };
+    pub use chumsky_text::newline::Newline;
+    pub use chumsky_text::number::{Digits, Int, IntRest};
+    pub use chumsky_text::padded::Padded;
+    pub use chumsky_text::run::Run;
+    pub use chumsky_text::space::{InlineWhitespace, LineEnd, LineEndRest, Whitespace};
+    pub use chumsky_text::word::Word;
+    pub use chumsky_text::{ascii, unicode};
+
+    /// What holds of parsers of text, as those of `chumsky::laws`.
+    pub mod laws {
+        pub use chumsky_text::steady::{
+            keyword_is_steady, newline_is_steady, padded_is_steady, run_is_steady, word_is_steady,
+        };
+    }
+}
+
 /// Rules as data: recursive grammars, the parser that runs them, and why a call on them is refused.
 pub mod recursive {
     pub use chumsky_recursive::actions::Actions;
@@ -223,6 +261,7 @@ pub use chumsky_input::same::SameClone;
 pub use chumsky_input::stop::{Failure, Fault, PResult, Stop};
 pub use chumsky_input::util::DefaultExpected;
 pub use chumsky_items::ext::IterParserExt;
+pub use chumsky_label::ext::LabelExt;
 pub use chumsky_parse_iter::ext::ParseIterExt;
 pub use chumsky_parse_iter::parse_iter::ParseIter;
 pub use chumsky_parser::input_ref_ext::InputRefExt;
@@ -230,4 +269,5 @@ pub use chumsky_parser::iter::{IsIterParser, IterParser, IterParserDebug, Iterat
 pub use chumsky_parser::parser::{IsParser, Parser};
 pub use chumsky_parser::result::ParseResult;
 pub use chumsky_shield::ext::ShieldExt;
+pub use chumsky_text::ext::TextExt;
 pub use ext::ParserExt;

@@ -20,3 +20,4 @@ pub mod repeating;
 pub mod running;
 pub mod stepping;
 pub mod tokens;
+pub mod words;
