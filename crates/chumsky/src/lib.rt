@@ -28,7 +28,7 @@ pub mod span {
 /// Small helpers that parsers and errors share.
 pub mod util {
     pub use chumsky_input::same::SameClone;
-    pub use chumsky_input::util::{Expectation, MaybeRef, Plain};
+    pub use chumsky_input::util::{Expectation, MaybeLabel, MaybeRef, Plain};
 }
 
 /// What errors say.
