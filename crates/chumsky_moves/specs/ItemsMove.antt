@@ -93,8 +93,8 @@ module _ {Tok Cx St Mk Er U : Type 0} (mark : St → Mk) (back : St → Mk → S
   lead-ends h true false = given-ends None
 
 -- where items are wanted, no separator stays before the first
-none-stays : (least : ℕ) (trailing : Bool) → nat_lt 0 least ≡ true → (trailing && nat_le least 0) ≡ false
-none-stays zero trailing e = absurd (cc)
+none-stays : (least : ℕ) (may : Bool) → nat_lt 0 least ≡ true → (may && nat_le least 0) ≡ false
+none-stays zero may e = absurd (cc)
 none-stays (suc n) true e = leb-suc-zero n
 none-stays (suc n) false e = refl
 
@@ -105,7 +105,7 @@ module _ {Tok Cx St Mk Er U V : Type 0} (mark : St → Mk) (back : St → Mk →
 
   round-moves : EndsAfterStart separator → Moves item → nat_lt 0 d.least ≡ true → (start : ℕ) → Moves (Round mark back safe separator item d 0 start)
   round-moves hs h e start b o m y =
-      chained-second _ _ (lead-ends mark back safe separator hs (nat_eq 0 0) d.leading) (λ _. staying-moves h (stays d 0) start (none-stays d.least d.trailing e)) b o m.run y
+      chained-second _ _ (lead-ends mark back safe separator hs (nat_eq 0 0) d.leading) (λ _. staying-moves h (stays d 0) start (none-stays d.least d.leading e)) b o m.run y
 
   unfilled-moves : EndsAfterStart separator → Moves item → nat_lt 0 d.least ≡ true → (full : Bool) (start : ℕ) → full ≡ false → Moves (Unfilled mark back safe separator item d full 0 start)
   unfilled-moves hs h e true start z = absurd (cc)
