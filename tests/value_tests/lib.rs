@@ -1,5 +1,5 @@
 //! What parsers stand on: results, values, rules as data, reports of errors; how often values are cloned, and that what is
-//! let go is dropped; that nothing is refused for no reason.
+//! let go is dropped; that nothing is refused for no reason; which parsers move wherever they succeed.
 
 #[cfg(test)]
 mod clones;
@@ -9,6 +9,8 @@ mod copies;
 mod counted;
 #[cfg(test)]
 mod judged;
+#[cfg(test)]
+mod moves;
 #[cfg(test)]
 mod refusals;
 #[cfg(test)]

@@ -132,8 +132,9 @@ pub mod combinator {
     pub use chumsky_shield::validate::Validate;
 }
 
-/// Rules as data: recursive grammars, the parser that runs them, and why a call on them is refused.
+/// Rules as data: recursive grammars, the parser that runs them, why a call on them is refused, and which leaves move.
 pub mod recursive {
+    pub use chumsky_moves::moving::{MayStay, Moving, MovingItems, MovingPart};
     pub use chumsky_recursive::actions::Actions;
     pub use chumsky_recursive::evaluator::step;
     pub use chumsky_recursive::frames::Todo;
