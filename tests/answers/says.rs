@@ -82,6 +82,7 @@ fn say_expected<T: Debug>(
             RichPattern::Any => line.push_str("any")?,
             RichPattern::SomethingElse => line.push_str("something else")?,
             RichPattern::EndOfInput => line.push_str("end of input")?,
+            RichPattern::Label(text) => line.push_str(text)?,
         }
         before = ", ";
     }

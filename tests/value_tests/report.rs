@@ -1,6 +1,7 @@
 //! What errors look like to people: whole reports of texts and of bytes, and the places that they name.
 use answers::extras::Own;
 use answers::leaves::{any_char, just_char, just_text};
+use chumsky::Failure;
 use chumsky::prelude::*;
 use chumsky::report::{ByteReport, Report, place_of};
 use std::alloc::{AllocError, AllocGlobal, Global};
@@ -27,8 +28,7 @@ fn assert_reports<
     O: Debug + Drop,
     P: IsParser<&'src str, O, Own> + Parser<'src, &'src str, O, Own>,
     R: Abort + AllocGlobal,
->(rt: &R, parser: &P, rows: &[(&'src str, &str)])
-{
+>(rt: &R, parser: &P, rows: &[(&'src str, &str)]) {
     for (text, expected) in rows {
         let parsed = parser
             .parse(rt.alloc(), *text)
@@ -149,6 +149,24 @@ fn what_names_no_token_is_in_words(rt: HostRuntime) {
         "input:1:1: expected '0'..='9' or end of input, found 'x'\nx\n^\n",
     )];
     assert_reports(&rt, &one_of::<_, _, Own>('0'..='9').or_not(), &rows);
+}
+
+#[test]
+fn a_label_stands_as_it_is(rt: HostRuntime) {
+    let month = custom::<_, &str, char, Own>(|inp| match inp.parse(just_char('J')) {
+        Err(Failure::Error(error)) => {
+            Err(Failure::Error(error.with_label(inp.alloc, "a month")?))
+        }
+        other => other,
+    });
+    let rows = [
+        ("J", ""),
+        ("x", "input:1:1: expected a month, found 'x'\nx\n^\n"),
+        ("", "input:1:1: expected a month, found end of input\n\n^\n"),
+    ];
+    assert_reports(&rt, &month, &rows);
+    let rows = [("x", "input:1:1: expected 'a' or a month, found 'x'\nx\n^\n")];
+    assert_reports(&rt, &just_char('a').or(month), &rows);
 }
 
 #[test]

@@ -2,7 +2,7 @@
 use chumsky::error::RichPattern;
 use chumsky::input::Emitter;
 use chumsky::prelude::*;
-use chumsky::util::MaybeRef;
+use chumsky::util::{MaybeLabel, MaybeRef};
 use chumsky::{DefaultExpected, Failure, SameClone, Stop};
 use std::alloc::{AllocError, Global};
 
@@ -71,6 +71,87 @@ fn errors_are_compared(rt: HostRuntime) {
     let expected = [RichPattern::Token('x')];
     assert!(rt; copy.expected().as_slice() == &expected[..]);
     assert!(rt; EmptyErr == EmptyErr::default());
+}
+
+#[test]
+fn a_small_error_is_made_of_what_it_shows(rt: HostRuntime) {
+    assert!(rt; *Cheap::new(SECOND).span() == SECOND);
+    let one = Simple::new(Some('c'), FIRST);
+    let two = Simple::<char>::new(None, SECOND);
+    assert!(rt;
+        one == built(rt.alloc(), Some('c'), FIRST)
+            .ok()
+            .expect(&rt, "refused")
+    );
+    assert!(rt; *two.span() == SECOND);
+    assert!(rt; two.found().is_none());
+}
+
+/// How an error prints, once it has a label.
+fn printed_with_label(alloc: Global, error: Rich<char>, label: &str) -> Result<String, AllocError> {
+    let labelled = error.with_label(alloc, label)?;
+    String::format(alloc, labelled)
+}
+
+#[test]
+fn a_label_takes_the_place_of_what_was_expected(rt: HostRuntime) {
+    let error: Rich<char> = built(rt.alloc(), Some('c'), FIRST)
+        .ok()
+        .expect(&rt, "refused");
+    let label = String::from_str(rt.alloc(), "a month")
+        .ok()
+        .expect(&rt, "refused");
+    let labelled = error
+        .with_label(rt.alloc(), "a month")
+        .ok()
+        .expect(&rt, "refused");
+    assert!(rt; *labelled.span() == FIRST);
+    assert!(rt; labelled.found() == Some(&'c'));
+    let expected = [RichPattern::Label(label)];
+    assert!(rt; labelled.expected().as_slice() == &expected[..]);
+    let printed = printed_with_label(rt.alloc(), labelled, "a day")
+        .ok()
+        .expect(&rt, "refused");
+    assert_eq!(rt; printed.as_str(), "expected a day, found 'c'");
+}
+
+#[test]
+fn a_label_takes_the_place_of_a_message(rt: HostRuntime) {
+    let message = String::from_str(rt.alloc(), "no such day")
+        .ok()
+        .expect(&rt, "refused");
+    let labelled = Rich::<char>::custom(SECOND, message)
+        .with_label(rt.alloc(), "a day")
+        .ok()
+        .expect(&rt, "refused");
+    assert!(rt; *labelled.span() == SECOND);
+    assert!(rt; labelled.found().is_none());
+    assert!(rt; labelled.reason().is_none());
+}
+
+/// How an error prints, where some labels were expected, and the end of input in between.
+fn printed_expectation(alloc: Global) -> Result<String, AllocError> {
+    let mut expected: Vec<MaybeLabel<'_, char>> = Vec::new(alloc);
+    expected.push(MaybeLabel::Label("a month"))?;
+    expected.push(MaybeLabel::Expected(DefaultExpected::EndOfInput))?;
+    expected.push(MaybeLabel::Label("a month"))?;
+    expected.push(MaybeLabel::Label("a day"))?;
+    let error: Rich<char> = Error::<&str>::expected_found(
+        alloc,
+        expected.into_iter(),
+        Some(MaybeRef::Val('c')),
+        FIRST,
+    )?;
+    String::format(alloc, error)
+}
+
+#[test]
+fn a_label_is_shown_once(rt: HostRuntime) {
+    let printed = printed_expectation(rt.alloc()).ok().expect(&rt, "refused");
+    assert_eq!(rt;
+        printed.as_str(),
+        "expected a month, end of input or a day, found 'c'"
+    );
 }
 
 /// The expectation of a token that is lent, as one of its own.

@@ -29,6 +29,7 @@ pattern_text (Pattern.Token c) = symbol_text c
 pattern_text Pattern.Any = codes "any"
 pattern_text Pattern.SomethingElse = codes "something else"
 pattern_text Pattern.EndOfInput = codes "end of input"
+pattern_text (Pattern.Label label) = string_bytes label
 
 abbrev pub found_text : Option ℕ → List ℕ
 found_text (Some c) = symbol_text c

@@ -45,6 +45,7 @@ impl Display for Pattern<'_> {
             RichPattern::Any => write!(f, "any"),
             RichPattern::SomethingElse => write!(f, "something else"),
             RichPattern::EndOfInput => write!(f, "end of input"),
+            RichPattern::Label(text) => write!(f, "{text}"),
         }
     }
 }

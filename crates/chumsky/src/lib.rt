@@ -29,7 +29,7 @@ pub mod span {
 /// Small helpers that parsers and errors share.
 pub mod util {
     pub use chumsky_input::same::SameClone;
-    pub use chumsky_input::util::{Expectation, MaybeRef, Plain};
+    pub use chumsky_input::util::{Expectation, MaybeLabel, MaybeRef, Plain};
 }
 
 /// What errors say.
@@ -133,10 +133,10 @@ pub mod combinator {
     pub use chumsky_shield::validate::Validate;
 }
 
-/// Rules as data: recursive grammars, the parser that runs them, whether they are well-founded, and why a call on them is
-/// refused.
+/// Rules as data: recursive grammars, the parser that runs them, whether they are well-founded, which leaves move, and why a call
+/// on them is refused.
 pub mod recursive {
-    pub use chumsky_moves::moving::{MayStay, Moving, MovingPart};
+    pub use chumsky_moves::moving::{MayStay, Moving, MovingItems, MovingPart};
     pub use chumsky_recursive::actions::Actions;
     pub use chumsky_recursive::closing::CloseRules;
     pub use chumsky_recursive::evaluator::step;

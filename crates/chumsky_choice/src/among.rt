@@ -16,6 +16,7 @@ use chumsky_input::util::Plain;
 use chumsky_parser::parser::Parser;
 
 /// Runs the first of several parsers that doesn't fail; where there is none, fails with nothing expected.
+#[inline(always)]
 pub fn emit_among<'src, I: Input<'src>, O, E: ParserExtra<I>, P: Parser<'src, I, O, E>>(
     parsers: &[P],
     inp: &mut InputRef<'src, '_, I, E>,
@@ -34,6 +35,7 @@ pub fn emit_among<'src, I: Input<'src>, O, E: ParserExtra<I>, P: Parser<'src, I,
 }
 
 /// The same without outputs.
+#[inline(always)]
 pub fn check_among<'src, I: Input<'src>, O, E: ParserExtra<I>, P: Parser<'src, I, O, E>>(
     parsers: &[P],
     inp: &mut InputRef<'src, '_, I, E>,
@@ -65,6 +67,7 @@ fn first_and_others<'p, 'src, I: Input<'src>, O, E: ParserExtra<I>, P: Parser<'s
 }
 
 /// Runs the first of two or more parsers that doesn't fail.
+#[inline(always)]
 fn emit_several<'src, I: Input<'src>, O, E: ParserExtra<I>, P: Parser<'src, I, O, E>>(
     first: &P,
     others: &[P],
@@ -93,6 +96,7 @@ fn emit_several<'src, I: Input<'src>, O, E: ParserExtra<I>, P: Parser<'src, I, O
 }
 
 /// The same without outputs.
+#[inline(always)]
 fn check_several<'src, I: Input<'src>, O, E: ParserExtra<I>, P: Parser<'src, I, O, E>>(
     first: &P,
     others: &[P],

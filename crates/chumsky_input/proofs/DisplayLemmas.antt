@@ -1,6 +1,6 @@
 -- Patterns written one after another.
-use Rattle.std.proofs.Common.{arith, rules, ◌≡◌, refl, sym, ap, subst, ◌∙◌, ℕ, ◌-◌, ◌<◌, ◌≤◌, Bool, true, false, nat_eq, List, [], ◌∷◌, ◌++◌, length, take, drop, get_or, IsOk, Result}
-use Rattle.std.proofs.lemmas.List.{take_all, append-nil, append_assoc}
+use Rattle.std.proofs.Common.{arith, rules, ◌≡◌, refl, ap, subst, ◌∙◌, ℕ, ◌-◌, ◌<◌, ◌≤◌, true, false, nat_eq, List, [], ◌∷◌, length, take, drop, get_or, IsOk, Result}
+use Rattle.std.proofs.lemmas.List.{take_all}
 use Rattle.std.proofs.Output.{has_written_append, writes_in_calls_nil, then_text_assoc}
 use Rattle.std.specs.Prelude.{Option, Some, None, codes}
 use Rattle.std.specs.Option.{IfSome}

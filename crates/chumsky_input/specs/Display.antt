@@ -1,10 +1,10 @@
 -- How a `Rich` prints, where `shown` says how a token prints, if that is known.
-use Rattle.std.specs.Prelude.{List, [], ◌∷◌, Option, Some, None, ℕ, codes}
+use Rattle.std.specs.Prelude.{List, [], ◌∷◌, Option, Some, None, ℕ, codes, string_bytes}
 use Rattle.std.specs.Fmt.{◌++?◌}
 use Rattle.chumsky_input.specs.Rich.{rich_found, rich_patterns, rich_message}
 use Rattle.chumsky_input.specs.declared.rich.Rich.{Rich}
 use Rattle.chumsky_input.specs.declared.rich.RichPattern.{RichPattern}
-use Rattle.chumsky_input.specs.declared.rich.RichPattern.TheVariants.{Token, Any, SomethingElse, EndOfInput}
+use Rattle.chumsky_input.specs.declared.rich.RichPattern.TheVariants.{Token, Any, SomethingElse, EndOfInput, Label}
 
 -- a token between quotes
 abbrev pub token_text : {T : Type 0} → (T → Option (List ℕ)) → T → Option (List ℕ)
@@ -15,6 +15,7 @@ pattern_text shown (Token t) = token_text shown t
 pattern_text shown Any = Some (codes "any")
 pattern_text shown SomethingElse = Some (codes "something else")
 pattern_text shown EndOfInput = Some (codes "end of input")
+pattern_text shown (Label text) = Some (string_bytes text)
 
 -- what stands before a pattern that has others before it, and the ones in `later` after it
 abbrev pub separator : {T : Type 0} → List (RichPattern T) → List ℕ

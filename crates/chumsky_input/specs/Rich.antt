@@ -1,48 +1,35 @@
 -- What counts of a `Rich`, and how two are merged.
-use Rattle.std.specs.Prelude.{ℕ, Bool, cond, List, [], ◌∷◌, ◌++◌, Option, Some, None, option_map, map, string_bytes, ◌==◌}
+use Rattle.std.specs.Prelude.{ℕ, Bool, cond, List, [], ◌∷◌, ◌++◌, Option, Some, None, option_map, map, string_bytes}
 use Rattle.std.specs.List.{list_any, filter_map}
-use Rattle.std.specs.Option.{option_eq}
-use Rattle.std.specs.Ordering.{on, eq_of_both}
-use Rattle.chumsky_input.specs.Wanted.{Wanted}
+use Rattle.std.specs.Ordering.{on}
+use Rattle.chumsky_input.specs.Wanted.{Wanted, wanted_map, wanted_same}
 use Rattle.chumsky_input.specs.Wanted as wanted
 use Rattle.chumsky_input.specs.declared.span.SimpleSpan.{SimpleSpan}
 use Rattle.chumsky_input.specs.declared.rich.Rich.{Rich}
 use Rattle.chumsky_input.specs.declared.rich.RichReason.TheVariants.{Expected, Custom}
 use Rattle.chumsky_input.specs.declared.rich.RichPattern.{RichPattern}
-use Rattle.chumsky_input.specs.declared.rich.RichPattern.TheVariants.{Token, Any, SomethingElse, EndOfInput}
+use Rattle.chumsky_input.specs.declared.rich.RichPattern.TheVariants.{Token, Any, SomethingElse, EndOfInput, Label}
 
--- 0 for a token, and a number for each other pattern
-abbrev pub pattern_tag : {T : Type 0} → RichPattern T → ℕ
-pattern_tag (Token _) = 0
-pattern_tag Any = 1
-pattern_tag SomethingElse = 2
-pattern_tag EndOfInput = 3
+-- what a pattern says was expected
+abbrev pub pattern_wanted : {T : Type 0} → RichPattern T → Wanted T
+pattern_wanted (Token t) = wanted.Token t
+pattern_wanted Any = wanted.Any
+pattern_wanted SomethingElse = wanted.SomethingElse
+pattern_wanted EndOfInput = wanted.EndOfInput
+pattern_wanted (Label text) = wanted.Label (string_bytes text)
 
--- the token of a pattern that names one
-abbrev pub pattern_token : {T : Type 0} → RichPattern T → Option T
-pattern_token (Token t) = Some t
-pattern_token Any = None
-pattern_token SomethingElse = None
-pattern_token EndOfInput = None
-
--- the same kind of pattern, and of two tokens the same one
+-- both say the same
 abbrev pub pattern_same : {T : Type 0} → (T → T → Bool) → RichPattern T → RichPattern T → Bool
-pattern_same same = eq_of_both (on pattern_tag ◌==◌) (on pattern_token (option_eq same))
+pattern_same same = on pattern_wanted (wanted_same same)
 
--- the pattern with f of its token
-abbrev pub pattern_map : {T S : Type 0} → (T → S) → RichPattern T → RichPattern S
-pattern_map f (Token t) = Token (f t)
-pattern_map f Any = Any
-pattern_map f SomethingElse = SomethingElse
-pattern_map f EndOfInput = EndOfInput
+-- what counts of a pattern, where `seen` shows what counts of a token
+abbrev pub pattern_seen : {T S : Type 0} → (T → S) → RichPattern T → Wanted S
+pattern_seen seen p = wanted_map seen (pattern_wanted p)
 
--- the pattern that shows an expectation; none where no token would have done
-abbrev pub wanted_pattern : {T : Type 0} → Wanted T → Option (RichPattern T)
-wanted_pattern (wanted.Token t) = Some (Token t)
-wanted_pattern wanted.Any = Some Any
-wanted_pattern wanted.SomethingElse = Some SomethingElse
-wanted_pattern wanted.NothingElse = None
-wanted_pattern wanted.EndOfInput = Some EndOfInput
+-- what counts of the pattern that shows an expectation; none where no token would have done
+abbrev pub wanted_pattern : {T S : Type 0} → (T → S) → Wanted T → Option (Wanted S)
+wanted_pattern seen wanted.NothingElse = None
+wanted_pattern seen w = Some (wanted_map seen w)
 
 -- the items xs, and then those of ys that are new
 abbrev pub add_new : {P : Type 0} → (P → P → Bool) → List P → List P → List P
@@ -53,7 +40,7 @@ add_new same xs (y ∷ ys) = cond (list_any (λ x. same x y) xs) (add_new same x
 pub record RichSeen (S : Type 0) : Type 0 where
   pub span : SimpleSpan
   pub found : Option S
-  pub expected : List (RichPattern S)
+  pub expected : List (Wanted S)
   pub message : Option (List ℕ)
 
 -- where the error stands
@@ -74,15 +61,19 @@ rich_message e = elim e.reason [ Expected ps f ↦ None | Custom m ↦ Some (str
 
 -- what counts of e, where `seen` shows what counts of a token
 abbrev pub rich_seen : {T S : Type 0} → (T → S) → Rich T → RichSeen S
-rich_seen seen e = record { span = rich_span e; found = option_map seen (rich_found e); expected = map (pattern_map seen) (rich_patterns e); message = rich_message e }
+rich_seen seen e = record { span = rich_span e; found = option_map seen (rich_found e); expected = map (pattern_seen seen) (rich_patterns e); message = rich_message e }
 
 -- the error where xs was expected and f was found: each pattern stands once, where it first came
 abbrev pub rich_expectation : {T S : Type 0} → (T → S) → (S → S → Bool) → List (Wanted T) → Option T → SimpleSpan → RichSeen S
-rich_expectation seen same xs f span = record { span = span; found = option_map seen f; expected = add_new (pattern_same same) [] (map (pattern_map seen) (filter_map wanted_pattern xs)); message = None }
+rich_expectation seen same xs f span = record { span = span; found = option_map seen f; expected = add_new (wanted_same same) [] (filter_map (wanted_pattern seen) xs); message = None }
 
 -- the first custom error, or else a with the patterns of b that are new to it
 abbrev pub rich_merged : {S : Type 0} → (S → S → Bool) → RichSeen S → RichSeen S → RichSeen S
-rich_merged same a b = elim a.message [ Some _ ↦ a | None ↦ elim b.message [ Some _ ↦ b | None ↦ record a { expected = add_new (pattern_same same) a.expected b.expected } ] ]
+rich_merged same a b = elim a.message [ Some _ ↦ a | None ↦ elim b.message [ Some _ ↦ b | None ↦ record a { expected = add_new (wanted_same same) a.expected b.expected } ] ]
+
+-- the error where a label alone was expected
+abbrev pub rich_labelled : {S : Type 0} → List ℕ → RichSeen S → RichSeen S
+rich_labelled text a = record a { expected = wanted.Label text ∷ []; message = None }
 
 -- what never holds
 abbrev pub Empty : Type 0

@@ -6,7 +6,7 @@ use crate::rich::{Rich, RichPattern};
 use std::fmt;
 use std::fmt::Display;
 
-/// A token between single quotes, as it prints itself; `any`, `something else` or `end of input`.
+/// A token between single quotes, as it prints itself; `any`, `something else` or `end of input`; the text of a label.
 impl<T: Display> Display for RichPattern<T> {
     ghost output = { λ p. pattern_text T.output p };
 
@@ -16,6 +16,7 @@ impl<T: Display> Display for RichPattern<T> {
             RichPattern::Any => write!(f, "any"),
             RichPattern::SomethingElse => write!(f, "something else"),
             RichPattern::EndOfInput => write!(f, "end of input"),
+            RichPattern::Label(text) => write!(f, "{text}"),
         }
     }
 }

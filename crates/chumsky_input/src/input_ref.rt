@@ -6,7 +6,7 @@ ghost use Rattle.std.specs.Iterator.{YieldsFirstBy, item_count, IsFinite};
 ghost use Rattle.chumsky_input.specs.Held.{Held, held, marks, located, with_stop};
 ghost use Rattle.chumsky_input.specs.Lending.{LendsState};
 ghost use Rattle.chumsky_input.specs.Maybe.{maybe_value, ref_value};
-ghost use Rattle.chumsky_input.specs.Wanted.{wanted, plain_wanted, Token, Wanted, Shows};
+ghost use Rattle.chumsky_input.specs.Wanted.{maybe_wanted, plain_wanted, Token, Wanted, Shows};
 ghost use Rattle.chumsky_input.specs.Run.{took, TookValue, LacksToken, TokenMayLack, marked_here, gone_back, Adds, Fails, KeepsPast, final_error, with_last, with_emitted};
 
 use crate::aside::Aside;
@@ -15,7 +15,7 @@ use crate::extra::ParserExtra;
 use crate::input::{BorrowInput, Input, SliceInput, ValueInput};
 use crate::inspector::Inspector;
 use crate::stop::{Failure, Fault, Stop};
-use crate::util::{DefaultExpected, Expectation, MaybeRef, Plain};
+use crate::util::{DefaultExpected, Expectation, MaybeLabel, MaybeRef, Plain};
 use std::alloc::{AllocError, Global};
 use std::marker::PhantomData;
 
@@ -57,18 +57,18 @@ pub struct Finished<'p, C, S, E> {
 /// One expectation, or none.
 #[derive(Drop)]
 pub struct One<'s, T> {
-    pub left: Option<DefaultExpected<'s, T>>,
+    pub left: Option<MaybeLabel<'s, T>>,
 }
 
 impl<'s, T: Drop> Iterator for One<'s, T> {
-    type Item = DefaultExpected<'s, T>;
+    type Item = MaybeLabel<'s, T>;
 
-    ghost next_gives = { YieldsFirstBy wanted (λ s. option_to_list (option_map wanted s.left)) };
+    ghost next_gives = { YieldsFirstBy maybe_wanted (λ s. option_to_list (option_map maybe_wanted s.left)) };
 
-    ghost remaining = { item_count (λ s. option_to_list (option_map wanted s.left)) };
+    ghost remaining = { item_count (λ s. option_to_list (option_map maybe_wanted s.left)) };
 
     #[inline]
-    fn next(&mut self) -> Option<DefaultExpected<'s, T>> {
+    fn next(&mut self) -> Option<MaybeLabel<'s, T>> {
         self.left.take()
     }
 }
@@ -201,16 +201,16 @@ impl<'src, 'p, I: Input<'src>, E: ParserExtra<I>> InputRef<'src, 'p, I, E> {
     }
 
     /// A failure where something was expected, with the span between two cursors. Where the error that is kept lies
-    /// further on, none is built.
+    /// further on, none is built. `inp.expected(&before, &here, Plain::Label("a month"), None)` fails with a label.
     pub fn expected(
         &mut self,
         from: &I::Cursor,
         to: &I::Cursor,
-        what: Plain,
+        what: Plain<'_>,
         found: Option<MaybeRef<'src, I::Token>>,
     ) -> Fault
         requires { I.cursor_tokens to.now ≡ I.cursor_tokens from.now }
-        ensures fails { Fails E.Error.merged E.Error.takes_no_memory (record { place = I.place from.now; error = E.Error.expectation (plain_wanted what) (option_map maybe_value found.entry) (I.span_between (I.cursor_tokens from.now) (I.place from.now) (I.place to.now)) }) (held I.Input E.Error.Error E.State.Inspector self.old) (held I.Input E.Error.Error E.State.Inspector self.new) result }
+        ensures fails { Fails E.Error.merged E.Error.takes_no_memory (record { place = I.place from.now; error = E.Error.expectation (plain_wanted what.entry) (option_map maybe_value found.entry) (I.span_between (I.cursor_tokens from.now) (I.place from.now) (I.place to.now)) }) (held I.Input E.Error.Error E.State.Inspector self.old) (held I.Input E.Error.Error E.State.Inspector self.new) result }
         ensures lent { self.new.state.ghost_name ≡ self.old.state.ghost_name }
     {
         let place = I::place(from);
@@ -242,7 +242,7 @@ impl<'src, 'p, I: Input<'src>, E: ParserExtra<I>> InputRef<'src, 'p, I, E> {
             return Fault::Fail;
         }
         let span = I::span(from, to);
-        let expected = DefaultExpected::Token(MaybeRef::Ref(token));
+        let expected = MaybeLabel::Expected(DefaultExpected::Token(MaybeRef::Ref(token)));
         match E::Error::expected_found(
             self.alloc,
             One {

@@ -4,7 +4,8 @@ ghost use Rattle.std.specs.Iterator.{IsFinite, Drains};
 ghost use Rattle.std.specs.List.{filter_map};
 ghost use Rattle.std.specs.Slice.Iter.{iter_rest};
 ghost use Rattle.chumsky_input.specs.Maybe.{maybe_value};
-ghost use Rattle.chumsky_input.specs.Rich.{RichSeen, rich_seen, rich_span, rich_found, rich_patterns, rich_message, rich_expectation, rich_merged, Empty, add_new, pattern_same, pattern_map, wanted_pattern};
+ghost use Rattle.chumsky_input.specs.Wanted.{Label, wanted_same};
+ghost use Rattle.chumsky_input.specs.Rich.{RichSeen, rich_seen, rich_span, rich_found, rich_patterns, rich_message, rich_expectation, rich_merged, Empty, add_new, pattern_same, pattern_seen, pattern_wanted, wanted_pattern};
 ghost use Rattle.chumsky_input.specs.RichLaws.{pattern_same_laws};
 
 use crate::error::Error;
@@ -25,6 +26,8 @@ pub enum RichPattern<T> {
     /// Some token that the parser didn't name.
     SomethingElse,
     EndOfInput,
+    /// What a label names.
+    Label(String),
 }
 
 impl<T: PartialEq> PartialEq for RichPattern<T> {
@@ -39,6 +42,7 @@ impl<T: PartialEq> PartialEq for RichPattern<T> {
             (RichPattern::Any, RichPattern::Any) => true,
             (RichPattern::SomethingElse, RichPattern::SomethingElse) => true,
             (RichPattern::EndOfInput, RichPattern::EndOfInput) => true,
+            (RichPattern::Label(one), RichPattern::Label(two)) => *one == *two,
             _ => false,
         }
     }
@@ -134,6 +138,29 @@ impl<T> Rich<T> {
     }
 }
 
+impl<T: Drop> Rich<T> {
+    /// The same error, where what a label names was expected, and nothing else: `error.with_label(alloc, "a month")?`. A
+    /// custom error loses its message.
+    pub fn with_label(self, alloc: Global, label: &str) -> Result<Self, AllocError>
+        ensures span { IfOk result (λ e. rich_span e ≡ rich_span self) }
+        ensures found { IfOk result (λ e. rich_found e ≡ rich_found self) }
+        ensures patterns { IfOk result (λ e. map pattern_wanted (rich_patterns e) ≡ Label label.now ∷ []) }
+        ensures message { IfOk result (λ e. rich_message e ≡ None) }
+    {
+        let Rich { span, reason } = self;
+        let found = match reason {
+            RichReason::Expected(_, found) => found,
+            RichReason::Custom(_) => None,
+        };
+        let mut patterns = Vec::new(alloc);
+        patterns.push(RichPattern::Label(String::from_str(alloc, label)?))?;
+        Ok(Rich {
+            span,
+            reason: RichReason::Expected(patterns, found),
+        })
+    }
+}
+
 impl<T: SameClone + Drop, I: Tokens<Token = T, Span = SimpleSpan>> Error<I> for Rich<T> {
     ghost Seen = { RichSeen T.Seen };
 
@@ -203,10 +230,14 @@ impl<T: SameClone + Drop, I: Tokens<Token = T, Span = SimpleSpan>> Error<I> for 
 /// The pattern that shows an expectation, as it counts.
 #[inline]
 fn pattern_of<T: SameClone, X: Expectation<T>>(
+    alloc: Global,
     expected: &X,
 ) -> Result<Option<RichPattern<T>>, AllocError>
-    ensures { IfOk result (λ o. option_map (pattern_map T.seen) o ≡ option_map (pattern_map T.seen) (wanted_pattern (X.expectation expected.now))) }
+    ensures { IfOk result (λ o. option_map (pattern_seen T.seen) o ≡ wanted_pattern T.seen (X.expectation expected.now)) }
 {
+    if let Some(label) = expected.label() {
+        return Ok(Some(RichPattern::Label(String::from_str(alloc, label)?)));
+    }
     match expected.as_expected() {
         DefaultExpected::Token(token) => Ok(Some(RichPattern::Token(token_of(token)?))),
         DefaultExpected::Any => Ok(Some(RichPattern::Any)),
@@ -225,11 +256,11 @@ where
     X::Item: Expectation<T> + Drop,
     requires can { X.can_next expected }
     requires ends { IsFinite (X.remaining expected) }
-    ensures { IfOk result (λ v. (xs : List X.Item) × Drains X.next_gives expected xs × (map (pattern_map T.seen) v.items ≡ add_new (pattern_same T.same) [] (map (pattern_map T.seen) (filter_map wanted_pattern (map X.Item.expectation xs))))) }
+    ensures { IfOk result (λ v. (xs : List X.Item) × Drains X.next_gives expected xs × (map (pattern_seen T.seen) v.items ≡ add_new (wanted_same T.same) [] (filter_map (wanted_pattern T.seen) (map X.Item.expectation xs)))) }
 {
     let mut patterns = Vec::new(alloc);
     for item in expected {
-        if let Some(pattern) = pattern_of(&item)? {
+        if let Some(pattern) = pattern_of(alloc, &item)? {
             push_new(&mut patterns, pattern)?;
         }
     }

@@ -18,6 +18,14 @@ pub struct Cheap {
 }
 
 impl Cheap {
+    /// An error that stands there: `Cheap::new(inp.span_since(&before))`.
+    #[inline]
+    pub fn new(span: SimpleSpan) -> Self
+        ensures { cheap_span result ≡ span }
+    {
+        Cheap { span }
+    }
+
     /// Where the error stands.
     #[inline]
     pub fn span(&self) -> &SimpleSpan
@@ -74,6 +82,15 @@ pub struct Simple<T> {
 }
 
 impl<T> Simple<T> {
+    /// An error that stands there, where that token was found, or the end of input: `Simple::new(Some('a'), span)`.
+    #[inline]
+    pub fn new(found: Option<T>, span: SimpleSpan) -> Self
+        ensures span { simple_span result ≡ span }
+        ensures found { simple_found result ≡ found }
+    {
+        Simple { span, found }
+    }
+
     /// Where the error stands.
     #[inline]
     pub fn span(&self) -> &SimpleSpan

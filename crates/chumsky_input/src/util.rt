@@ -1,8 +1,8 @@
 //! Small helpers that parsers and errors share.
-ghost use Rattle.std.specs.Prelude.{◌≡◌, IfOk, IsOk, IsTrue, option_to_list, option_map};
+ghost use Rattle.std.specs.Prelude.{◌≡◌, IfOk, IsOk, IsTrue, option_to_list, option_map, option_copied};
 ghost use Rattle.std.specs.Cmp.{on_per};
 ghost use Rattle.chumsky_input.specs.Maybe.{maybe_value, OwnsFreely};
-ghost use Rattle.chumsky_input.specs.Wanted.{Wanted, wanted, wanted_map, owns_token, WantsFreely, plain_wanted};
+ghost use Rattle.chumsky_input.specs.Wanted.{Wanted, wanted, wanted_map, unlabelled, label_text, maybe_wanted, owns_token, WantsFreely, plain_wanted};
 
 use crate::same::SameClone;
 use std::alloc::AllocError;
@@ -85,12 +85,17 @@ impl<'a, T: SameClone> DefaultExpected<'a, T> {
     }
 }
 
-/// What counts as one expectation: a `DefaultExpected` of any lifetime.
+/// What counts as one expectation: a `DefaultExpected` of any lifetime, or a label.
 pub trait Expectation<T> {
     ghost expectation: { Self → Wanted T };
 
+    /// The expectation, for errors that know no labels: what a label names is something else.
     fn as_expected(&self) -> DefaultExpected<'_, T>
-        ensures { wanted result ≡ expectation self.now };
+        ensures { wanted result ≡ unlabelled (expectation self.now) };
+
+    /// The text of a label. None of any other expectation.
+    fn label(&self) -> Option<&str>
+        ensures { option_copied result ≡ label_text (expectation self.now) };
 }
 
 impl<'a, T> Expectation<T> for DefaultExpected<'a, T> {
@@ -106,29 +111,63 @@ impl<'a, T> Expectation<T> for DefaultExpected<'a, T> {
             DefaultExpected::EndOfInput => DefaultExpected::EndOfInput,
         }
     }
+
+    #[inline]
+    fn label(&self) -> Option<&str> {
+        None
+    }
 }
 
-/// What was expected, where it is no token.
+/// What a parser expected, or the label that names it: `MaybeLabel::Label("a month")`.
+#[derive(Clone, Debug, PartialEq, Drop)]
+pub enum MaybeLabel<'a, T> {
+    Expected(DefaultExpected<'a, T>),
+    Label(&'a str),
+}
+
+impl<'a, T> Expectation<T> for MaybeLabel<'a, T> {
+    ghost expectation = { maybe_wanted };
+
+    #[inline]
+    fn as_expected(&self) -> DefaultExpected<'_, T> {
+        match self {
+            MaybeLabel::Expected(expected) => expected.as_expected(),
+            MaybeLabel::Label(_) => DefaultExpected::SomethingElse,
+        }
+    }
+
+    #[inline]
+    fn label(&self) -> Option<&str> {
+        match self {
+            MaybeLabel::Expected(_) => None,
+            MaybeLabel::Label(text) => Some(*text),
+        }
+    }
+}
+
+/// What was expected, where it is no token: `Plain::Label("a month")` is what that label names.
 #[derive(Clone, Copy, Debug)]
-pub enum Plain {
+pub enum Plain<'l> {
     Nothing,
     Any,
     SomethingElse,
     NothingElse,
     EndOfInput,
+    Label(&'l str),
 }
 
-impl Plain {
+impl<'l> Plain<'l> {
     #[inline]
-    pub fn as_expected<'a, T>(self) -> Option<DefaultExpected<'a, T>>
-        ensures { option_to_list (option_map wanted result) ≡ plain_wanted self }
+    pub fn as_expected<T>(self) -> Option<MaybeLabel<'l, T>>
+        ensures { option_to_list (option_map maybe_wanted result) ≡ plain_wanted self.entry }
     {
         match self {
             Plain::Nothing => None,
-            Plain::Any => Some(DefaultExpected::Any),
-            Plain::SomethingElse => Some(DefaultExpected::SomethingElse),
-            Plain::NothingElse => Some(DefaultExpected::NothingElse),
-            Plain::EndOfInput => Some(DefaultExpected::EndOfInput),
+            Plain::Any => Some(MaybeLabel::Expected(DefaultExpected::Any)),
+            Plain::SomethingElse => Some(MaybeLabel::Expected(DefaultExpected::SomethingElse)),
+            Plain::NothingElse => Some(MaybeLabel::Expected(DefaultExpected::NothingElse)),
+            Plain::EndOfInput => Some(MaybeLabel::Expected(DefaultExpected::EndOfInput)),
+            Plain::Label(text) => Some(MaybeLabel::Label(text)),
         }
     }
 }

@@ -39,7 +39,7 @@ module _ {Tok Cx St Er V : Type 0} (merged : Er → Er → Er) (safe : Type 0) (
       }
 
   -- a failure with one event
-  ran-adds : (e : Event Er) (new : Held Tok Cx St Er) (f : Fault) → Adds merged safe e old new f
+  pub ran-adds : (e : Event Er) (new : Held Tok Cx St Er) (f : Fault) → Adds merged safe e old new f
       → ((o : Outcome V Er St) → FailsAt e old.place old.state o → meaning (begin wanted old) o) → Ran merged safe meaning wanted old new (Err f)
   ran-adds e new fault.Fail a m =
       record {

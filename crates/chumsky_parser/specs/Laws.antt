@@ -71,7 +71,7 @@ module _ {Tok Cx St Er V W : Type 0} (part part' : Meaning Tok Cx St Er V) (next
       chained_agree hp hn b c o q alike m.first.verdict m.first.end m.first.state m.first.events m.first.emitted n.first.verdict n.first.end n.first.state n.first.events n.first.emitted m.meant n.meant m.follows n.follows a a'
 
 module _ {V W : Type 0} (sv : V → V → Type 0) (sw : W → W → Type 0) where
-  both-same : (v v' : Option V) (w w' : Option W) → SameValue sv v v' → SameValue sw w w' → SameValue (SamePair sv sw) (both v w) (both v' w')
+  pub both-same : (v v' : Option V) (w w' : Option W) → SameValue sv v v' → SameValue sw w w' → SameValue (SamePair sv sw) (both v w) (both v' w')
   both-same (Some v) (Some v') (Some w) (Some w') e d = (e, d)
   both-same (Some v) (Some v') (Some w) None e d = tt
   both-same (Some v) (Some v') None w' e d = tt

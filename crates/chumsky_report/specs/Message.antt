@@ -1,5 +1,5 @@
 -- What an error says to people, of tokens that have a number and a text.
-use Rattle.std.specs.Prelude.{ℕ, zero, suc, ◌^◌, ◌+◌, ◌-◌, Bool, false, ◌||◌, if◌then◌else◌, nat_le, List, [], ◌∷◌, ◌++◌, length, take, Option, Some, None, codes, ◌==◌, slice_index_or}
+use Rattle.std.specs.Prelude.{ℕ, zero, suc, ◌^◌, ◌+◌, ◌-◌, Bool, false, ◌||◌, if◌then◌else◌, nat_le, List, [], ◌∷◌, ◌++◌, length, take, Option, Some, None, codes, string_bytes, ◌==◌, slice_index_or}
 use Rattle.std.specs.Char.{encode_utf8, is_control}
 use Rattle.std.specs.Fmt.{digits, format_spec, padded_integral}
 use Rattle.chumsky_input.specs.Rich.{rich_found, rich_patterns, rich_message}
@@ -41,6 +41,7 @@ module _ {T : Type 0} (number : T → ℕ) (text : T → List ℕ) where
   pattern_text Pattern.Any = codes "anything"
   pattern_text Pattern.SomethingElse = codes "something else"
   pattern_text Pattern.EndOfInput = codes "end of input"
+  pattern_text (Pattern.Label label) = string_bytes label
 
   -- both are tokens, and the number of the second comes next after that of the first
   abbrev pub follows : RichPattern T → RichPattern T → Bool

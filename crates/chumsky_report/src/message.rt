@@ -71,6 +71,7 @@ impl<T: Symbol> Display for Pattern<'_, T> {
             RichPattern::Any => write!(f, "anything"),
             RichPattern::SomethingElse => write!(f, "something else"),
             RichPattern::EndOfInput => write!(f, "end of input"),
+            RichPattern::Label(text) => write!(f, "{text}"),
         }
     }
 }

@@ -2,7 +2,8 @@
 ghost use Rattle.std.specs.Prelude.{◌≡◌, ℕ, List, IfOk, IsOk, map};
 ghost use Rattle.std.specs.List.{filter_map};
 ghost use Rattle.std.specs.Iterator.{IsFinite, Drains};
-ghost use Rattle.own_types.specs.Merges.{wanted_token, in_brackets};
+ghost use Rattle.chumsky_input.specs.Wanted.{named_token};
+ghost use Rattle.own_types.specs.Merges.{in_brackets};
 
 use chumsky::DefaultExpected;
 use chumsky::error::Error;
@@ -22,7 +23,7 @@ impl<I: Tokens<Token = char, Span = SimpleSpan>> Error<I> for Merges {
 
     ghost seen = { λ e. e.text.items };
 
-    ghost expectation = { λ expected _ _. filter_map wanted_token expected };
+    ghost expectation = { λ expected _ _. filter_map named_token expected };
 
     ghost merged = { in_brackets };
 
@@ -38,7 +39,7 @@ impl<I: Tokens<Token = char, Span = SimpleSpan>> Error<I> for Merges {
         X::Item: Expectation<char> + Drop,
         requires can { X.can_next expected }
         requires ends { IsFinite (X.remaining expected) }
-        ensures error { IfOk result (λ e. (xs : List X.Item) × Drains X.next_gives expected xs × (e.text.items ≡ filter_map wanted_token (map X.Item.expectation xs))) }
+        ensures error { IfOk result (λ e. (xs : List X.Item) × Drains X.next_gives expected xs × (e.text.items ≡ filter_map named_token (map X.Item.expectation xs))) }
         ensures memory { ⊥ → IsOk result }
     {
         let mut text = Vec::new(alloc);

@@ -1,5 +1,4 @@
-use Rattle.std.proofs.Common.{rules, ◌≡◌, refl, sym, ap, ◌∙◌, Bor, Ok}
-use Rattle.chumsky_input.specs.Display.{separator}
+use Rattle.std.proofs.Common.{rules, refl, sym, ap, ◌∙◌, Ok}
 use Rattle.chumsky_input.proofs.DisplayLemmas.{separator_last, separator_between, shows_from, shows_to, none_left, one_more}
 use Rattle.chumsky_input.proofs.display.PatternsDisplay.fmt.Goals.{then-is_empty, else-is_empty}
 use Rattle.chumsky_input.proofs.display.PatternsDisplay.fmt.Goals as goal

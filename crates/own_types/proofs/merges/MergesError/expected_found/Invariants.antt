@@ -1,8 +1,8 @@
 use Rattle.std.proofs.Common.{◌≡◌, map}
 use Rattle.std.specs.List.{filter_map}
-use Rattle.own_types.specs.Merges.{wanted_token}
+use Rattle.chumsky_input.specs.Wanted.{named_token}
 use Rattle.own_types.proofs.merges.MergesError.expected_found.Given as goal
 
 abbrev pub invariant-loop-item : goal.invariant-loop-item
 invariant-loop-item g l =
-    l.text.items ≡ filter_map wanted_token (map g.X.Item.Expectation.expectation l.yielded)
+    l.text.items ≡ filter_map named_token (map g.X.Item.Expectation.expectation l.yielded)
