@@ -7,6 +7,7 @@ mod ext;
 mod macros;
 mod made;
 pub mod prelude;
+mod refusals;
 mod run;
 mod steady;
 
@@ -132,19 +133,37 @@ pub mod combinator {
     pub use chumsky_shield::validate::Validate;
 }
 
-/// Rules as data: recursive grammars, the parser that runs them, why a call on them is refused, and which leaves move.
+/// Rules as data: recursive grammars, the parser that runs them, whether they are well-founded, which leaves move, and why a call
+/// on them is refused.
 pub mod recursive {
     pub use chumsky_moves::moving::{MayStay, Moving, MovingItems, MovingPart};
     pub use chumsky_recursive::actions::Actions;
+    pub use chumsky_recursive::closing::CloseRules;
     pub use chumsky_recursive::evaluator::step;
+    pub use chumsky_recursive::founded::{FoundedError, close_founded};
     pub use chumsky_recursive::frames::Todo;
-    pub use chumsky_recursive::grammar::{Grammar, close};
+    pub use chumsky_recursive::grammar::{Grammar, close, well_founded};
     pub use chumsky_recursive::leaves::{Leaves, Values};
     pub use chumsky_recursive::stack::Stack;
     pub use chumsky_rules::closed::Closed;
     pub use chumsky_rules::errors::{BuildError, CloseError, DefineError, RecursiveError};
+    pub use chumsky_rules::founded::WellFounded;
     pub use chumsky_rules::kinds::{Node, Recursive, SepCfg};
     pub use chumsky_rules::rules::Rules;
+}
+
+/// Laws of grammars, each the contract of a function that does nothing, or looks at the nodes alone: how answers under limits
+/// agree, and for what well-founded rules are refused.
+pub mod grammar_laws {
+    pub use crate::refusals::founded_runs_are_refused_as_leaves;
+    pub use chumsky_recursive::laws::{
+        a_run_begins_with_room, an_answer_is_derived, answers_agree_under_any_limit,
+        answers_stand_under_a_greater_limit, founded_grammars_are_refused_as_leaves,
+        founded_rules_make_progress, founded_rules_stay_within_depth, lists_count_their_items,
+        two_derivations_agree,
+    };
+    pub use chumsky_recursive::steady::grammar_is_steady;
+    pub use chumsky_rules::caps::caps_fit;
 }
 
 /// Laws of parsers, each the contract of a function that does nothing: which of them mean the same, and which are steady.
