@@ -1,5 +1,5 @@
-//! What parsers stand on: results, values, rules as data, reports of errors; how often values are cloned, and that what is
-//! let go is dropped; that nothing is refused for no reason.
+//! What parsers stand on: results, values, rules as data, reports of errors; how often values are cloned or made, and that
+//! what is let go is dropped; that nothing is refused for no reason.
 
 #[cfg(test)]
 mod clones;
@@ -9,6 +9,8 @@ mod copies;
 mod counted;
 #[cfg(test)]
 mod judged;
+#[cfg(test)]
+mod node_values;
 #[cfg(test)]
 mod refusals;
 #[cfg(test)]
