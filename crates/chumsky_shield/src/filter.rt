@@ -33,8 +33,8 @@ pub trait Tester<O> {
     /// That it may be called. Where nothing is said, it may.
     ghost callable: { Self → Type 0 } = { λ tester. ⊤ };
 
-    /// What it may answer to a value.
-    ghost gives: { Self → O → Bool → Type 0 };
+    /// What it may answer to a value. Where nothing is said, nothing is known of it.
+    ghost gives: { Self → O → Bool → Type 0 } = { λ tester value passes. ⊤ };
 
     /// Whether a value passes.
     fn passes(&self, value: &O) -> bool

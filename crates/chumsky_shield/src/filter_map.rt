@@ -34,8 +34,8 @@ pub trait Picker<O, U> {
     /// That it may be called. Where nothing is said, it may.
     ghost callable: { Self → Type 0 } = { λ picker. ⊤ };
 
-    /// What it may answer to a value.
-    ghost gives: { Self → O → Option U → Type 0 };
+    /// What it may answer to a value. Where nothing is said, nothing is known of it.
+    ghost gives: { Self → O → Option U → Type 0 } = { λ picker value picked. ⊤ };
 
     /// The output for a value, or none.
     fn pick(&self, value: O) -> Option<U>

@@ -22,8 +22,8 @@ pub trait TryMapper<O, S, U, R> {
     /// That it may be called. Where nothing is said, it may.
     ghost callable: { Self → Type 0 } = { λ mapper. ⊤ };
 
-    /// What it may answer to a value and a span.
-    ghost gives: { Self → O → S → Result U R → Type 0 };
+    /// What it may answer to a value and a span. Where nothing is said, nothing is known of it.
+    ghost gives: { Self → O → S → Result U R → Type 0 } = { λ mapper value span answer. ⊤ };
 
     /// The output for a value and its span, or the error that refuses it.
     fn try_apply(&self, value: O, span: S) -> Result<U, R>
