@@ -13,6 +13,8 @@ mod folds_with;
 #[cfg(test)]
 mod mapped;
 #[cfg(test)]
+mod list_nodes;
+#[cfg(test)]
 mod nodes;
 #[cfg(test)]
 mod parse_iter;

@@ -2,6 +2,7 @@
 use answers::asserts::assert_answers;
 use answers::extras::Own;
 use answers::leaves::{just_char, just_text};
+use arrayvec::ArrayVec;
 use chumsky::combinator::SeparatedBy;
 use chumsky::prelude::*;
 use chumsky::primitive::{Empty, Just};
@@ -42,6 +43,13 @@ fn a_separator_that_no_item_follows_is_left(rt: HostRuntime) {
         ("-,-", "error 3..3 expected ',' found end"),
         ("-,", "error 2..2 expected '-' found end"),
     ];
+    assert_before_comma(&rt, dashes().exactly(2), &rows);
+    let rows = [
+        ("-,-,,", "ok (['-', '-'], ',')"),
+        ("-,-,", "error 4..4 expected ',' found end"),
+        ("-,-", "error 3..3 expected ',' found end"),
+        ("-,", "error 2..2 expected '-' found end"),
+    ];
     assert_before_comma(&rt, dashes().exactly(2).allow_trailing(), &rows);
 }
 
@@ -59,10 +67,16 @@ fn a_separator_may_lead_or_trail(rt: HostRuntime) {
     let rows = [
         (",-,-", "ok ['-', '-']"),
         ("-", "ok ['-']"),
-        (",", "error 1..1 expected '-' found end"),
-        (",,", "error 1..2 expected '-' found ','"),
+        (",", "ok []"),
+        (",,", "error 1..2 expected '-', end of input found ','"),
+        (",-,", "error 3..3 expected '-' found end"),
     ];
     assert_collects(&rt, dashes().allow_leading(), &rows);
+    let rows = [
+        (",", "error 1..1 expected '-' found end"),
+        (",-", "ok ['-']"),
+    ];
+    assert_collects(&rt, dashes().allow_leading().at_least(1), &rows);
     let rows = [
         ("-,-,", "ok ['-', '-']"),
         ("-,,", "error 2..3 expected '-', end of input found ','"),
@@ -88,14 +102,38 @@ fn a_list_with_too_few_items_fails(rt: HostRuntime) {
 }
 
 #[test]
-fn after_the_last_item_that_a_cap_allows_nothing_is_tried(rt: HostRuntime) {
+fn after_the_last_item_that_a_cap_allows_a_separator_may_trail(rt: HostRuntime) {
     let rows = [
         ("-,-", "ok ['-', '-']"),
         ("-,-,", "error 3..4 expected end of input found ','"),
         ("-,-,-", "error 3..4 expected end of input found ','"),
     ];
     assert_collects(&rt, dashes().at_most(2), &rows);
+    let rows = [
+        ("-,-", "ok ['-', '-']"),
+        ("-,-,", "ok ['-', '-']"),
+        ("-,-,-", "error 4..5 expected end of input found '-'"),
+        ("-,-,,", "error 4..5 expected end of input found ','"),
+        ("-", "ok ['-']"),
+    ];
     assert_collects(&rt, dashes().at_most(2).allow_trailing(), &rows);
+    let rows = [
+        (",", "error 0..1 expected end of input found ','"),
+        ("", "ok []"),
+    ];
+    let none = dashes().at_most(0).allow_leading().allow_trailing();
+    assert_collects(&rt, none, &rows);
+}
+
+#[test]
+fn a_full_array_asks_for_no_separator(rt: HostRuntime) {
+    let two = dashes().at_most(2).allow_trailing();
+    let rows = [
+        ("-,-,", "ok (['-', '-'], ',')"),
+        ("-,-", "error 3..3 expected ',' found end"),
+    ];
+    let array = two.collect_exactly::<ArrayVec<char, 2>>();
+    assert_answers(&rt, &array.then(just(',')), &rows);
 }
 
 /// Asserts how many dashes there are.
@@ -149,6 +187,11 @@ fn a_separator_that_no_byte_follows_is_left(rt: HostRuntime) {
         (&[7, 0, 7, 0], "ok ([7, 7], 0)"),
         (&[7, 0, 7], "error 3..3 expected 0 found end"),
     ];
+    assert_before_zero(&rt, sevens().exactly(2), &rows);
+    let rows: [(&[u8], &str); 2] = [
+        (&[7, 0, 7, 0, 0], "ok ([7, 7], 0)"),
+        (&[7, 0, 7, 0], "error 4..4 expected 0 found end"),
+    ];
     assert_before_zero(&rt, sevens().exactly(2).allow_trailing(), &rows);
 }
 
@@ -165,7 +208,7 @@ fn assert_collects_bytes<'src, R: Abort + AllocGlobal>(
 fn a_separator_may_lead_or_trail_bytes(rt: HostRuntime) {
     let rows: [(&[u8], &str); 2] = [
         (&[0, 7, 0, 7], "ok [7, 7]"),
-        (&[0], "error 1..1 expected 7 found end"),
+        (&[0], "ok []"),
     ];
     assert_collects_bytes(&rt, sevens().allow_leading(), &rows);
     let rows: [(&[u8], &str); 2] = [(&[0], "ok []"), (&[0, 7, 0], "ok [7]")];
@@ -174,6 +217,35 @@ fn a_separator_may_lead_or_trail_bytes(rt: HostRuntime) {
     assert_collects_bytes(&rt, sevens().allow_leading().at_least(3), &rows);
     let rows: [(&[u8], &str); 1] = [(&[7, 0, 7, 0], "error 4..4 expected 7 found end")];
     assert_collects_bytes(&rt, sevens().allow_trailing().at_least(3), &rows);
+}
+
+#[test]
+fn a_leading_separator_of_bytes_stands_alone_where_no_item_is_asked_for(rt: HostRuntime) {
+    let rows: [(&[u8], &str); 1] =
+        [(&[0, 0], "error 1..2 expected 7, end of input found 0")];
+    assert_collects_bytes(&rt, sevens().allow_leading(), &rows);
+    let rows: [(&[u8], &str); 2] = [
+        (&[0], "error 1..1 expected 7 found end"),
+        (&[0, 7], "ok [7]"),
+    ];
+    assert_collects_bytes(&rt, sevens().allow_leading().at_least(1), &rows);
+}
+
+#[test]
+fn after_the_last_byte_that_a_cap_allows_a_separator_may_trail(rt: HostRuntime) {
+    let rows: [(&[u8], &str); 3] = [
+        (&[7, 0, 7], "ok [7, 7]"),
+        (&[7, 0, 7, 0], "ok [7, 7]"),
+        (&[7, 0, 7, 0, 7], "error 4..5 expected end of input found 7"),
+    ];
+    assert_collects_bytes(&rt, sevens().at_most(2).allow_trailing(), &rows);
+    let rows: [(&[u8], &str); 1] = [(&[0], "error 0..1 expected end of input found 0")];
+    let none = sevens().at_most(0).allow_leading().allow_trailing();
+    assert_collects_bytes(&rt, none, &rows);
+    let two = sevens().at_most(2).allow_trailing();
+    let rows: [(&[u8], &str); 1] = [(&[7, 0, 7, 0], "ok ([7, 7], 0)")];
+    let array = two.collect_exactly::<ArrayVec<u8, 2>>();
+    assert_answers(&rt, &array.then(just(0)), &rows);
 }
 
 #[test]

@@ -243,7 +243,7 @@ fn products_come_before_sums(rt: HostRuntime) {
         ("0*(9+9)", 0),
     ];
     for (text, value) in rows {
-        let parsed = value_of(rt.alloc(), text, 10).expect(&rt, "refused");
+        let parsed = value_of(rt.alloc(), text).expect(&rt, "refused");
         assert!(rt; parsed.output() == Some(&value));
     }
 }
@@ -257,7 +257,7 @@ fn arithmetic_fails_where_it_is_amiss(rt: HostRuntime) {
         ("1+2)", 3, 4),
         ("1++2", 2, 3),
     ] {
-        let parsed = value_of(rt.alloc(), text, 10).expect(&rt, "refused");
+        let parsed = value_of(rt.alloc(), text).expect(&rt, "refused");
         assert!(rt; parsed.output() == None);
         for error in parsed.errors() {
             assert!(rt; *error.span() == SimpleSpan { start, end });
@@ -272,6 +272,6 @@ fn arithmetic_stays_at_the_greatest_number(rt: HostRuntime) {
     for _ in 0..30 {
         text.push_str("*9").expect(&rt, "want of memory");
     }
-    let parsed = value_of(rt.alloc(), text.as_str(), 10).expect(&rt, "refused");
+    let parsed = value_of(rt.alloc(), text.as_str()).expect(&rt, "refused");
     assert!(rt; parsed.output() == Some(&u64::MAX));
 }

@@ -1,14 +1,22 @@
-//! What parsers stand on: results, values, rules as data, reports of errors; how often values are cloned, and that what is
-//! let go is dropped; that nothing is refused for no reason.
+//! What parsers stand on: results, values, rules as data and whether they are well-founded, reports of errors; how often values
+//! are cloned or made, and that what is let go is dropped; that nothing is refused for no reason; which parsers move.
 
 #[cfg(test)]
 mod clones;
+#[cfg(test)]
+mod closing;
 #[cfg(test)]
 mod copies;
 #[cfg(test)]
 mod counted;
 #[cfg(test)]
+mod founded;
+#[cfg(test)]
 mod judged;
+#[cfg(test)]
+mod moves;
+#[cfg(test)]
+mod node_values;
 #[cfg(test)]
 mod refusals;
 #[cfg(test)]

@@ -91,8 +91,7 @@ pub fn run_loops(alloc: Global, command: Command, text: &str) -> Result<Answer<u
         leaves: &leaves,
         values: Pairs,
     };
-    let limit = rules.limit_for(text.chars().count()).unwrap_or(usize::MAX);
-    match close(&rules, start, &actions, limit) {
+    match close_founded(&rules, start, &actions, text.chars().count()) {
         Ok(grammar) => run_parser(&grammar, alloc, command, text),
         Err(_) => Err(Stop::Memory),
     }

@@ -22,6 +22,8 @@ pub use chumsky_parser::result::ParseResult;
 pub use chumsky_primitive::make::{
     any, any_ref, custom, custom_by, empty, end, just, none_of, one_of,
 };
+pub use chumsky_recursive::closing::CloseRules;
+pub use chumsky_recursive::founded::close_founded;
 pub use chumsky_recursive::grammar::close;
 pub use chumsky_rules::kinds::Recursive;
 pub use chumsky_rules::rules::Rules;

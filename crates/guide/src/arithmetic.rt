@@ -119,12 +119,8 @@ fn expression(rules: &mut Rules) -> Result<Recursive, RecursiveError> {
     })
 }
 
-/// What a sum of products comes to, where no more than `limit` rules are open at once.
-pub fn value_of(
-    alloc: Global,
-    text: &str,
-    limit: usize,
-) -> Result<ParseResult<u64, Rich<char>>, Refused> {
+/// What a sum of products comes to.
+pub fn value_of(alloc: Global, text: &str) -> Result<ParseResult<u64, Rich<char>>, Refused> {
     let mut rules = Rules::new(alloc);
     let start = match expression(&mut rules) {
         Ok(start) => start,
@@ -142,7 +138,7 @@ pub fn value_of(
         leaves: &leaves,
         values: Amounts,
     };
-    match close(&rules, start, &actions, limit) {
+    match close_founded(&rules, start, &actions, text.len()) {
         Ok(grammar) => grammar
             .map(|amount: Amount| amount.added)
             .parse(alloc, text)

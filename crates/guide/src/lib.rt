@@ -3,6 +3,7 @@
 #![tactic(auto)]
 
 pub mod arithmetic;
+pub mod builders;
 pub mod checking;
 pub mod closure;
 pub mod conclusion;

@@ -4,7 +4,7 @@ ghost use Rattle.std.specs.Prelude.{IfOk, ⊤};
 use chumsky::Stop;
 use chumsky::extra::RichText;
 use chumsky::prelude::*;
-use chumsky::recursive::{CloseError, Leaves, RecursiveError, Values};
+use chumsky::recursive::{FoundedError, Leaves, RecursiveError, Values};
 use std::alloc::{AllocError, Global};
 
 /// The leaves, by number.
@@ -76,12 +76,30 @@ fn brackets(rules: &mut Rules) -> Result<Recursive, RecursiveError> {
 #[derive(Debug, Drop)]
 pub enum Refused {
     Building(RecursiveError),
-    Closing(CloseError),
+    Closing(FoundedError),
     Running(Stop),
 }
 
+/// How deep the brackets of a text go. However deep they go, the run is refused for memory alone.
+pub fn depth(alloc: Global, text: &str) -> Result<ParseResult<usize, Rich<char>>, Refused> {
+    let mut rules = Rules::new(alloc);
+    let start = match brackets(&mut rules) {
+        Ok(start) => start,
+        Err(error) => return Err(Refused::Building(error)),
+    };
+    let leaves = [just::<_, _, RichText>("[").to(0), just("]").to(0)];
+    let actions = Leaves {
+        leaves: &leaves,
+        values: Depths,
+    };
+    match close_founded(&rules, start, &actions, text.len()) {
+        Ok(grammar) => grammar.parse(alloc, text).map_err(Refused::Running),
+        Err(error) => Err(Refused::Closing(error)),
+    }
+}
+
 /// How deep the brackets of a text go, where no more than `limit` rules are open at once.
-pub fn depth(
+pub fn depth_within(
     alloc: Global,
     text: &str,
     limit: usize,
@@ -98,6 +116,6 @@ pub fn depth(
     };
     match close(&rules, start, &actions, limit) {
         Ok(grammar) => grammar.parse(alloc, text).map_err(Refused::Running),
-        Err(error) => Err(Refused::Closing(error)),
+        Err(error) => Err(Refused::Closing(FoundedError::Close(error))),
     }
 }

@@ -1,0 +1,7 @@
+pub mod Moves
+pub mod MovesLaws
+pub mod ChoicesMove
+pub mod PrimitivesMove
+pub mod PartsMove
+pub mod ItemsMove
+pub mod FoldsMove

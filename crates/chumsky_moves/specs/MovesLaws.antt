@@ -1,0 +1,114 @@
+-- What moves where it succeeds, since one part does: parts one after another.
+-- Main laws: chained-first, chained-second, sequence-moves. Read first: Moves.antt.
+use Rattle.std.proofs.Common.{◌≡◌, ℕ, ◌≤◌, ◌<◌, Bool, true, false, ◌&&◌, ◌||◌, Option, List, ◌⊎◌, inl, inr, refl, ap, subst, arith}
+use Rattle.chumsky_input.specs.Outcome.{Event, Meaning, Beginning, Outcome, Verdict, Yes, No, Halt, Clash, IsAnswer, EndsAfterStart}
+use Rattle.chumsky_parser.specs.Chained.{from, Follows, Chained, Asked, Sequence, both}
+use Rattle.chumsky_parser.specs.Failure.{FailsAt, Misses, SaysNo}
+use Rattle.chumsky_parser.specs.Ignoring.{IgnoringFirst, IgnoringSecond, Between}
+use Rattle.chumsky_parser.specs.IgnoringLaws.{ignoring_second-ends}
+use Rattle.chumsky_parser.specs.Laws.{chained-ends, given-ends, asked-ends}
+use Rattle.chumsky_items.specs.Lists.{IsYes}
+use Rattle.chumsky_moves.specs.Moves.{Moves}
+
+-- what says nothing promises nothing
+pub never : {P : Type 0} → false ≡ true → P
+never e = absurd (cc)
+
+-- one of two is true
+pub either-true : (a b : Bool) → (a || b) ≡ true → (a ≡ true) ⊎ (b ≡ true)
+either-true true b e = inl refl
+either-true false b e = inr e
+
+pub both-true : (a b : Bool) → (a && b) ≡ true → (a ≡ true) × (b ≡ true)
+both-true true b e = (refl, e)
+both-true false b e = absurd (cc)
+
+module _ {V Er : Type 0} where
+  pub yes-answers : (v : Verdict V Er) → IsYes v → IsAnswer v
+  yes-answers (Yes v) y = tt
+  yes-answers No y = absurd y
+  yes-answers (Halt s) y = absurd y
+  yes-answers (Clash e) y = absurd y
+
+module _ {V Er St : Type 0} where
+  pub fails-no : {e : Event Er} {end : ℕ} {s : St} {o : Outcome V Er St} → FailsAt e end s o → IsYes o.verdict → ⊥
+  fails-no f y = elim f.by [ inl h ↦ subst IsYes h.0 y | inr h ↦ subst IsYes h.0 y ]
+
+  pub misses-no : {safe : Type 0} {e : Event Er} {end : ℕ} {s : St} {o : Outcome V Er St} → Misses safe e end s o → IsYes o.verdict → ⊥
+  misses-no (inl r) y = subst IsYes r.1 y
+  misses-no (inr f) y = fails-no f y
+
+module _ {Tok Cx St Er V : Type 0} where
+  pub no-moves : Moves (SaysNo {Tok = Tok} {Cx = Cx} {St = St} {Er = Er} {V = V})
+  no-moves b o m y = absurd (subst IsYes (ap (λ (x : Outcome V Er St). x.verdict) m) y)
+
+  pub asked-moves : (wanted : Bool) (part : Meaning Tok Cx St Er V) → Moves part → Moves (Asked wanted part)
+  asked-moves wanted part h b o m y = h (record b { wanted = wanted }) o m.run y
+
+module _ {Tok Cx St Er V W : Type 0} (part : Meaning Tok Cx St Er V) (next : Option V → Meaning Tok Cx St Er W) where
+  first_moves : Moves part → ((v : Option V) → EndsAfterStart (next v)) → (b : Beginning Tok Cx St) (o : Outcome W Er St) (v : Verdict V Er) (end : ℕ) (state : St) (events : List (Event Er)) (emitted : List Er)
+      → let p : Outcome V Er St = record { verdict = v; end = end; state = state; events = events; emitted = emitted } in
+      part b p → Follows v next b p o → IsYes o.verdict → b.start < o.end
+  first_moves hp hn b o (Yes v) end state events emitted m f y =
+      let p : Outcome V Er St = record { verdict = Yes v; end = end; state = state; events = events; emitted = emitted } in
+      let first : b.start < end = hp b p m tt in
+      let verdict : o.verdict ≡ f.0.verdict = ap (λ (x : Outcome W Er St). x.verdict) f.2 in
+      let second : end ≤ f.0.end = hn v (from b p) f.0 f.1 (yes-answers f.0.verdict (subst IsYes verdict y)) in
+      let last : o.end ≡ f.0.end = ap (λ (x : Outcome W Er St). x.end) f.2 in
+      omega arith
+  first_moves hp hn b o No end state events emitted m f y = absurd (subst IsYes (ap (λ (x : Outcome W Er St). x.verdict) f) y)
+  first_moves hp hn b o (Halt s) end state events emitted m f y = absurd (subst IsYes (ap (λ (x : Outcome W Er St). x.verdict) f) y)
+  first_moves hp hn b o (Clash e) end state events emitted m f y = absurd (subst IsYes (ap (λ (x : Outcome W Er St). x.verdict) f) y)
+
+  second_moves : EndsAfterStart part → ((b : Beginning Tok Cx St) (p : Outcome V Er St) (v : Option V) → part b p → p.verdict ≡ Yes v → Moves (next v)) → (b : Beginning Tok Cx St) (o : Outcome W Er St) (v : Verdict V Er) (end : ℕ) (state : St) (events : List (Event Er)) (emitted : List Er)
+      → let p : Outcome V Er St = record { verdict = v; end = end; state = state; events = events; emitted = emitted } in
+      part b p → Follows v next b p o → IsYes o.verdict → b.start < o.end
+  second_moves hp hn b o (Yes v) end state events emitted m f y =
+      let p : Outcome V Er St = record { verdict = Yes v; end = end; state = state; events = events; emitted = emitted } in
+      let first : b.start ≤ end = hp b p m tt in
+      let verdict : o.verdict ≡ f.0.verdict = ap (λ (x : Outcome W Er St). x.verdict) f.2 in
+      let second : end < f.0.end = hn b p v m refl (from b p) f.0 f.1 (subst IsYes verdict y) in
+      let last : o.end ≡ f.0.end = ap (λ (x : Outcome W Er St). x.end) f.2 in
+      omega arith
+  second_moves hp hn b o No end state events emitted m f y = absurd (subst IsYes (ap (λ (x : Outcome W Er St). x.verdict) f) y)
+  second_moves hp hn b o (Halt s) end state events emitted m f y = absurd (subst IsYes (ap (λ (x : Outcome W Er St). x.verdict) f) y)
+  second_moves hp hn b o (Clash e) end state events emitted m f y = absurd (subst IsYes (ap (λ (x : Outcome W Er St). x.verdict) f) y)
+
+  -- the part moves
+  pub chained-first : Moves part → ((v : Option V) → EndsAfterStart (next v)) → Moves (Chained part next)
+  chained-first hp hn b o m y = first_moves hp hn b o m.first.verdict m.first.end m.first.state m.first.events m.first.emitted m.meant m.follows y
+
+  -- what follows a value that the part gave moves
+  pub chained-after : EndsAfterStart part → ((b : Beginning Tok Cx St) (p : Outcome V Er St) (v : Option V) → part b p → p.verdict ≡ Yes v → Moves (next v)) → Moves (Chained part next)
+  chained-after hp hn b o m y = second_moves hp hn b o m.first.verdict m.first.end m.first.state m.first.events m.first.emitted m.meant m.follows y
+
+  -- what follows moves, whatever the part gave
+  pub chained-second : EndsAfterStart part → ((v : Option V) → Moves (next v)) → Moves (Chained part next)
+  chained-second hp hn = chained-after hp (λ b p v m e. hn v)
+
+module _ {Tok Cx St Er V W : Type 0} (first : Meaning Tok Cx St Er V) (second : Meaning Tok Cx St Er W) where
+  pub sequence-moves : (a b : Bool) → EndsAfterStart first → EndsAfterStart second → (a ≡ true → Moves first) → (b ≡ true → Moves second) → (a || b) ≡ true → Moves (Sequence first second)
+  sequence-moves a b ef es hf hs e =
+      elim (either-true a b e) [
+        | inl x ↦ chained-first first _ (hf x) (λ v. chained-ends second _ es (λ w. given-ends (both v w)))
+        | inr x ↦ chained-second first _ ef (λ v. chained-first second _ (hs x) (λ w. given-ends (both v w)))
+      ]
+
+  pub ignoring_first-moves : (a b : Bool) → EndsAfterStart first → EndsAfterStart second → (a ≡ true → Moves first) → (b ≡ true → Moves second) → (a || b) ≡ true → Moves (IgnoringFirst first second)
+  ignoring_first-moves a b ef es hf hs e =
+      elim (either-true a b e) [
+        | inl x ↦ chained-first _ _ (asked-moves false first (hf x)) (λ _. es)
+        | inr x ↦ chained-second _ _ (asked-ends false first ef) (λ _. hs x)
+      ]
+
+  pub ignoring_second-moves : (a b : Bool) → EndsAfterStart first → EndsAfterStart second → (a ≡ true → Moves first) → (b ≡ true → Moves second) → (a || b) ≡ true → Moves (IgnoringSecond first second)
+  ignoring_second-moves a b ef es hf hs e =
+      elim (either-true a b e) [
+        | inl x ↦ chained-first first _ (hf x) (λ v. chained-ends _ _ (asked-ends false second es) (λ _. given-ends v))
+        | inr x ↦ chained-second first _ ef (λ v. chained-first _ _ (asked-moves false second (hs x)) (λ _. given-ends v))
+      ]
+
+module _ {Tok Cx St Er U V W : Type 0} (opening : Meaning Tok Cx St Er U) (part : Meaning Tok Cx St Er V) (closing : Meaning Tok Cx St Er W) where
+  pub between-moves : (a b c : Bool) → EndsAfterStart opening → EndsAfterStart part → EndsAfterStart closing → (a ≡ true → Moves opening) → (b ≡ true → Moves part) → (c ≡ true → Moves closing) → (a || (b || c)) ≡ true → Moves (Between opening part closing)
+  between-moves a b c eo ep ec ho hp hc e =
+      ignoring_first-moves opening (IgnoringSecond part closing) a (b || c) eo (ignoring_second-ends part closing ep ec) ho (ignoring_second-moves part closing b c ep ec hp hc) e

@@ -1,0 +1,16 @@
+-- Derivations: how a rule comes to an answer.
+use Rattle.std.specs.Prelude.{ℕ}
+use Rattle.chumsky_input.specs.declared.error.Error as error_trait
+use Rattle.chumsky_input.specs.declared.inspector.Inspector as inspector_trait
+use Rattle.chumsky_input.specs.declared.input.Input as input_trait
+use Rattle.chumsky_input.specs.Outcome.{Beginning, Outcome, IsAnswer}
+use Rattle.chumsky_rules.specs.Tables.{Tables}
+use Rattle.chumsky_recursive.specs.Means.{Acts, call_means}
+
+module _ {I Tok Sp Cu Er St Mk Cx V : Type 0} (source : input_trait.Ghosts I Cu Tok Sp) (errors : error_trait.Ghosts Er I Tok Sp) (states : inspector_trait.Ghosts St I Mk Tok Sp) (a : Acts Tok Cx states.Seen errors.Seen V) where
+  -- a derivation of this outcome: under some number of open rules the rule has it, and it is an answer, so no stop. The tree is
+  -- what `call_means` unfolds to: a level for each rule that is open, and as far down as some number
+  pub record Derives (g : Tables) (r : ℕ) (b : Beginning Tok Cx states.Seen) (o : Outcome V errors.Seen states.Seen) : Type 0 where
+    pub depth : ℕ
+    pub meant : call_means source errors states a g depth r b o
+    pub answers : IsAnswer o.verdict

@@ -1,0 +1,298 @@
+//! Which parsers move wherever they succeed: what each type of the library says.
+use answers::extras::Own;
+use answers::leaves::{any_char, just_char, just_text};
+use arrayvec::ArrayVec;
+use chumsky::combinator::{Part, part_of, run_part};
+use chumsky::input::InputRef;
+use chumsky::prelude::*;
+use chumsky::primitive::{any_ref, select, select_ref};
+use chumsky::recursive::{MayStay, Moving, MovingItems, MovingPart};
+use chumsky::{Fault, PResult};
+use std::process::Abort;
+use std::rc::Rc;
+
+type Text<'src> = &'src str;
+
+/// Asserts that parsers are said to move, or not, as each row says.
+fn assert_rows<R: Abort>(rt: &R, rows: &[(&str, bool, bool)]) {
+    for (what, says, expected) in rows {
+        assert_eq!(rt; *says, *expected, "{what}");
+    }
+}
+
+/// Whether a parser over texts says that it moves.
+fn moves<'src, O, P>(parser: P) -> bool
+where
+    P: IsParser<Text<'src>, O, Own> + Moving<'src, Text<'src>, O, Own> + Drop,
+{
+    parser.always_moves()
+}
+
+/// The same of one over bytes.
+fn moves_over_bytes<'src, O, P>(parser: P) -> bool
+where
+    P: IsParser<&'src [u8], O, Own> + Moving<'src, &'src [u8], O, Own> + Drop,
+{
+    parser.always_moves()
+}
+
+/// `just` of a text that has no characters.
+fn no_text<'src>() -> chumsky::primitive::Just<&'static str, Text<'src>, Own> {
+    just_text("")
+}
+
+#[test]
+fn a_primitive_moves_where_it_takes_a_token(rt: HostRuntime) {
+    let picks = select(|c: char, _| if c == 'a' { Some(1) } else { None });
+    let picks_byte = select_ref(|byte: &u8, _| Some(*byte));
+    let nothing = custom(|_| Ok(()));
+    assert_rows(
+        &rt,
+        &[
+            ("any", moves(any_char()), true),
+            ("any_ref", moves_over_bytes(any_ref()), true),
+            ("one_of", moves(one_of("ab")), true),
+            ("none_of", moves(none_of("ab")), true),
+            ("select", moves(picks), true),
+            ("select_ref", moves_over_bytes(picks_byte), true),
+            ("just of a token", moves(just_char('a')), true),
+            ("just of a text", moves(just_text("ab")), true),
+            ("just of no text", moves(no_text()), false),
+            ("end", moves(end()), false),
+            ("empty", moves(empty()), false),
+            ("custom", moves(nothing), false),
+        ],
+    );
+}
+
+#[test]
+fn a_sequence_moves_where_one_part_does(rt: HostRuntime) {
+    let (a, none) = (|| just_char('a'), || no_text());
+    assert_rows(
+        &rt,
+        &[
+            ("then, first", moves(a().then(none())), true),
+            ("then, second", moves(none().then(a())), true),
+            ("then, none", moves(none().then(none())), false),
+            ("ignore_then", moves(none().ignore_then(a())), true),
+            ("ignore_then, none", moves(none().ignore_then(none())), false),
+            ("then_ignore", moves(none().then_ignore(a())), true),
+            ("then_ignore, none", moves(none().then_ignore(none())), false),
+            ("delimited_by", moves(none().delimited_by(none(), a())), true),
+            ("delimited_by, none", moves(none().delimited_by(none(), none())), false),
+            ("padded_by", moves(none().padded_by(a())), true),
+            ("padded_by, none", moves(none().padded_by(none())), false),
+            ("lazy", moves(a().lazy()), true),
+            ("lazy, none", moves(none().lazy()), false),
+        ],
+    );
+}
+
+#[test]
+fn a_group_moves_where_one_part_does(rt: HostRuntime) {
+    let (a, none) = (|| just_text("a"), || no_text());
+    assert_rows(
+        &rt,
+        &[
+            ("one", moves(group((a(),))), true),
+            ("one, none", moves(group((none(),))), false),
+            ("two", moves(group((none(), a()))), true),
+            ("two, none", moves(group((none(), none()))), false),
+            ("three", moves(group((none(), a(), none()))), true),
+            ("four", moves(group((none(), none(), none(), a()))), true),
+            ("five", moves(group((a(), none(), none(), none(), none()))), true),
+            ("six", moves(group((none(), none(), none(), a(), none(), none()))), true),
+            ("seven", moves(group((none(), none(), none(), none(), none(), none(), a()))), true),
+            ("eight", moves(group((none(), none(), none(), none(), none(), none(), none(), a()))), true),
+            ("eight, none", moves(group((none(), none(), none(), none(), none(), none(), none(), none()))), false),
+            ("an array", moves::<ArrayVec<&str, 2>, _>(group([none(), a()])), true),
+            ("an array, none", moves::<ArrayVec<&str, 2>, _>(group([none(), none()])), false),
+        ],
+    );
+}
+
+#[test]
+fn a_choice_moves_where_each_alternative_does(rt: HostRuntime) {
+    let (a, none) = (|| just_text("a"), || no_text());
+    let letters = [a(), a()];
+    let mixed = [a(), none()];
+    assert_rows(
+        &rt,
+        &[
+            ("or", moves(a().or(a())), true),
+            ("or, not the first", moves(none().or(a())), false),
+            ("or, not the second", moves(a().or(none())), false),
+            ("one", moves(choice((a(),))), true),
+            ("two", moves(choice((a(), a()))), true),
+            ("two, not the second", moves(choice((a(), none()))), false),
+            ("three", moves(choice((a(), a(), a()))), true),
+            ("four", moves(choice((a(), a(), a(), a()))), true),
+            ("four, not the third", moves(choice((a(), a(), none(), a()))), false),
+            ("five", moves(choice((a(), a(), a(), a(), a()))), true),
+            ("six", moves(choice((a(), a(), a(), a(), a(), a()))), true),
+            ("seven", moves(choice((a(), a(), a(), a(), a(), a(), a()))), true),
+            ("eight", moves(choice((a(), a(), a(), a(), a(), a(), a(), a()))), true),
+            ("eight, not the last", moves(choice((a(), a(), a(), a(), a(), a(), a(), none()))), false),
+            ("a slice", moves(choice(letters.as_slice())), true),
+            ("a slice, not the last", moves(choice(mixed.as_slice())), false),
+            ("a slice of none", moves(choice(&letters[..0])), true),
+            ("an array", moves(choice([a(), a()])), true),
+            ("an array, not the first", moves(choice([none(), a()])), false),
+            ("a vector", moves(choice(vec![in rt.alloc(); a(), a()].expect(&rt, "refused"))), true),
+        ],
+    );
+}
+
+#[test]
+fn what_is_made_of_an_output_moves_as_its_part(rt: HostRuntime) {
+    let (a, none) = (|| just_char('a'), || empty());
+    assert_rows(
+        &rt,
+        &[
+            ("map", moves(a().map(|c| c)), true),
+            ("map, none", moves(none().map(|()| 'a')), false),
+            ("map_with", moves(a().map_with(|c, _| c)), true),
+            ("map_with, none", moves(none().map_with(|(), _| 'a')), false),
+            ("to", moves(a().to(1)), true),
+            ("to, none", moves(none().to(1)), false),
+            ("ignored", moves(a().ignored()), true),
+            ("ignored, none", moves(none().ignored()), false),
+            ("into_iter", moves(a().map(Some).into_iter()), true),
+            ("unwrapped", moves(a().map(Some).unwrapped()), true),
+        ],
+    );
+}
+
+#[test]
+fn what_judges_an_output_moves_as_its_part(rt: HostRuntime) {
+    let (a, none) = (|| just_char('a'), || empty());
+    assert_rows(
+        &rt,
+        &[
+            ("filter", moves(a().filter(|_| true)), true),
+            ("filter, none", moves(none().filter(|_| true)), false),
+            ("filter_map", moves(a().filter_map(Some)), true),
+            ("filter_map, none", moves(none().filter_map(Some)), false),
+            ("try_map", moves(a().try_map(|c, _| Ok(c))), true),
+            ("try_map, none", moves(none().try_map(|c, _| Ok(c))), false),
+            ("try_map_with", moves(a().try_map_with(|c, _| Ok(c))), true),
+            ("validate", moves(a().validate(|c, _, _| c)), true),
+            ("map_err", moves(a().map_err(|error| error)), true),
+            ("map_err, none", moves(none().map_err(|error| error)), false),
+            ("map_err_with", moves(a().map_err_with(|error, _| error)), true),
+            ("map_err_with_state", moves(a().map_err_with_state(|error, _, _| error)), true),
+            ("and_is", moves(a().and_is(none())), true),
+            ("and_is, none", moves(none().and_is(a())), false),
+        ],
+    );
+}
+
+#[test]
+fn a_list_moves_where_it_has_an_item_that_does(rt: HostRuntime) {
+    let (a, none) = (|| just_char('a'), || empty());
+    let comma = || just_char(',');
+    assert_rows(
+        &rt,
+        &[
+            ("repeated", moves(a().repeated()), false),
+            ("at_least(1)", moves(a().repeated().at_least(1)), true),
+            ("at_least(1), none", moves(none().repeated().at_least(1)), false),
+            ("exactly(2)", moves(a().repeated().exactly(2)), true),
+            ("at_least(3).at_most(0)", moves(a().repeated().at_least(3).at_most(0)), false),
+            ("separated_by", moves(a().separated_by(comma())), false),
+            ("separated_by at_least(1)", moves(a().separated_by(comma()).at_least(1)), true),
+            ("collect", moves(a().repeated().at_least(1).collect::<Vec<char>>()), true),
+            ("collect, no minimum", moves(a().repeated().collect::<Vec<char>>()), false),
+            ("collect, separated", moves(a().separated_by(comma()).at_least(1).collect::<Vec<char>>()), true),
+            ("count", moves(a().repeated().at_least(1).count()), true),
+            ("count, no minimum", moves(a().repeated().count()), false),
+            ("collect_exactly", moves(a().repeated().exactly(2).collect_exactly::<ArrayVec<char, 2>>()), true),
+            ("collect_exactly of none", moves(a().repeated().at_least(1).collect_exactly::<ArrayVec<char, 0>>()), false),
+            ("map_items", moves(a().repeated().at_least(1).map_items(|c| c).count()), true),
+            ("map_items_with", moves(a().repeated().at_least(1).map_items_with(|c, _| c).count()), true),
+            ("then_items", moves(a().repeated().at_least(1).then_items(a().repeated()).count()), true),
+            ("then_items, no minimum", moves(a().repeated().then_items(a().repeated().at_least(1)).count()), false),
+            ("enumerate", moves(a().repeated().at_least(1).enumerate().count()), true),
+            ("into_iter", moves(a().map(Some).into_iter().count()), true),
+            ("flatten", moves(a().map(Some).repeated().at_least(1).flatten().count()), false),
+        ],
+    );
+}
+
+#[test]
+fn a_fold_moves_where_its_parser_or_its_items_do(rt: HostRuntime) {
+    let (a, none) = (|| just_char('a'), || empty().to('a'));
+    let items = || just_char('b').repeated().at_least(1);
+    let maybe = || just_char('b').repeated();
+    assert_rows(
+        &rt,
+        &[
+            ("fold", moves(items().fold(0, |n, _| n)), true),
+            ("fold, no minimum", moves(maybe().fold(0, |n, _| n)), false),
+            ("foldl", moves(a().foldl(maybe(), |n, _| n)), true),
+            ("foldl, items", moves(none().foldl(items(), |n, _| n)), true),
+            ("foldl, none", moves(none().foldl(maybe(), |n, _| n)), false),
+            ("foldl_with", moves(a().foldl_with(maybe(), |n, _, _| n)), true),
+            ("foldl_with, none", moves(none().foldl_with(maybe(), |n, _, _| n)), false),
+            ("try_foldl", moves(a().try_foldl(maybe(), |n, _, _| Ok(n))), true),
+            ("try_foldl, none", moves(none().try_foldl(maybe(), |n, _, _| Ok(n))), false),
+            ("foldr", moves(maybe().foldr(a(), |_, n| n)), true),
+            ("foldr, items", moves(items().foldr(none(), |_, n| n)), true),
+            ("foldr, none", moves(maybe().foldr(none(), |_, n| n)), false),
+            ("foldr_with", moves(maybe().foldr_with(a(), |_, n, _| n)), true),
+            ("foldr_with, none", moves(maybe().foldr_with(none(), |_, n, _| n)), false),
+        ],
+    );
+}
+
+#[test]
+fn what_goes_back_is_not_said_to_move(rt: HostRuntime) {
+    let a = || just_char('a');
+    let letter = a();
+    let boxed = Box::new(rt.alloc(), a()).expect(&rt, "refused");
+    let boxed_end = Box::new(rt.alloc(), end()).expect(&rt, "refused");
+    let shared = Rc::new(rt.alloc(), a()).expect(&rt, "refused");
+    assert_rows(
+        &rt,
+        &[
+            ("or_not", moves(a().or_not()), false),
+            ("not", moves(a().not()), false),
+            ("rewind", moves(a().rewind()), false),
+            ("set", moves(set((a(), a()))), false),
+            ("by reference", moves(&letter), false),
+            ("in a box", moves(boxed), true),
+            ("in a box, none", moves(boxed_end), false),
+            ("in an Rc", moves(shared), true),
+        ],
+    );
+}
+
+/// A part of one's own that says nothing.
+#[derive(Drop)]
+struct Letter;
+
+impl<'src> IsParser<Text<'src>, char, Own> for Letter {}
+
+impl MayStay for Letter {}
+
+impl<'src> Part<'src, Text<'src>, char, Own> for Letter {
+    fn run(
+        &self,
+        wanted: bool,
+        inp: &mut InputRef<'src, '_, Text<'src>, Own>,
+    ) -> PResult<Option<char>> {
+        run_part(&just_char('a'), wanted, inp)
+    }
+}
+
+#[test]
+fn a_type_of_ones_own_says_nothing_by_one_line(rt: HostRuntime) {
+    assert_rows(
+        &rt,
+        &[
+            ("a part", Letter.always_moves(), false),
+            ("a part as a parser", moves(part_of(Letter)), false),
+            ("made of it", moves(part_of(Letter).then(just_char('a'))), true),
+        ],
+    );
+}
