@@ -1,5 +1,5 @@
 -- Why a folder that never refuses folds as one that can't.
-use Rattle.std.proofs.Common.{◌≡◌, ◌∙◌, ℕ, zero, suc, Bool, true, Option, Some, None, option_map, refl, sym, ap, subst, Result, Ok}
+use Rattle.std.proofs.Common.{◌≡◌, ◌∙◌, ℕ, zero, suc, Bool, true, Option, Some, None, option_map, [], refl, sym, ap, subst, Result, Ok}
 use Rattle.std.proofs.lemmas.List.{append-nil}
 use Rattle.chumsky_input.specs.declared.stop.Stop.TheVariants.{CountTooLarge}
 use Rattle.chumsky_input.specs.Outcome.{Meaning, Beginning, Outcome, Verdict, Yes, No, Halt, Clash}
@@ -170,20 +170,25 @@ module _ {Tok Cx St Er A : Type 0} (b : Beginning Tok Cx St) (w : b.wanted ≡ t
   wanted_all : record b { wanted = true } ≡ b
   wanted_all = ap (λ z. record b { wanted = z }) (sym w)
 
+  abbrev given_last : Option A → Outcome A Er St
+  given_last v = record { verdict = Yes v; end = p.end; state = p.state; events = []; emitted = [] }
+
+  nothing_more : (v : Option A) → p.verdict ≡ Yes v → after p (given_last v) ≡ p
+  nothing_more v e =
+      let whole : after p (given_last v) ≡ retold (Yes v) p = cc (append-nil p.events, append-nil p.emitted) in
+      whole ∙ ap (λ u. retold u p) (sym e)
+
   -- what is run for its value stands where one is wanted
   stands : (v : Verdict A Er) → p.verdict ≡ v → Follows v On b p o → o ≡ p
   stands (Yes v) e f =
-      let given : f.0 ≡ record { verdict = Yes v; end = p.end; state = p.state; events = []; emitted = [] } = subst (λ u. Given (where_wanted u v) (from b p) f.0) w f.1 in
-      f.2 ∙ ap (after p) given ∙ cc (append-nil p.events, append-nil p.emitted, e)
+      let given : f.0 ≡ given_last v = subst (λ u. Given (where_wanted u v) (from b p) f.0) w f.1 in
+      f.2 ∙ ap (after p) given ∙ nothing_more v e
   stands No e f = f ∙ ap (λ v. retold v p) (sym e)
   stands (Halt s) e f = f ∙ ap (λ v. retold v p) (sym e)
   stands (Clash x) e f = f ∙ ap (λ v. retold v p) (sym e)
 
   stood : (v : Option A) → p.verdict ≡ Yes v → Follows (Yes v) On b p p
-  stood v e =
-      let given : Outcome A Er St = record { verdict = Yes v; end = p.end; state = p.state; events = []; emitted = [] } in
-      let nothing : after p given ≡ p = cc (append-nil p.events, append-nil p.emitted, e) in
-      (given, subst (λ u. Given (where_wanted u v) (from b p) given) (sym w) refl, sym nothing)
+  stood v e = (given_last v, subst (λ u. Given (where_wanted u v) (from b p) (given_last v)) (sym w) refl, sym (nothing_more v e))
 
 module _ {Tok Cx St E Er S V A : Type 0} (gives : S → Meaning Tok Cx St Er (Next S V)) (begins : Meaning Tok Cx St Er S) (seen : E → Er) (tries : GivesShown Tok Cx St (A × V) (Result A E)) (folds : GivesShown Tok Cx St (A × V) A) (never : NeverRefuses tries folds) (part : Meaning Tok Cx St Er A) where
   narrower : (b : Beginning Tok Cx St) (o : Outcome A Er St) → b.wanted ≡ true → FoldsTried gives begins seen tries part b o → FoldsShown gives begins folds part b o
