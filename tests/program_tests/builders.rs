@@ -3,8 +3,8 @@ use answers::asserts::assert_line;
 use chumsky::Stop;
 use chumsky::prelude::*;
 use guide::builders::{
-    a_and_bs, between_commas, count_before_b, doubted, each_letter, first_but_x, is_u64, length,
-    numbered, only_a, only_a_shown, start_of_all, surely_a, three, up_to_five,
+    a_and_bs, between_commas, capital, count_before_b, doubted, each_letter, first_but_x, is_u64,
+    length, numbered, only_a, only_a_shown, start_of_all, surely_a, three, up_to_five,
     with_an_error_of_the_state, with_another_error, with_its_error,
 };
 use std::alloc::{AllocGlobal, Global};
@@ -24,6 +24,7 @@ fn assert_rows<O: Debug + Drop, R: Abort + AllocGlobal>(
 
 #[test]
 fn judges_answer_as_they_say(rt: HostRuntime) {
+    assert_rows(&rt, capital, &[("a", "ok 'A'"), ("1", "ok '1'")]);
     assert_rows(&rt, doubted, &[("x", "ok 'x'; error 0..1 \"\"")]);
     let rows = [
         ("a", "ok 'a'"),

@@ -1,11 +1,27 @@
 //! A caller of each builder that the other files here do not run.
 use arrayvec::ArrayVec;
 use chumsky::Stop;
+use chumsky::combinator::Mapper;
 use chumsky::extra::RichText;
 use chumsky::prelude::*;
 use std::alloc::Global;
 
 type Answer<T> = Result<ParseResult<T, Rich<char>>, Stop>;
+
+/// Makes a letter a capital, and says nothing of it.
+#[derive(Clone, Copy)]
+pub struct Capital;
+
+impl Mapper<char, char> for Capital {
+    fn apply(&self, letter: char) -> char {
+        letter.to_ascii_uppercase()
+    }
+}
+
+/// A character, as a capital where it is a letter.
+pub fn capital(alloc: Global, text: &str) -> Answer<char> {
+    any::<_, RichText>().map_by(Capital).parse(alloc, text)
+}
 
 /// A character, with an error beside it in any case.
 pub fn doubted(alloc: Global, text: &str) -> Answer<char> {
