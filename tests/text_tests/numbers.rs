@@ -12,11 +12,11 @@ fn int_takes_a_zero_alone_or_no_leading_zero(rt: HostRuntime) {
         ("120", "ok \"120\""),
         ("012", "error 1..2 expected end of input found '1'"),
         ("00", "error 1..2 expected end of input found '0'"),
-        ("", "error 0..0 expected something else found end"),
-        ("x", "error 0..1 expected something else found 'x'"),
-        ("-1", "error 0..1 expected something else found '-'"),
-        ("12x", "error 2..3 expected something else, end of input found 'x'"),
-        ("1_000", "error 1..2 expected something else, end of input found '_'"),
+        ("", "error 0..0 expected int found end"),
+        ("x", "error 0..1 expected int found 'x'"),
+        ("-1", "error 0..1 expected int found '-'"),
+        ("12x", "error 2..3 expected digit, end of input found 'x'"),
+        ("1_000", "error 1..2 expected digit, end of input found '_'"),
     ];
     assert_answers(&rt, &int::<&str, Own>(10), &rows);
 }
@@ -26,13 +26,13 @@ fn digits_of_a_radix_are_those_below_it(rt: HostRuntime) {
     let rows = [
         ("00fF", "ok \"00fF\""),
         ("9a", "ok \"9a\""),
-        ("g", "error 0..1 expected something else found 'g'"),
-        ("fg", "error 1..2 expected something else, end of input found 'g'"),
+        ("g", "error 0..1 expected digit found 'g'"),
+        ("fg", "error 1..2 expected digit, end of input found 'g'"),
     ];
     assert_answers(&rt, &digits::<&str, Own>(16), &rows);
     let rows = [
         ("0110", "ok \"0110\""),
-        ("2", "error 0..1 expected something else found '2'"),
+        ("2", "error 0..1 expected digit found '2'"),
     ];
     assert_answers(&rt, &digits::<&str, Own>(2), &rows);
     let rows = [("zZ", "ok \"zZ\"")];
@@ -41,6 +41,6 @@ fn digits_of_a_radix_are_those_below_it(rt: HostRuntime) {
 
 #[test]
 fn a_digit_is_one_of_ascii(rt: HostRuntime) {
-    let rows = [("\u{663}", "error 0..2 expected something else found '\u{663}'")];
+    let rows = [("\u{663}", "error 0..2 expected digit found '\u{663}'")];
     assert_answers(&rt, &digits::<&str, Own>(10), &rows);
 }

@@ -12,9 +12,9 @@ fn padded_takes_white_space_on_both_sides(rt: HostRuntime) {
         ("  7\n", "ok \"7\""),
         ("\t7", "ok \"7\""),
         ("7 ", "ok \"7\""),
-        ("  x", "error 2..3 expected something else found 'x'"),
+        ("  x", "error 2..3 expected int found 'x'"),
         ("7 x", "error 2..3 expected end of input found 'x'"),
-        ("  ", "error 2..2 expected something else found end"),
+        ("  ", "error 2..2 expected int found end"),
     ];
     assert_answers(&rt, &int::<&str, Own>(10).padded(), &rows);
 }
@@ -24,7 +24,7 @@ fn padded_with_a_kind_takes_that_alone(rt: HostRuntime) {
     let rows = [
         ("\t7 ", "ok \"7\""),
         ("7 \n", "error 2..3 expected end of input found '\\n'"),
-        ("\n7", "error 0..1 expected something else found '\\n'"),
+        ("\n7", "error 0..1 expected int found '\\n'"),
     ];
     assert_answers(&rt, &int::<&str, Own>(10).padded_with(InlineWhitespace), &rows);
 }

@@ -11,9 +11,9 @@ fn whitespace_takes_the_longest_run_be_it_empty(rt: HostRuntime) {
         ("", "ok \"\""),
         (" \t\r\n", "ok \" \\t\\r\\n\""),
         ("\u{2003}\u{3000}\u{85}", "ok \"\\u{2003}\\u{3000}\\u{85}\""),
-        (" x", "error 1..2 expected something else, end of input found 'x'"),
-        ("x", "error 0..1 expected something else, end of input found 'x'"),
-        ("\u{200B}", "error 0..3 expected something else, end of input found '\\u{200b}'"),
+        (" x", "error 1..2 expected whitespace, end of input found 'x'"),
+        ("x", "error 0..1 expected whitespace, end of input found 'x'"),
+        ("\u{200B}", "error 0..3 expected whitespace, end of input found '\\u{200b}'"),
     ];
     assert_answers(&rt, &whitespace::<&str, Own>(), &rows);
 }
@@ -23,8 +23,8 @@ fn inline_whitespace_stays_on_its_line(rt: HostRuntime) {
     let rows = [
         ("", "ok \"\""),
         (" \t ", "ok \" \\t \""),
-        (" \n", "error 1..2 expected something else, end of input found '\\n'"),
-        ("\u{A0}", "error 0..2 expected something else, end of input found '\\u{a0}'"),
+        (" \n", "error 1..2 expected inline whitespace, end of input found '\\n'"),
+        ("\u{A0}", "error 0..2 expected inline whitespace, end of input found '\\u{a0}'"),
     ];
     assert_answers(&rt, &inline_whitespace::<&str, Own>(), &rows);
 }
@@ -40,9 +40,9 @@ fn newline_takes_one_end_of_a_line(rt: HostRuntime) {
         ("\u{85}", "ok \"\\u{85}\""),
         ("\u{2028}", "ok \"\\u{2028}\""),
         ("\u{2029}", "ok \"\\u{2029}\""),
-        ("", "error 0..0 expected something else found end"),
-        ("x", "error 0..1 expected something else found 'x'"),
-        (" \n", "error 0..1 expected something else found ' '"),
+        ("", "error 0..0 expected newline found end"),
+        ("x", "error 0..1 expected newline found 'x'"),
+        (" \n", "error 0..1 expected newline found ' '"),
         ("\n\n", "error 1..2 expected end of input found '\\n'"),
         ("\n\r", "error 1..2 expected end of input found '\\r'"),
         ("\r\n\n", "error 2..3 expected end of input found '\\n'"),
@@ -81,7 +81,7 @@ fn white_space_is_expected_beside_what_else_was(rt: HostRuntime) {
     let parser = just::<_, &str, Own>('a').or_not().then(whitespace());
     let rows = [
         ("a ", "ok (Some('a'), \" \")"),
-        ("b", "error 0..1 expected 'a', something else, end of input found 'b'"),
+        ("b", "error 0..1 expected 'a', whitespace, end of input found 'b'"),
     ];
     assert_answers(&rt, &parser, &rows);
 }

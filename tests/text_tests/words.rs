@@ -10,9 +10,9 @@ fn an_ascii_identifier_begins_with_no_digit(rt: HostRuntime) {
         ("a", "ok \"a\""),
         ("_", "ok \"_\""),
         ("_a1Z", "ok \"_a1Z\""),
-        ("1a", "error 0..1 expected something else found '1'"),
-        ("", "error 0..0 expected something else found end"),
-        ("é", "error 0..2 expected something else found 'é'"),
+        ("1a", "error 0..1 expected identifier found '1'"),
+        ("", "error 0..0 expected identifier found end"),
+        ("é", "error 0..2 expected identifier found 'é'"),
         ("aé", "error 1..3 expected end of input found 'é'"),
         ("a-b", "error 1..2 expected end of input found '-'"),
     ];
@@ -25,8 +25,8 @@ fn a_unicode_identifier_begins_with_a_letter_of_any_script(rt: HostRuntime) {
         ("été", "ok \"été\""),
         ("_1", "ok \"_1\""),
         ("名前2", "ok \"名前2\""),
-        ("1é", "error 0..1 expected something else found '1'"),
-        ("\u{301}e", "error 0..2 expected something else found '\\u{301}'"),
+        ("1é", "error 0..1 expected identifier found '1'"),
+        ("\u{301}e", "error 0..2 expected identifier found '\\u{301}'"),
         ("e\u{301}", "ok \"e\\u{301}\""),
     ];
     assert_answers(&rt, &text::unicode::ident::<&str, Own>(), &rows);
@@ -36,20 +36,20 @@ fn a_unicode_identifier_begins_with_a_letter_of_any_script(rt: HostRuntime) {
 fn a_keyword_is_no_prefix_of_an_identifier(rt: HostRuntime) {
     let rows = [
         ("let", "ok \"let\""),
-        ("letter", "error 0..6 expected something else found end"),
-        ("let_", "error 0..4 expected something else found end"),
-        ("let2", "error 0..4 expected something else found end"),
-        ("le", "error 0..2 expected something else found end"),
-        ("Let", "error 0..3 expected something else found end"),
-        ("", "error 0..0 expected something else found end"),
-        ("1", "error 0..1 expected something else found '1'"),
+        ("letter", "error 0..6 expected let found end"),
+        ("let_", "error 0..4 expected let found end"),
+        ("let2", "error 0..4 expected let found end"),
+        ("le", "error 0..2 expected let found end"),
+        ("Let", "error 0..3 expected let found end"),
+        ("", "error 0..0 expected let found end"),
+        ("1", "error 0..1 expected let found '1'"),
         ("let x", "error 3..4 expected end of input found ' '"),
         ("leté", "error 3..5 expected end of input found 'é'"),
     ];
     assert_answers(&rt, &text::ascii::keyword::<&str, Own>("let"), &rows);
     let rows = [
         ("let", "ok \"let\""),
-        ("leté", "error 0..5 expected something else found end"),
+        ("leté", "error 0..5 expected let found end"),
     ];
     assert_answers(&rt, &text::unicode::keyword::<&str, Own>("let"), &rows);
 }
@@ -57,11 +57,11 @@ fn a_keyword_is_no_prefix_of_an_identifier(rt: HostRuntime) {
 #[test]
 fn a_word_that_is_no_identifier_is_never_found(rt: HostRuntime) {
     let rows = [
-        ("", "error 0..0 expected something else found end"),
-        ("a", "error 0..1 expected something else found end"),
+        ("", "error 0..0 expected  found end"),
+        ("a", "error 0..1 expected  found end"),
     ];
     assert_answers(&rt, &text::ascii::keyword::<&str, Own>(""), &rows);
-    let rows = [("a-b", "error 0..1 expected something else found end")];
+    let rows = [("a-b", "error 0..1 expected a-b found end")];
     assert_answers(&rt, &text::ascii::keyword::<&str, Own>("a-b"), &rows);
 }
 

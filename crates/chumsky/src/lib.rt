@@ -141,7 +141,7 @@ pub mod label {
     /// What holds of labelled parsers, as those of `chumsky::laws`.
     pub mod laws {
         pub use chumsky_label::laws::labelled_answers_as_its_part;
-        pub use chumsky_label::steady::labelled_is_steady;
+        pub use chumsky_label::steady::{labelled_is_steady, rich_takes_one_label};
     }
 }
 

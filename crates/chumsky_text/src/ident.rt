@@ -1,7 +1,7 @@
 //! Identifiers of ASCII and of Unicode.
-ghost use Rattle.std.specs.Prelude.{◌≡◌, [], ◌∷◌, ◌||◌, ◌==◌, ⊤};
+ghost use Rattle.std.specs.Prelude.{◌≡◌, [], ◌∷◌, ◌||◌, ◌==◌, ⊤, codes};
 ghost use Rattle.std.specs.Char.{is_ascii_alphabetic, is_ascii_alphanumeric};
-ghost use Rattle.chumsky_input.specs.Wanted.{SomethingElse};
+ghost use Rattle.chumsky_input.specs.Wanted.{Label};
 ghost use Rattle.unicode_ident.specs.Ident.{is_xid_start, is_xid_continue};
 
 use crate::chars::Char;
@@ -18,7 +18,7 @@ impl<T: Char> Kind<T> for AsciiIdent {
 
     ghost holds = { λ _ t. is_ascii_alphabetic (T.code t) || (T.code t == 95) };
 
-    ghost wants = { λ _. SomethingElse ∷ [] };
+    ghost wants = { λ _. Label (codes "identifier") ∷ [] };
 
     #[inline]
     fn test(&self, token: &T) -> bool {
@@ -27,8 +27,8 @@ impl<T: Char> Kind<T> for AsciiIdent {
     }
 
     #[inline]
-    fn expected(&self) -> Plain {
-        Plain::SomethingElse
+    fn expected(&self) -> Plain<'_> {
+        Plain::Label("identifier")
     }
 }
 
@@ -50,7 +50,7 @@ impl<T: Char> Kind<T> for AsciiIdentRest {
     }
 
     #[inline]
-    fn expected(&self) -> Plain {
+    fn expected(&self) -> Plain<'_> {
         Plain::Nothing
     }
 }
@@ -75,7 +75,7 @@ impl Kind<char> for UnicodeIdent {
 
     ghost holds = { λ _ c. is_xid_start c || (c == 95) };
 
-    ghost wants = { λ _. SomethingElse ∷ [] };
+    ghost wants = { λ _. Label (codes "identifier") ∷ [] };
 
     #[inline]
     fn test(&self, token: &char) -> bool {
@@ -83,8 +83,8 @@ impl Kind<char> for UnicodeIdent {
     }
 
     #[inline]
-    fn expected(&self) -> Plain {
-        Plain::SomethingElse
+    fn expected(&self) -> Plain<'_> {
+        Plain::Label("identifier")
     }
 }
 
@@ -105,7 +105,7 @@ impl Kind<char> for UnicodeIdentRest {
     }
 
     #[inline]
-    fn expected(&self) -> Plain {
+    fn expected(&self) -> Plain<'_> {
         Plain::Nothing
     }
 }

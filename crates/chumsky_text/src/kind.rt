@@ -20,7 +20,7 @@ pub trait Kind<T> {
         ensures { result ≡ holds self.now token.now };
 
     /// `Plain::Nothing` where a run of the kind is to end without an error that tells what would have gone on.
-    fn expected(&self) -> Plain
+    fn expected(&self) -> Plain<'_>
         ensures { plain_wanted result ≡ wants self.now };
 }
 

@@ -1,7 +1,7 @@
 //! Digits, and the numbers that are written with them.
-ghost use Rattle.std.specs.Prelude.{◌≡◌, ◌≤◌, false, [], ◌∷◌, ◌==◌, cond};
+ghost use Rattle.std.specs.Prelude.{◌≡◌, ◌≤◌, false, [], ◌∷◌, ◌==◌, cond, codes};
 ghost use Rattle.std.specs.Char.{is_digit};
-ghost use Rattle.chumsky_input.specs.Wanted.{SomethingElse};
+ghost use Rattle.chumsky_input.specs.Wanted.{Label};
 
 use crate::chars::Char;
 use crate::kind::{Kind, Lexeme};
@@ -18,7 +18,7 @@ impl<T: Char> Kind<T> for Digits {
 
     ghost holds = { λ k t. is_digit (T.code t) k.radix };
 
-    ghost wants = { λ _. SomethingElse ∷ [] };
+    ghost wants = { λ _. Label (codes "digit") ∷ [] };
 
     #[inline]
     fn test(&self, token: &T) -> bool {
@@ -26,8 +26,8 @@ impl<T: Char> Kind<T> for Digits {
     }
 
     #[inline]
-    fn expected(&self) -> Plain {
-        Plain::SomethingElse
+    fn expected(&self) -> Plain<'_> {
+        Plain::Label("digit")
     }
 }
 
@@ -53,7 +53,7 @@ impl<T: Char> Kind<T> for Int {
 
     ghost holds = { λ k t. is_digit (T.code t) k.radix };
 
-    ghost wants = { λ _. SomethingElse ∷ [] };
+    ghost wants = { λ _. Label (codes "int") ∷ [] };
 
     #[inline]
     fn test(&self, token: &T) -> bool {
@@ -61,8 +61,8 @@ impl<T: Char> Kind<T> for Int {
     }
 
     #[inline]
-    fn expected(&self) -> Plain {
-        Plain::SomethingElse
+    fn expected(&self) -> Plain<'_> {
+        Plain::Label("int")
     }
 }
 
@@ -78,7 +78,7 @@ impl<T: Char> Kind<T> for IntRest {
 
     ghost holds = { λ k t. cond k.zero false (is_digit (T.code t) k.radix) };
 
-    ghost wants = { λ k. cond k.zero [] (SomethingElse ∷ []) };
+    ghost wants = { λ k. cond k.zero [] (Label (codes "digit") ∷ []) };
 
     #[inline]
     fn test(&self, token: &T) -> bool {
@@ -90,11 +90,11 @@ impl<T: Char> Kind<T> for IntRest {
     }
 
     #[inline]
-    fn expected(&self) -> Plain {
+    fn expected(&self) -> Plain<'_> {
         if self.zero {
             Plain::Nothing
         } else {
-            Plain::SomethingElse
+            Plain::Label("digit")
         }
     }
 }

@@ -94,7 +94,7 @@ fn take<'src, I: Input<'src>, E: ParserExtra<I>>(
 /// A failure where this was expected at the next token, with its span.
 #[inline]
 pub(crate) fn expect_here<'src, I: Input<'src>, E: ParserExtra<I>>(
-    what: Plain,
+    what: Plain<'_>,
     inp: &mut InputRef<'src, '_, I, E>,
 ) -> Fault
     ensures fails { Fails E.Error.merged E.Error.takes_no_memory (expected_at I.Input E.Error.Error (plain_wanted what) (held I.Input E.Error.Error E.State.Inspector inp.old).tokens (held I.Input E.Error.Error E.State.Inspector inp.old).place) (held I.Input E.Error.Error E.State.Inspector inp.old) (held I.Input E.Error.Error E.State.Inspector inp.new) result }
@@ -109,7 +109,7 @@ pub(crate) fn expect_here<'src, I: Input<'src>, E: ParserExtra<I>>(
 /// A failure where this was expected from an earlier place to here, of which no one token is named as found.
 #[inline]
 pub(crate) fn expect_since<'src, I: Input<'src>, E: ParserExtra<I>>(
-    what: Plain,
+    what: Plain<'_>,
     from: &I::Cursor,
     inp: &mut InputRef<'src, '_, I, E>,
 ) -> Fault
@@ -142,7 +142,7 @@ pub(crate) fn end_run<'src, K: Kind<I::Token>, I: Input<'src>, E: ParserExtra<I>
 
 /// Whether it says that nothing is expected.
 #[inline]
-fn is_nothing<T>(what: Plain) -> bool
+fn is_nothing<T>(what: Plain<'_>) -> bool
     ensures { result ≡ is_empty (plain_wanted {T = T} what) }
 {
     match what {
@@ -151,5 +151,6 @@ fn is_nothing<T>(what: Plain) -> bool
         Plain::SomethingElse => false,
         Plain::NothingElse => false,
         Plain::EndOfInput => false,
+        Plain::Label(_) => false,
     }
 }

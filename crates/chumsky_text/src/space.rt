@@ -1,6 +1,6 @@
 //! White space, and the ends of lines.
-ghost use Rattle.std.specs.Prelude.{◌≡◌, false, [], ◌∷◌, ◌||◌, ◌==◌, cond, ⊤};
-ghost use Rattle.chumsky_input.specs.Wanted.{SomethingElse};
+ghost use Rattle.std.specs.Prelude.{◌≡◌, false, [], ◌∷◌, ◌||◌, ◌==◌, cond, ⊤, codes};
+ghost use Rattle.chumsky_input.specs.Wanted.{Label};
 
 use crate::chars::Char;
 use crate::kind::{Kind, Lexeme};
@@ -15,7 +15,7 @@ impl<T: Char> Kind<T> for Whitespace {
 
     ghost holds = { λ _ t. T.is_space t };
 
-    ghost wants = { λ _. SomethingElse ∷ [] };
+    ghost wants = { λ _. Label (codes "whitespace") ∷ [] };
 
     #[inline]
     fn test(&self, token: &T) -> bool {
@@ -23,8 +23,8 @@ impl<T: Char> Kind<T> for Whitespace {
     }
 
     #[inline]
-    fn expected(&self) -> Plain {
-        Plain::SomethingElse
+    fn expected(&self) -> Plain<'_> {
+        Plain::Label("whitespace")
     }
 }
 
@@ -37,7 +37,7 @@ impl<T: Char> Kind<T> for InlineWhitespace {
 
     ghost holds = { λ _ t. (T.code t == 32) || (T.code t == 9) };
 
-    ghost wants = { λ _. SomethingElse ∷ [] };
+    ghost wants = { λ _. Label (codes "inline whitespace") ∷ [] };
 
     #[inline]
     fn test(&self, token: &T) -> bool {
@@ -46,8 +46,8 @@ impl<T: Char> Kind<T> for InlineWhitespace {
     }
 
     #[inline]
-    fn expected(&self) -> Plain {
-        Plain::SomethingElse
+    fn expected(&self) -> Plain<'_> {
+        Plain::Label("inline whitespace")
     }
 }
 
@@ -60,7 +60,7 @@ impl<T: Char> Kind<T> for LineEnd {
 
     ghost holds = { λ _ t. T.ends_line t };
 
-    ghost wants = { λ _. SomethingElse ∷ [] };
+    ghost wants = { λ _. Label (codes "newline") ∷ [] };
 
     #[inline]
     fn test(&self, token: &T) -> bool {
@@ -68,8 +68,8 @@ impl<T: Char> Kind<T> for LineEnd {
     }
 
     #[inline]
-    fn expected(&self) -> Plain {
-        Plain::SomethingElse
+    fn expected(&self) -> Plain<'_> {
+        Plain::Label("newline")
     }
 }
 
@@ -96,7 +96,7 @@ impl<T: Char> Kind<T> for LineEndRest {
     }
 
     #[inline]
-    fn expected(&self) -> Plain {
+    fn expected(&self) -> Plain<'_> {
         Plain::Nothing
     }
 }

@@ -29,6 +29,7 @@ pub fn bound<'src>(
 pub fn byte(alloc: Global, line: &str) -> Result<ParseResult<u8, Rich<char>>, Stop> {
     let number = text::int::<_, RichText>(10)
         .from_str::<u8>()
-        .filter_map(|read| read.ok());
+        .filter_map(|read| read.ok())
+        .labelled("a number below 256");
     number.parse(alloc, line)
 }
