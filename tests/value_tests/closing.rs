@@ -4,7 +4,6 @@ use answers::leaves::just_text;
 use chumsky::prelude::*;
 use chumsky::recursive::{
     BuildError, CloseError, FoundedError, Leaves, Node, RecursiveError, Values, WellFounded,
-    well_founded,
 };
 use std::alloc::{AllocError, AllocGlobal, Global};
 use std::process::Abort;
@@ -241,7 +240,7 @@ fn a_grammar_says_whether_its_rules_are_well_founded(rt: HostRuntime) {
         .recursive(|rules, again| leaf_and_again(rules, again, 0))
         .expect(&rt, "refused");
     let grammar = rules.close(start, &actions, 1).expect(&rt, "not closed");
-    match well_founded(&grammar).expect(&rt, "refused") {
+    match grammar.well_founded().expect(&rt, "refused") {
         WellFounded::Order(order) => {
             assert_eq!(rt; order.len(), 1);
             assert_eq!(rt; order[0], start);
@@ -250,7 +249,7 @@ fn a_grammar_says_whether_its_rules_are_well_founded(rt: HostRuntime) {
     }
     let other = rules.recursive(left_recursive).expect(&rt, "refused");
     let grammar = rules.close(start, &actions, 1).expect(&rt, "not closed");
-    match well_founded(&grammar).expect(&rt, "refused") {
+    match grammar.well_founded().expect(&rt, "refused") {
         WellFounded::LeftCycle(rule) => assert_eq!(rt; rule, other),
         _ => assert!(rt; false),
     }

@@ -1,5 +1,5 @@
 //! Which parsers move wherever they succeed: what each type of the library says.
-use answers::extras::Own;
+use answers::extras::{Own, Quiet};
 use answers::leaves::{any_char, just_char, just_text};
 use arrayvec::ArrayVec;
 use chumsky::combinator::{Part, part_of, run_part};
@@ -188,19 +188,16 @@ fn what_judges_an_output_moves_as_its_part(rt: HostRuntime) {
 }
 
 #[test]
-fn what_a_part_took_moves_as_the_part(rt: HostRuntime) {
-    let (a, none) = (|| just_char('a'), || empty());
+fn a_labelled_or_padded_parser_moves_as_its_part(rt: HostRuntime) {
+    let quiet = just::<_, Text, Quiet>('a').labelled("a letter");
+    let nothing = empty::<Text, Quiet>().labelled("nothing");
     assert_rows(
         &rt,
         &[
-            ("to_slice", moves(a().to_slice()), true),
-            ("to_slice, none", moves(none().to_slice()), false),
-            ("to_span", moves(a().to_span()), true),
-            ("spanned", moves(a().spanned()), true),
-            ("labelled", moves(a().labelled("letter")), true),
-            ("labelled, none", moves(none().labelled("nothing")), false),
-            ("padded", moves(a().padded()), true),
-            ("padded, none", moves(none().padded()), false),
+            ("labelled", quiet.always_moves(), true),
+            ("labelled, none", nothing.always_moves(), false),
+            ("padded", moves(just_char('a').padded()), true),
+            ("padded, none", moves(empty().padded()), false),
         ],
     );
 }

@@ -180,7 +180,7 @@ pub mod recursive {
     pub use chumsky_recursive::evaluator::step;
     pub use chumsky_recursive::founded::{FoundedError, close_founded};
     pub use chumsky_recursive::frames::Todo;
-    pub use chumsky_recursive::grammar::{Grammar, close, well_founded};
+    pub use chumsky_recursive::grammar::{Grammar, close};
     pub use chumsky_recursive::leaves::{Leaves, Values};
     pub use chumsky_recursive::stack::Stack;
     pub use chumsky_rules::closed::Closed;

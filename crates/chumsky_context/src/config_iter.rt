@@ -1,7 +1,6 @@
 //! `ConfigIterParser`: parsers of items that are handed a configuration at each step.
 ghost use Rattle.std.specs.Prelude.{◌≡◌, true, false, IfOk, OnSome};
-ghost use Rattle.chumsky_input.specs.Held.{held};
-ghost use Rattle.chumsky_input.specs.Run.{Ran};
+ghost use Rattle.chumsky_input.specs.Run.{Runs};
 ghost use Rattle.chumsky_parser.specs.Items.{with_item, without_item};
 
 use crate::config::Configurable;
@@ -35,7 +34,7 @@ pub trait ConfigIterParser<'src, I: Input<'src>, O, E: ParserExtra<I>>: Configur
         debug: IterParserDebug,
     ) -> PResult<Option<O>>
         requires { Self.may_step self.now state.old }
-        ensures ran { Ran E.Error.merged E.Error.takes_no_memory (gives_cfg self.now debug cfg.now state.old E.Error.Error E.State.Inspector) true (held I.Input E.Error.Error E.State.Inspector inp.old) (held I.Input E.Error.Error E.State.Inspector inp.new) (with_item state.new result) }
+        ensures ran { Runs I.Input E.Error.Error E.State.Inspector (gives_cfg self.now debug cfg.now state.old E.Error.Error E.State.Inspector) true inp.old inp.new (with_item state.new result) }
         ensures may { IfOk result (λ o. OnSome o (Self.may_step self.now state.new)) }
         ensures lent { inp.new.state.ghost_name ≡ inp.old.state.ghost_name };
 
@@ -48,7 +47,7 @@ pub trait ConfigIterParser<'src, I: Input<'src>, O, E: ParserExtra<I>>: Configur
         debug: IterParserDebug,
     ) -> PResult<Option<()>>
         requires { Self.may_step self.now state.old }
-        ensures ran { Ran E.Error.merged E.Error.takes_no_memory (gives_cfg self.now debug cfg.now state.old E.Error.Error E.State.Inspector) false (held I.Input E.Error.Error E.State.Inspector inp.old) (held I.Input E.Error.Error E.State.Inspector inp.new) (without_item state.new result) }
+        ensures ran { Runs I.Input E.Error.Error E.State.Inspector (gives_cfg self.now debug cfg.now state.old E.Error.Error E.State.Inspector) false inp.old inp.new (without_item state.new result) }
         ensures may { IfOk result (λ o. OnSome o (Self.may_step self.now state.new)) }
         ensures lent { inp.new.state.ghost_name ≡ inp.old.state.ghost_name };
 

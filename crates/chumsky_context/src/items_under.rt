@@ -1,8 +1,7 @@
 //! `make_iter_under`, `next_emit_under`, `next_check_under`: running a parser of items under another context than that of the
 //! run.
 ghost use Rattle.std.specs.Prelude.{◌≡◌, true, false, Some, IfOk, OnSome};
-ghost use Rattle.chumsky_input.specs.Held.{held};
-ghost use Rattle.chumsky_input.specs.Run.{Ran, with_value};
+ghost use Rattle.chumsky_input.specs.Run.{Runs, Ran, with_value};
 ghost use Rattle.chumsky_parser.specs.Items.{with_item, without_item};
 ghost use Rattle.chumsky_context.specs.Under.{held_from_parts, UnderValue};
 
@@ -128,7 +127,7 @@ where
     X: ParserExtra<I, Error = E::Error, State = E::State>,
     P: IterParser<'src, I, O, X>,
     requires { P.ready parser.now }
-    ensures ran { Ran E.Error.merged E.Error.takes_no_memory (UnderValue (P.begins parser.now E.Error.Error E.State.Inspector) (Some context.now)) true (held I.Input E.Error.Error E.State.Inspector inp.old) (held I.Input E.Error.Error E.State.Inspector inp.new) (with_value result) }
+    ensures ran { Runs I.Input E.Error.Error E.State.Inspector (UnderValue (P.begins parser.now E.Error.Error E.State.Inspector) (Some context.now)) true inp.old inp.new (with_value result) }
     ensures may { IfOk result (P.may_step parser.now) }
     ensures lent { inp.new.state.ghost_name ≡ inp.old.state.ghost_name }
 {
@@ -166,7 +165,7 @@ where
     X: ParserExtra<I, Error = E::Error, State = E::State>,
     P: IterParser<'src, I, O, X>,
     requires { P.may_step parser.now items.old }
-    ensures ran { Ran E.Error.merged E.Error.takes_no_memory (UnderValue (P.gives parser.now debug items.old E.Error.Error E.State.Inspector) (Some context.now)) true (held I.Input E.Error.Error E.State.Inspector inp.old) (held I.Input E.Error.Error E.State.Inspector inp.new) (with_item items.new result) }
+    ensures ran { Runs I.Input E.Error.Error E.State.Inspector (UnderValue (P.gives parser.now debug items.old E.Error.Error E.State.Inspector) (Some context.now)) true inp.old inp.new (with_item items.new result) }
     ensures may { IfOk result (λ o. OnSome o (P.may_step parser.now items.new)) }
     ensures lent { inp.new.state.ghost_name ≡ inp.old.state.ghost_name }
 {
@@ -206,7 +205,7 @@ where
     X: ParserExtra<I, Error = E::Error, State = E::State>,
     P: IterParser<'src, I, O, X>,
     requires { P.may_step parser.now items.old }
-    ensures ran { Ran E.Error.merged E.Error.takes_no_memory (UnderValue (P.gives parser.now debug items.old E.Error.Error E.State.Inspector) (Some context.now)) false (held I.Input E.Error.Error E.State.Inspector inp.old) (held I.Input E.Error.Error E.State.Inspector inp.new) (without_item items.new result) }
+    ensures ran { Runs I.Input E.Error.Error E.State.Inspector (UnderValue (P.gives parser.now debug items.old E.Error.Error E.State.Inspector) (Some context.now)) false inp.old inp.new (without_item items.new result) }
     ensures may { IfOk result (λ o. OnSome o (P.may_step parser.now items.new)) }
     ensures lent { inp.new.state.ghost_name ≡ inp.old.state.ghost_name }
 {

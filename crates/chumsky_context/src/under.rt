@@ -1,7 +1,6 @@
 //! `emit_under`, `check_under`: running a parser under another context than that of the run.
 ghost use Rattle.std.specs.Prelude.{◌≡◌, true, false, Some};
-ghost use Rattle.chumsky_input.specs.Held.{held};
-ghost use Rattle.chumsky_input.specs.Run.{Ran, with_value, without_value};
+ghost use Rattle.chumsky_input.specs.Run.{Runs, Ran, with_value, without_value};
 ghost use Rattle.chumsky_context.specs.Under.{held_from_parts, UnderValue};
 
 use chumsky_input::aside::Aside;
@@ -97,7 +96,7 @@ where
     X: ParserExtra<I, Error = E::Error, State = E::State>,
     P: Parser<'src, I, O, X>,
     requires { P.ready parser.now }
-    ensures ran { Ran E.Error.merged E.Error.takes_no_memory (UnderValue (P.meaning parser.now E.Error.Error E.State.Inspector) (Some context.now)) true (held I.Input E.Error.Error E.State.Inspector inp.old) (held I.Input E.Error.Error E.State.Inspector inp.new) (with_value result) }
+    ensures ran { Runs I.Input E.Error.Error E.State.Inspector (UnderValue (P.meaning parser.now E.Error.Error E.State.Inspector) (Some context.now)) true inp.old inp.new (with_value result) }
     ensures lent { inp.new.state.ghost_name ≡ inp.old.state.ghost_name }
 {
     let errors = inp.set_aside();
@@ -133,7 +132,7 @@ where
     X: ParserExtra<I, Error = E::Error, State = E::State>,
     P: Parser<'src, I, O, X>,
     requires { P.ready parser.now }
-    ensures ran { Ran E.Error.merged E.Error.takes_no_memory (UnderValue (P.meaning parser.now E.Error.Error E.State.Inspector) (Some context.now)) false (held I.Input E.Error.Error E.State.Inspector inp.old) (held I.Input E.Error.Error E.State.Inspector inp.new) (without_value result) }
+    ensures ran { Runs I.Input E.Error.Error E.State.Inspector (UnderValue (P.meaning parser.now E.Error.Error E.State.Inspector) (Some context.now)) false inp.old inp.new (without_value result) }
     ensures lent { inp.new.state.ghost_name ≡ inp.old.state.ghost_name }
 {
     let errors = inp.set_aside();

@@ -1,7 +1,6 @@
 //! `WithState`: a parser on a state of its own.
 ghost use Rattle.std.specs.Prelude.{◌≡◌, true, false};
-ghost use Rattle.chumsky_input.specs.Held.{held};
-ghost use Rattle.chumsky_input.specs.Run.{Ran, with_value, without_value};
+ghost use Rattle.chumsky_input.specs.Run.{Runs, with_value, without_value};
 ghost use Rattle.chumsky_context.specs.OnState.{OnState};
 
 use crate::under::{Returned, check_parts, emit_parts};
@@ -78,7 +77,7 @@ where
     E: ParserExtra<I>,
     P: Parser<'src, I, O, Full<E::Error, S, E::Context>>,
     requires { P.ready parser.now }
-    ensures ran { Ran E.Error.merged E.Error.takes_no_memory (OnState (P.meaning parser.now E.Error.Error S.Inspector) (S.seen state.old)) true (held I.Input E.Error.Error E.State.Inspector inp.old) (held I.Input E.Error.Error E.State.Inspector inp.new) (with_value result) }
+    ensures ran { Runs I.Input E.Error.Error E.State.Inspector (OnState (P.meaning parser.now E.Error.Error S.Inspector) (S.seen state.old)) true inp.old inp.new (with_value result) }
     ensures lent { inp.new.state.ghost_name ≡ inp.old.state.ghost_name }
 {
     let errors = inp.set_aside();
@@ -114,7 +113,7 @@ where
     E: ParserExtra<I>,
     P: Parser<'src, I, O, Full<E::Error, S, E::Context>>,
     requires { P.ready parser.now }
-    ensures ran { Ran E.Error.merged E.Error.takes_no_memory (OnState (P.meaning parser.now E.Error.Error S.Inspector) (S.seen state.old)) false (held I.Input E.Error.Error E.State.Inspector inp.old) (held I.Input E.Error.Error E.State.Inspector inp.new) (without_value result) }
+    ensures ran { Runs I.Input E.Error.Error E.State.Inspector (OnState (P.meaning parser.now E.Error.Error S.Inspector) (S.seen state.old)) false inp.old inp.new (without_value result) }
     ensures lent { inp.new.state.ghost_name ≡ inp.old.state.ghost_name }
 {
     let errors = inp.set_aside();

@@ -8,7 +8,7 @@ ghost use Rattle.chumsky_recursive.specs.Unfounded.{AreFounded, RefusesOrder, Re
 ghost use Rattle.chumsky_recursive.specs.declared.founded.FoundedError.TheVariants as founded_error;
 
 use crate::actions::Actions;
-use crate::grammar::{Grammar, close, well_founded};
+use crate::grammar::{Grammar, close};
 use crate::laws::founded_grammars_are_refused_as_leaves;
 use chumsky_input::extra::ParserExtra;
 use chumsky_input::input::Input;
@@ -111,7 +111,7 @@ fn order_of<'r, 'src, I: Input<'src>, E: ParserExtra<I>, A: Actions<'src, I, E>>
     ensures order { IfOk result (λ v. IsOrder grammar.now.rules.rules.now (answers_of (A.leaf_may_be_empty grammar.now.actions.now) (A.leaf_count grammar.now.actions.now)) v.items) }
     ensures refused { IfErr result (RefusesOrder grammar.now.rules.rules.now (answers_of (A.leaf_may_be_empty grammar.now.actions.now) (A.leaf_count grammar.now.actions.now))) }
 {
-    match well_founded::<I, E, A>(grammar)? {
+    match grammar.well_founded::<I, E>()? {
         WellFounded::EmptyRound(node) => Err(FoundedError::EmptyRound(node)),
         WellFounded::LeftCycle(rule) => Err(FoundedError::LeftCycle(rule)),
         WellFounded::Order(order) => Ok(order),

@@ -97,7 +97,7 @@ pub(crate) fn expect_here<'src, I: Input<'src>, E: ParserExtra<I>>(
     what: Plain<'_>,
     inp: &mut InputRef<'src, '_, I, E>,
 ) -> Fault
-    ensures fails { Fails E.Error.merged E.Error.takes_no_memory (expected_at I.Input E.Error.Error (plain_wanted what) (held I.Input E.Error.Error E.State.Inspector inp.old).tokens (held I.Input E.Error.Error E.State.Inspector inp.old).place) (held I.Input E.Error.Error E.State.Inspector inp.old) (held I.Input E.Error.Error E.State.Inspector inp.new) result }
+    ensures fails { Fails E.Error.merged E.Error.takes_no_memory (expected_at I.Input E.Error.Error (plain_wanted what.entry) (held I.Input E.Error.Error E.State.Inspector inp.old).tokens (held I.Input E.Error.Error E.State.Inspector inp.old).place) (held I.Input E.Error.Error E.State.Inspector inp.old) (held I.Input E.Error.Error E.State.Inspector inp.new) result }
     ensures lent { inp.new.state.ghost_name ≡ inp.old.state.ghost_name }
 {
     let here = inp.cursor;
@@ -114,7 +114,7 @@ pub(crate) fn expect_since<'src, I: Input<'src>, E: ParserExtra<I>>(
     inp: &mut InputRef<'src, '_, I, E>,
 ) -> Fault
     requires { I.cursor_tokens inp.now.cursor ≡ I.cursor_tokens from.now }
-    ensures fails { Fails E.Error.merged E.Error.takes_no_memory (expects I.Input E.Error.Error (I.cursor_tokens from.now) (plain_wanted what) None (I.place from.now) (I.place inp.old.cursor)) (held I.Input E.Error.Error E.State.Inspector inp.old) (held I.Input E.Error.Error E.State.Inspector inp.new) result }
+    ensures fails { Fails E.Error.merged E.Error.takes_no_memory (expects I.Input E.Error.Error (I.cursor_tokens from.now) (plain_wanted what.entry) None (I.place from.now) (I.place inp.old.cursor)) (held I.Input E.Error.Error E.State.Inspector inp.old) (held I.Input E.Error.Error E.State.Inspector inp.new) result }
     ensures lent { inp.new.state.ghost_name ≡ inp.old.state.ghost_name }
 {
     let end = inp.cursor;
@@ -143,7 +143,7 @@ pub(crate) fn end_run<'src, K: Kind<I::Token>, I: Input<'src>, E: ParserExtra<I>
 /// Whether it says that nothing is expected.
 #[inline]
 fn is_nothing<T>(what: Plain<'_>) -> bool
-    ensures { result ≡ is_empty (plain_wanted {T = T} what) }
+    ensures { result ≡ is_empty (plain_wanted {T = T} what.entry) }
 {
     match what {
         Plain::Nothing => true,
