@@ -1,6 +1,7 @@
 //! The parsers of text that docs/GUIDE.md shows, run as it says.
 use answers::asserts::assert_line;
-use guide::words::{bound, byte, setting};
+use chumsky::report::Report;
+use guide::words::{bound, byte, month, setting};
 
 #[test]
 fn a_setting_is_a_name_and_a_number(rt: HostRuntime) {
@@ -38,4 +39,28 @@ fn a_number_may_be_too_large_for_a_byte(rt: HostRuntime) {
     for (line, expected) in rows {
         assert_line(&rt, byte(rt.alloc(), line), expected);
     }
+}
+
+#[test]
+fn a_month_is_expected_by_its_label(rt: HostRuntime) {
+    let rows = [
+        ("Feb", "ok 2"),
+        ("Sep", "error 0..1 expected a month found 'S'"),
+        ("Jun", "error 1..2 expected 'a' found 'u'"),
+    ];
+    for (line, expected) in rows {
+        assert_line(&rt, month(rt.alloc(), line), expected);
+    }
+    let parsed = month(rt.alloc(), "Sep").expect(&rt, "refused");
+    let mut told = String::new(rt.alloc());
+    for error in parsed.errors() {
+        let report = Report {
+            name: "log",
+            text: "Sep",
+            error,
+        };
+        write!(told, "{report}").expect(&rt, "want of memory");
+    }
+    let expected = "log:1:1: expected a month, found 'S'\nSep\n^";
+    assert_eq!(rt; told.as_str(), expected);
 }

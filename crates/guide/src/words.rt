@@ -33,3 +33,14 @@ pub fn byte(alloc: Global, line: &str) -> Result<ParseResult<u8, Rich<char>>, St
         .labelled("a number below 256");
     number.parse(alloc, line)
 }
+
+/// The number of a month, by its name.
+pub fn month(alloc: Global, line: &str) -> Result<ParseResult<u8, Rich<char>>, Stop> {
+    let month = choice((
+        just::<_, _, RichText>("Jan").to(1u8),
+        just("Feb").to(2u8),
+        just("Mar").to(3u8),
+    ))
+    .labelled("a month");
+    month.parse(alloc, line)
+}
