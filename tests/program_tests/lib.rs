@@ -1,5 +1,4 @@
-//! What closures and programs answer: closures that are lent the input, other contexts and inputs, and what `guide` and
-//! `examples` hold.
+//! What closures and programs answer: closures that are lent the input, and what `guide` and `examples` hold.
 
 #[cfg(test)]
 mod builders;
@@ -9,8 +8,6 @@ mod calls;
 mod chk;
 #[cfg(test)]
 mod custom;
-#[cfg(test)]
-mod from_contexts;
 #[cfg(test)]
 mod from_examples;
 #[cfg(test)]

@@ -5,10 +5,8 @@ use arrayvec::ArrayVec;
 use chumsky::combinator::To;
 use chumsky::prelude::*;
 use chumsky::primitive::{Just, select, select_ref};
-use own_types::under_output::UnderOutput;
 use std::alloc::AllocGlobal;
 use std::collections::BTreeMap;
-use std::marker::PhantomData;
 use std::process::Abort;
 use std::rc::Rc;
 
@@ -398,11 +396,10 @@ fn a_judge_is_called_once(rt: HostRuntime) {
 #[test]
 fn the_output_that_is_a_context_is_let_go(rt: HostRuntime) {
     let counts = make_counts(&rt);
-    let under = UnderOutput {
-        first: letter(&rt, 'a', &counts),
-        second: any::<_, extra::Full<EmptyErr, (), Counted>>(),
-        of: PhantomData,
-    };
+    let under = letter(&rt, 'a', &counts).ignore_with_ctx(any::<
+        _,
+        extra::Full<EmptyErr, (), Counted>,
+    >());
     assert_clones(
         &rt,
         &under,

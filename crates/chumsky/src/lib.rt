@@ -61,6 +61,7 @@ pub mod extra {
 
 /// States of a parser.
 pub mod inspector {
+    pub use chumsky_context::states::{RollbackState, SimpleState, TruncateState};
     pub use chumsky_input::inspector::Inspector;
 }
 
@@ -68,6 +69,9 @@ pub mod inspector {
 pub mod primitive {
     pub use chumsky_choice::choice::Choice;
     pub use chumsky_choice::make::choice;
+    pub use chumsky_context::just_cfg::JustCfg;
+    pub use chumsky_context::map_ctx::{ContextMapper, MapCtx, map_ctx, map_ctx_by};
+    pub use chumsky_context::one_of_cfg::OneOfCfg;
     pub use chumsky_group::group::Group;
     pub use chumsky_group::make::group;
     pub use chumsky_primitive::any::Any;
@@ -103,6 +107,20 @@ pub mod combinator {
     pub use chumsky_combinator::sequence::Then;
     pub use chumsky_combinator::then_ignore::ThenIgnore;
     pub use chumsky_combinator::to::To;
+    pub use chumsky_context::configure::Configure;
+    pub use chumsky_context::configurer::{Configurer, TryConfigurer};
+    pub use chumsky_context::contextual::Contextual;
+    pub use chumsky_context::ignore_with_ctx::IgnoreWithCtx;
+    pub use chumsky_context::iter_configure::IterConfigure;
+    pub use chumsky_context::nested_in::NestedIn;
+    pub use chumsky_context::repeated_cfg::RepeatedCfg;
+    pub use chumsky_context::spanned::Spanned;
+    pub use chumsky_context::then_with_ctx::ThenWithCtx;
+    pub use chumsky_context::to_slice::ToSlice;
+    pub use chumsky_context::to_span::ToSpan;
+    pub use chumsky_context::try_iter_configure::TryIterConfigure;
+    pub use chumsky_context::with_ctx::WithCtx;
+    pub use chumsky_context::with_state::WithState;
     pub use chumsky_flatten::flatten::Flatten;
     pub use chumsky_flatten::into_iter::IntoIter;
     pub use chumsky_folds::enumerate::Enumerate;
@@ -204,6 +222,17 @@ pub mod grammar_laws {
     pub use chumsky_rules::caps::caps_fit;
 }
 
+/// When parsers under contexts, states, configurations and nested inputs are steady, as in `laws`.
+pub mod context_laws {
+    pub use chumsky_context::steady::{
+        any_nested_in_any_is_steady, any_under_any_is_steady, configure_is_steady,
+        configured_items_are_steady, contextual_is_steady, ignore_with_ctx_is_steady,
+        items_with_ctx_are_steady, map_ctx_is_steady, nested_in_is_steady, spanned_is_steady,
+        then_with_ctx_is_steady, to_slice_is_steady, to_span_is_steady, try_configure_is_steady,
+        with_ctx_is_steady, with_state_is_steady,
+    };
+}
+
 /// Laws of parsers, each the contract of a function that does nothing: which of them mean the same, and which are ready and
 /// steady.
 pub mod laws {
@@ -279,6 +308,10 @@ pub mod laws {
 }
 
 pub use chumsky_combinator::ext::IterMapExt;
+pub use chumsky_context::config::{ConfigParser, Configurable, IsConfigParser};
+pub use chumsky_context::config_ext::{ConfigIterParserExt, ConfigParserExt};
+pub use chumsky_context::config_iter::{ConfigIterParser, IsConfigIterParser};
+pub use chumsky_context::context_ext::ContextExt;
 pub use chumsky_flatten::ext::{FlattenExt, IntoIterExt};
 pub use chumsky_folds::ext::{FoldExt, IterFoldExt};
 pub use chumsky_input::same::SameClone;

@@ -1,6 +1,0 @@
-use Rattle.std.proofs.Common.{refl}
-use Rattle.own_types.proofs.UnderLemmas.{ran-under}
-use Rattle.own_types.proofs.under.emit_under.Goals as goal
-
-pub returns-clause-ran : goal.returns-clause-ran
-returns-clause-ran g c = ran-under c.set_aside-errors.ensures.leaves c.set_aside-errors.ensures.kept c.set_aside-errors.ensures.emitted refl refl c.emit_parts-answer.ensures

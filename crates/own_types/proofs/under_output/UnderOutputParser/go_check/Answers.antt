@@ -1,9 +1,0 @@
-use Rattle.std.proofs.Common.{rules}
-use Rattle.chumsky_parser.proofs.ChainedLemmas.{failed, chained, ran-asked, check_err, emit_err, emit_ok}
-use Rattle.own_types.proofs.under_output.UnderOutputParser.go_check.Goals as goal
-
-pub returns-in_err-value-clause-ran : goal.returns-in_err-value-clause-ran
-returns-in_err-value-clause-ran g c = failed (ran-asked c.go_emit.ensures.ran) (emit_err c.in_err-value.was) (check_err (search rules))
-
-pub returns-clause-ran : goal.returns-clause-ran
-returns-clause-ran g c = chained (ran-asked c.go_emit.ensures.ran) (emit_ok c.in_ok-value.was) c.check_under.ensures.ran
