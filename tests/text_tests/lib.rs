@@ -7,6 +7,8 @@ mod from_guide;
 #[cfg(test)]
 mod labels;
 #[cfg(test)]
+mod moves;
+#[cfg(test)]
 mod numbers;
 #[cfg(test)]
 mod padded;

@@ -147,7 +147,7 @@ module _ {I Tok Sp Cu Er St Mk Cx W : Type 0} (source : input_trait.Ghosts I Cu 
         spelled-agree (spells (slice_range b.tokens from (run_end (goes_on t) b.tokens b.start))) from from' (goes_on t) what s b c o q alike m (rw e n) a z)
 
 module _ {I Tok Sp Er St Mk Cx V : Type 0} (errors : error_trait.Ghosts Er I Tok Sp) (states : inspector_trait.Ghosts St I Mk Tok Sp) (test : Tok → Bool) (part : Meaning Tok Cx states.Seen errors.Seen V) where
-  skips-ends : EndsAfterStart (Skips {Cx = Cx} errors states test)
+  pub skips-ends : EndsAfterStart (Skips {Cx = Cx} errors states test)
   skips-ends b o m a = omega (arith, ap (λ (x : Outcome (Unit {0}) errors.Seen states.Seen). x.end) m.outcome)
 
   skips-agree : Agreeing SameUnit (Skips {Cx = Cx} errors states test) (Skips {Cx = Cx} errors states test)
