@@ -6,6 +6,7 @@ pub mod arithmetic;
 pub mod checking;
 pub mod closure;
 pub mod conclusion;
+pub mod contexts;
 pub mod extras;
 pub mod flattening;
 pub mod folding;
