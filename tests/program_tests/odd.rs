@@ -1,4 +1,5 @@
-//! Grammars that call themselves before they take anything, limits of none and of one, and errors that merge in their own way.
+//! Grammars that call themselves before they take anything, limits of none and of one, lists that want too many items; and
+//! errors that merge in their own way.
 ghost use Rattle.std.specs.Prelude.{◌≡◌, ⊤, ℕ, List, Option, Some, None, IfOk, IsOk, map, slice_get};
 ghost use Rattle.std.specs.List.{filter_map};
 ghost use Rattle.std.specs.Iterator.{IsFinite, Drains};
@@ -90,6 +91,41 @@ fn a_limit_counts_the_calls_that_are_open(rt: HostRuntime) {
         ("ac", "error 1..2 expected 'a', 'b' found 'c'"),
     ];
     assert_rule(&rt, 2, some_a_then_b, &rows);
+}
+
+/// A list of a leaf, and a list of an item that is none.
+#[test]
+fn a_list_node_may_want_more_items_than_any_input_has(rt: HostRuntime) {
+    let rows = [
+        ("a", "error 1..1 expected 'a' found end"),
+        ("", "error 0..0 expected 'a' found end"),
+        ("ab", "error 1..2 expected 'a' found 'b'"),
+    ];
+    assert_rule(
+        &rt,
+        1,
+        |rules, _| {
+            let a = rules.leaf(0)?;
+            rules.repeated(a, usize::MAX, None)
+        },
+        &rows,
+    );
+    let rows = [
+        ("ab", "error 2..2 expected 'a', 'b' found end"),
+        ("", "error 0..0 expected 'a', 'b' found end"),
+        ("ac", "error 1..2 expected 'a', 'b' found 'c'"),
+    ];
+    assert_rule(
+        &rt,
+        1,
+        |rules, _| {
+            let a = rules.leaf(0)?;
+            let b = rules.leaf(1)?;
+            let letter = rules.choice(&[a, b])?;
+            rules.repeated(letter, usize::MAX, Some(usize::MAX))
+        },
+        &rows,
+    );
 }
 
 /// Runs a rule that is an `a`, as a grammar of its own under this limit.
