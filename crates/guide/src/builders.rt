@@ -10,9 +10,9 @@ type Answer<T> = Result<ParseResult<T, Rich<char>>, Stop>;
 
 /// Makes a letter a capital, and says nothing of it.
 #[derive(Clone, Copy)]
-pub struct Capital;
+pub struct ToCapital;
 
-impl Mapper<char, char> for Capital {
+impl Mapper<char, char> for ToCapital {
     fn apply(&self, letter: char) -> char {
         letter.to_ascii_uppercase()
     }
@@ -20,7 +20,7 @@ impl Mapper<char, char> for Capital {
 
 /// A character, as a capital where it is a letter.
 pub fn capital(alloc: Global, text: &str) -> Answer<char> {
-    any::<_, RichText>().map_by(Capital).parse(alloc, text)
+    any::<_, RichText>().map_by(ToCapital).parse(alloc, text)
 }
 
 /// A character, with an error beside it in any case.
