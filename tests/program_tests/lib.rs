@@ -2,6 +2,8 @@
 //! `examples` hold.
 
 #[cfg(test)]
+mod builders;
+#[cfg(test)]
 mod calls;
 #[cfg(test)]
 mod chk;

@@ -290,6 +290,112 @@ fn a_closure_is_called_in_both(rt: HostRuntime) {
 }
 
 #[test]
+fn a_fold_clones_its_start_where_it_gives_a_value(rt: HostRuntime) {
+    let counts = make_counts(&rt);
+    let start = counted_letter(&rt, 's', &counts);
+    let folded = letter(&rt, 'a', &counts)
+        .repeated()
+        .fold(start, |sum, item| {
+            drop(item);
+            sum
+        });
+    let rows = [("aa", 3, 0), ("", 1, 0), ("aax", 3, 0)];
+    assert_clones(&rt, &folded, &counts, &rows);
+}
+
+#[test]
+fn folds_let_go_of_their_items(rt: HostRuntime) {
+    let counts = make_counts(&rt);
+    let left = letter(&rt, 'a', &counts).foldl(letter(&rt, 'b', &counts).repeated(), |sum, item| {
+        drop(item);
+        sum
+    });
+    assert_clones(
+        &rt,
+        &left,
+        &counts,
+        &[("abb", 3, 0), ("abx", 2, 0), ("b", 0, 0)],
+    );
+    let right = letter(&rt, 'a', &counts)
+        .repeated()
+        .foldr(letter(&rt, 'b', &counts), |item, sum| {
+            drop(item);
+            sum
+        });
+    assert_clones(
+        &rt,
+        &right,
+        &counts,
+        &[("aab", 3, 0), ("aax", 2, 0), ("b", 1, 0)],
+    );
+}
+
+#[test]
+fn the_items_of_an_output_are_let_go(rt: HostRuntime) {
+    let counts = make_counts(&rt);
+    let items = letter(&rt, 'a', &counts)
+        .repeated()
+        .collect::<Vec<_>>()
+        .into_iter();
+    let rows = [("aaa", 3, 3), ("", 0, 0), ("aax", 2, 2)];
+    let again = items.clone().expect(&rt, "want of memory");
+    assert_clones(&rt, &again.count(), &counts, &rows);
+    let again = items.clone().expect(&rt, "want of memory");
+    assert_clones(&rt, &again.collect::<Vec<_>>(), &counts, &rows);
+    let rows = [("aaa", 3, 3), ("aa", 2, 2), ("aaaa", 4, 4)];
+    assert_clones(
+        &rt,
+        &items.collect_exactly::<ArrayVec<_, 3>>(),
+        &counts,
+        &rows,
+    );
+}
+
+#[test]
+fn the_items_of_each_item_are_let_go(rt: HostRuntime) {
+    let counts = make_counts(&rt);
+    let items = letter(&rt, 'a', &counts)
+        .repeated()
+        .at_least(1)
+        .collect::<Vec<_>>()
+        .separated_by(just(','))
+        .flatten();
+    let rows = [("aa,a", 3, 3), ("a,", 1, 1), ("", 0, 0), ("a,ax", 2, 2)];
+    let again = items.clone().expect(&rt, "want of memory");
+    assert_clones(&rt, &again.count(), &counts, &rows);
+    let again = items.clone().expect(&rt, "want of memory");
+    assert_clones(&rt, &again.collect::<Vec<_>>(), &counts, &rows);
+    let rows = [("a,aa", 3, 3), ("a,a", 2, 2), ("aa,aa", 4, 4)];
+    assert_clones(
+        &rt,
+        &items.collect_exactly::<ArrayVec<_, 3>>(),
+        &counts,
+        &rows,
+    );
+}
+
+/// Each call makes a clone of what it is lent.
+#[test]
+fn a_judge_is_called_once(rt: HostRuntime) {
+    let counts = make_counts(&rt);
+    let passes = letter(&rt, 'a', &counts).filter(|it| it.clone().is_ok());
+    assert_clones(
+        &rt,
+        &passes,
+        &counts,
+        &[("a", 2, 2), ("ax", 2, 2), ("b", 0, 0)],
+    );
+    let fails = letter(&rt, 'a', &counts).filter(|it| it.clone().is_err());
+    assert_clones(&rt, &fails, &counts, &[("a", 2, 2)]);
+    let picked = letter(&rt, 'a', &counts).filter_map(|it| it.clone().ok());
+    assert_clones(&rt, &picked, &counts, &[("a", 2, 2), ("b", 0, 0)]);
+    let tried = letter(&rt, 'a', &counts).try_map(|it, _| it.clone().map_err(|_| EmptyErr));
+    assert_clones(&rt, &tried, &counts, &[("a", 2, 2), ("b", 0, 0)]);
+    let valid = letter(&rt, 'a', &counts).validate(|it, _, _| it.clone().ok());
+    assert_clones(&rt, &valid, &counts, &[("a", 2, 2), ("b", 0, 0)]);
+}
+
+#[test]
 fn the_output_that_is_a_context_is_let_go(rt: HostRuntime) {
     let counts = make_counts(&rt);
     let under = UnderOutput {

@@ -1,5 +1,5 @@
 //! What parsers stand on: results, values, rules as data and whether they are well-founded, reports of errors; how often values
-//! are cloned, and that what is let go is dropped; that nothing is refused for no reason; which parsers move.
+//! are cloned or made, and that what is let go is dropped; that nothing is refused for no reason; which parsers move.
 
 #[cfg(test)]
 mod clones;
@@ -15,6 +15,8 @@ mod founded;
 mod judged;
 #[cfg(test)]
 mod moves;
+#[cfg(test)]
+mod node_values;
 #[cfg(test)]
 mod refusals;
 #[cfg(test)]

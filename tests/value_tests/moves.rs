@@ -188,6 +188,24 @@ fn what_judges_an_output_moves_as_its_part(rt: HostRuntime) {
 }
 
 #[test]
+fn what_a_part_took_moves_as_the_part(rt: HostRuntime) {
+    let (a, none) = (|| just_char('a'), || empty());
+    assert_rows(
+        &rt,
+        &[
+            ("to_slice", moves(a().to_slice()), true),
+            ("to_slice, none", moves(none().to_slice()), false),
+            ("to_span", moves(a().to_span()), true),
+            ("spanned", moves(a().spanned()), true),
+            ("labelled", moves(a().labelled("letter")), true),
+            ("labelled, none", moves(none().labelled("nothing")), false),
+            ("padded", moves(a().padded()), true),
+            ("padded, none", moves(none().padded()), false),
+        ],
+    );
+}
+
+#[test]
 fn a_list_moves_where_it_has_an_item_that_does(rt: HostRuntime) {
     let (a, none) = (|| just_char('a'), || empty());
     let comma = || just_char(',');

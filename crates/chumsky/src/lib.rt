@@ -133,6 +133,44 @@ pub mod combinator {
     pub use chumsky_shield::validate::Validate;
 }
 
+/// Labels: names for what parsers expect.
+pub mod label {
+    pub use chumsky_label::label_error::LabelError;
+    pub use chumsky_label::labelled::Labelled;
+
+    /// What holds of labelled parsers, as those of `chumsky::laws`.
+    pub mod laws {
+        pub use chumsky_label::laws::labelled_answers_as_its_part;
+        pub use chumsky_label::steady::{labelled_is_steady, rich_takes_one_label};
+    }
+}
+
+/// Parsers of text: white space, ends of lines, numbers, identifiers and keywords, over texts and bytes; and the kinds of
+/// tokens that they are made of.
+pub mod text {
+    pub use chumsky_text::chars::{Char, TextInput};
+    pub use chumsky_text::ident::{AsciiIdent, AsciiIdentRest, UnicodeIdent, UnicodeIdentRest};
+    pub use chumsky_text::keyword::Keyword;
+    pub use chumsky_text::kind::{Kind, Lexeme};
+    pub use chumsky_text::make::{
+        digits, inline_whitespace, int, newline, run_of, whitespace, word_of,
+    };
+    pub use chumsky_text::newline::Newline;
+    pub use chumsky_text::number::{Digits, Int, IntRest};
+    pub use chumsky_text::padded::Padded;
+    pub use chumsky_text::run::Run;
+    pub use chumsky_text::space::{InlineWhitespace, LineEnd, LineEndRest, Whitespace};
+    pub use chumsky_text::word::Word;
+    pub use chumsky_text::{ascii, unicode};
+
+    /// What holds of parsers of text, as those of `chumsky::laws`.
+    pub mod laws {
+        pub use chumsky_text::steady::{
+            keyword_is_steady, newline_is_steady, padded_is_steady, run_is_steady, word_is_steady,
+        };
+    }
+}
+
 /// Rules as data: recursive grammars, the parser that runs them, whether they are well-founded, which leaves move, and why a call
 /// on them is refused.
 pub mod recursive {
@@ -166,7 +204,8 @@ pub mod grammar_laws {
     pub use chumsky_rules::caps::caps_fit;
 }
 
-/// Laws of parsers, each the contract of a function that does nothing: which of them mean the same, and which are steady.
+/// Laws of parsers, each the contract of a function that does nothing: which of them mean the same, and which are ready and
+/// steady.
 pub mod laws {
     pub use crate::steady::{from_str_is_steady, lazy_is_steady};
     pub use chumsky_choice::laws::{
@@ -176,8 +215,8 @@ pub mod laws {
     };
     pub use chumsky_choice::steady::{choice_is_steady, choice_of_a_list_is_steady};
     pub use chumsky_combinator::laws::{
-        ignore_then_agrees_with_then, or_agrees_by_one_alternative, or_not_never_says_no,
-        then_is_associative,
+        ignore_then_agrees_with_then, map_with_by_a_blind_mapper_is_map,
+        or_agrees_by_one_alternative, or_not_never_says_no, then_is_associative,
     };
     pub use chumsky_combinator::steady::{
         delimited_by_is_steady, ignore_then_is_steady, map_is_steady, map_items_is_steady,
@@ -191,7 +230,7 @@ pub mod laws {
     pub use chumsky_folds::laws::{
         enumerate_numbers_from_zero, fold_is_the_fold_of_what_collect_gives,
         foldl_is_the_fold_of_what_collect_gives, foldl_with_by_a_blind_folder_is_foldl,
-        foldr_is_the_fold_of_the_reverse,
+        foldr_is_the_fold_of_the_reverse, try_foldl_that_never_refuses_is_foldl_with,
     };
     pub use chumsky_folds::steady::{
         enumerate_is_steady, fold_is_steady, foldl_is_steady, foldl_with_is_steady,
@@ -207,7 +246,9 @@ pub mod laws {
     pub use chumsky_items::steady::{
         collect_exactly_is_steady, collect_is_steady, repeated_is_steady, separated_by_is_steady,
     };
-    pub use chumsky_parse_iter::laws::finish_answers_the_whole;
+    pub use chumsky_parse_iter::laws::{
+        finish_answers_the_whole, once_none_is_given_none_is_any_more, run_may_be_asked,
+    };
     pub use chumsky_parser::steady::{by_reference_is_steady, either_is_steady};
     pub use chumsky_primitive::steady::{
         any_is_steady, any_ref_is_steady, custom_is_steady, end_is_steady, just_is_steady,
@@ -227,6 +268,7 @@ pub mod laws {
         filter_of_all_answers_as_its_part, map_err_succeeds_as_its_part,
         map_err_with_state_succeeds_as_its_part, map_err_with_succeeds_as_its_part,
         not_ends_where_it_began, rewind_ends_where_it_began, try_map_of_all_answers_as_its_part,
+        try_map_with_by_a_blind_closure_is_try_map,
         validate_that_emits_nothing_answers_as_its_part,
     };
     pub use chumsky_shield::steady::{
@@ -243,6 +285,7 @@ pub use chumsky_input::same::SameClone;
 pub use chumsky_input::stop::{Failure, Fault, PResult, Stop};
 pub use chumsky_input::util::DefaultExpected;
 pub use chumsky_items::ext::IterParserExt;
+pub use chumsky_label::ext::LabelExt;
 pub use chumsky_parse_iter::ext::ParseIterExt;
 pub use chumsky_parse_iter::parse_iter::ParseIter;
 pub use chumsky_parser::input_ref_ext::InputRefExt;
@@ -250,4 +293,5 @@ pub use chumsky_parser::iter::{IsIterParser, IterParser, IterParserDebug, Iterat
 pub use chumsky_parser::parser::{IsParser, Parser};
 pub use chumsky_parser::result::ParseResult;
 pub use chumsky_shield::ext::ShieldExt;
+pub use chumsky_text::ext::TextExt;
 pub use ext::ParserExt;

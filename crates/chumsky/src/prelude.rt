@@ -1,6 +1,6 @@
 //! What most programs need.
 pub use crate::ext::ParserExt;
-pub use crate::{select, select_ref};
+pub use crate::{select, select_ref, text};
 pub use chumsky_choice::make::choice;
 pub use chumsky_combinator::ext::IterMapExt;
 pub use chumsky_flatten::ext::{FlattenExt, IntoIterExt};
@@ -13,6 +13,7 @@ pub use chumsky_input::rich::Rich;
 pub use chumsky_input::simple::{Cheap, Simple};
 pub use chumsky_input::span::{SimpleSpan, Spanned};
 pub use chumsky_items::ext::IterParserExt;
+pub use chumsky_label::ext::LabelExt;
 pub use chumsky_parse_iter::ext::ParseIterExt;
 pub use chumsky_parser::input_ref_ext::InputRefExt;
 pub use chumsky_parser::iter::{IsIterParser, IterParser};
@@ -28,3 +29,4 @@ pub use chumsky_rules::kinds::Recursive;
 pub use chumsky_rules::rules::Rules;
 pub use chumsky_set::make::set;
 pub use chumsky_shield::ext::ShieldExt;
+pub use chumsky_text::ext::TextExt;

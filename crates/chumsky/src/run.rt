@@ -1,7 +1,6 @@
 //! One run of a parser over a whole input.
 ghost use Rattle.std.specs.Prelude.{◌≡◌, true, false, Some, None};
-ghost use Rattle.chumsky_input.specs.Held.{held};
-ghost use Rattle.chumsky_input.specs.Run.{Ran, with_value, without_value};
+ghost use Rattle.chumsky_input.specs.Run.{Runs, with_value, without_value};
 ghost use Rattle.chumsky.specs.Answer.{WholeRun, Parses};
 
 use chumsky_input::extra::ParserExtra;
@@ -22,7 +21,7 @@ fn whole_emit<'src, I: Input<'src>, O: Drop, E: ParserExtra<I>, P: Parser<'src, 
     inp: &mut InputRef<'src, '_, I, E>,
 ) -> PResult<O>
     requires { P.ready parser.now }
-    ensures ran { Ran E.Error.merged E.Error.takes_no_memory (WholeRun I.Input E.Error.Error E.State.Inspector (P.meaning parser.now E.Error.Error E.State.Inspector)) true (held I.Input E.Error.Error E.State.Inspector inp.old) (held I.Input E.Error.Error E.State.Inspector inp.new) (with_value result) }
+    ensures ran { Runs I.Input E.Error.Error E.State.Inspector (WholeRun I.Input E.Error.Error E.State.Inspector (P.meaning parser.now E.Error.Error E.State.Inspector)) true inp.old inp.new (with_value result) }
     ensures lent { inp.new.state.ghost_name ≡ inp.old.state.ghost_name }
 {
     let value = parser.go_emit(inp)?;
@@ -38,7 +37,7 @@ fn whole_check<'src, I: Input<'src>, O, E: ParserExtra<I>, P: Parser<'src, I, O,
     inp: &mut InputRef<'src, '_, I, E>,
 ) -> PResult<()>
     requires { P.ready parser.now }
-    ensures ran { Ran E.Error.merged E.Error.takes_no_memory (WholeRun I.Input E.Error.Error E.State.Inspector (P.meaning parser.now E.Error.Error E.State.Inspector)) false (held I.Input E.Error.Error E.State.Inspector inp.old) (held I.Input E.Error.Error E.State.Inspector inp.new) (without_value result) }
+    ensures ran { Runs I.Input E.Error.Error E.State.Inspector (WholeRun I.Input E.Error.Error E.State.Inspector (P.meaning parser.now E.Error.Error E.State.Inspector)) false inp.old inp.new (without_value result) }
     ensures lent { inp.new.state.ghost_name ≡ inp.old.state.ghost_name }
 {
     parser.go_check(inp)?;

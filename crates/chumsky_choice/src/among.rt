@@ -2,7 +2,7 @@
 ghost use Rattle.std.specs.Prelude.{◌≡◌, ◌≢◌, true, false, None, [], map, length, All, IfSome, MatchOption};
 ghost use Rattle.std.specs.List.{IsFirstAndRest};
 ghost use Rattle.chumsky_input.specs.Held.{held};
-ghost use Rattle.chumsky_input.specs.Run.{Ran, Fails, with_value, without_value};
+ghost use Rattle.chumsky_input.specs.Run.{Runs, Fails, with_value, without_value};
 ghost use Rattle.chumsky_parser.specs.Choice.{FirstOf};
 ghost use Rattle.chumsky_parser.specs.Failure.{expects};
 ghost use Rattle.chumsky_choice.specs.Among.{FirstAmong};
@@ -22,7 +22,7 @@ pub fn emit_among<'src, I: Input<'src>, O, E: ParserExtra<I>, P: Parser<'src, I,
     inp: &mut InputRef<'src, '_, I, E>,
 ) -> PResult<O>
     requires { All P.ready parsers.now }
-    ensures ran { Ran E.Error.merged E.Error.takes_no_memory (FirstAmong I.Input E.Error.Error E.State.Inspector (map (λ p. P.meaning p E.Error.Error E.State.Inspector) parsers.now)) true (held I.Input E.Error.Error E.State.Inspector inp.old) (held I.Input E.Error.Error E.State.Inspector inp.new) (with_value result) }
+    ensures ran { Runs I.Input E.Error.Error E.State.Inspector (FirstAmong I.Input E.Error.Error E.State.Inspector (map (λ p. P.meaning p E.Error.Error E.State.Inspector) parsers.now)) true inp.old inp.new (with_value result) }
     ensures lent { inp.new.state.ghost_name ≡ inp.old.state.ghost_name }
 {
     let Some((first, others)) = first_and_others::<I, O, E, P>(parsers) else {
@@ -41,7 +41,7 @@ pub fn check_among<'src, I: Input<'src>, O, E: ParserExtra<I>, P: Parser<'src, I
     inp: &mut InputRef<'src, '_, I, E>,
 ) -> PResult<()>
     requires { All P.ready parsers.now }
-    ensures ran { Ran E.Error.merged E.Error.takes_no_memory (FirstAmong I.Input E.Error.Error E.State.Inspector (map (λ p. P.meaning p E.Error.Error E.State.Inspector) parsers.now)) false (held I.Input E.Error.Error E.State.Inspector inp.old) (held I.Input E.Error.Error E.State.Inspector inp.new) (without_value result) }
+    ensures ran { Runs I.Input E.Error.Error E.State.Inspector (FirstAmong I.Input E.Error.Error E.State.Inspector (map (λ p. P.meaning p E.Error.Error E.State.Inspector) parsers.now)) false inp.old inp.new (without_value result) }
     ensures lent { inp.new.state.ghost_name ≡ inp.old.state.ghost_name }
 {
     let Some((first, others)) = first_and_others::<I, O, E, P>(parsers) else {
@@ -76,7 +76,7 @@ fn emit_several<'src, I: Input<'src>, O, E: ParserExtra<I>, P: Parser<'src, I, O
     requires first { P.ready first.now }
     requires others { All P.ready others.now }
     requires several { length others.now ≢ 0 }
-    ensures ran { Ran E.Error.merged E.Error.takes_no_memory (FirstOf E.State.mark E.State.back E.State.takes_no_memory (P.meaning first.now E.Error.Error E.State.Inspector) (map (λ p. P.meaning p E.Error.Error E.State.Inspector) others.now)) true (held I.Input E.Error.Error E.State.Inspector inp.old) (held I.Input E.Error.Error E.State.Inspector inp.new) (with_value result) }
+    ensures ran { Runs I.Input E.Error.Error E.State.Inspector (FirstOf E.State.mark E.State.back E.State.takes_no_memory (P.meaning first.now E.Error.Error E.State.Inspector) (map (λ p. P.meaning p E.Error.Error E.State.Inspector) others.now)) true inp.old inp.new (with_value result) }
     ensures lent { inp.new.state.ghost_name ≡ inp.old.state.ghost_name }
 {
     let before = inp.save()?;
@@ -105,7 +105,7 @@ fn check_several<'src, I: Input<'src>, O, E: ParserExtra<I>, P: Parser<'src, I, 
     requires first { P.ready first.now }
     requires others { All P.ready others.now }
     requires several { length others.now ≢ 0 }
-    ensures ran { Ran E.Error.merged E.Error.takes_no_memory (FirstOf E.State.mark E.State.back E.State.takes_no_memory (P.meaning first.now E.Error.Error E.State.Inspector) (map (λ p. P.meaning p E.Error.Error E.State.Inspector) others.now)) false (held I.Input E.Error.Error E.State.Inspector inp.old) (held I.Input E.Error.Error E.State.Inspector inp.new) (without_value result) }
+    ensures ran { Runs I.Input E.Error.Error E.State.Inspector (FirstOf E.State.mark E.State.back E.State.takes_no_memory (P.meaning first.now E.Error.Error E.State.Inspector) (map (λ p. P.meaning p E.Error.Error E.State.Inspector) others.now)) false inp.old inp.new (without_value result) }
     ensures lent { inp.new.state.ghost_name ≡ inp.old.state.ghost_name }
 {
     let before = inp.save()?;

@@ -1,4 +1,5 @@
-//! Which choices are steady, each the contract of a function that does nothing: those whose alternatives are.
+//! Which choices are ready, and which are steady, each the contract of a function that does nothing: those whose alternatives
+//! are.
 //! And what is known of two outputs that count as the same: that they do to one alternative.
 ghost use Rattle.std.specs.Prelude.{[], ◌∷◌, map};
 ghost use Rattle.std.specs.List.{All};
@@ -34,6 +35,14 @@ pub fn choice_is_steady<
     seven: &Choice<(A, B, C, D, F, G, H)>,
     eight: &Choice<(A, B, C, D, F, G, H, J)>,
 )
+    ensures ready_one { A.ready one.now.parsers.0 → ⟦<Choice<(A,)> as Parser<'src, I, O, E>>⟧.ready one.now }
+    ensures ready_two { A.ready two.now.parsers.0 → B.ready two.now.parsers.1 → ⟦<Choice<(A, B)> as Parser<'src, I, O, E>>⟧.ready two.now }
+    ensures ready_three { A.ready three.now.parsers.0 → B.ready three.now.parsers.1 → C.ready three.now.parsers.2 → ⟦<Choice<(A, B, C)> as Parser<'src, I, O, E>>⟧.ready three.now }
+    ensures ready_four { A.ready four.now.parsers.0 → B.ready four.now.parsers.1 → C.ready four.now.parsers.2 → D.ready four.now.parsers.3 → ⟦<Choice<(A, B, C, D)> as Parser<'src, I, O, E>>⟧.ready four.now }
+    ensures ready_five { A.ready five.now.parsers.0 → B.ready five.now.parsers.1 → C.ready five.now.parsers.2 → D.ready five.now.parsers.3 → F.ready five.now.parsers.4 → ⟦<Choice<(A, B, C, D, F)> as Parser<'src, I, O, E>>⟧.ready five.now }
+    ensures ready_six { A.ready six.now.parsers.0 → B.ready six.now.parsers.1 → C.ready six.now.parsers.2 → D.ready six.now.parsers.3 → F.ready six.now.parsers.4 → G.ready six.now.parsers.5 → ⟦<Choice<(A, B, C, D, F, G)> as Parser<'src, I, O, E>>⟧.ready six.now }
+    ensures ready_seven { A.ready seven.now.parsers.0 → B.ready seven.now.parsers.1 → C.ready seven.now.parsers.2 → D.ready seven.now.parsers.3 → F.ready seven.now.parsers.4 → G.ready seven.now.parsers.5 → H.ready seven.now.parsers.6 → ⟦<Choice<(A, B, C, D, F, G, H)> as Parser<'src, I, O, E>>⟧.ready seven.now }
+    ensures ready_eight { A.ready eight.now.parsers.0 → B.ready eight.now.parsers.1 → C.ready eight.now.parsers.2 → D.ready eight.now.parsers.3 → F.ready eight.now.parsers.4 → G.ready eight.now.parsers.5 → H.ready eight.now.parsers.6 → J.ready eight.now.parsers.7 → ⟦<Choice<(A, B, C, D, F, G, H, J)> as Parser<'src, I, O, E>>⟧.ready eight.now }
     ensures one { A.steady one.now.parsers.0 → ⟦<Choice<(A,)> as Parser<'src, I, O, E>>⟧.steady one.now }
     ensures two { A.steady two.now.parsers.0 → B.steady two.now.parsers.1 → ⟦<Choice<(A, B)> as Parser<'src, I, O, E>>⟧.steady two.now }
     ensures three { A.steady three.now.parsers.0 → B.steady three.now.parsers.1 → C.steady three.now.parsers.2 → ⟦<Choice<(A, B, C)> as Parser<'src, I, O, E>>⟧.steady three.now }
@@ -62,6 +71,9 @@ pub fn choice_of_a_list_is_steady<
     A: Parser<'src, I, O, E>,
     const N: usize,
 >(slice: &Choice<&'p [A]>, vec: &Choice<Vec<A>>, array: &Choice<[A; N]>)
+    ensures ready_slice { All A.ready slice.now.parsers.now → ⟦<Choice<&'p [A]> as Parser<'src, I, O, E>>⟧.ready slice.now }
+    ensures ready_vec { All A.ready vec.now.parsers.items → ⟦<Choice<Vec<A>> as Parser<'src, I, O, E>>⟧.ready vec.now }
+    ensures ready_array { All A.ready array.now.parsers → ⟦<Choice<[A; N]> as Parser<'src, I, O, E>>⟧.ready array.now }
     ensures slice { All A.steady slice.now.parsers.now → ⟦<Choice<&'p [A]> as Parser<'src, I, O, E>>⟧.steady slice.now }
     ensures vec { All A.steady vec.now.parsers.items → ⟦<Choice<Vec<A>> as Parser<'src, I, O, E>>⟧.steady vec.now }
     ensures array { All A.steady array.now.parsers → ⟦<Choice<[A; N]> as Parser<'src, I, O, E>>⟧.steady array.now }

@@ -1,7 +1,9 @@
--- Two parsers compared, whose values have two types.
-use Rattle.std.specs.Prelude.{option_map}
+-- Two parsers compared, whose values have one type or two.
+use Rattle.std.specs.Prelude.{◌≡◌, option_map, ◌↔◌}
+use Rattle.chumsky_input.specs.Extra.{Shown}
 use Rattle.chumsky_input.specs.Outcome.{Meaning, Beginning, Outcome, Verdict, Yes, No, Halt, Clash, IsAnswer, Alike, Agree}
 use Rattle.chumsky_parser.specs.Chained.{retold}
+use Rattle.chumsky_parser.specs.Showing.{GivesShown}
 
 -- the verdict, its value put through a function
 abbrev pub put_through : {V W Er : Type 0} → (V → W) → Verdict V Er → Verdict W Er
@@ -22,6 +24,15 @@ module _ {Tok Cx St Er V W : Type 0} (f : V → W) where
   -- two answers from alike beginnings agree, the value of the first put through f
   abbrev pub AgreesAs : (W → W → Type 0) → Meaning Tok Cx St Er V → Meaning Tok Cx St Er W → Type 0
   AgreesAs same m n = (b c : Beginning Tok Cx St) (o : Outcome V Er St) (q : Outcome W Er St) → Alike b c → m b o → n c q → IsAnswer o.verdict → IsAnswer q.verdict → Agree same (shown_as f o) q
+
+-- each outcome of the one is one of the other, and the other way round
+abbrev pub SameOutcomes : {Tok Cx St Er V : Type 0} → Meaning Tok Cx St Er V → Meaning Tok Cx St Er V → Type 0
+SameOutcomes {Tok} {Cx} {St} {Er} {V} m n = (b : Beginning Tok Cx St) (o : Outcome V Er St) → m b o ↔ n b o
+
+-- a mapper that takes no notice of what it is shown, and leaves the state: it answers as this one
+pub record MapsBlindly {Tok Cx St V W : Type 0} (gives : GivesShown Tok Cx St V W) (maps : V → W → Type 0) : Type 0 where
+  pub sees : (v : V) (x : Shown Tok Cx St) (w : W) (s : St) → gives v x w s → maps v w × (s ≡ x.state)
+  pub answers : (v : V) (x : Shown Tok Cx St) (w : W) → maps v w → gives v x w x.state
 
 -- the same three values, in pairs from the right and from the left
 abbrev pub regroup : {U V W : Type 0} → (U × V) × W → U × (V × W)

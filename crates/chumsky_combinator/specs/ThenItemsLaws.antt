@@ -4,7 +4,7 @@ use Rattle.chumsky_input.specs.Outcome.{Meaning, SameValue, EndsAfterStart, Agre
 use Rattle.chumsky_parser.specs.Chained.{Chained, Given, Asked}
 use Rattle.chumsky_parser.specs.Choice.{SameEither}
 use Rattle.chumsky_parser.specs.Laws.{chained-ends, chained-agrees, given-ends, given-agrees, asked-ends, asked-agrees}
-use Rattle.chumsky_parser.specs.Items.{Next, More, End, AfterStep, SameNext, ItemsEnd, ItemsAgree}
+use Rattle.chumsky_parser.specs.Items.{Next, More, End, SameNext, ItemsEnd, ItemsAgree}
 use Rattle.chumsky_parser.specs.ItemsLaws.{after_step-ends, after_step-agrees}
 use Rattle.chumsky_combinator.specs.declared.then_items.Stage.{Stage}
 use Rattle.chumsky_combinator.specs.declared.then_items.Stage.TheVariants.{First, Second}

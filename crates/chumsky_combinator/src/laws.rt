@@ -1,11 +1,13 @@
 //! Laws that compare parsers, each the contract of a function that does nothing.
 ghost use Rattle.std.specs.Prelude.{[], ◌∷◌};
-ghost use Rattle.chumsky_combinator.specs.Compared.{AgreesAs, ShownAs, regroup, ungroup};
+ghost use Rattle.chumsky_combinator.specs.Compared.{AgreesAs, MapsBlindly, SameOutcomes, ShownAs, regroup, ungroup};
 ghost use Rattle.chumsky_combinator.specs.Optional.{NeverSaysNo};
 ghost use Rattle.chumsky_combinator.specs.Standing.{SameByStanding};
 
 use crate::choice::Or;
 use crate::ignore_then::IgnoreThen;
+use crate::map_with::{MapWith, MapperWith};
+use crate::mapped::{Map, Mapper};
 use crate::or_not::OrNot;
 use crate::sequence::Then;
 use chumsky_input::extra::ParserExtra;
@@ -44,6 +46,21 @@ pub fn or_agrees_by_one_alternative<
     B: Parser<'src, I, O, E>,
 >(first: &A, second: &B)
     ensures { A.steady first.now → B.steady second.now → SameByStanding E.State.mark E.State.back E.State.takes_no_memory (⟦<Or<A, B> as Parser<'src, I, O, E>>⟧.meaning (record { first = first.now; second = second.now }) E.Error.Error E.State.Inspector) (A.same first.now) (B.same second.now ∷ []) (A.meaning first.now E.Error.Error E.State.Inspector) (B.meaning second.now E.Error.Error E.State.Inspector ∷ []) }
+{}
+
+/// Where its mapper takes no notice of the run and leaves the state, `map_with` has the outcomes of `map` by a mapper with the
+/// same answers.
+pub fn map_with_by_a_blind_mapper_is_map<
+    'src,
+    I: Input<'src>,
+    O,
+    U,
+    E: ParserExtra<I>,
+    A: Parser<'src, I, O, E>,
+    F: MapperWith<'src, I, O, U, E>,
+    G: Mapper<O, U>,
+>(map_with: &MapWith<A, O, F, U>, mapper: &G)
+    ensures { MapsBlindly (F.gives map_with.now.mapper E.State.Inspector) (G.gives mapper.now) → SameOutcomes (⟦<MapWith<A, O, F, U> as Parser<'src, I, U, E>>⟧.meaning map_with.now E.Error.Error E.State.Inspector) (⟦<Map<A, O, G, U> as Parser<'src, I, U, E>>⟧.meaning (record { parser = map_with.now.parser; mapper = mapper.now; of = record {} }) E.Error.Error E.State.Inspector) }
 {}
 
 /// `a.then(b).then(c)` has the outcomes of `a.then(b.then(c))`, up to the grouping of the pairs.

@@ -26,8 +26,8 @@ pub trait Mapper<O, U> {
     /// That it may be called. Where nothing is said, it may.
     ghost callable: { Self → Type 0 } = { λ mapper. ⊤ };
 
-    /// What it may give for a value.
-    ghost gives: { Self → O → U → Type 0 };
+    /// What it may give for a value. Where nothing is said, nothing is known of it.
+    ghost gives: { Self → O → U → Type 0 } = { λ mapper value output. ⊤ };
 
     /// The output for a value.
     fn apply(&self, value: O) -> U

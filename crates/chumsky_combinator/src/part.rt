@@ -1,7 +1,6 @@
 //! Parts of a grammar, each known to its users by a type of its own.
 ghost use Rattle.std.specs.Prelude.{◌≡◌, IfOk, is_some, ⊤};
-ghost use Rattle.chumsky_input.specs.Held.{held};
-ghost use Rattle.chumsky_input.specs.Run.{Ran};
+ghost use Rattle.chumsky_input.specs.Run.{Runs};
 ghost use Rattle.chumsky_combinator.specs.Part.{Onward};
 
 use chumsky_input::extra::ParserExtra;
@@ -25,7 +24,7 @@ pub trait Part<'src, I: Input<'src>, O, E: ParserExtra<I>> {
 
     /// Runs the parser, for its output where one is wanted.
     fn run(&self, wanted: bool, inp: &mut InputRef<'src, '_, I, E>) -> PResult<Option<O>>
-        ensures ran { Ran E.Error.merged E.Error.takes_no_memory (Onward (means self.now E.Error.Error E.State.Inspector)) wanted (held I.Input E.Error.Error E.State.Inspector inp.old) (held I.Input E.Error.Error E.State.Inspector inp.new) result }
+        ensures ran { Runs I.Input E.Error.Error E.State.Inspector (Onward (means self.now E.Error.Error E.State.Inspector)) wanted inp.old inp.new result }
         ensures as_wanted { IfOk result (λ value. is_some value ≡ wanted) }
         ensures lent { inp.new.state.ghost_name ≡ inp.old.state.ghost_name };
 }
@@ -39,7 +38,7 @@ pub fn run_part<'src, I: Input<'src>, O, E: ParserExtra<I>, P: Parser<'src, I, O
     inp: &mut InputRef<'src, '_, I, E>,
 ) -> PResult<Option<O>>
     requires { P.ready parser.now }
-    ensures ran { Ran E.Error.merged E.Error.takes_no_memory (Onward (P.meaning parser.now E.Error.Error E.State.Inspector)) wanted (held I.Input E.Error.Error E.State.Inspector inp.old) (held I.Input E.Error.Error E.State.Inspector inp.new) result }
+    ensures ran { Runs I.Input E.Error.Error E.State.Inspector (Onward (P.meaning parser.now E.Error.Error E.State.Inspector)) wanted inp.old inp.new result }
     ensures as_wanted { IfOk result (λ value. is_some value ≡ wanted) }
     ensures lent { inp.new.state.ghost_name ≡ inp.old.state.ghost_name }
 {

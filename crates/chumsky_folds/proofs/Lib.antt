@@ -8,3 +8,4 @@ pub mod PlacedLemmas
 pub mod FoldingBackShownLemmas
 pub mod FoldingTriedLemmas
 pub mod BlindLemmas
+pub mod AcceptingLemmas

@@ -57,14 +57,14 @@ module _ {I Cu Tok Sp V : Type 0} (source : input_trait.Ghosts I Cu Tok Sp) wher
         starts-on (ap (λ (z : Held Tok Cx St Er). z.tokens) n) (omega (arith, place)) ys (All-pop (StartsIn source mid.tokens mid.place) xs ys (Some x) d h).0
 
 module _ {Tok Cx St Er S V : Type 0} (step : Meaning Tok Cx St Er (Next S V)) (b : Beginning Tok Cx St) (p : Outcome (Next S V) Er St) (m : step b p) where
-  placed_more : (x : Option V) (t : S) → p.verdict ≡ Yes (Some (More x t)) → Placed step b (retold (Yes (Some (More (option_map (λ y. (y, b.start)) x) t))) p)
+  pub placed_more : (x : Option V) (t : S) → p.verdict ≡ Yes (Some (More x t)) → Placed step b (retold (Yes (Some (More (option_map (λ y. (y, b.start)) x) t))) p)
   placed_more x t d =
       let given : Outcome (Next S (V × ℕ)) Er St = record { verdict = Yes (Some (More (option_map (λ y. (y, b.start)) x) t)); end = p.end; state = p.state; events = []; emitted = [] } in
       let whole : Outcome (Next S (V × ℕ)) Er St = retold (Yes (Some (More (option_map (λ y. (y, b.start)) x) t))) p in
       let same : whole ≡ after p given = cc (append-nil p.events, append-nil p.emitted) in
       record { run = record { first = p; meant = m; follows = subst (λ y. Follows y (AfterStep (PairedWith b.start) (Given (Some End))) b p whole) (sym d) (given, refl, same) } }
 
-  placed_end : p.verdict ≡ Yes (Some End) → Placed step b (retold (Yes (Some End)) p)
+  pub placed_end : p.verdict ≡ Yes (Some End) → Placed step b (retold (Yes (Some End)) p)
   placed_end d =
       let given : Outcome (Next S (V × ℕ)) Er St = record { verdict = Yes (Some End); end = p.end; state = p.state; events = []; emitted = [] } in
       let whole : Outcome (Next S (V × ℕ)) Er St = retold (Yes (Some End)) p in

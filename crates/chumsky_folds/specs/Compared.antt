@@ -1,5 +1,5 @@
 -- What the laws say of folds, and of items with their numbers.
-use Rattle.std.specs.Prelude.{◌≡◌, ℕ, ◌+◌, true, Some, None, List, [], ◌∷◌, ⊤}
+use Rattle.std.specs.Prelude.{◌≡◌, ℕ, ◌+◌, true, Some, None, List, [], ◌∷◌, ⊤, Result, Ok}
 use Rattle.chumsky_input.specs.Extra.{Shown}
 use Rattle.chumsky_input.specs.Outcome.{Meaning, Beginning, Outcome, Yes}
 use Rattle.chumsky_parser.specs.Chained.{retold}
@@ -16,6 +16,11 @@ module _ {Tok Cx St Er L C A : Type 0} where
 pub record IsBlind {Tok Cx St V A : Type 0} (folds : GivesShown Tok Cx St (A × V) A) (steps : A → V → A → Type 0) : Type 0 where
   pub sees : (p : A × V) (x : Shown Tok Cx St) (z : A) (s : St) → folds p x z s → steps p.0 p.1 z × (s ≡ x.state)
   pub answers : (p : A × V) (x : Shown Tok Cx St) (z : A) → steps p.0 p.1 z → folds p x z x.state
+
+-- a folder that may refuse an item and never does: it answers as this one
+pub record NeverRefuses {Tok Cx St E V A : Type 0} (tries : GivesShown Tok Cx St (A × V) (Result A E)) (folds : GivesShown Tok Cx St (A × V) A) : Type 0 where
+  pub accepts : (p : A × V) (x : Shown Tok Cx St) (r : Result A E) (s : St) → tries p x r s → (z : A) × (r ≡ Ok z) × folds p x z s
+  pub answers : (p : A × V) (x : Shown Tok Cx St) (z : A) (s : St) → folds p x z s → tries p x (Ok z) s
 
 -- where a value is wanted: each outcome of the one, but for a yes without a value, is one of the other; and each yes with a
 -- value of the other is one of the one

@@ -19,8 +19,8 @@ pub trait Folder<A, O> {
     /// That it may be called. Where nothing is said, it may.
     ghost callable: { Self → Type 0 } = { λ folder. ⊤ };
 
-    /// What it may give for an accumulator and an item.
-    ghost gives: { Self → A → O → A → Type 0 };
+    /// What it may give for an accumulator and an item. Where nothing is said, nothing is known of it.
+    ghost gives: { Self → A → O → A → Type 0 } = { λ folder accumulator item after. ⊤ };
 
     /// The accumulator with the item in it.
     fn step(&self, accumulator: A, item: O) -> A
@@ -45,8 +45,8 @@ pub trait RightFolder<O, A> {
     /// That it may be called. Where nothing is said, it may.
     ghost callable: { Self → Type 0 } = { λ folder. ⊤ };
 
-    /// What it may give for an item and an accumulator.
-    ghost gives: { Self → O → A → A → Type 0 };
+    /// What it may give for an item and an accumulator. Where nothing is said, nothing is known of it.
+    ghost gives: { Self → O → A → A → Type 0 } = { λ folder item accumulator after. ⊤ };
 
     /// The accumulator with the item in it.
     fn step(&self, item: O, accumulator: A) -> A

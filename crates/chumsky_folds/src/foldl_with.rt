@@ -1,7 +1,7 @@
 //! A parser and then items, folded from its output by what is shown the run.
 ghost use Rattle.std.specs.Prelude.{◌≡◌, ◌≤◌, true, false, Some};
 ghost use Rattle.chumsky_input.specs.Held.{held};
-ghost use Rattle.chumsky_input.specs.Run.{Ran, with_value};
+ghost use Rattle.chumsky_input.specs.Run.{Runs, with_value};
 ghost use Rattle.chumsky_folds.specs.FoldingShown.{TakesAll, TakesShown};
 
 use crate::folder_with::FolderWith;
@@ -92,7 +92,7 @@ fn fold_with<
     requires callable { F.callable folder.now }
     requires tokens { I.cursor_tokens since.now ≡ (held I.Input E.Error.Error E.State.Inspector inp.old).tokens }
     requires order { I.place since.now ≤ (held I.Input E.Error.Error E.State.Inspector inp.old).place }
-    ensures ran { Ran E.Error.merged E.Error.takes_no_memory (TakesAll (λ s. A.gives parser.now (record { nonconsumption_is_ok = false }) s E.Error.Error E.State.Inspector) (A.begins parser.now E.Error.Error E.State.Inspector) (TakesShown (F.gives folder.now E.State.Inspector) (I.place since.now)) (Some first)) true (held I.Input E.Error.Error E.State.Inspector inp.old) (held I.Input E.Error.Error E.State.Inspector inp.new) (with_value result) }
+    ensures ran { Runs I.Input E.Error.Error E.State.Inspector (TakesAll (λ s. A.gives parser.now (record { nonconsumption_is_ok = false }) s E.Error.Error E.State.Inspector) (A.begins parser.now E.Error.Error E.State.Inspector) (TakesShown (F.gives folder.now E.State.Inspector) (I.place since.now)) (Some first)) true inp.old inp.new (with_value result) }
     ensures lent { inp.new.state.ghost_name ≡ inp.old.state.ghost_name }
 {
     let mut state = parser.make_iter(inp)?;

@@ -3,7 +3,7 @@ ghost use Rattle.std.specs.Prelude.{◌≡◌, true, false, IfOk};
 ghost use Rattle.std.specs.List.{All};
 ghost use Rattle.chumsky_input.specs.Extra.{shown_from};
 ghost use Rattle.chumsky_input.specs.Held.{held};
-ghost use Rattle.chumsky_input.specs.Run.{Ran, with_value};
+ghost use Rattle.chumsky_input.specs.Run.{Runs, with_value};
 ghost use Rattle.chumsky_items.specs.Consumers.{Collects};
 ghost use Rattle.chumsky_folds.specs.Placed.{Placed, HoldsPlaced, StartsIn, places_of};
 ghost use Rattle.chumsky_folds.specs.FoldingBackShown.{FoldsRightShown};
@@ -83,7 +83,7 @@ fn collect_placed<'src, I: Input<'src>, O: Drop, E: ParserExtra<I>, A: IterParse
     inp: &mut InputRef<'src, '_, I, E>,
 ) -> PResult<Vec<(O, I::Cursor)>>
     requires { A.ready parser.now }
-    ensures ran { Ran E.Error.merged E.Error.takes_no_memory (Collects (λ s. Placed (A.gives parser.now (record { nonconsumption_is_ok = false }) s E.Error.Error E.State.Inspector)) (A.begins parser.now E.Error.Error E.State.Inspector) (HoldsPlaced I.Input) ⊥) true (held I.Input E.Error.Error E.State.Inspector inp.old) (held I.Input E.Error.Error E.State.Inspector inp.new) (with_value result) }
+    ensures ran { Runs I.Input E.Error.Error E.State.Inspector (Collects (λ s. Placed (A.gives parser.now (record { nonconsumption_is_ok = false }) s E.Error.Error E.State.Inspector)) (A.begins parser.now E.Error.Error E.State.Inspector) (HoldsPlaced I.Input) ⊥) true inp.old inp.new (with_value result) }
     ensures within { IfOk result (λ v. All (StartsIn I.Input (held I.Input E.Error.Error E.State.Inspector inp.new).tokens (held I.Input E.Error.Error E.State.Inspector inp.new).place) v.items) }
     ensures lent { inp.new.state.ghost_name ≡ inp.old.state.ghost_name }
 {

@@ -1,16 +1,17 @@
 //! Laws of folds and of items with their numbers, each the contract of a function that does nothing.
 ghost use Rattle.std.specs.Prelude.{◌≡◌, List, reverse};
 ghost use Rattle.chumsky_parser.specs.Chained.{Sequence};
-ghost use Rattle.chumsky_folds.specs.Compared.{FoldsAlike, FoldsCollected, IsBlind, NumbersFromZero};
+ghost use Rattle.chumsky_folds.specs.Compared.{FoldsAlike, FoldsCollected, IsBlind, NeverRefuses, NumbersFromZero};
 ghost use Rattle.chumsky_folds.specs.Folding.{FoldsLeft};
 
 use crate::enumerate::Enumerate;
 use crate::fold::Fold;
 use crate::folder::{Folder, RightFolder};
-use crate::folder_with::FolderWith;
+use crate::folder_with::{FolderWith, TryFolder};
 use crate::foldl::Foldl;
 use crate::foldl_with::FoldlWith;
 use crate::foldr::Foldr;
+use crate::try_foldl::TryFoldl;
 use chumsky_input::extra::ParserExtra;
 use chumsky_input::input::Input;
 use chumsky_items::collect::Collect;
@@ -60,6 +61,21 @@ pub fn foldl_with_by_a_blind_folder_is_foldl<
     G: Folder<O, U>,
 >(foldl: &FoldlWith<F, A, B, U>, folder: &G)
     ensures { IsBlind (F.gives foldl.now.folder E.State.Inspector) (G.gives folder.now) → FoldsAlike (⟦<FoldlWith<F, A, B, U> as Parser<'src, I, O, E>>⟧.meaning foldl.now E.Error.Error E.State.Inspector) (⟦<Foldl<G, A, B, U> as Parser<'src, I, O, E>>⟧.meaning (record { parser = foldl.now.parser; items = foldl.now.items; folder = folder.now; of = record {} }) E.Error.Error E.State.Inspector) }
+{}
+
+/// Where its folder never refuses an item, `try_foldl` has the outcomes of `foldl_with` by a folder with the same answers.
+pub fn try_foldl_that_never_refuses_is_foldl_with<
+    'src,
+    I: Input<'src>,
+    O: Drop,
+    U: Drop,
+    E: ParserExtra<I>,
+    A: Parser<'src, I, O, E>,
+    B: IterParser<'src, I, U, E>,
+    F: TryFolder<'src, I, O, U, E>,
+    G: FolderWith<'src, I, O, U, E>,
+>(foldl: &TryFoldl<F, A, B, U>, folder: &G)
+    ensures { NeverRefuses (F.gives foldl.now.folder E.State.Inspector) (G.gives folder.now E.State.Inspector) → FoldsAlike (⟦<TryFoldl<F, A, B, U> as Parser<'src, I, O, E>>⟧.meaning foldl.now E.Error.Error E.State.Inspector) (⟦<FoldlWith<G, A, B, U> as Parser<'src, I, O, E>>⟧.meaning (record { parser = foldl.now.parser; items = foldl.now.items; folder = folder.now; of = record {} }) E.Error.Error E.State.Inspector) }
 {}
 
 /// `foldr` gives the left fold of the items in reverse, as `collect` gives them, into the output of the parser after them.

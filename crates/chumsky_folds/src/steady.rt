@@ -1,8 +1,10 @@
-//! When folds and items with their numbers are steady, each the contract of a function that does nothing: where their parts
-//! are, and their folders are functions. And what is known of two outputs that count as the same.
+//! When folds and items with their numbers are ready, and when they are steady, each the contract of a function that does
+//! nothing: they are ready where their parts are and their folders may be called, and steady where their parts are and their
+//! folders are functions. And what is known of two outputs that count as the same.
 ghost use Rattle.std.specs.Prelude.{ℕ};
 ghost use Rattle.chumsky_parser.specs.Copied.{BothCopies};
 ghost use Rattle.chumsky_parser.specs.Showing.{OnlyAnswers};
+ghost use Rattle.chumsky_folds.specs.CalledWithTwo.{KeepsStateOfTwo};
 ghost use Rattle.chumsky_folds.specs.Enumerating.{SameNumbered};
 ghost use Rattle.chumsky_folds.specs.Folding.{IsFunction, SameFolded};
 ghost use Rattle.chumsky_folds.specs.FoldingBack.{SameFoldedBack};
@@ -21,6 +23,7 @@ use crate::foldr_with::FoldrWith;
 use crate::try_foldl::TryFoldl;
 use chumsky_input::extra::ParserExtra;
 use chumsky_input::input::Input;
+use chumsky_input::map_extra::MapExtra;
 use chumsky_parser::iter::IterParser;
 use chumsky_parser::parser::Parser;
 
@@ -35,6 +38,7 @@ pub fn fold_is_steady<
     B: Clone + Drop,
     F: Folder<B, O>,
 >(fold: &Fold<F, A, B, O>)
+    ensures ready { A.ready fold.now.parser → F.callable fold.now.folder → ⟦<Fold<F, A, B, O> as Parser<'src, I, B, E>>⟧.ready fold.now }
     ensures steady { A.steady fold.now.parser → IsFunction (F.gives fold.now.folder) → ⟦<Fold<F, A, B, O> as Parser<'src, I, B, E>>⟧.steady fold.now }
     ensures same { (x y : B) → ⟦<Fold<F, A, B, O> as Parser<'src, I, B, E>>⟧.same fold.now x y → SameFolded (BothCopies (B.is_clone fold.now.init)) (A.same fold.now.parser) (F.gives fold.now.folder) x y }
 {}
@@ -51,6 +55,7 @@ pub fn foldl_is_steady<
     B: IterParser<'src, I, U, E>,
     F: Folder<O, U>,
 >(foldl: &Foldl<F, A, B, U>)
+    ensures ready { A.ready foldl.now.parser → B.ready foldl.now.items → F.callable foldl.now.folder → ⟦<Foldl<F, A, B, U> as Parser<'src, I, O, E>>⟧.ready foldl.now }
     ensures steady { A.steady foldl.now.parser → B.steady foldl.now.items → IsFunction (F.gives foldl.now.folder) → ⟦<Foldl<F, A, B, U> as Parser<'src, I, O, E>>⟧.steady foldl.now }
     ensures same { (x y : O) → ⟦<Foldl<F, A, B, U> as Parser<'src, I, O, E>>⟧.same foldl.now x y → SameFolded (A.same foldl.now.parser) (B.same foldl.now.items) (F.gives foldl.now.folder) x y }
 {}
@@ -67,6 +72,7 @@ pub fn foldr_is_steady<
     B: Parser<'src, I, U, E>,
     F: RightFolder<O, U>,
 >(foldr: &Foldr<F, A, B, O>)
+    ensures ready { A.ready foldr.now.items.parser → B.ready foldr.now.parser → F.callable foldr.now.folder → ⟦<Foldr<F, A, B, O> as Parser<'src, I, U, E>>⟧.ready foldr.now }
     ensures steady { A.steady foldr.now.items.parser → B.steady foldr.now.parser → IsFunction (F.gives foldr.now.folder) → ⟦<Foldr<F, A, B, O> as Parser<'src, I, U, E>>⟧.steady foldr.now }
     ensures same { (x y : U) → ⟦<Foldr<F, A, B, O> as Parser<'src, I, U, E>>⟧.same foldr.now x y → SameFoldedBack (B.same foldr.now.parser) (A.same foldr.now.items.parser) (F.gives foldr.now.folder) x y }
 {}
@@ -84,6 +90,7 @@ pub fn foldl_with_is_steady<
     B: IterParser<'src, I, U, E>,
     F: FolderWith<'src, I, O, U, E>,
 >(foldl: &FoldlWith<F, A, B, U>)
+    ensures ready { A.ready foldl.now.parser → B.ready foldl.now.items → F.callable foldl.now.folder → ⟦<FoldlWith<F, A, B, U> as Parser<'src, I, O, E>>⟧.ready foldl.now }
     ensures steady { A.steady foldl.now.parser → B.steady foldl.now.items → OnlyAnswers (F.gives foldl.now.folder E.State.Inspector) → ⟦<FoldlWith<F, A, B, U> as Parser<'src, I, O, E>>⟧.steady foldl.now }
     ensures same { (x y : O) → ⟦<FoldlWith<F, A, B, U> as Parser<'src, I, O, E>>⟧.same foldl.now x y → SameFolded (A.same foldl.now.parser) (SameTaken (B.same foldl.now.items)) (StepsShown (F.gives foldl.now.folder E.State.Inspector)) x y }
 {}
@@ -101,6 +108,7 @@ pub fn foldr_with_is_steady<
     B: Parser<'src, I, U, E>,
     F: RightFolderWith<'src, I, O, U, E>,
 >(foldr: &FoldrWith<F, A, B, O>)
+    ensures ready { A.ready foldr.now.items → B.ready foldr.now.parser → F.callable foldr.now.folder → ⟦<FoldrWith<F, A, B, O> as Parser<'src, I, U, E>>⟧.ready foldr.now }
     ensures steady { A.steady foldr.now.items → B.steady foldr.now.parser → OnlyAnswers (F.gives foldr.now.folder E.State.Inspector) → ⟦<FoldrWith<F, A, B, O> as Parser<'src, I, U, E>>⟧.steady foldr.now }
     ensures same { (x y : U) → ⟦<FoldrWith<F, A, B, O> as Parser<'src, I, U, E>>⟧.same foldr.now x y → SameFoldedBack (B.same foldr.now.parser) (SameTaken (A.same foldr.now.items)) (StepsBackShown (F.gives foldr.now.folder E.State.Inspector)) x y }
 {}
@@ -117,8 +125,33 @@ pub fn try_foldl_is_steady<
     B: IterParser<'src, I, U, E>,
     F: TryFolder<'src, I, O, U, E>,
 >(foldl: &TryFoldl<F, A, B, U>)
+    ensures ready { A.ready foldl.now.parser → B.ready foldl.now.items → F.callable foldl.now.folder → ⟦<TryFoldl<F, A, B, U> as Parser<'src, I, O, E>>⟧.ready foldl.now }
     ensures steady { A.steady foldl.now.parser → B.steady foldl.now.items → TriesAlike E.Error.seen (F.gives foldl.now.folder E.State.Inspector) (A.same foldl.now.parser) (B.same foldl.now.items) → ⟦<TryFoldl<F, A, B, U> as Parser<'src, I, O, E>>⟧.steady foldl.now }
     ensures same { (x y : O) → ⟦<TryFoldl<F, A, B, U> as Parser<'src, I, O, E>>⟧.same foldl.now x y → SameFolded (A.same foldl.now.parser) (SameTaken (B.same foldl.now.items)) (StepsTried (F.gives foldl.now.folder E.State.Inspector)) x y }
+{}
+
+/// A closure is a folder that may be called where it may be called at all, and one that is shown the run where it keeps the
+/// reference to the state too.
+pub fn closures_may_fold<'src, I, A, O, E, F, G, H, J, K>(
+    left: &F,
+    right: &G,
+    left_with: &H,
+    right_with: &J,
+    trying: &K,
+)
+where
+    I: Input<'src>,
+    E: ParserExtra<I>,
+    F: Fn(A, O) -> A,
+    G: Fn(O, A) -> A,
+    H: Fn(A, O, &mut MapExtra<'src, '_, I, E>) -> A,
+    J: Fn(O, A, &mut MapExtra<'src, '_, I, E>) -> A,
+    K: Fn(A, O, &mut MapExtra<'src, '_, I, E>) -> Result<A, E::Error>,
+    ensures left { F.IsAlwaysCallable left.now → ⟦<F as Folder<A, O>>⟧.callable left.now }
+    ensures right { G.IsAlwaysCallable right.now → ⟦<G as RightFolder<O, A>>⟧.callable right.now }
+    ensures left_with { KeepsStateOfTwo I.Input E.State.Inspector H.Fn left_with.now → ⟦<H as FolderWith<'src, I, A, O, E>>⟧.callable left_with.now }
+    ensures right_with { KeepsStateOfTwo I.Input E.State.Inspector J.Fn right_with.now → ⟦<J as RightFolderWith<'src, I, O, A, E>>⟧.callable right_with.now }
+    ensures trying { KeepsStateOfTwo I.Input E.State.Inspector K.Fn trying.now → ⟦<K as TryFolder<'src, I, A, O, E>>⟧.callable trying.now }
 {}
 
 /// `a.enumerate()`. Two of its items are the same where their numbers are equal, and the items of `a` in them are the same.
@@ -129,6 +162,7 @@ pub fn enumerate_is_steady<
     E: ParserExtra<I>,
     A: IterParser<'src, I, O, E>,
 >(enumerate: &Enumerate<A, O>)
+    ensures ready { A.ready enumerate.now.parser → ⟦<Enumerate<A, O> as IterParser<'src, I, (usize, O), E>>⟧.ready enumerate.now }
     ensures steady { A.steady enumerate.now.parser → ⟦<Enumerate<A, O> as IterParser<'src, I, (usize, O), E>>⟧.steady enumerate.now }
     ensures same { (x y : ℕ × O) → ⟦<Enumerate<A, O> as IterParser<'src, I, (usize, O), E>>⟧.same enumerate.now x y → SameNumbered (A.same enumerate.now.parser) x y }
 {}

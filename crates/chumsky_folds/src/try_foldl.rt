@@ -1,7 +1,7 @@
 //! A parser and then items, folded from its output by what may refuse.
 ghost use Rattle.std.specs.Prelude.{◌≡◌, ◌≤◌, true, false, Some, Bool};
 ghost use Rattle.chumsky_input.specs.Held.{held};
-ghost use Rattle.chumsky_input.specs.Run.{Ran, with_value};
+ghost use Rattle.chumsky_input.specs.Run.{Runs, with_value};
 ghost use Rattle.chumsky_parser.specs.Failure.{asked};
 ghost use Rattle.chumsky_folds.specs.FoldingShown.{TakesAll};
 ghost use Rattle.chumsky_folds.specs.Placed.{Placed};
@@ -89,7 +89,7 @@ where
     requires part { A.ready fold.now.parser }
     requires items { B.ready fold.now.items }
     requires callable { F.callable fold.now.folder }
-    ensures ran { (w : Bool) → Ran E.Error.merged E.Error.takes_no_memory (FoldsTried (λ s. B.gives fold.now.items (record { nonconsumption_is_ok = false }) s E.Error.Error E.State.Inspector) (B.begins fold.now.items E.Error.Error E.State.Inspector) E.Error.seen (F.gives fold.now.folder E.State.Inspector) (A.meaning fold.now.parser E.Error.Error E.State.Inspector)) w (held I.Input E.Error.Error E.State.Inspector inp.old) (held I.Input E.Error.Error E.State.Inspector inp.new) (asked w result) }
+    ensures ran { (w : Bool) → Runs I.Input E.Error.Error E.State.Inspector (FoldsTried (λ s. B.gives fold.now.items (record { nonconsumption_is_ok = false }) s E.Error.Error E.State.Inspector) (B.begins fold.now.items E.Error.Error E.State.Inspector) E.Error.seen (F.gives fold.now.folder E.State.Inspector) (A.meaning fold.now.parser E.Error.Error E.State.Inspector)) w inp.old inp.new (asked w result) }
     ensures lent { inp.new.state.ghost_name ≡ inp.old.state.ghost_name }
 {
     let before = inp.cursor;
@@ -118,7 +118,7 @@ fn try_fold_with<
     requires callable { F.callable folder.now }
     requires tokens { I.cursor_tokens since.now ≡ (held I.Input E.Error.Error E.State.Inspector inp.old).tokens }
     requires order { I.place since.now ≤ (held I.Input E.Error.Error E.State.Inspector inp.old).place }
-    ensures ran { Ran E.Error.merged E.Error.takes_no_memory (TakesAll (λ s. Placed (A.gives parser.now (record { nonconsumption_is_ok = false }) s E.Error.Error E.State.Inspector)) (A.begins parser.now E.Error.Error E.State.Inspector) (TakesTried E.Error.seen (F.gives folder.now E.State.Inspector) (I.place since.now)) (Some first)) true (held I.Input E.Error.Error E.State.Inspector inp.old) (held I.Input E.Error.Error E.State.Inspector inp.new) (with_value result) }
+    ensures ran { Runs I.Input E.Error.Error E.State.Inspector (TakesAll (λ s. Placed (A.gives parser.now (record { nonconsumption_is_ok = false }) s E.Error.Error E.State.Inspector)) (A.begins parser.now E.Error.Error E.State.Inspector) (TakesTried E.Error.seen (F.gives folder.now E.State.Inspector) (I.place since.now)) (Some first)) true inp.old inp.new (with_value result) }
     ensures lent { inp.new.state.ghost_name ≡ inp.old.state.ghost_name }
 {
     let mut state = parser.make_iter(inp)?;

@@ -1,6 +1,6 @@
 //! Laws that compare groups with sequences, each the contract of a function that does nothing.
 ghost use Rattle.chumsky_combinator.specs.Compared.{ShownAs};
-ghost use Rattle.chumsky_group.specs.Regrouped.{SameOutcomes};
+ghost use Rattle.chumsky_combinator.specs.Compared.{SameOutcomes};
 
 use crate::group::Group;
 use chumsky_combinator::sequence::Then;

@@ -1,5 +1,5 @@
-//! Which groups are steady, each the contract of a function that does nothing: those whose parts are. And
-//! what is known of two outputs that count as the same: that those of each part do.
+//! Which groups are ready, and which are steady, each the contract of a function that does nothing: those whose parts are.
+//! And what is known of two outputs that count as the same: that those of each part do.
 ghost use Rattle.std.specs.Prelude.{map};
 ghost use Rattle.std.specs.List.{All};
 ghost use Rattle.chumsky_group.specs.InTurn.{SameItems};
@@ -41,6 +41,14 @@ pub fn group_is_steady<
     seven: &Group<(A, B, C, D, F, G, J)>,
     eight: &Group<(A, B, C, D, F, G, H, J)>,
 )
+    ensures ready_one { J.ready one.now.parsers.0 → ⟦<Group<(J,)> as Parser<'src, I, (OJ,), E>>⟧.ready one.now }
+    ensures ready_two { A.ready two.now.parsers.0 → J.ready two.now.parsers.1 → ⟦<Group<(A, J)> as Parser<'src, I, (OA, OJ), E>>⟧.ready two.now }
+    ensures ready_three { A.ready three.now.parsers.0 → B.ready three.now.parsers.1 → J.ready three.now.parsers.2 → ⟦<Group<(A, B, J)> as Parser<'src, I, (OA, OB, OJ), E>>⟧.ready three.now }
+    ensures ready_four { A.ready four.now.parsers.0 → B.ready four.now.parsers.1 → C.ready four.now.parsers.2 → J.ready four.now.parsers.3 → ⟦<Group<(A, B, C, J)> as Parser<'src, I, (OA, OB, OC, OJ), E>>⟧.ready four.now }
+    ensures ready_five { A.ready five.now.parsers.0 → B.ready five.now.parsers.1 → C.ready five.now.parsers.2 → D.ready five.now.parsers.3 → J.ready five.now.parsers.4 → ⟦<Group<(A, B, C, D, J)> as Parser<'src, I, (OA, OB, OC, OD, OJ), E>>⟧.ready five.now }
+    ensures ready_six { A.ready six.now.parsers.0 → B.ready six.now.parsers.1 → C.ready six.now.parsers.2 → D.ready six.now.parsers.3 → F.ready six.now.parsers.4 → J.ready six.now.parsers.5 → ⟦<Group<(A, B, C, D, F, J)> as Parser<'src, I, (OA, OB, OC, OD, OF, OJ), E>>⟧.ready six.now }
+    ensures ready_seven { A.ready seven.now.parsers.0 → B.ready seven.now.parsers.1 → C.ready seven.now.parsers.2 → D.ready seven.now.parsers.3 → F.ready seven.now.parsers.4 → G.ready seven.now.parsers.5 → J.ready seven.now.parsers.6 → ⟦<Group<(A, B, C, D, F, G, J)> as Parser<'src, I, (OA, OB, OC, OD, OF, OG, OJ), E>>⟧.ready seven.now }
+    ensures ready_eight { A.ready eight.now.parsers.0 → B.ready eight.now.parsers.1 → C.ready eight.now.parsers.2 → D.ready eight.now.parsers.3 → F.ready eight.now.parsers.4 → G.ready eight.now.parsers.5 → H.ready eight.now.parsers.6 → J.ready eight.now.parsers.7 → ⟦<Group<(A, B, C, D, F, G, H, J)> as Parser<'src, I, (OA, OB, OC, OD, OF, OG, OH, OJ), E>>⟧.ready eight.now }
     ensures one { J.steady one.now.parsers.0 → ⟦<Group<(J,)> as Parser<'src, I, (OJ,), E>>⟧.steady one.now }
     ensures two { A.steady two.now.parsers.0 → J.steady two.now.parsers.1 → ⟦<Group<(A, J)> as Parser<'src, I, (OA, OJ), E>>⟧.steady two.now }
     ensures three { A.steady three.now.parsers.0 → B.steady three.now.parsers.1 → J.steady three.now.parsers.2 → ⟦<Group<(A, B, J)> as Parser<'src, I, (OA, OB, OJ), E>>⟧.steady three.now }
@@ -68,6 +76,7 @@ pub fn group_of_an_array_is_steady<
     P: Parser<'src, I, O, E>,
     const N: usize,
 >(group: &Group<[P; N]>)
+    ensures ready { All P.ready group.now.parsers → ⟦<Group<[P; N]> as Parser<'src, I, ArrayVec<O, N>, E>>⟧.ready group.now }
     ensures steady { All P.steady group.now.parsers → ⟦<Group<[P; N]> as Parser<'src, I, ArrayVec<O, N>, E>>⟧.steady group.now }
     ensures same { (x y : _) → ⟦<Group<[P; N]> as Parser<'src, I, ArrayVec<O, N>, E>>⟧.same group.now x y → SameItems (map P.same group.now.parsers) x y }
 {}

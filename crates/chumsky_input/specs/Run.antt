@@ -1,11 +1,15 @@
 -- What a run leaves, of one outcome.
 use Rattle.std.specs.Prelude.{◌≡◌, ℕ, ◌+◌, ◌<◌, Bool, Option, Some, None, List, [], ◌∷◌, ◌++◌, Result, Ok, Err, length, option_to_list, slice_get, take, ◌⊎◌}
+use Rattle.chumsky_input.specs.declared.error.Error as error_trait
+use Rattle.chumsky_input.specs.declared.inspector.Inspector as inspector_trait
+use Rattle.chumsky_input.specs.declared.input.Input as input_trait
+use Rattle.chumsky_input.specs.declared.input_ref.InputRef.{InputRef}
 use Rattle.chumsky_input.specs.declared.stop.Stop.TheVariants.{Memory}
 use Rattle.chumsky_input.specs.declared.stop.Fault.{Fault}
 use Rattle.chumsky_input.specs.declared.stop.Fault.TheVariants as fault
 use Rattle.chumsky_input.specs.Outcome.{Event, Beginning, Outcome, Meaning, Verdict, Yes, No, Halt, Clash, HasEventAt}
 use Rattle.chumsky_input.specs.Primary.{primary}
-use Rattle.chumsky_input.specs.Held.{Held, Marks, PassesOn}
+use Rattle.chumsky_input.specs.Held.{Held, Marks, PassesOn, held}
 use Rattle.chumsky_input.specs.Wanted.{Wanted}
 
 -- the answer of a call, by verdict
@@ -98,6 +102,11 @@ module _ {Tok Cx St Er V : Type 0} (merged : Er → Er → Er) (safe : Type 0) w
     pub state : new.state ≡ outcome.state
     pub left : LeavesBy outcome.verdict outcome old new
     pub same : SameRun old new
+
+module _ {I X Tok Sp Cu Er St Cx Mk V : Type 0} (source : input_trait.Ghosts I Cu Tok Sp) (errors : error_trait.Ghosts Er I Tok Sp) (states : inspector_trait.Ghosts St I Mk Tok Sp) where
+  -- the run from `old` to `new`, asked for a value or not, shows one outcome of the meaning
+  abbrev pub Runs : Meaning Tok Cx states.Seen errors.Seen V → Bool → InputRef I X Cu Tok Sp Er St Cx Mk → InputRef I X Cu Tok Sp Er St Cx Mk → Result (Option V) Fault → Type 0
+  Runs meaning wanted old new result = Ran errors.merged errors.takes_no_memory meaning wanted (held source errors states old) (held source errors states new) result
 
 -- an event is kept that lies past this place
 abbrev pub KeepsPast : {Er : Type 0} → ℕ → Option (Event Er) → Type 0

@@ -5,3 +5,4 @@ pub mod PrimitivesMove
 pub mod PartsMove
 pub mod ItemsMove
 pub mod FoldsMove
+pub mod TakenMove

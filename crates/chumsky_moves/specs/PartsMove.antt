@@ -47,7 +47,7 @@ module _ {Tok Cx St Er : Type 0} where
   mapped_with-moves gives part h b o m y = chained-first part (GivenShown gives b.start) h (shown-ends gives b.start) b o m.run y
 
 module _ {V Er St : Type 0} where
-  clash-yes : {whole o : Outcome V Er St} → OrClash whole o → IsYes o.verdict → o ≡ whole
+  pub clash-yes : {whole o : Outcome V Er St} → OrClash whole o → IsYes o.verdict → o ≡ whole
   clash-yes (inl e) y = e
   clash-yes (inr c) y = absurd (subst IsYes (ap (λ (x : Outcome V Er St). x.verdict) c.2) y)
 
@@ -65,7 +65,7 @@ module _ {Tok Cx St Er V W : Type 0} (part : Meaning Tok Cx St Er V) (on_yes : O
   judges_move h hy hn (Clash x) b p o e m j y = absurd (subst IsYes (ap (λ (x : Outcome W Er St). x.verdict) j) y)
 
   -- what is made of a yes of the part ends past its start too, and of a no comes no yes
-  shielded-moves : Moves part → ((b : Beginning Tok Cx St) (v : Option V) (p : Outcome V Er St) (o : Outcome W Er St) → b.start < p.end → on_yes b v p o → IsYes o.verdict → b.start < o.end)
+  pub shielded-moves : Moves part → ((b : Beginning Tok Cx St) (v : Option V) (p : Outcome V Er St) (o : Outcome W Er St) → b.start < p.end → on_yes b v p o → IsYes o.verdict → b.start < o.end)
       → ((b : Beginning Tok Cx St) (p : Outcome V Er St) (o : Outcome W Er St) → on_no b p o → IsYes o.verdict → ⊥) → Moves (Shielded part on_yes on_no)
   shielded-moves h hy hn b o m y = judges_move h hy hn m.first.verdict b m.first o refl m.meant m.judges y
 

@@ -10,3 +10,4 @@ pub mod judged;
 pub mod moving;
 pub mod primitives;
 pub mod stay;
+pub mod taken;

@@ -22,7 +22,7 @@ use Rattle.chumsky_primitive.specs.End.{MeansEnd}
 use Rattle.chumsky_parse_iter.specs.declared.parse_iter.Phase.{Phase}
 use Rattle.chumsky_parse_iter.specs.declared.parse_iter.Phase.TheVariants.{Unbegun, Running, Ended, Refused}
 use Rattle.chumsky_parse_iter.specs.Settled.{SettlesAs, reported, RefusesBy}
-use Rattle.chumsky_parse_iter.specs.Finish.{Closing, Closes, Replies, Finishes, WhereCounted, Takes, TakesMade, WholeWalk, AnswersBeside, AnswersWhole}
+use Rattle.chumsky_parse_iter.specs.Finish.{Closing, Closes, Replies, Finishes, AnswersBeside, AnswersWhole}
 use Rattle.chumsky_parse_iter.specs.Walk.{with_next, Counted, GivesMade, GivesFirst, Steps, WalksOn}
 
 module _ {I Tok Sp Cu Er St Cx R : Type 0} (source : input_trait.Ghosts I Cu Tok Sp) (errors : error_trait.Ghosts Er I Tok Sp) (out : R) (ts : List Tok) (before mid after : Held Tok Cx St errors.Seen) where

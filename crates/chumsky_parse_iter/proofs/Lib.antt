@@ -1,3 +1,4 @@
 pub mod PartsLemmas
 pub mod FinishLemmas
 pub mod WalkLemmas
+pub mod NoneLemmas

@@ -19,7 +19,7 @@ use Rattle.chumsky_parser.specs.Items.{Next, More, End, AfterStep}
 use Rattle.chumsky_parser.proofs.ChainedLemmas.{failed, chained, ran-asked, ran-weaker, same_run-trans}
 use Rattle.chumsky_parse_iter.specs.declared.parse_iter.Phase.{Phase}
 use Rattle.chumsky_parse_iter.specs.declared.parse_iter.Phase.TheVariants.{Unbegun, Running, Ended, Refused}
-use Rattle.chumsky_parse_iter.specs.Finish.{Closing, WhereCounted, Takes, TakesMade, WholeWalk, Called, AnswersTheWhole}
+use Rattle.chumsky_parse_iter.specs.Finish.{Closing, Succeeding, RanFor, AfterCall, Takes, TakesMade, WholeWalk, Called, AnswersTheWhole}
 use Rattle.chumsky_parse_iter.proofs.FinishLemmas.{answers-whole}
 use Rattle.chumsky_primitive.specs.End.{MeansEnd}
 use Rattle.chumsky_parse_iter.specs.Walk.{with_next, Counted, GivesMade, GivesFirst, Steps, WalksOn}
@@ -146,45 +146,93 @@ module _ {Tok Cx St Er S V W : Type 0} (begins : Meaning Tok Cx St Er S) (gives 
       let c = m.meant.run in
       unmade c.first m.first c.first.verdict refl c.meant.run c.follows m.follows
 
-module _ {Tok Cx St Er S V : Type 0} (begins : Meaning Tok Cx St Er S) (gives : S → Meaning Tok Cx St Er (Next S V)) (ending : Meaning Tok Cx St Er (Unit {0})) where
-  -- what is left of a run: so many items more are asked for, after n
-  abbrev pub Remains : ℕ → ℕ → Phase S → Meaning Tok Cx St Er (Unit {0})
-  Remains k n Unbegun = WholeWalk begins gives ending k
-  Remains k n (Running s) = Takes begins gives ending k n s
-  Remains k n Ended = ending
-  Remains k n (Refused f) = Standing f
+module _ {Tok Cx St Er S V W : Type 0} (begins : Meaning Tok Cx St Er S) (gives : S → Meaning Tok Cx St Er (Next S V)) (next : Option (Next S V) → Meaning Tok Cx St Er W) (rest : Option S → Meaning Tok Cx St Er W)
+    (on : (s : S) (c : Beginning Tok Cx St) (r : Outcome W Er St) → Chained (Asked true (Succeeding (gives s))) next c r → rest (Some s) c r) (b : Beginning Tok Cx St) (o : Outcome W Er St) where
+  unmade_yes : (q : Outcome S Er St) (p : Outcome (Next S V) Er St) (u : Option (Next S V)) → p.verdict ≡ Yes u → (w : Verdict S Er) → q.verdict ≡ w → begins (record b { wanted = true }) q → Follows w (GivesMade begins gives) (record b { wanted = true }) q p → Follows p.verdict next b p o
+      → Chained (Asked true (Succeeding begins)) rest b o
+  unmade_yes q p u y (Yes (Some s)) e m f g =
+      let k : Follows f.0.verdict next b (after q f.0) o = subst (λ (z : Outcome (Next S V) Er St). Follows z.verdict next b z o) f.2 g in
+      let d : f.0.verdict ≡ Yes u = sym (ap (λ (z : Outcome (Next S V) Er St). z.verdict) f.2) ∙ y in
+      record {
+        first = q;
+        meant = record { run = record { meant = m; value = Some s; is = e } };
+        follows = subst (λ z. Follows z rest b q o) (sym e) (made begins (λ s. Succeeding (gives s)) next rest on b o q s f.0 f.0.verdict refl (record { meant = f.1; value = u; is = d }) k);
+      }
+  unmade_yes q p u y (Yes None) e m f g = absurd f.1
+  unmade_yes q p u y No e m f g = let v = ap (λ (z : Outcome (Next S V) Er St). z.verdict) f in let no : ⊥ = cc in absurd no
+  unmade_yes q p u y (Halt h) e m f g = let v = ap (λ (z : Outcome (Next S V) Er St). z.verdict) f in let no : ⊥ = cc in absurd no
+  unmade_yes q p u y (Clash h) e m f g = let v = ap (λ (z : Outcome (Next S V) Er St). z.verdict) f in let no : ⊥ = cc in absurd no
 
-  -- and what follows a step
-  abbrev Then : ℕ → ℕ → Option (Next S V) → Meaning Tok Cx St Er (Unit {0})
-  Then k n = AfterStep (λ v t. WhereCounted begins gives ending (nat_lt (n + 1) (2 ^ 64)) (Takes begins gives ending k (n + 1) t)) ending
+  -- the same where both parts said yes
+  pub regrouped_yes : Chained (Asked true (Succeeding (GivesFirst begins gives))) next b o → Chained (Asked true (Succeeding begins)) rest b o
+  regrouped_yes m =
+      let c = m.meant.run.meant in
+      unmade_yes c.first m.first m.meant.run.value m.meant.run.is c.first.verdict refl c.meant.run c.follows m.follows
+
+yes_of : {V Er : Type 0} (w : Verdict V Er) (v : Option V) → Ok v ≡ answer w → w ≡ Yes v
+yes_of (Yes u) v e = cc
+yes_of No v e = let no : ⊥ = cc in absurd no
+yes_of (Halt z) v e = let no : ⊥ = cc in absurd no
+yes_of (Clash z) v e = let no : ⊥ = cc in absurd no
+
+module _ {Tok Cx St Er V : Type 0} {merged : Er → Er → Er} {safe : Type 0} {meaning : Meaning Tok Cx St Er V} {wanted : Bool} {old new : Held Tok Cx St Er} where
+  -- a run with a value is one of an outcome that says yes
+  pub ran-succeeding : {v : Option V} → Ran merged safe meaning wanted old new (Ok v) → Ran merged safe (Succeeding meaning) wanted old new (Ok v)
+  ran-succeeding {v} h = record { outcome = h.outcome; meant = record { meant = h.meant; value = v; is = yes_of h.outcome.verdict v h.answered }; answered = h.answered; state = h.state; left = h.left; same = h.same }
+
+module _ {Tok Cx St Er S V : Type 0} (begins : Meaning Tok Cx St Er S) (gives : S → Meaning Tok Cx St Er (Next S V)) (ending : Meaning Tok Cx St Er (Unit {0})) where
+  -- what is left of a run: items are asked for by calls that gave this, after n items
+  abbrev pub Remains : List (Option V) → ℕ → Phase S → Meaning Tok Cx St Er (Unit {0})
+  Remains rs n Unbegun = WholeWalk begins gives ending rs
+  Remains rs n (Running s) = Takes begins gives ending rs n s
+  Remains rs n Ended = ending
+  Remains rs n (Refused f) = Standing f
+
+  -- a step, and then the calls after it
+  abbrev Called_on : Option V → List (Option V) → ℕ → Meaning Tok Cx St Er (Next S V) → Meaning Tok Cx St Er (Unit {0})
+  Called_on r rs n step = Chained (Asked true (RanFor r step)) (AfterCall r n (Takes begins gives ending rs (n + 1)) ending)
+
+  whole_first : (r : Option V) (rs : List (Option V)) (b : Beginning Tok Cx St) (o : Outcome (Unit {0}) Er St) → Called_on r rs 0 (GivesFirst begins gives) b o → WholeWalk begins gives ending (r ∷ rs) b o
+  whole_first (Some x) rs b o m = regrouped_yes begins gives (AfterCall (Some x) 0 (Takes begins gives ending rs 1) ending) (TakesMade begins gives ending (Some x ∷ rs)) (λ s c t z. z) b o m
+  whole_first None rs b o m = regrouped begins gives (AfterCall None 0 (Takes begins gives ending rs 1) ending) (TakesMade begins gives ending (None ∷ rs)) (λ s c t z. z) b o m
 
 module _ {Tok Cx St Er S V : Type 0} (merged : Er → Er → Er) (safe : Type 0) (begins : Meaning Tok Cx St Er S) (gives : S → Meaning Tok Cx St Er (Next S V)) (ending : Meaning Tok Cx St Er (Unit {0})) where
-  module _ (k n : ℕ) (old mid new : Held Tok Cx St Er) (x : Result (Option (Unit {0})) Fault) where
-    counted_on : (fit : Bool) (s : S) (v : V) (r : Option V) (p : Phase S) (m : ℕ) → MatchBool fit ((r ≡ Some v) × (p ≡ Running s) × (m ≡ n + 1)) ((r ≡ None) × (p ≡ Refused (fault.Stop CountTooLarge)) × (m ≡ n))
-        → Ran merged safe (Remains begins gives ending k m p) false mid new x → Ran merged safe (WhereCounted begins gives ending fit (Takes begins gives ending k (n + 1) s)) false mid new x
-    counted_on true s v r p m h g = rw (h.1, h.2) at g
-    counted_on false s v r p m h g = rw (h.1) at g
+  module _ (rs : List (Option V)) (n : ℕ) (old mid new : Held Tok Cx St Er) (x : Result (Option (Unit {0})) Fault) where
+    abbrev On : Option V → Meaning Tok Cx St Er (Next S V) → Type 0
+    On r step = Ran merged safe (Called_on begins gives ending r rs n step) false old new x
+
+    counted_on : (step : Meaning Tok Cx St Er (Next S V)) (fit : Bool) → nat_lt (n + 1) (2 ^ 64) ≡ fit → (s : S) (v : V) (r : Option V) (p : Phase S) (m : ℕ) → MatchBool fit ((r ≡ Some v) × (p ≡ Running s) × (m ≡ n + 1)) ((r ≡ None) × (p ≡ Refused (fault.Stop CountTooLarge)) × (m ≡ n))
+        → Ran merged safe step true old mid (Ok (Some (More (Some v) s))) → Ran merged safe (Remains begins gives ending rs m p) false mid new x → On r step
+    counted_on step true e s v r p m h k g =
+        let on : Ran merged safe (Takes begins gives ending rs (n + 1) s) false mid new x = rw (h.1, h.2) at g in
+        let next : Ran merged safe (AfterCall (Some v) n (Takes begins gives ending rs (n + 1)) ending (Some (More (Some v) s))) false mid new x = ran-weaker merged safe (Takes begins gives ending rs (n + 1) s) _ false mid new x (λ o t. (refl, e, t)) on in
+        subst (λ q. On q step) (sym h.0) (chained (ran-asked (ran-succeeding k)) refl next)
+    counted_on step false e s v r p m h k g =
+        let on : Ran merged safe (Stops CountTooLarge) false mid new x = rw (h.1) at g in
+        let next : Ran merged safe (AfterCall None n (Takes begins gives ending rs (n + 1)) ending (Some (More (Some v) s))) false mid new x = ran-weaker merged safe (Stops CountTooLarge) _ false mid new x (λ o t. (e, t)) on in
+        subst (λ q. On q step) (sym h.0) (chained (ran-asked k) refl next)
 
     -- a step, and then what is left
-    steps_on : (step : Meaning Tok Cx St Er (Next S V)) (a : Result (Option (V × S)) Fault) (r : Option V) (p : Phase S) (m : ℕ) → Ran merged safe step true old mid (with_next a) → Counted n a r p m → Ran merged safe (Remains begins gives ending k m p) false mid new x
-        → Ran merged safe (Chained (Asked true step) (Then begins gives ending k n)) false old new x
-    steps_on step (Ok (Some y)) r p m h c g = chained (ran-asked h) refl (counted_on (nat_lt (n + 1) (2 ^ 64)) y.1 y.0 r p m c g)
-    steps_on step (Ok None) r p m h c g = chained (ran-asked h) refl (rw (c.1) at g)
+    steps_on : (step : Meaning Tok Cx St Er (Next S V)) (a : Result (Option (V × S)) Fault) (r : Option V) (p : Phase S) (m : ℕ) → Ran merged safe step true old mid (with_next a) → Counted n a r p m → Ran merged safe (Remains begins gives ending rs m p) false mid new x → On r step
+    steps_on step (Ok (Some y)) r p m h c g = counted_on step (nat_lt (n + 1) (2 ^ 64)) refl y.1 y.0 r p m c h g
+    steps_on step (Ok None) r p m h c g =
+        let on : Ran merged safe ending false mid new x = rw (c.1) at g in
+        subst (λ q. On q step) (sym c.0) (chained (ran-asked h) refl on)
     steps_on step (Err f) r p m h c g =
-        let failing : Ran merged safe (Chained (Asked true step) (Then begins gives ending k n)) false old mid (Err f) = failed (ran-asked h) refl refl in
+        let failing : Ran merged safe (Called_on begins gives ending None rs n step) false old mid (Err f) = failed (ran-asked h) refl refl in
         let z = ran-stands f failing refl (rw (c.1) at g) in
-        rw (z.0) (z.1)
+        subst (λ q. On q step) (sym c.0) (rw (z.0) (z.1))
 
   -- a call of `next`, and then what is left
-  walks_on : (k n : ℕ) (old mid new : Held Tok Cx St Er) (x : Result (Option (Unit {0})) Fault) (p q : Phase S) (r : Option V) (m : ℕ) → (p ≡ Unbegun → n ≡ 0) → WalksOn merged safe begins gives p old n r q mid m → Ran merged safe (Remains begins gives ending k m q) false mid new x
-      → Ran merged safe (Remains begins gives ending (suc k) n p) false old new x
-  walks_on k n old mid new x Unbegun q r m z w g =
+  walks_on : (rs : List (Option V)) (n : ℕ) (old mid new : Held Tok Cx St Er) (x : Result (Option (Unit {0})) Fault) (p q : Phase S) (r : Option V) (m : ℕ) → (p ≡ Unbegun → n ≡ 0) → WalksOn merged safe begins gives p old n r q mid m → Ran merged safe (Remains begins gives ending rs m q) false mid new x
+      → Ran merged safe (Remains begins gives ending (r ∷ rs) n p) false old new x
+  walks_on rs n old mid new x Unbegun q r m z w g =
       let e : n ≡ 0 = z refl in
-      let all : Ran merged safe (Chained (Asked true (GivesFirst begins gives)) (Then begins gives ending k n)) false old new x = steps_on k n old mid new x (GivesFirst begins gives) w.answer r q m w.ran w.counted g in
-      ran-weaker merged safe (Chained (Asked true (GivesFirst begins gives)) (Then begins gives ending k 0)) (WholeWalk begins gives ending (suc k)) false old new x (λ o y. regrouped begins gives (Then begins gives ending k 0) (TakesMade begins gives ending (suc k)) (λ s c t z. z) (begin false old) o y) (rw e at all)
-  walks_on k n old mid new x (Running s) q r m z w g = steps_on k n old mid new x (gives s) w.answer r q m w.ran w.counted g
-  walks_on k n old mid new x Ended q r m z w g = rw (w.1, w.2) at g
-  walks_on k n old mid new x (Refused f) q r m z w g = rw (w.1, w.2) at g
+      let all : Ran merged safe (Called_on begins gives ending r rs n (GivesFirst begins gives)) false old new x = steps_on rs n old mid new x (GivesFirst begins gives) w.answer r q m w.ran w.counted g in
+      ran-weaker merged safe (Called_on begins gives ending r rs 0 (GivesFirst begins gives)) (WholeWalk begins gives ending (r ∷ rs)) false old new x (λ o y. whole_first begins gives ending r rs (begin false old) o y) (rw e at all)
+  walks_on rs n old mid new x (Running s) q r m z w g = steps_on rs n old mid new x (gives s) w.answer r q m w.ran w.counted g
+  walks_on rs n old mid new x Ended q r m z w g = rw (w.1, w.2) at g
+  walks_on rs n old mid new x (Refused f) q r m z w g = rw (w.1, w.2) at g
 
   begun_by : (fit : Bool) (y : V × S) (r : Option V) (q : Phase S) (n m : ℕ) → MatchBool fit ((r ≡ Some y.0) × (q ≡ Running y.1) × (m ≡ n + 1)) ((r ≡ None) × (q ≡ Refused (fault.Stop CountTooLarge)) × (m ≡ n)) → q ≡ Unbegun → ⊥
   begun_by true y r q n m h e = let f = h.1 in cc
@@ -207,18 +255,18 @@ module _ {Tok Cx St Er S V T K : Type 0} {merged : Er → Er → Er} {safe : Typ
     (walks : (w : T) (r : Option V) (v : T) → nexts w r v → (key v ≡ key w) × WalksOn merged safe (begins (key w)) (gives (key w)) (phase w) (holds w) (given w) r (phase v) (holds v) (given v)) where
   -- calls of `next`, and then what is left
   pub calls : (rs : List (Option V)) (w v : T) (new : Held Tok Cx St Er) (x : Result (Option (Unit {0})) Fault) → (phase w ≡ Unbegun → given w ≡ 0) → Called nexts w rs v
-      → Ran merged safe (Remains (begins (key v)) (gives (key v)) ending 0 (given v) (phase v)) false (holds v) new x → Ran merged safe (Remains (begins (key w)) (gives (key w)) ending (length rs) (given w) (phase w)) false (holds w) new x
-  calls [] w v new x i c h = subst (λ z. Ran merged safe (Remains (begins (key z)) (gives (key z)) ending 0 (given z) (phase z)) false (holds z) new x) (sym c) h
+      → Ran merged safe (Remains (begins (key v)) (gives (key v)) ending [] (given v) (phase v)) false (holds v) new x → Ran merged safe (Remains (begins (key w)) (gives (key w)) ending rs (given w) (phase w)) false (holds w) new x
+  calls [] w v new x i c h = subst (λ z. Ran merged safe (Remains (begins (key z)) (gives (key z)) ending [] (given z) (phase z)) false (holds z) new x) (sym c) h
   calls (r ∷ rs) w v new x i c h =
       let u = c.0 in
       let k = walks w r u c.1 in
       let rest = calls rs u v new x (λ e. absurd (begun merged safe (begins (key w)) (gives (key w)) ending (phase w) (holds w) (holds u) (given w) r (phase u) (given u) k.1 e)) c.2 h in
-      let same : Ran merged safe (Remains (begins (key w)) (gives (key w)) ending (length rs) (given u) (phase u)) false (holds u) new x = subst (λ z. Ran merged safe (Remains (begins z) (gives z) ending (length rs) (given u) (phase u)) false (holds u) new x) k.0 rest in
-      walks_on merged safe (begins (key w)) (gives (key w)) ending (length rs) (given w) (holds w) (holds u) new x (phase w) (phase u) r (given u) i k.1 same
+      let same : Ran merged safe (Remains (begins (key w)) (gives (key w)) ending rs (given u) (phase u)) false (holds u) new x = subst (λ z. Ran merged safe (Remains (begins z) (gives z) ending rs (given u) (phase u)) false (holds u) new x) k.0 rest in
+      walks_on merged safe (begins (key w)) (gives (key w)) ending rs (given w) (holds w) (holds u) new x (phase w) (phase u) r (given u) i k.1 same
 
 module _ {I Tok Sp Cu Er St Mk Cx S V K : Type 0} (source : input_trait.Ghosts I Cu Tok Sp) (errors : error_trait.Ghosts Er I Tok Sp) (states : inspector_trait.Ghosts St I Mk Tok Sp) (begins : K → Meaning Tok Cx states.Seen errors.Seen S) (gives : K → S → Meaning Tok Cx states.Seen errors.Seen (Next S V)) where
   closing_remains : (k : K) (n : ℕ) (p : Phase S) (old new : Held Tok Cx states.Seen errors.Seen) (x : Result (Option (Unit {0})) Fault) → Ran errors.merged errors.takes_no_memory (Closing source errors states p) false old new x
-      → Ran errors.merged errors.takes_no_memory (Remains (begins k) (gives k) (MeansEnd source errors states) 0 n p) false old new x
+      → Ran errors.merged errors.takes_no_memory (Remains (begins k) (gives k) (MeansEnd source errors states) [] n p) false old new x
   closing_remains k n Unbegun old new x h = h
   closing_remains k n (Running s) old new x h = h
   closing_remains k n Ended old new x h = h
@@ -228,12 +276,12 @@ module _ {I Tok Sp Cu Er St Mk Cx S V K : Type 0} (source : input_trait.Ghosts I
   module _ {T R : Type 0} (nexts : T → Option V → T → Type 0) (key : T → K) (phase : T → Phase S) (holds : T → Held Tok Cx states.Seen errors.Seen) (given : T → ℕ)
       (walks : (w : T) (r : Option V) (v : T) → nexts w r v → (key v ≡ key w) × WalksOn errors.merged errors.takes_no_memory (begins (key w)) (gives (key w)) (phase w) (holds w) (given w) r (phase v) (holds v) (given v)) where
     -- what is answered at the end is answered of the whole
-    pub finish-whole : (rs : List (Option V)) (w v : T) → phase w ≡ Unbegun → given w ≡ 0 → (holds w).kept ≡ None → (holds w).emitted ≡ [] → Called nexts w rs v → AnswersTheWhole source errors states (begins (key w)) (gives (key w)) R (holds w) (length rs) (phase v) (holds v)
+    pub finish-whole : (rs : List (Option V)) (w v : T) → phase w ≡ Unbegun → given w ≡ 0 → (holds w).kept ≡ None → (holds w).emitted ≡ [] → Called nexts w rs v → AnswersTheWhole source errors states (begins (key w)) (gives (key w)) R (holds w) rs (phase v) (holds v)
     finish-whole rs w v u z k e h out state result f =
         let c = f.closes in
         let x = without_value c.answer in
         let end = closing_remains (key v) (given v) (phase v) (holds v) c.mid x c.ran in
         let all = calls {merged = errors.merged} {safe = errors.takes_no_memory} begins gives (MeansEnd source errors states) nexts key phase holds given walks rs w v c.mid x (λ _. z) h end in
-        let whole : Ran errors.merged errors.takes_no_memory (WholeWalk (begins (key w)) (gives (key w)) (MeansEnd source errors states) (length rs)) false (holds w) c.mid x =
-        subst (λ p. Ran errors.merged errors.takes_no_memory (Remains (begins (key w)) (gives (key w)) (MeansEnd source errors states) (length rs) (given w) p) false (holds w) c.mid x) u all in
+        let whole : Ran errors.merged errors.takes_no_memory (WholeWalk (begins (key w)) (gives (key w)) (MeansEnd source errors states) rs) false (holds w) c.mid x =
+        subst (λ p. Ran errors.merged errors.takes_no_memory (Remains (begins (key w)) (gives (key w)) (MeansEnd source errors states) rs (given w) p) false (holds w) c.mid x) u all in
         answers-whole source errors states k e (record { answer = c.answer; mid = c.mid; left = c.left; ran = whole; settles = c.settles; state_is = c.state_is; found_is = c.found_is }) f.replies

@@ -1,5 +1,5 @@
 -- The answer at the end of a run that gave its items one after another.
-use Rattle.std.specs.Prelude.{◌≡◌, ℕ, zero, suc, ◌+◌, ◌^◌, nat_lt, Bool, true, false, Option, Some, None, List, [], ◌∷◌, Result, Ok, Err, map}
+use Rattle.std.specs.Prelude.{◌≡◌, ⊤, ℕ, ◌+◌, ◌^◌, nat_lt, Bool, true, false, Option, Some, None, List, [], ◌∷◌, Result, Ok, Err, map}
 use Rattle.chumsky_input.specs.declared.error.Error as error_trait
 use Rattle.chumsky_input.specs.declared.inspector.Inspector as inspector_trait
 use Rattle.chumsky_input.specs.declared.input.Input as input_trait
@@ -8,7 +8,7 @@ use Rattle.chumsky_input.specs.declared.stop.Stop.TheVariants.{CountTooLarge}
 use Rattle.chumsky_input.specs.declared.stop.Fault.{Fault}
 use Rattle.chumsky_input.specs.declared.stop.Fault.TheVariants as fault
 use Rattle.chumsky_input.specs.Held.{Held}
-use Rattle.chumsky_input.specs.Outcome.{Meaning, Outcome, IsAnswer}
+use Rattle.chumsky_input.specs.Outcome.{Meaning, Beginning, Outcome, Yes, IsAnswer}
 use Rattle.chumsky_input.specs.Run.{Ran, begin, without_value}
 use Rattle.chumsky_parser.specs.Chained.{Chained, Asked}
 use Rattle.chumsky_parser.specs.Failure.{SaysNo, Stops}
@@ -57,25 +57,48 @@ abbrev pub Called : {T A : Type 0} → (T → Option A → T → Type 0) → T �
 Called nexts w [] v = w ≡ v
 Called {T} nexts w (r ∷ rs) v = (u : T) × nexts w r u × Called nexts u rs v
 
+-- what calls of `next` gave: once none, no item any more
+abbrev pub AllNone : {V : Type 0} → List (Option V) → Type 0
+AllNone [] = ⊤
+AllNone (r ∷ rs) = (r ≡ None) × AllNone rs
+
+abbrev pub StaysNone : {V : Type 0} → List (Option V) → Type 0
+StaysNone [] = ⊤
+StaysNone (Some x ∷ rs) = StaysNone rs
+StaysNone (None ∷ rs) = AllNone rs
+
+-- an outcome of the part that is a yes
+pub record Succeeding {Tok Cx St Er W : Type 0} (part : Meaning Tok Cx St Er W) (b : Beginning Tok Cx St) (o : Outcome W Er St) : Type 0 where
+  pub meant : part b o
+  pub value : Option W
+  pub is : o.verdict ≡ Yes value
+
+-- what a call ran: it said yes where the call gave an item
+abbrev pub RanFor : {Tok Cx St Er V W : Type 0} → Option V → Meaning Tok Cx St Er W → Meaning Tok Cx St Er W
+RanFor (Some x) part = Succeeding part
+RanFor None part = part
+
+module _ {Tok Cx St Er S V : Type 0} where
+  -- what follows a step, asked for after n items: the item that was given, where it can be counted; and where none was given,
+  -- the end, or an item too many
+  abbrev pub AfterCall : Option V → ℕ → (S → Meaning Tok Cx St Er (Unit {0})) → Meaning Tok Cx St Er (Unit {0}) → Option (Next S V) → Meaning Tok Cx St Er (Unit {0})
+  AfterCall (Some x) n on ending = AfterStep (λ v t b o. (v ≡ Some x) × (nat_lt (n + 1) (2 ^ 64) ≡ true) × on t b o) (λ b o. ⊥)
+  AfterCall None n on ending = AfterStep (λ v t b o. (nat_lt (n + 1) (2 ^ 64) ≡ false) × Stops CountTooLarge b o) ending
+
 module _ {Tok Cx St Er S V : Type 0} (begins : Meaning Tok Cx St Er S) (gives : S → Meaning Tok Cx St Er (Next S V)) (ending : Meaning Tok Cx St Er (Unit {0})) where
-  -- what follows an item, where it can be counted
-  abbrev pub WhereCounted : Bool → Meaning Tok Cx St Er (Unit {0}) → Meaning Tok Cx St Er (Unit {0})
-  WhereCounted true m = m
-  WhereCounted false m = Stops CountTooLarge
+  -- items are asked for by calls that gave this, after n items; then, or after an end before that, it ends
+  abbrev pub Takes : List (Option V) → ℕ → S → Meaning Tok Cx St Er (Unit {0})
+  Takes [] n s = ending
+  Takes (r ∷ rs) n s = Chained (Asked true (RanFor r (gives s))) (AfterCall r n (Takes rs (n + 1)) ending)
 
-  -- so many items more are asked for, after n; then, or after an end before that, it ends
-  abbrev pub Takes : ℕ → ℕ → S → Meaning Tok Cx St Er (Unit {0})
-  Takes zero n s = ending
-  Takes (suc k) n s = Chained (Asked true (gives s)) (AfterStep (λ v t. WhereCounted (nat_lt (n + 1) (2 ^ 64)) (Takes k (n + 1) t)) ending)
+  abbrev pub TakesMade : List (Option V) → Option S → Meaning Tok Cx St Er (Unit {0})
+  TakesMade rs (Some s) = Takes rs 0 s
+  TakesMade rs None = λ b o. ⊥
 
-  abbrev pub TakesMade : ℕ → Option S → Meaning Tok Cx St Er (Unit {0})
-  TakesMade k (Some s) = Takes k 0 s
-  TakesMade k None = λ b o. ⊥
-
-  -- a whole run that so many items are asked of: where there is any, an iteration is made first
-  abbrev pub WholeWalk : ℕ → Meaning Tok Cx St Er (Unit {0})
-  WholeWalk zero = ending
-  WholeWalk (suc k) = Chained (Asked true begins) (TakesMade (suc k))
+  -- a whole run of calls that gave this: where there is any, an iteration is made first
+  abbrev pub WholeWalk : List (Option V) → Meaning Tok Cx St Er (Unit {0})
+  WholeWalk [] = ending
+  WholeWalk (r ∷ rs) = Chained (Asked true (RanFor r begins)) (TakesMade (r ∷ rs))
 
 module _ {I Tok Sp Cu Er V R : Type 0} (source : input_trait.Ghosts I Cu Tok Sp) (errors : error_trait.Ghosts Er I Tok Sp) where
   -- the errors of an answer, beside an output that is there in any case
@@ -97,8 +120,8 @@ module _ {I Tok Sp Cu Er V R : Type 0} (source : input_trait.Ghosts I Cu Tok Sp)
 
 module _ {I Tok Sp Cu Er St Mk Cx S V : Type 0} (source : input_trait.Ghosts I Cu Tok Sp) (errors : error_trait.Ghosts Er I Tok Sp) (states : inspector_trait.Ghosts St I Mk Tok Sp) (begins : Meaning Tok Cx states.Seen errors.Seen S)
     (gives : S → Meaning Tok Cx states.Seen errors.Seen (Next S V)) where
-  -- however the last step was left, what is answered then is answered of the whole run, which so many items were asked of
-  abbrev pub AnswersTheWhole : (R : Type 0) → Held Tok Cx states.Seen errors.Seen → ℕ → Phase S → Held Tok Cx states.Seen errors.Seen → Type 0
-  AnswersTheWhole R start n phase last =
+  -- however the last step was left, what is answered then is answered of the whole run, of calls that gave this
+  abbrev pub AnswersTheWhole : (R : Type 0) → Held Tok Cx states.Seen errors.Seen → List (Option V) → Phase S → Held Tok Cx states.Seen errors.Seen → Type 0
+  AnswersTheWhole R start gave phase last =
       (out : R) (state : states.Seen) (result : Result (ParseResult R Er) Stop) → Finishes source errors states phase last out state result
-      → AnswersWhole source errors (WholeWalk begins gives (MeansEnd source errors states) n) start out state result
+      → AnswersWhole source errors (WholeWalk begins gives (MeansEnd source errors states) gave) start out state result

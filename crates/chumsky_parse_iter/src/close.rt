@@ -1,7 +1,6 @@
 //! How a run ends: the end of input, and the last error of a failure.
 ghost use Rattle.std.specs.Prelude.{◌≡◌, false, map};
-ghost use Rattle.chumsky_input.specs.Held.{held};
-ghost use Rattle.chumsky_input.specs.Run.{Ran, without_value};
+ghost use Rattle.chumsky_input.specs.Run.{Runs, without_value};
 ghost use Rattle.chumsky_parse_iter.specs.Walk.{held_of};
 ghost use Rattle.chumsky_parse_iter.specs.Finish.{Closing, Closes};
 
@@ -22,7 +21,7 @@ fn run_end<'src, I: Input<'src>, E: ParserExtra<I>, S: Drop>(
     phase: Phase<S>,
     inp: &mut InputRef<'src, '_, I, E>,
 ) -> PResult<()>
-    ensures ran { Ran E.Error.merged E.Error.takes_no_memory (Closing I.Input E.Error.Error E.State.Inspector phase) false (held I.Input E.Error.Error E.State.Inspector inp.old) (held I.Input E.Error.Error E.State.Inspector inp.new) (without_value result) }
+    ensures ran { Runs I.Input E.Error.Error E.State.Inspector (Closing I.Input E.Error.Error E.State.Inspector phase) false inp.old inp.new (without_value result) }
     ensures lent { inp.new.state.ghost_name ≡ inp.old.state.ghost_name }
 {
     match phase {

@@ -1,16 +1,49 @@
 //! What is known of runs that give their items one after another, each the contract of a function that does nothing.
-ghost use Rattle.std.specs.Prelude.{◌≡◌, false, None, [], List, length, Option};
-ghost use Rattle.chumsky_parse_iter.specs.Walk.{held_in};
-ghost use Rattle.chumsky_parse_iter.specs.Finish.{Called, AnswersTheWhole};
+ghost use Rattle.std.specs.Prelude.{◌≡◌, false, None, [], List, Option};
+ghost use Rattle.chumsky_parse_iter.specs.Walk.{held_in, MayWalk};
+ghost use Rattle.chumsky_parse_iter.specs.Finish.{Called, StaysNone, AnswersTheWhole};
 
 use crate::parse_iter::{ParseIter, Phase};
 use chumsky_input::extra::ParserExtra;
 use chumsky_input::input::Input;
 use chumsky_parser::iter::IterParser;
 
+/// A run may be asked for an item where its parser is ready, or the iteration that it goes on with may be asked; and after the
+/// end, a failure or a refusal in any case.
+pub fn run_may_be_asked<'p, 'src, I, O, E, P, C>(run: &ParseIter<'p, 'src, P, I, O, E, C>)
+where
+    I: Input<'src, Cursor = C>,
+    I::Token: 'src,
+    C: Copy,
+    O: Drop,
+    E: ParserExtra<I>,
+    E::State: Drop,
+    E::Context: Drop,
+    P: IterParser<'src, I, O, E>,
+    ensures { MayWalk (P.ready run.now.parser.now) (P.may_step run.now.parser.now) run.now.phase → ⟦<ParseIter<'p, 'src, P, I, O, E, C> as Iterator>⟧.can_next run.now }
+{}
+
+/// Once a run gives no item, it never gives one again.
+pub fn once_none_is_given_none_is_any_more<'p, 'src, I, O, E, P, C>(
+    run: &ParseIter<'p, 'src, P, I, O, E, C>,
+    last: &ParseIter<'p, 'src, P, I, O, E, C>,
+)
+where
+    I: Input<'src, Cursor = C>,
+    I::Token: 'src,
+    C: Copy,
+    O: Drop,
+    E: ParserExtra<I>,
+    E::State: Drop,
+    E::Context: Drop,
+    P: IterParser<'src, I, O, E>,
+    ensures { (gave : List (Option O)) → Called ⟦<ParseIter<'p, 'src, P, I, O, E, C> as Iterator>⟧.next_gives run.now gave last.now → StaysNone gave }
+{}
+
 /// `finish` answers the whole run, whatever number of items was taken. Let a run be as `parse_iter` makes it, and let it be
 /// asked for items n times. Then what `finish` answers is one outcome, from the start of the input, of the iteration made,
-/// at most n items, and the end of input: its errors are those emitted and, after a failure, the furthest one last.
+/// the items that were given, in order, and the end of input: its errors are those emitted and, after a failure, the furthest
+/// one last.
 pub fn finish_answers_the_whole<'p, 'src, I, O, E, P, C, R>(
     run: &ParseIter<'p, 'src, P, I, O, E, C>,
     last: &ParseIter<'p, 'src, P, I, O, E, C>,
@@ -24,5 +57,5 @@ where
     E::State: Drop,
     E::Context: Drop,
     P: IterParser<'src, I, O, E>,
-    ensures { (gave : List (Option O)) → run.now.phase ≡ Phase.Unbegun → run.now.given ≡ 0 → (held_in I.Input E.Error.Error E.State.Inspector run.now.parts).kept ≡ None → (held_in I.Input E.Error.Error E.State.Inspector run.now.parts).emitted ≡ [] → Called ⟦<ParseIter<'p, 'src, P, I, O, E, C> as Iterator>⟧.next_gives run.now gave last.now → AnswersTheWhole I.Input E.Error.Error E.State.Inspector (P.begins run.now.parser.now E.Error.Error E.State.Inspector) (λ s. P.gives run.now.parser.now (record { nonconsumption_is_ok = false }) s E.Error.Error E.State.Inspector) R (held_in I.Input E.Error.Error E.State.Inspector run.now.parts) (length gave) last.now.phase (held_in I.Input E.Error.Error E.State.Inspector last.now.parts) }
+    ensures { (gave : List (Option O)) → run.now.phase ≡ Phase.Unbegun → run.now.given ≡ 0 → (held_in I.Input E.Error.Error E.State.Inspector run.now.parts).kept ≡ None → (held_in I.Input E.Error.Error E.State.Inspector run.now.parts).emitted ≡ [] → Called ⟦<ParseIter<'p, 'src, P, I, O, E, C> as Iterator>⟧.next_gives run.now gave last.now → AnswersTheWhole I.Input E.Error.Error E.State.Inspector (P.begins run.now.parser.now E.Error.Error E.State.Inspector) (λ s. P.gives run.now.parser.now (record { nonconsumption_is_ok = false }) s E.Error.Error E.State.Inspector) R (held_in I.Input E.Error.Error E.State.Inspector run.now.parts) gave last.now.phase (held_in I.Input E.Error.Error E.State.Inspector last.now.parts) }
 {}

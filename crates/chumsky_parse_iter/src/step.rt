@@ -1,7 +1,6 @@
 //! One step of an iteration, from what a run holds between its steps.
 ghost use Rattle.std.specs.Prelude.{◌≡◌, true, false, IfOk, IfSome};
-ghost use Rattle.chumsky_input.specs.Held.{held};
-ghost use Rattle.chumsky_input.specs.Run.{Ran};
+ghost use Rattle.chumsky_input.specs.Run.{Runs, Ran};
 ghost use Rattle.chumsky_parse_iter.specs.Walk.{held_of, held_in, with_next, GivesFirst, StepOf, MayStep};
 
 use crate::parse_iter::Parts;
@@ -29,7 +28,7 @@ fn run_next<'src, I: Input<'src>, O, E: ParserExtra<I>, P: IterParser<'src, I, O
     inp: &mut InputRef<'src, '_, I, E>,
 ) -> PResult<Option<(O, P::IterState)>>
     requires { P.may_step parser.now iteration }
-    ensures ran { Ran E.Error.merged E.Error.takes_no_memory (P.gives parser.now (record { nonconsumption_is_ok = false }) iteration E.Error.Error E.State.Inspector) true (held I.Input E.Error.Error E.State.Inspector inp.old) (held I.Input E.Error.Error E.State.Inspector inp.new) (with_next result) }
+    ensures ran { Runs I.Input E.Error.Error E.State.Inspector (P.gives parser.now (record { nonconsumption_is_ok = false }) iteration E.Error.Error E.State.Inspector) true inp.old inp.new (with_next result) }
     ensures may { IfOk result (λ o. IfSome o (λ x. P.may_step parser.now x.1)) }
     ensures lent { inp.new.state.ghost_name ≡ inp.old.state.ghost_name }
 {
@@ -50,7 +49,7 @@ fn run_first<'src, I: Input<'src>, O, E: ParserExtra<I>, P: IterParser<'src, I, 
     inp: &mut InputRef<'src, '_, I, E>,
 ) -> PResult<Option<(O, P::IterState)>>
     requires { P.ready parser.now }
-    ensures ran { Ran E.Error.merged E.Error.takes_no_memory (GivesFirst (P.begins parser.now E.Error.Error E.State.Inspector) (λ s. P.gives parser.now (record { nonconsumption_is_ok = false }) s E.Error.Error E.State.Inspector)) true (held I.Input E.Error.Error E.State.Inspector inp.old) (held I.Input E.Error.Error E.State.Inspector inp.new) (with_next result) }
+    ensures ran { Runs I.Input E.Error.Error E.State.Inspector (GivesFirst (P.begins parser.now E.Error.Error E.State.Inspector) (λ s. P.gives parser.now (record { nonconsumption_is_ok = false }) s E.Error.Error E.State.Inspector)) true inp.old inp.new (with_next result) }
     ensures may { IfOk result (λ o. IfSome o (λ x. P.may_step parser.now x.1)) }
     ensures lent { inp.new.state.ghost_name ≡ inp.old.state.ghost_name }
 {
@@ -66,7 +65,7 @@ fn run_step<'src, I: Input<'src>, O, E: ParserExtra<I>, P: IterParser<'src, I, O
     inp: &mut InputRef<'src, '_, I, E>,
 ) -> PResult<Option<(O, P::IterState)>>
     requires { MayStep (P.ready parser.now) (P.may_step parser.now) iteration }
-    ensures ran { Ran E.Error.merged E.Error.takes_no_memory (StepOf (P.begins parser.now E.Error.Error E.State.Inspector) (λ s. P.gives parser.now (record { nonconsumption_is_ok = false }) s E.Error.Error E.State.Inspector) iteration) true (held I.Input E.Error.Error E.State.Inspector inp.old) (held I.Input E.Error.Error E.State.Inspector inp.new) (with_next result) }
+    ensures ran { Runs I.Input E.Error.Error E.State.Inspector (StepOf (P.begins parser.now E.Error.Error E.State.Inspector) (λ s. P.gives parser.now (record { nonconsumption_is_ok = false }) s E.Error.Error E.State.Inspector) iteration) true inp.old inp.new (with_next result) }
     ensures may { IfOk result (λ o. IfSome o (λ x. P.may_step parser.now x.1)) }
     ensures lent { inp.new.state.ghost_name ≡ inp.old.state.ghost_name }
 {

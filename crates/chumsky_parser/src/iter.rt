@@ -1,7 +1,6 @@
 //! What a parser of items is.
 ghost use Rattle.std.specs.Prelude.{◌≡◌, true, false, IfOk, OnSome};
-ghost use Rattle.chumsky_input.specs.Held.{held};
-ghost use Rattle.chumsky_input.specs.Run.{Ran, with_value};
+ghost use Rattle.chumsky_input.specs.Run.{Runs, with_value};
 ghost use Rattle.chumsky_parser.specs.Items.{with_item, without_item};
 
 use chumsky_input::extra::ParserExtra;
@@ -53,7 +52,7 @@ pub trait IterParser<'src, I: Input<'src>, O, E: ParserExtra<I>>: Iterates {
     /// Makes an iteration, for a run of either kind.
     fn make_iter(&self, inp: &mut InputRef<'src, '_, I, E>) -> PResult<Self::IterState>
         requires { ready self.now }
-        ensures ran { Ran E.Error.merged E.Error.takes_no_memory (begins self.now E.Error.Error E.State.Inspector) true (held I.Input E.Error.Error E.State.Inspector inp.old) (held I.Input E.Error.Error E.State.Inspector inp.new) (with_value result) }
+        ensures ran { Runs I.Input E.Error.Error E.State.Inspector (begins self.now E.Error.Error E.State.Inspector) true inp.old inp.new (with_value result) }
         ensures may { IfOk result (may_step self.now) }
         ensures lent { inp.new.state.ghost_name ≡ inp.old.state.ghost_name };
 
@@ -65,7 +64,7 @@ pub trait IterParser<'src, I: Input<'src>, O, E: ParserExtra<I>>: Iterates {
         debug: IterParserDebug,
     ) -> PResult<Option<O>>
         requires { may_step self.now state.old }
-        ensures ran { Ran E.Error.merged E.Error.takes_no_memory (gives self.now debug state.old E.Error.Error E.State.Inspector) true (held I.Input E.Error.Error E.State.Inspector inp.old) (held I.Input E.Error.Error E.State.Inspector inp.new) (with_item state.new result) }
+        ensures ran { Runs I.Input E.Error.Error E.State.Inspector (gives self.now debug state.old E.Error.Error E.State.Inspector) true inp.old inp.new (with_item state.new result) }
         ensures may { IfOk result (λ o. OnSome o (may_step self.now state.new)) }
         ensures lent { inp.new.state.ghost_name ≡ inp.old.state.ghost_name };
 
@@ -77,7 +76,7 @@ pub trait IterParser<'src, I: Input<'src>, O, E: ParserExtra<I>>: Iterates {
         debug: IterParserDebug,
     ) -> PResult<Option<()>>
         requires { may_step self.now state.old }
-        ensures ran { Ran E.Error.merged E.Error.takes_no_memory (gives self.now debug state.old E.Error.Error E.State.Inspector) false (held I.Input E.Error.Error E.State.Inspector inp.old) (held I.Input E.Error.Error E.State.Inspector inp.new) (without_item state.new result) }
+        ensures ran { Runs I.Input E.Error.Error E.State.Inspector (gives self.now debug state.old E.Error.Error E.State.Inspector) false inp.old inp.new (without_item state.new result) }
         ensures may { IfOk result (λ o. OnSome o (may_step self.now state.new)) }
         ensures lent { inp.new.state.ghost_name ≡ inp.old.state.ghost_name };
 

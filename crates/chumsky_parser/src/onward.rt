@@ -1,7 +1,7 @@
 //! The next item of an iteration, and where it stands.
 ghost use Rattle.std.specs.Prelude.{◌≡◌, ◌≤◌, true, IfOk, OnSome};
 ghost use Rattle.chumsky_input.specs.Held.{held};
-ghost use Rattle.chumsky_input.specs.Run.{Ran};
+ghost use Rattle.chumsky_input.specs.Run.{Runs};
 ghost use Rattle.chumsky_parser.specs.Items.{with_item};
 
 use crate::iter::{IterParser, IterParserDebug};
@@ -20,7 +20,7 @@ pub fn next_item<'src, I: Input<'src>, O, E: ParserExtra<I>, A: IterParser<'src,
     debug: IterParserDebug,
 ) -> PResult<Option<O>>
     requires { A.may_step parser.now state.old }
-    ensures ran { Ran E.Error.merged E.Error.takes_no_memory (A.gives parser.now debug state.old E.Error.Error E.State.Inspector) true (held I.Input E.Error.Error E.State.Inspector inp.old) (held I.Input E.Error.Error E.State.Inspector inp.new) (with_item state.new result) }
+    ensures ran { Runs I.Input E.Error.Error E.State.Inspector (A.gives parser.now debug state.old E.Error.Error E.State.Inspector) true inp.old inp.new (with_item state.new result) }
     ensures may { IfOk result (λ o. OnSome o (A.may_step parser.now state.new)) }
     ensures tokens { (held I.Input E.Error.Error E.State.Inspector inp.new).tokens ≡ (held I.Input E.Error.Error E.State.Inspector inp.old).tokens }
     ensures onward { IfOk result (λ _. (held I.Input E.Error.Error E.State.Inspector inp.old).place ≤ (held I.Input E.Error.Error E.State.Inspector inp.new).place) }

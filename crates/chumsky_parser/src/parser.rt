@@ -1,7 +1,6 @@
 //! What a parser is.
 ghost use Rattle.std.specs.Prelude.{◌≡◌, true, false};
-ghost use Rattle.chumsky_input.specs.Held.{held};
-ghost use Rattle.chumsky_input.specs.Run.{Ran, with_value, without_value};
+ghost use Rattle.chumsky_input.specs.Run.{Runs, with_value, without_value};
 
 use chumsky_input::extra::ParserExtra;
 use chumsky_input::input::Input;
@@ -35,13 +34,13 @@ pub trait Parser<'src, I: Input<'src>, O, E: ParserExtra<I>> {
     /// Runs the parser for its output. On failure the errors are with `inp`, and its cursor is where the parser left it.
     fn go_emit(&self, inp: &mut InputRef<'src, '_, I, E>) -> PResult<O>
         requires { ready self.now }
-        ensures ran { Ran E.Error.merged E.Error.takes_no_memory (meaning self.now E.Error.Error E.State.Inspector) true (held I.Input E.Error.Error E.State.Inspector inp.old) (held I.Input E.Error.Error E.State.Inspector inp.new) (with_value result) }
+        ensures ran { Runs I.Input E.Error.Error E.State.Inspector (meaning self.now E.Error.Error E.State.Inspector) true inp.old inp.new (with_value result) }
         ensures lent { inp.new.state.ghost_name ≡ inp.old.state.ghost_name };
 
     /// Runs the parser without its output: nothing is made for one.
     fn go_check(&self, inp: &mut InputRef<'src, '_, I, E>) -> PResult<()>
         requires { ready self.now }
-        ensures ran { Ran E.Error.merged E.Error.takes_no_memory (meaning self.now E.Error.Error E.State.Inspector) false (held I.Input E.Error.Error E.State.Inspector inp.old) (held I.Input E.Error.Error E.State.Inspector inp.new) (without_value result) }
+        ensures ran { Runs I.Input E.Error.Error E.State.Inspector (meaning self.now E.Error.Error E.State.Inspector) false inp.old inp.new (without_value result) }
         ensures lent { inp.new.state.ghost_name ≡ inp.old.state.ghost_name };
 
     /// No answer ends before its start.

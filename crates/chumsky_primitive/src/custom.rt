@@ -2,7 +2,7 @@
 ghost use Rattle.std.specs.Prelude.{◌≡◌, Bool, ⊤};
 ghost use Rattle.chumsky_input.specs.Aside.{GoesForward};
 ghost use Rattle.chumsky_input.specs.Held.{held};
-ghost use Rattle.chumsky_input.specs.Run.{Ran};
+ghost use Rattle.chumsky_input.specs.Run.{Runs};
 ghost use Rattle.chumsky_parser.specs.Failure.{asked};
 ghost use Rattle.chumsky_primitive.specs.Custom.{MayRun, Calls, MeansCustom};
 
@@ -129,7 +129,7 @@ where
     E: ParserExtra<I>,
     F: Reader<'src, I, O, E>,
     requires { F.callable parser.now.reader }
-    ensures ran { (wanted : Bool) → Ran E.Error.merged E.Error.takes_no_memory (MeansCustom E.Error.seen (F.gives parser.now.reader E.Error.Error E.State.Inspector)) wanted (held I.Input E.Error.Error E.State.Inspector inp.old) (held I.Input E.Error.Error E.State.Inspector inp.new) (asked wanted result) }
+    ensures ran { (wanted : Bool) → Runs I.Input E.Error.Error E.State.Inspector (MeansCustom E.Error.seen (F.gives parser.now.reader E.Error.Error E.State.Inspector)) wanted inp.old inp.new (asked wanted result) }
     ensures lent { inp.new.state.ghost_name ≡ inp.old.state.ghost_name }
 {
     let start = inp.cursor;

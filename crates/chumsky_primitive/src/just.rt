@@ -1,8 +1,7 @@
 //! A fixed sequence of tokens.
 ghost use Rattle.std.specs.Prelude.{◌≡◌, Bool, option_map};
-ghost use Rattle.chumsky_input.specs.Held.{held};
 ghost use Rattle.chumsky_input.specs.Maybe.{maybe_value};
-ghost use Rattle.chumsky_input.specs.Run.{Ran, without_value};
+ghost use Rattle.chumsky_input.specs.Run.{Runs, without_value};
 ghost use Rattle.chumsky_primitive.specs.Just.{is_member, MeansMember, MeansMembers};
 
 use chumsky_input::extra::ParserExtra;
@@ -67,7 +66,7 @@ fn take_members<'src, T: OrderedSeq<I::Token>, I: Input<'src>, E: ParserExtra<I>
 ) -> PResult<()>
 where
     I::Token: PartialEq,
-    ensures ran { (w : Bool) → Ran E.Error.merged E.Error.takes_no_memory (MeansMembers I.Input I.Token.eq E.Error.Error E.State.Inspector (T.members seq.now)) w (held I.Input E.Error.Error E.State.Inspector inp.old) (held I.Input E.Error.Error E.State.Inspector inp.new) (without_value result) }
+    ensures ran { (w : Bool) → Runs I.Input E.Error.Error E.State.Inspector (MeansMembers I.Input I.Token.eq E.Error.Error E.State.Inspector (T.members seq.now)) w inp.old inp.new (without_value result) }
     ensures lent { inp.new.state.ghost_name ≡ inp.old.state.ghost_name }
 {
     let mut at = 0;
@@ -86,7 +85,7 @@ fn take_member<'src, I: Input<'src>, E: ParserExtra<I>>(
 ) -> PResult<()>
 where
     I::Token: PartialEq,
-    ensures ran { (w : Bool) → Ran E.Error.merged E.Error.takes_no_memory (MeansMember I.Input I.Token.eq E.Error.Error E.State.Inspector member.now) w (held I.Input E.Error.Error E.State.Inspector inp.old) (held I.Input E.Error.Error E.State.Inspector inp.new) (without_value result) }
+    ensures ran { (w : Bool) → Runs I.Input E.Error.Error E.State.Inspector (MeansMember I.Input I.Token.eq E.Error.Error E.State.Inspector member.now) w inp.old inp.new (without_value result) }
     ensures lent { inp.new.state.ghost_name ≡ inp.old.state.ghost_name }
 {
     let before = inp.save()?;

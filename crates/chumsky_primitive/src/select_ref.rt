@@ -1,7 +1,6 @@
 //! A token that a closure picks, where it lies.
 ghost use Rattle.std.specs.Prelude.{◌≡◌, Bool, ⊤};
-ghost use Rattle.chumsky_input.specs.Held.{held};
-ghost use Rattle.chumsky_input.specs.Run.{Ran};
+ghost use Rattle.chumsky_input.specs.Run.{Runs};
 ghost use Rattle.chumsky_input.specs.Extra.{KeepsState};
 ghost use Rattle.chumsky_parser.specs.Failure.{asked};
 ghost use Rattle.chumsky_primitive.specs.Select.{PicksRef, MeansSelect};
@@ -71,7 +70,7 @@ where
     E: ParserExtra<I>,
     F: Fn(&'src I::Token, &mut MapExtra<'src, '_, I, E>) -> Option<O>,
     requires { KeepsState I.Input E.State.Inspector F.Fn filter.now }
-    ensures ran { (w : Bool) → Ran E.Error.merged E.Error.takes_no_memory (MeansSelect I.Input (λ _. ⊤) E.Error.Error E.State.Inspector (PicksRef I.Input E.State.Inspector F.Fn filter.now)) w (held I.Input E.Error.Error E.State.Inspector inp.old) (held I.Input E.Error.Error E.State.Inspector inp.new) (asked w result) }
+    ensures ran { (w : Bool) → Runs I.Input E.Error.Error E.State.Inspector (MeansSelect I.Input (λ _. ⊤) E.Error.Error E.State.Inspector (PicksRef I.Input E.State.Inspector F.Fn filter.now)) w inp.old inp.new (asked w result) }
     ensures lent { inp.new.state.ghost_name ≡ inp.old.state.ghost_name }
 {
     let before = inp.save()?;

@@ -2,8 +2,7 @@
 ghost use Rattle.std.specs.Prelude.{◌≡◌, ◌≤◌, true, false, Some, length, map};
 ghost use Rattle.std.specs.List.{All};
 ghost use Rattle.std.specs.Mem.{FitsInMemory};
-ghost use Rattle.chumsky_input.specs.Held.{held};
-ghost use Rattle.chumsky_input.specs.Run.{Ran, without_value};
+ghost use Rattle.chumsky_input.specs.Run.{Runs, without_value};
 ghost use Rattle.chumsky_set.specs.Lists.{each_stored, slots_row};
 ghost use Rattle.chumsky_set.specs.Passes.{shown_by, slot_of};
 
@@ -53,7 +52,7 @@ fn last_stored<
     requires ready { All P.ready parts.now }
     requires fits { length slots.old ≡ length parts.now }
     requires room { length parts.now ≤ N }
-    ensures ran { Ran E.Error.merged E.Error.takes_no_memory ((each_stored E.State.mark E.State.back E.State.takes_no_memory (λ p. P.meaning p E.Error.Error E.State.Inspector) parts.now).last (map (slot_of (λ v. Some v)) slots.old)) true (held I.Input E.Error.Error E.State.Inspector inp.old) (held I.Input E.Error.Error E.State.Inspector inp.new) (shown_by (λ v. Some v.items) result) }
+    ensures ran { Runs I.Input E.Error.Error E.State.Inspector ((each_stored E.State.mark E.State.back E.State.takes_no_memory (λ p. P.meaning p E.Error.Error E.State.Inspector) parts.now).last (map (slot_of (λ v. Some v)) slots.old)) true inp.old inp.new (shown_by (λ v. Some v.items) result) }
     ensures lent { inp.new.state.ghost_name ≡ inp.old.state.ghost_name }
 {
     let mut values = ArrayVec::new();
@@ -75,7 +74,7 @@ fn last_dropped<'src, I: Input<'src>, O: Drop, E: ParserExtra<I>, P: Parser<'src
 ) -> PResult<()>
     requires ready { All P.ready parts.now }
     requires fits { length slots.old ≡ length parts.now }
-    ensures ran { Ran E.Error.merged E.Error.takes_no_memory ((each_stored E.State.mark E.State.back E.State.takes_no_memory (λ p. P.meaning p E.Error.Error E.State.Inspector) parts.now).last (map (slot_of (λ v. Some v)) slots.old)) false (held I.Input E.Error.Error E.State.Inspector inp.old) (held I.Input E.Error.Error E.State.Inspector inp.new) (without_value result) }
+    ensures ran { Runs I.Input E.Error.Error E.State.Inspector ((each_stored E.State.mark E.State.back E.State.takes_no_memory (λ p. P.meaning p E.Error.Error E.State.Inspector) parts.now).last (map (slot_of (λ v. Some v)) slots.old)) false inp.old inp.new (without_value result) }
     ensures lent { inp.new.state.ghost_name ≡ inp.old.state.ghost_name }
 {
     for i in 0..parts.len() {

@@ -1,8 +1,7 @@
 //! Parts of one type, in a list.
 ghost use Rattle.std.specs.Prelude.{◌≡◌, true, false, IfOk, IsOk, List, Option, Some, None, length, map, replicate, []};
 ghost use Rattle.std.specs.List.{All};
-ghost use Rattle.chumsky_input.specs.Held.{held};
-ghost use Rattle.chumsky_input.specs.Run.{Ran};
+ghost use Rattle.chumsky_input.specs.Run.{Runs};
 ghost use Rattle.chumsky_set.specs.AnyOrder.{all_still, each_part, Offered, Slot, Turns};
 ghost use Rattle.chumsky_set.specs.Passes.{shown_by, slot_of, taken_then, Lessens};
 
@@ -46,7 +45,7 @@ pub fn round_each<
 ) -> PResult<bool>
     requires ready { All P.ready parts.now }
     requires fits { length slots.old ≡ length parts.now }
-    ensures ran { Ran E.Error.merged E.Error.takes_no_memory (Turns (λ p. Offered E.State.mark E.State.back E.State.takes_no_memory (P.meaning p E.Error.Error E.State.Inspector)) parts.now (map (slot_of D.shown) slots.old) (Some [])) D.wanted (held I.Input E.Error.Error E.State.Inspector inp.old) (held I.Input E.Error.Error E.State.Inspector inp.new) (taken_then (map (slot_of D.shown) slots.new) result) }
+    ensures ran { Runs I.Input E.Error.Error E.State.Inspector (Turns (λ p. Offered E.State.mark E.State.back E.State.takes_no_memory (P.meaning p E.Error.Error E.State.Inspector)) parts.now (map (slot_of D.shown) slots.old) (Some [])) D.wanted inp.old inp.new (taken_then (map (slot_of D.shown) slots.new) result) }
     ensures lessens { IfOk result (Lessens (all_still (map (slot_of D.shown) slots.old)) (all_still (map (slot_of D.shown) slots.new))) }
     ensures fits { length slots.new ≡ length parts.now }
     ensures lent { inp.new.state.ghost_name ≡ inp.old.state.ghost_name }
@@ -69,7 +68,7 @@ fn last_values<'src, I: Input<'src>, O: Drop, E: ParserExtra<I>, P: Parser<'src,
 ) -> PResult<Vec<O>>
     requires ready { All P.ready parts.now }
     requires fits { length slots.old ≡ length parts.now }
-    ensures ran { Ran E.Error.merged E.Error.takes_no_memory ((each_part E.State.mark E.State.back E.State.takes_no_memory (λ p. P.meaning p E.Error.Error E.State.Inspector) parts.now).last (map (slot_of (λ v. Some v)) slots.old)) true (held I.Input E.Error.Error E.State.Inspector inp.old) (held I.Input E.Error.Error E.State.Inspector inp.new) (shown_by (λ v. Some v.items) result) }
+    ensures ran { Runs I.Input E.Error.Error E.State.Inspector ((each_part E.State.mark E.State.back E.State.takes_no_memory (λ p. P.meaning p E.Error.Error E.State.Inspector) parts.now).last (map (slot_of (λ v. Some v)) slots.old)) true inp.old inp.new (shown_by (λ v. Some v.items) result) }
     ensures lent { inp.new.state.ghost_name ≡ inp.old.state.ghost_name }
 {
     let mut values = Vec::with_capacity(inp.alloc(), parts.len())?;
@@ -93,7 +92,7 @@ fn last_checks<'src, I: Input<'src>, O, E: ParserExtra<I>, P: Parser<'src, I, O,
 ) -> PResult<()>
     requires ready { All P.ready parts.now }
     requires fits { length slots.now ≡ length parts.now }
-    ensures ran { Ran E.Error.merged E.Error.takes_no_memory ((each_part E.State.mark E.State.back E.State.takes_no_memory (λ p. P.meaning p E.Error.Error E.State.Inspector) parts.now).last (map (slot_of (λ _. None)) slots.now)) false (held I.Input E.Error.Error E.State.Inspector inp.old) (held I.Input E.Error.Error E.State.Inspector inp.new) (shown_by (λ _. None) result) }
+    ensures ran { Runs I.Input E.Error.Error E.State.Inspector ((each_part E.State.mark E.State.back E.State.takes_no_memory (λ p. P.meaning p E.Error.Error E.State.Inspector) parts.now).last (map (slot_of (λ _. None)) slots.now)) false inp.old inp.new (shown_by (λ _. None) result) }
     ensures lent { inp.new.state.ghost_name ≡ inp.old.state.ghost_name }
 {
     for i in 0..parts.len() {

@@ -1,7 +1,6 @@
 //! Whether parts run for their values.
 ghost use Rattle.std.specs.Prelude.{◌≡◌, Bool, true, false, Option, Some, None};
-ghost use Rattle.chumsky_input.specs.Held.{held};
-ghost use Rattle.chumsky_input.specs.Run.{Ran};
+ghost use Rattle.chumsky_input.specs.Run.{Runs};
 ghost use Rattle.chumsky_set.specs.Passes.{shown_by};
 
 use chumsky_input::extra::ParserExtra;
@@ -22,7 +21,7 @@ pub trait Runs<'src, I: Input<'src>, O, E: ParserExtra<I>, P: Parser<'src, I, O,
     /// Runs one parser.
     fn go(&self, parser: &P, inp: &mut InputRef<'src, '_, I, E>) -> PResult<R>
         requires { P.ready parser.now }
-        ensures ran { Ran E.Error.merged E.Error.takes_no_memory (P.meaning parser.now E.Error.Error E.State.Inspector) Self.wanted (held I.Input E.Error.Error E.State.Inspector inp.old) (held I.Input E.Error.Error E.State.Inspector inp.new) (shown_by shown result) }
+        ensures ran { Runs I.Input E.Error.Error E.State.Inspector (P.meaning parser.now E.Error.Error E.State.Inspector) Self.wanted inp.old inp.new (shown_by shown result) }
         ensures lent { inp.new.state.ghost_name ≡ inp.old.state.ghost_name };
 }
 

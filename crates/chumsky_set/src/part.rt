@@ -1,7 +1,6 @@
 //! One part of a set: offered in a round, and run at last.
 ghost use Rattle.std.specs.Prelude.{◌≡◌, IfOk, Some, None};
-ghost use Rattle.chumsky_input.specs.Held.{held};
-ghost use Rattle.chumsky_input.specs.Run.{Ran};
+ghost use Rattle.chumsky_input.specs.Run.{Runs};
 ghost use Rattle.chumsky_parser.specs.Choice.{OrElse};
 ghost use Rattle.chumsky_set.specs.AnyOrder.{Moving, Offered, Missing, still};
 ghost use Rattle.chumsky_set.specs.Passes.{shown_by, slot_of, taken_then, Lessens};
@@ -25,7 +24,7 @@ fn moving<
     D: Runs<'src, I, O, E, P, R>,
 >(mode: &D, part: &P, inp: &mut InputRef<'src, '_, I, E>) -> PResult<R>
     requires { P.ready part.now }
-    ensures ran { Ran E.Error.merged E.Error.takes_no_memory (Moving (P.meaning part.now E.Error.Error E.State.Inspector)) D.wanted (held I.Input E.Error.Error E.State.Inspector inp.old) (held I.Input E.Error.Error E.State.Inspector inp.new) (shown_by (λ r. Some (Some (D.shown r))) result) }
+    ensures ran { Runs I.Input E.Error.Error E.State.Inspector (Moving (P.meaning part.now E.Error.Error E.State.Inspector)) D.wanted inp.old inp.new (shown_by (λ r. Some (Some (D.shown r))) result) }
     ensures lent { inp.new.state.ghost_name ≡ inp.old.state.ghost_name }
 {
     let start = I::place(&inp.cursor);
@@ -49,7 +48,7 @@ fn attempt<
     D: Runs<'src, I, O, E, P, R>,
 >(mode: &D, part: &P, inp: &mut InputRef<'src, '_, I, E>) -> PResult<Option<R>>
     requires { P.ready part.now }
-    ensures ran { Ran E.Error.merged E.Error.takes_no_memory (Offered E.State.mark E.State.back E.State.takes_no_memory (P.meaning part.now E.Error.Error E.State.Inspector) None) D.wanted (held I.Input E.Error.Error E.State.Inspector inp.old) (held I.Input E.Error.Error E.State.Inspector inp.new) (shown_by (λ r. Some (slot_of D.shown r)) result) }
+    ensures ran { Runs I.Input E.Error.Error E.State.Inspector (Offered E.State.mark E.State.back E.State.takes_no_memory (P.meaning part.now E.Error.Error E.State.Inspector) None) D.wanted inp.old inp.new (shown_by (λ r. Some (slot_of D.shown r)) result) }
     ensures lent { inp.new.state.ghost_name ≡ inp.old.state.ghost_name }
 {
     let before = inp.save()?;
@@ -75,7 +74,7 @@ pub fn offer<
     D: Runs<'src, I, O, E, P, R>,
 >(mode: &D, part: &P, slot: &mut Option<R>, inp: &mut InputRef<'src, '_, I, E>) -> PResult<bool>
     requires { P.ready part.now }
-    ensures ran { Ran E.Error.merged E.Error.takes_no_memory (Offered E.State.mark E.State.back E.State.takes_no_memory (P.meaning part.now E.Error.Error E.State.Inspector) (slot_of D.shown slot.old)) D.wanted (held I.Input E.Error.Error E.State.Inspector inp.old) (held I.Input E.Error.Error E.State.Inspector inp.new) (taken_then (slot_of D.shown slot.new) result) }
+    ensures ran { Runs I.Input E.Error.Error E.State.Inspector (Offered E.State.mark E.State.back E.State.takes_no_memory (P.meaning part.now E.Error.Error E.State.Inspector) (slot_of D.shown slot.old)) D.wanted inp.old inp.new (taken_then (slot_of D.shown slot.new) result) }
     ensures lessens { IfOk result (Lessens (still (slot_of D.shown slot.old)) (still (slot_of D.shown slot.new))) }
     ensures lent { inp.new.state.ghost_name ≡ inp.old.state.ghost_name }
 {
@@ -100,7 +99,7 @@ pub fn complete<
     D: Runs<'src, I, O, E, P, R>,
 >(mode: &D, part: &P, slot: Option<R>, inp: &mut InputRef<'src, '_, I, E>) -> PResult<R>
     requires { P.ready part.now }
-    ensures ran { Ran E.Error.merged E.Error.takes_no_memory (Missing (P.meaning part.now E.Error.Error E.State.Inspector) (slot_of D.shown slot)) D.wanted (held I.Input E.Error.Error E.State.Inspector inp.old) (held I.Input E.Error.Error E.State.Inspector inp.new) (shown_by D.shown result) }
+    ensures ran { Runs I.Input E.Error.Error E.State.Inspector (Missing (P.meaning part.now E.Error.Error E.State.Inspector) (slot_of D.shown slot)) D.wanted inp.old inp.new (shown_by D.shown result) }
     ensures lent { inp.new.state.ghost_name ≡ inp.old.state.ghost_name }
 {
     match slot {

@@ -1,7 +1,6 @@
 //! Rounds over a row of parts, and the last pass.
 ghost use Rattle.std.specs.Prelude.{◌≡◌};
-ghost use Rattle.chumsky_input.specs.Held.{held};
-ghost use Rattle.chumsky_input.specs.Run.{Ran};
+ghost use Rattle.chumsky_input.specs.Run.{Runs};
 ghost use Rattle.chumsky_set.specs.AnyOrder.{AnyOrder};
 ghost use Rattle.chumsky_set.specs.Passes.{shown_by};
 
@@ -26,7 +25,7 @@ pub fn in_any_order<
 >(row: &M, slots: S, inp: &mut InputRef<'src, '_, I, E>) -> PResult<R>
     requires ready { M.ready row.now }
     requires fits { M.fits row.now slots }
-    ensures ran { Ran E.Error.merged E.Error.takes_no_memory (AnyOrder (M.passes row.now E.Error.Error E.State.Inspector) (M.taken slots)) D.wanted (held I.Input E.Error.Error E.State.Inspector inp.old) (held I.Input E.Error.Error E.State.Inspector inp.new) (shown_by M.shown result) }
+    ensures ran { Runs I.Input E.Error.Error E.State.Inspector (AnyOrder (M.passes row.now E.Error.Error E.State.Inspector) (M.taken slots)) D.wanted inp.old inp.new (shown_by M.shown result) }
     ensures lent { inp.new.state.ghost_name ≡ inp.old.state.ghost_name }
 {
     let mut slots = slots;

@@ -1,7 +1,6 @@
 //! Some parts in a row, which rounds and a last pass go over.
 ghost use Rattle.std.specs.Prelude.{◌≡◌, IfOk, Option, Some};
-ghost use Rattle.chumsky_input.specs.Held.{held};
-ghost use Rattle.chumsky_input.specs.Run.{Ran};
+ghost use Rattle.chumsky_input.specs.Run.{Runs};
 ghost use Rattle.chumsky_set.specs.AnyOrder.{no_part, part_and, Slot};
 ghost use Rattle.chumsky_set.specs.Passes.{both_shown, shown_by, slot_of, taken_then, Lessens, RowOf};
 
@@ -33,7 +32,7 @@ pub trait PartsRow<'src, I: Input<'src>, E: ParserExtra<I>, D: Mode, V, S, R> {
     fn round(&self, slots: &mut S, inp: &mut InputRef<'src, '_, I, E>) -> PResult<bool>
         requires ready { ready self.now }
         requires fits { fits self.now slots.old }
-        ensures ran { Ran E.Error.merged E.Error.takes_no_memory ((passes self.now E.Error.Error E.State.Inspector).pass (taken slots.old)) D.wanted (held I.Input E.Error.Error E.State.Inspector inp.old) (held I.Input E.Error.Error E.State.Inspector inp.new) (taken_then (taken slots.new) result) }
+        ensures ran { Runs I.Input E.Error.Error E.State.Inspector ((passes self.now E.Error.Error E.State.Inspector).pass (taken slots.old)) D.wanted inp.old inp.new (taken_then (taken slots.new) result) }
         ensures lessens { IfOk result (Lessens ((passes self.now E.Error.Error E.State.Inspector).left (taken slots.old)) ((passes self.now E.Error.Error E.State.Inspector).left (taken slots.new))) }
         ensures fits { fits self.now slots.new }
         ensures lent { inp.new.state.ghost_name ≡ inp.old.state.ghost_name };
@@ -42,7 +41,7 @@ pub trait PartsRow<'src, I: Input<'src>, E: ParserExtra<I>, D: Mode, V, S, R> {
     fn last(&self, slots: S, inp: &mut InputRef<'src, '_, I, E>) -> PResult<R>
         requires ready { ready self.now }
         requires fits { fits self.now slots }
-        ensures ran { Ran E.Error.merged E.Error.takes_no_memory ((passes self.now E.Error.Error E.State.Inspector).last (taken slots)) D.wanted (held I.Input E.Error.Error E.State.Inspector inp.old) (held I.Input E.Error.Error E.State.Inspector inp.new) (shown_by shown result) }
+        ensures ran { Runs I.Input E.Error.Error E.State.Inspector ((passes self.now E.Error.Error E.State.Inspector).last (taken slots)) D.wanted inp.old inp.new (shown_by shown result) }
         ensures lent { inp.new.state.ghost_name ≡ inp.old.state.ghost_name };
 }
 

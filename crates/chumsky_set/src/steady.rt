@@ -1,5 +1,5 @@
-//! Which sets are steady, each the contract of a function that does nothing: those whose parts are. And what
-//! is known of two outputs that count as the same: that those of each part do.
+//! Which sets are ready, and which are steady, each the contract of a function that does nothing: those whose parts are. And
+//! what is known of two outputs that count as the same: that those of each part do.
 ghost use Rattle.std.specs.List.{All};
 ghost use Rattle.chumsky_set.specs.Lists.{Each};
 
@@ -23,6 +23,10 @@ pub fn set_is_steady<
     P2: Parser<'src, I, O2, E>,
     P3: Parser<'src, I, O3, E>,
 >(one: &Set<(P0,)>, two: &Set<(P0, P1)>, three: &Set<(P0, P1, P2)>, four: &Set<(P0, P1, P2, P3)>)
+    ensures ready_one { P0.ready one.now.parsers.0 → ⟦<Set<(P0,)> as Parser<'src, I, (O0,), E>>⟧.ready one.now }
+    ensures ready_two { P0.ready two.now.parsers.0 → P1.ready two.now.parsers.1 → ⟦<Set<(P0, P1)> as Parser<'src, I, (O0, O1), E>>⟧.ready two.now }
+    ensures ready_three { P0.ready three.now.parsers.0 → P1.ready three.now.parsers.1 → P2.ready three.now.parsers.2 → ⟦<Set<(P0, P1, P2)> as Parser<'src, I, (O0, O1, O2), E>>⟧.ready three.now }
+    ensures ready_four { P0.ready four.now.parsers.0 → P1.ready four.now.parsers.1 → P2.ready four.now.parsers.2 → P3.ready four.now.parsers.3 → ⟦<Set<(P0, P1, P2, P3)> as Parser<'src, I, (O0, O1, O2, O3), E>>⟧.ready four.now }
     ensures one { P0.steady one.now.parsers.0 → ⟦<Set<(P0,)> as Parser<'src, I, (O0,), E>>⟧.steady one.now }
     ensures two { P0.steady two.now.parsers.0 → P1.steady two.now.parsers.1 → ⟦<Set<(P0, P1)> as Parser<'src, I, (O0, O1), E>>⟧.steady two.now }
     ensures three { P0.steady three.now.parsers.0 → P1.steady three.now.parsers.1 → P2.steady three.now.parsers.2 → ⟦<Set<(P0, P1, P2)> as Parser<'src, I, (O0, O1, O2), E>>⟧.steady three.now }
@@ -44,6 +48,8 @@ pub fn set_of_a_list_is_steady<
     Q: Parser<'src, I, U, E>,
     const N: usize,
 >(vec: &Set<Vec<P>>, array: &Set<[Q; N]>)
+    ensures ready_vec { All P.ready vec.now.parsers.items → ⟦<Set<Vec<P>> as Parser<'src, I, Vec<O>, E>>⟧.ready vec.now }
+    ensures ready_array { All Q.ready array.now.parsers → ⟦<Set<[Q; N]> as Parser<'src, I, ArrayVec<U, N>, E>>⟧.ready array.now }
     ensures vec { All P.steady vec.now.parsers.items → ⟦<Set<Vec<P>> as Parser<'src, I, Vec<O>, E>>⟧.steady vec.now }
     ensures array { All Q.steady array.now.parsers → ⟦<Set<[Q; N]> as Parser<'src, I, ArrayVec<U, N>, E>>⟧.steady array.now }
     ensures same_vec { (x y : _) → ⟦<Set<Vec<P>> as Parser<'src, I, Vec<O>, E>>⟧.same vec.now x y → Each P.same vec.now.parsers.items x.items y.items }

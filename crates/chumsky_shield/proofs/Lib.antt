@@ -4,3 +4,4 @@ pub mod VettedLemmas
 pub mod AndIsLemmas
 pub mod MapErrLemmas
 pub mod ValidatedLemmas
+pub mod BlindLemmas

@@ -1,11 +1,13 @@
 -- Parsers compared with their parts.
-use Rattle.std.specs.Prelude.{◌≡◌, ℕ, Bool, Option, Some, None, List, [], true}
+use Rattle.std.specs.Prelude.{◌≡◌, ℕ, Bool, Option, Some, None, List, [], Result, true}
+use Rattle.chumsky_input.specs.declared.input.Input as input_trait
 use Rattle.chumsky_input.specs.Extra.{Shown}
 use Rattle.chumsky_input.specs.Outcome.{Meaning, Beginning, Outcome, Verdict, Yes, No, Halt, Clash, IsAnswer}
 use Rattle.chumsky_parser.specs.Chained.{retold}
 use Rattle.chumsky_parser.specs.Failure.{wanting}
 use Rattle.chumsky_shield.specs.MapErr.{ErrMaps}
 use Rattle.chumsky_shield.specs.Shielded.{as_one}
+use Rattle.chumsky_shield.specs.TriedWith.{Says}
 use Rattle.chumsky_shield.specs.Validated.{Emits}
 
 module _ {Tok Cx St Er V : Type 0} where
@@ -54,6 +56,11 @@ module _ {Tok Cx St Er V W : Type 0} (becomes : Beginning Tok Cx St → Outcome 
 -- a validator that emits nothing, and leaves the state
 abbrev pub EmitsNothing : {Tok Cx St Er V W : Type 0} → Emits Tok Cx St Er V W → Type 0
 EmitsNothing {Tok} {Cx} {St} {Er} {V} {W} emits = (v : V) (x : Shown Tok Cx St) (w : W) (s : St) (emitted : Option (List Er)) → emits v x w s emitted → (emitted ≡ Some []) × (s ≡ x.state)
+
+-- a fallible mapper that takes no notice of the run but for the span, and leaves the state: it answers as this one
+pub record TriesBlindly {I Cu Tok Sp Cx St Er V W : Type 0} (source : input_trait.Ghosts I Cu Tok Sp) (says : Says Tok Cx St Er V W) (gives : V → Sp → Result W Er → Type 0) : Type 0 where
+  pub sees : (v : V) (x : Shown Tok Cx St) (r : Result W Er) (s : St) → says v x r s → gives v (source.span_between x.tokens x.from x.to) r × (s ≡ x.state)
+  pub answers : (v : V) (x : Shown Tok Cx St) (r : Result W Er) → gives v (source.span_between x.tokens x.from x.to) r → says v x r x.state
 
 -- a mapper that gives back each error, and leaves the state
 abbrev pub MapsToItself : {Tok Cx St Er : Type 0} → ErrMaps Tok Cx St Er → Type 0

@@ -1,8 +1,7 @@
 //! A parser whose output has to pass a test.
 ghost use Rattle.std.specs.Prelude.{◌≡◌, Bool, ⊤};
 ghost use Rattle.std.specs.Fn.{FnReturnsAt};
-ghost use Rattle.chumsky_input.specs.Held.{held};
-ghost use Rattle.chumsky_input.specs.Run.{Ran};
+ghost use Rattle.chumsky_input.specs.Run.{Runs};
 ghost use Rattle.chumsky_parser.specs.Failure.{asked};
 ghost use Rattle.chumsky_shield.specs.Vetted.{Vetted, ByTest};
 
@@ -33,8 +32,8 @@ pub trait Tester<O> {
     /// That it may be called. Where nothing is said, it may.
     ghost callable: { Self → Type 0 } = { λ tester. ⊤ };
 
-    /// What it may answer to a value.
-    ghost gives: { Self → O → Bool → Type 0 };
+    /// What it may answer to a value. Where nothing is said, nothing is known of it.
+    ghost gives: { Self → O → Bool → Type 0 } = { λ tester value passes. ⊤ };
 
     /// Whether a value passes.
     fn passes(&self, value: &O) -> bool
@@ -112,7 +111,7 @@ where
     F: Tester<O>,
     requires part { A.ready filter.now.parser }
     requires tester { F.callable filter.now.tester }
-    ensures ran { (w : Bool) → Ran E.Error.merged E.Error.takes_no_memory (Vetted E.Error.merged E.Error.takes_no_memory (ByTest I.Input E.Error.Error (F.gives filter.now.tester)) (A.meaning filter.now.parser E.Error.Error E.State.Inspector)) w (held I.Input E.Error.Error E.State.Inspector inp.old) (held I.Input E.Error.Error E.State.Inspector inp.new) (asked w result) }
+    ensures ran { (w : Bool) → Runs I.Input E.Error.Error E.State.Inspector (Vetted E.Error.merged E.Error.takes_no_memory (ByTest I.Input E.Error.Error (F.gives filter.now.tester)) (A.meaning filter.now.parser E.Error.Error E.State.Inspector)) w inp.old inp.new (asked w result) }
     ensures lent { inp.new.state.ghost_name ≡ inp.old.state.ghost_name }
 {
     let start = inp.cursor;

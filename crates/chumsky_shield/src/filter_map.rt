@@ -1,7 +1,6 @@
 //! A parser whose output is picked.
 ghost use Rattle.std.specs.Prelude.{◌≡◌, Bool, ⊤, Option};
-ghost use Rattle.chumsky_input.specs.Held.{held};
-ghost use Rattle.chumsky_input.specs.Run.{Ran};
+ghost use Rattle.chumsky_input.specs.Run.{Runs};
 ghost use Rattle.chumsky_parser.specs.Failure.{asked};
 ghost use Rattle.chumsky_shield.specs.Vetted.{Vetted};
 ghost use Rattle.chumsky_shield.specs.Tried.{ByPick};
@@ -34,8 +33,8 @@ pub trait Picker<O, U> {
     /// That it may be called. Where nothing is said, it may.
     ghost callable: { Self → Type 0 } = { λ picker. ⊤ };
 
-    /// What it may answer to a value.
-    ghost gives: { Self → O → Option U → Type 0 };
+    /// What it may answer to a value. Where nothing is said, nothing is known of it.
+    ghost gives: { Self → O → Option U → Type 0 } = { λ picker value picked. ⊤ };
 
     /// The output for a value, or none.
     fn pick(&self, value: O) -> Option<U>
@@ -117,7 +116,7 @@ where
     F: Picker<O, U>,
     requires part { A.ready filter_map.now.parser }
     requires picker { F.callable filter_map.now.picker }
-    ensures ran { (w : Bool) → Ran E.Error.merged E.Error.takes_no_memory (Vetted E.Error.merged E.Error.takes_no_memory (ByPick I.Input E.Error.Error (F.gives filter_map.now.picker)) (A.meaning filter_map.now.parser E.Error.Error E.State.Inspector)) w (held I.Input E.Error.Error E.State.Inspector inp.old) (held I.Input E.Error.Error E.State.Inspector inp.new) (asked w result) }
+    ensures ran { (w : Bool) → Runs I.Input E.Error.Error E.State.Inspector (Vetted E.Error.merged E.Error.takes_no_memory (ByPick I.Input E.Error.Error (F.gives filter_map.now.picker)) (A.meaning filter_map.now.parser E.Error.Error E.State.Inspector)) w inp.old inp.new (asked w result) }
     ensures lent { inp.new.state.ghost_name ≡ inp.old.state.ghost_name }
 {
     let start = inp.cursor;

@@ -1,7 +1,8 @@
 //! Laws that compare parsers with their parts, each the contract of a function that does nothing.
 ghost use Rattle.std.specs.Prelude.{◌≡◌, Bool, true, List, Option, Some, [], Result, Ok};
 ghost use Rattle.chumsky_input.specs.Extra.{Answers};
-ghost use Rattle.chumsky_shield.specs.Compared.{YesStays, YesEndsAs, AnswersAsPart, AnswersJustAsPart, EmitsNothing, MapsToItself, AnswersAsOne, SucceedsAsPart};
+ghost use Rattle.chumsky_combinator.specs.Compared.{SameOutcomes};
+ghost use Rattle.chumsky_shield.specs.Compared.{TriesBlindly, YesStays, YesEndsAs, AnswersAsPart, AnswersJustAsPart, EmitsNothing, MapsToItself, AnswersAsOne, SucceedsAsPart};
 ghost use Rattle.chumsky_shield.specs.MapErr.{MapsSeen, MapsShown, MapsWithState};
 ghost use Rattle.chumsky_shield.specs.TriedWith.{shown_of};
 ghost use Rattle.chumsky_shield.specs.Unwrapped.{AlwaysGives};
@@ -16,6 +17,7 @@ use crate::map_err_with_state::MapErrWithState;
 use crate::not::Not;
 use crate::rewind::Rewind;
 use crate::try_map::{TryMap, TryMapper};
+use crate::try_map_with::TryMapWith;
 use crate::validate::Validate;
 use chumsky_input::emitter::Emitter;
 use chumsky_input::extra::ParserExtra;
@@ -122,6 +124,21 @@ pub fn try_map_of_all_answers_as_its_part<
     F: TryMapper<O, I::Span, U, E::Error>,
 >(try_map: &TryMap<A, O, F, U>)
     ensures { ((v : O) (span : I.Span) (r : Result U E.Error) → F.gives try_map.now.mapper v span r → (w : U) × (r ≡ Ok w)) → AnswersAsPart E.Error.merged (λ b end v w. F.gives try_map.now.mapper v (I.span_between b.tokens b.start end) (Ok w)) (A.meaning try_map.now.parser E.Error.Error E.State.Inspector) (⟦<TryMap<A, O, F, U> as Parser<'src, I, U, E>>⟧.meaning try_map.now E.Error.Error E.State.Inspector) }
+{}
+
+/// Where its closure takes no notice of the run but for the span, and leaves the state, `try_map_with` has the outcomes of
+/// `try_map` by a mapper with the same answers.
+pub fn try_map_with_by_a_blind_closure_is_try_map<
+    'src,
+    I: Input<'src>,
+    O,
+    U: Drop,
+    E: ParserExtra<I>,
+    A: Parser<'src, I, O, E>,
+    F: Fn(O, &mut MapExtra<'src, '_, I, E>) -> Result<U, E::Error>,
+    G: TryMapper<O, I::Span, U, E::Error>,
+>(try_map: &TryMapWith<A, O, F, U>, mapper: &G)
+    ensures { TriesBlindly I.Input (Answers I.Input E.State.Inspector F.Fn try_map.now.mapper) (G.gives mapper.now) → SameOutcomes (⟦<TryMapWith<A, O, F, U> as Parser<'src, I, U, E>>⟧.meaning try_map.now E.Error.Error E.State.Inspector) (⟦<TryMap<A, O, G, U> as Parser<'src, I, U, E>>⟧.meaning (record { parser = try_map.now.parser; mapper = mapper.now; of = record {} }) E.Error.Error E.State.Inspector) }
 {}
 
 /// `a.map_err(f)` succeeds where `a` does, and then is as `a` is. With an `f` that gives back each error, by what counts of

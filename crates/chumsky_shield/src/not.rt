@@ -1,7 +1,6 @@
 //! A parser that must not succeed.
 ghost use Rattle.std.specs.Prelude.{◌≡◌, Bool};
-ghost use Rattle.chumsky_input.specs.Held.{held};
-ghost use Rattle.chumsky_input.specs.Run.{Ran};
+ghost use Rattle.chumsky_input.specs.Run.{Runs};
 ghost use Rattle.chumsky_parser.specs.Failure.{asked};
 ghost use Rattle.chumsky_shield.specs.Not.{MeansNot};
 
@@ -60,7 +59,7 @@ fn deny<'src, I: Input<'src>, O, E: ParserExtra<I>, A: Parser<'src, I, O, E>>(
     inp: &mut InputRef<'src, '_, I, E>,
 ) -> PResult<()>
     requires { A.ready part.now }
-    ensures ran { (w : Bool) → Ran E.Error.merged E.Error.takes_no_memory (MeansNot I.Input E.Error.Error E.State.Inspector (A.meaning part.now E.Error.Error E.State.Inspector)) w (held I.Input E.Error.Error E.State.Inspector inp.old) (held I.Input E.Error.Error E.State.Inspector inp.new) (asked w result) }
+    ensures ran { (w : Bool) → Runs I.Input E.Error.Error E.State.Inspector (MeansNot I.Input E.Error.Error E.State.Inspector (A.meaning part.now E.Error.Error E.State.Inspector)) w inp.old inp.new (asked w result) }
     ensures lent { inp.new.state.ghost_name ≡ inp.old.state.ghost_name }
 {
     let before = inp.save()?;

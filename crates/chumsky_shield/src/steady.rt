@@ -1,11 +1,14 @@
-//! Which parsers that judge are steady, each the contract of a function that does nothing: those whose parts are, and whose
-//! closures answer alike to values that are the same. And what is known of two outputs that count as the same.
+//! Which parsers that judge are ready, and which are steady, each the contract of a function that does nothing: ready are
+//! those whose parts are and whose closures may be called, and steady those whose parts are and whose closures answer alike to
+//! values that are the same. And what is known of two outputs that count as the same.
 ghost use Rattle.chumsky_shield.specs.Vetted.{TestsAlike};
-ghost use Rattle.chumsky_input.specs.Extra.{Answers};
+ghost use Rattle.chumsky_input.specs.Extra.{Answers, KeepsState};
 ghost use Rattle.chumsky_shield.specs.MapErr.{MapsSeen, MapsOnce, MapsShown, MapsOnceShown, MapsWithState, MapsOnceFrom};
 ghost use Rattle.chumsky_shield.specs.TriedWith.{TriesWithAlike, SameTriedWith};
-ghost use Rattle.std.specs.Prelude.{Some, Ok};
-ghost use Rattle.chumsky_shield.specs.Validated.{ByEmitter, EmitsAlike, SameValidated};
+ghost use Rattle.std.specs.Option.{IsSome};
+ghost use Rattle.std.specs.Prelude.{Some, Ok, IsOk};
+ghost use Rattle.chumsky_shield.specs.Validated.{MayValidate, ByEmitter, EmitsAlike, SameValidated};
+ghost use Rattle.chumsky_shield.specs.Unwrapped.{AlwaysGives};
 ghost use Rattle.chumsky_shield.specs.Tried.{TriesAlike, SameTried, PicksAlike, SamePicked};
 
 use crate::and_is::AndIs;
@@ -30,7 +33,8 @@ use chumsky_parser::parser::Parser;
 pub fn not_is_steady<'src, I: Input<'src>, O, E: ParserExtra<I>, A: Parser<'src, I, O, E>>(
     not: &Not<A, O>,
 )
-    ensures { A.steady not.now.parser → ⟦<Not<A, O> as Parser<'src, I, (), E>>⟧.steady not.now }
+    ensures ready { A.ready not.now.parser → ⟦<Not<A, O> as Parser<'src, I, (), E>>⟧.ready not.now }
+    ensures steady { A.steady not.now.parser → ⟦<Not<A, O> as Parser<'src, I, (), E>>⟧.steady not.now }
 {}
 
 /// `a.and_is(b)` and `a.rewind()`.
@@ -43,6 +47,8 @@ pub fn and_is_is_steady<
     A: Parser<'src, I, O, E>,
     B: Parser<'src, I, U, E>,
 >(and_is: &AndIs<A, B, U>, rewind: &Rewind<A>)
+    ensures ready_and_is { A.ready and_is.now.parser → B.ready and_is.now.other → ⟦<AndIs<A, B, U> as Parser<'src, I, O, E>>⟧.ready and_is.now }
+    ensures ready_rewind { A.ready rewind.now.parser → ⟦<Rewind<A> as Parser<'src, I, O, E>>⟧.ready rewind.now }
     ensures and_is { A.steady and_is.now.parser → B.steady and_is.now.other → ⟦<AndIs<A, B, U> as Parser<'src, I, O, E>>⟧.steady and_is.now }
     ensures rewind { A.steady rewind.now.parser → ⟦<Rewind<A> as Parser<'src, I, O, E>>⟧.steady rewind.now }
     ensures same_and_is { (x y : O) → ⟦<AndIs<A, B, U> as Parser<'src, I, O, E>>⟧.same and_is.now x y → A.same and_is.now.parser x y }
@@ -58,6 +64,7 @@ pub fn filter_is_steady<
     A: Parser<'src, I, O, E>,
     F: Tester<O>,
 >(filter: &Filter<A, F>)
+    ensures ready { A.ready filter.now.parser → F.callable filter.now.tester → ⟦<Filter<A, F> as Parser<'src, I, O, E>>⟧.ready filter.now }
     ensures steady { A.steady filter.now.parser → TestsAlike (A.same filter.now.parser) (F.gives filter.now.tester) → ⟦<Filter<A, F> as Parser<'src, I, O, E>>⟧.steady filter.now }
     ensures same { (x y : O) → ⟦<Filter<A, F> as Parser<'src, I, O, E>>⟧.same filter.now x y → A.same filter.now.parser x y }
 {}
@@ -72,6 +79,7 @@ pub fn filter_map_is_steady<
     A: Parser<'src, I, O, E>,
     F: Picker<O, U>,
 >(filter_map: &FilterMap<A, O, F, U>)
+    ensures ready { A.ready filter_map.now.parser → F.callable filter_map.now.picker → ⟦<FilterMap<A, O, F, U> as Parser<'src, I, U, E>>⟧.ready filter_map.now }
     ensures steady { A.steady filter_map.now.parser → PicksAlike (A.same filter_map.now.parser) (F.gives filter_map.now.picker) → ⟦<FilterMap<A, O, F, U> as Parser<'src, I, U, E>>⟧.steady filter_map.now }
     ensures same { (x y : U) → ⟦<FilterMap<A, O, F, U> as Parser<'src, I, U, E>>⟧.same filter_map.now x y → SamePicked (A.same filter_map.now.parser) (F.gives filter_map.now.picker) x y }
 {}
@@ -86,8 +94,24 @@ pub fn try_map_is_steady<
     A: Parser<'src, I, O, E>,
     F: TryMapper<O, I::Span, U, E::Error>,
 >(try_map: &TryMap<A, O, F, U>)
+    ensures ready { A.ready try_map.now.parser → F.callable try_map.now.mapper → ⟦<TryMap<A, O, F, U> as Parser<'src, I, U, E>>⟧.ready try_map.now }
     ensures steady { A.steady try_map.now.parser → TriesAlike (A.same try_map.now.parser) E.Error.seen (F.gives try_map.now.mapper) → ⟦<TryMap<A, O, F, U> as Parser<'src, I, U, E>>⟧.steady try_map.now }
     ensures same { (x y : U) → ⟦<TryMap<A, O, F, U> as Parser<'src, I, U, E>>⟧.same try_map.now x y → SameTried (A.same try_map.now.parser) E.Error.seen (F.gives try_map.now.mapper) x y }
+{}
+
+/// A closure tests, picks and maps where it may be called.
+pub fn closures_may_judge<
+    O,
+    S,
+    U,
+    R,
+    F: Fn(&O) -> bool,
+    G: Fn(O) -> Option<U>,
+    H: Fn(O, S) -> Result<U, R>,
+>(tester: &F, picker: &G, mapper: &H)
+    ensures tester { F.IsAlwaysCallable tester.now → ⟦<F as Tester<O>>⟧.callable tester.now }
+    ensures picker { G.IsAlwaysCallable picker.now → ⟦<G as Picker<O, U>>⟧.callable picker.now }
+    ensures mapper { H.IsAlwaysCallable mapper.now → ⟦<H as TryMapper<O, S, U, R>>⟧.callable mapper.now }
 {}
 
 /// `a.map_err(f)`, where `f` gives one error to each, by what counts of them.
@@ -99,6 +123,7 @@ pub fn map_err_is_steady<
     A: Parser<'src, I, O, E>,
     F: Fn(E::Error) -> E::Error,
 >(map_err: &MapErr<A, F>)
+    ensures ready { A.ready map_err.now.parser → F.IsAlwaysCallable map_err.now.mapper → ⟦<MapErr<A, F> as Parser<'src, I, O, E>>⟧.ready map_err.now }
     ensures steady { A.steady map_err.now.parser → MapsOnce (MapsSeen E.Error.seen (F.post map_err.now.mapper)) → ⟦<MapErr<A, F> as Parser<'src, I, O, E>>⟧.steady map_err.now }
     ensures same { (x y : O) → ⟦<MapErr<A, F> as Parser<'src, I, O, E>>⟧.same map_err.now x y → A.same map_err.now.parser x y }
 {}
@@ -112,6 +137,7 @@ pub fn map_err_with_is_steady<
     A: Parser<'src, I, O, E>,
     F: Fn(E::Error, &mut MapExtra<'src, '_, I, E>) -> E::Error,
 >(map_err: &MapErrWith<A, F>)
+    ensures ready { A.ready map_err.now.parser → KeepsState I.Input E.State.Inspector F.Fn map_err.now.mapper → ⟦<MapErrWith<A, F> as Parser<'src, I, O, E>>⟧.ready map_err.now }
     ensures steady { A.steady map_err.now.parser → MapsOnceShown (MapsShown E.Error.seen (Answers I.Input E.State.Inspector F.Fn map_err.now.mapper)) → ⟦<MapErrWith<A, F> as Parser<'src, I, O, E>>⟧.steady map_err.now }
     ensures same { (x y : O) → ⟦<MapErrWith<A, F> as Parser<'src, I, O, E>>⟧.same map_err.now x y → A.same map_err.now.parser x y }
 {}
@@ -125,6 +151,7 @@ pub fn map_err_with_state_is_steady<
     A: Parser<'src, I, O, E>,
     F: Fn(E::Error, I::Span, &mut E::State) -> E::Error,
 >(map_err: &MapErrWithState<A, F>)
+    ensures ready { A.ready map_err.now.parser → F.IsAlwaysCallable map_err.now.mapper → ⟦<MapErrWithState<A, F> as Parser<'src, I, O, E>>⟧.ready map_err.now }
     ensures steady { A.steady map_err.now.parser → ((span : I.Span) → MapsOnceFrom (MapsWithState E.Error.Error E.State.Inspector F.Fn map_err.now.mapper span)) → ⟦<MapErrWithState<A, F> as Parser<'src, I, O, E>>⟧.steady map_err.now }
     ensures same { (x y : O) → ⟦<MapErrWithState<A, F> as Parser<'src, I, O, E>>⟧.same map_err.now x y → A.same map_err.now.parser x y }
 {}
@@ -139,6 +166,7 @@ pub fn try_map_with_is_steady<
     A: Parser<'src, I, O, E>,
     F: Fn(O, &mut MapExtra<'src, '_, I, E>) -> Result<U, E::Error>,
 >(try_map: &TryMapWith<A, O, F, U>)
+    ensures ready { A.ready try_map.now.parser → KeepsState I.Input E.State.Inspector F.Fn try_map.now.mapper → ⟦<TryMapWith<A, O, F, U> as Parser<'src, I, U, E>>⟧.ready try_map.now }
     ensures steady { A.steady try_map.now.parser → TriesWithAlike E.Error.seen (Answers I.Input E.State.Inspector F.Fn try_map.now.mapper) (A.same try_map.now.parser) → ⟦<TryMapWith<A, O, F, U> as Parser<'src, I, U, E>>⟧.steady try_map.now }
     ensures same { (x y : U) → ⟦<TryMapWith<A, O, F, U> as Parser<'src, I, U, E>>⟧.same try_map.now x y → SameTriedWith E.Error.seen (Answers I.Input E.State.Inspector F.Fn try_map.now.mapper) (A.same try_map.now.parser) x y }
 {}
@@ -153,6 +181,7 @@ pub fn validate_is_steady<
     A: Parser<'src, I, O, E>,
     F: Fn(O, &mut MapExtra<'src, '_, I, E>, &mut Emitter<E::Error>) -> U,
 >(validate: &Validate<A, O, F, U>)
+    ensures ready { A.ready validate.now.parser → MayValidate I.Input E.State.Inspector F.Fn validate.now.validator → ⟦<Validate<A, O, F, U> as Parser<'src, I, U, E>>⟧.ready validate.now }
     ensures steady { A.steady validate.now.parser → EmitsAlike (ByEmitter I.Input E.State.Inspector F.Fn validate.now.validator E.Error.seen) (A.same validate.now.parser) → ⟦<Validate<A, O, F, U> as Parser<'src, I, U, E>>⟧.steady validate.now }
     ensures same { (x y : U) → ⟦<Validate<A, O, F, U> as Parser<'src, I, U, E>>⟧.same validate.now x y → SameValidated (ByEmitter I.Input E.State.Inspector F.Fn validate.now.validator E.Error.seen) (A.same validate.now.parser) x y }
 {}
@@ -167,6 +196,8 @@ pub fn unwrapped_is_steady<
     A: Parser<'src, I, Option<O>, E>,
     B: Parser<'src, I, Result<O, X>, E>,
 >(of_some: &Unwrapped<A, Option<O>>, of_ok: &Unwrapped<B, Result<O, X>>)
+    ensures ready_of_some { A.ready of_some.now.parser → AlwaysGives IsSome (A.meaning of_some.now.parser E.Error.Error E.State.Inspector) → ⟦<Unwrapped<A, Option<O>> as Parser<'src, I, O, E>>⟧.ready of_some.now }
+    ensures ready_of_ok { B.ready of_ok.now.parser → AlwaysGives IsOk (B.meaning of_ok.now.parser E.Error.Error E.State.Inspector) → ⟦<Unwrapped<B, Result<O, X>> as Parser<'src, I, O, E>>⟧.ready of_ok.now }
     ensures of_some { A.steady of_some.now.parser → ⟦<Unwrapped<A, Option<O>> as Parser<'src, I, O, E>>⟧.steady of_some.now }
     ensures of_ok { B.steady of_ok.now.parser → ⟦<Unwrapped<B, Result<O, X>> as Parser<'src, I, O, E>>⟧.steady of_ok.now }
     ensures same_of_some { (x y : O) → ⟦<Unwrapped<A, Option<O>> as Parser<'src, I, O, E>>⟧.same of_some.now x y → A.same of_some.now.parser (Some x) (Some y) }

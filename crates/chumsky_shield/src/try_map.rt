@@ -1,7 +1,6 @@
 //! A mapper that may refuse.
 ghost use Rattle.std.specs.Prelude.{◌≡◌, Bool, ⊤, Result};
-ghost use Rattle.chumsky_input.specs.Held.{held};
-ghost use Rattle.chumsky_input.specs.Run.{Ran};
+ghost use Rattle.chumsky_input.specs.Run.{Runs};
 ghost use Rattle.chumsky_parser.specs.Failure.{asked};
 ghost use Rattle.chumsky_shield.specs.Vetted.{Vetted};
 ghost use Rattle.chumsky_shield.specs.Tried.{ByTry};
@@ -22,8 +21,8 @@ pub trait TryMapper<O, S, U, R> {
     /// That it may be called. Where nothing is said, it may.
     ghost callable: { Self → Type 0 } = { λ mapper. ⊤ };
 
-    /// What it may answer to a value and a span.
-    ghost gives: { Self → O → S → Result U R → Type 0 };
+    /// What it may answer to a value and a span. Where nothing is said, nothing is known of it.
+    ghost gives: { Self → O → S → Result U R → Type 0 } = { λ mapper value span answer. ⊤ };
 
     /// The output for a value and its span, or the error that refuses it.
     fn try_apply(&self, value: O, span: S) -> Result<U, R>
@@ -104,7 +103,7 @@ where
     F: TryMapper<O, I::Span, U, E::Error>,
     requires part { A.ready try_map.now.parser }
     requires mapper { F.callable try_map.now.mapper }
-    ensures ran { (w : Bool) → Ran E.Error.merged E.Error.takes_no_memory (Vetted E.Error.merged ⊤ (ByTry I.Input E.Error.Error (F.gives try_map.now.mapper)) (A.meaning try_map.now.parser E.Error.Error E.State.Inspector)) w (held I.Input E.Error.Error E.State.Inspector inp.old) (held I.Input E.Error.Error E.State.Inspector inp.new) (asked w result) }
+    ensures ran { (w : Bool) → Runs I.Input E.Error.Error E.State.Inspector (Vetted E.Error.merged ⊤ (ByTry I.Input E.Error.Error (F.gives try_map.now.mapper)) (A.meaning try_map.now.parser E.Error.Error E.State.Inspector)) w inp.old inp.new (asked w result) }
     ensures lent { inp.new.state.ghost_name ≡ inp.old.state.ghost_name }
 {
     let start = inp.cursor;

@@ -3,7 +3,7 @@ ghost use Rattle.std.specs.Prelude.{◌≡◌, ◌≤◌, Bool, Some, [], MatchR
 ghost use Rattle.chumsky_input.specs.Aside.{SameButErrors};
 ghost use Rattle.chumsky_input.specs.Extra.{shown_from};
 ghost use Rattle.chumsky_input.specs.Held.{held};
-ghost use Rattle.chumsky_input.specs.Run.{Ran};
+ghost use Rattle.chumsky_input.specs.Run.{Runs};
 ghost use Rattle.chumsky_parser.specs.Failure.{asked};
 ghost use Rattle.chumsky_shield.specs.Validated.{MayValidate, Validates, ByEmitter, MeansValidate, EmitsAfter, emitted_by};
 
@@ -81,7 +81,7 @@ where
     F: Fn(O, &mut MapExtra<'src, '_, I, E>, &mut Emitter<E::Error>) -> U,
     requires part { A.ready validate.now.parser }
     requires validator { MayValidate I.Input E.State.Inspector F.Fn validate.now.validator }
-    ensures ran { (w : Bool) → Ran E.Error.merged E.Error.takes_no_memory (MeansValidate (ByEmitter I.Input E.State.Inspector F.Fn validate.now.validator E.Error.seen) (A.meaning validate.now.parser E.Error.Error E.State.Inspector)) w (held I.Input E.Error.Error E.State.Inspector inp.old) (held I.Input E.Error.Error E.State.Inspector inp.new) (asked w result) }
+    ensures ran { (w : Bool) → Runs I.Input E.Error.Error E.State.Inspector (MeansValidate (ByEmitter I.Input E.State.Inspector F.Fn validate.now.validator E.Error.seen) (A.meaning validate.now.parser E.Error.Error E.State.Inspector)) w inp.old inp.new (asked w result) }
     ensures lent { inp.new.state.ghost_name ≡ inp.old.state.ghost_name }
 {
     let start = inp.cursor;

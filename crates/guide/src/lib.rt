@@ -3,6 +3,7 @@
 #![tactic(auto)]
 
 pub mod arithmetic;
+pub mod builders;
 pub mod checking;
 pub mod closure;
 pub mod conclusion;
@@ -20,3 +21,4 @@ pub mod repeating;
 pub mod running;
 pub mod stepping;
 pub mod tokens;
+pub mod words;

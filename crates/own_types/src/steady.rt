@@ -25,6 +25,7 @@ where
     E: ParserExtra<I>,
     A: Parser<'src, I, O, E>,
     B: Parser<'src, I, U, Full<E::Error, E::State, O>>,
+    ensures ready { A.ready parser.now.first → B.ready parser.now.second → ⟦<UnderOutput<A, B, O> as Parser<'src, I, U, E>>⟧.ready parser.now }
     ensures steady { A.steady parser.now.first → B.steady parser.now.second → SameAreEqual (A.same parser.now.first) → ⟦<UnderOutput<A, B, O> as Parser<'src, I, U, E>>⟧.steady parser.now }
     ensures same { (x y : U) → ⟦<UnderOutput<A, B, O> as Parser<'src, I, U, E>>⟧.same parser.now x y → B.same parser.now.second x y }
 {}
@@ -61,6 +62,7 @@ where
     M: Drop,
     A: Parser<'src, J, U, Full<E::Error, E::State, E::Context>>,
     B: Parser<'src, I, J, E>,
+    ensures ready { A.ready parser.now.inner → B.ready parser.now.outer → ⟦<WithinOutput<A, B, J, C, T, S, M> as Parser<'src, I, U, E>>⟧.ready parser.now }
     ensures steady { A.steady parser.now.inner → B.steady parser.now.outer → SameCount J.Input ⟦<E::Error as Error<J>>⟧ ⟦<E::State as Inspector<J>>⟧ ⟦<E::Error as Error<I>>⟧ ⟦<E::State as Inspector<I>>⟧ (B.same parser.now.outer) → ⟦<WithinOutput<A, B, J, C, T, S, M> as Parser<'src, I, U, E>>⟧.steady parser.now }
     ensures same { (x y : U) → ⟦<WithinOutput<A, B, J, C, T, S, M> as Parser<'src, I, U, E>>⟧.same parser.now x y → A.same parser.now.inner x y }
 {}

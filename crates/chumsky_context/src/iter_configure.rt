@@ -1,0 +1,131 @@
+//! `IterConfigure`: items that are configured by the context.
+use crate::config::Configurable;
+use crate::config_iter::{ConfigIterParser, IsConfigIterParser};
+use crate::configurer::Configurer;
+use chumsky_input::extra::ParserExtra;
+use chumsky_input::input::Input;
+use chumsky_input::input_ref::InputRef;
+use chumsky_input::stop::PResult;
+use chumsky_items::pass::pass_all;
+use chumsky_parser::iter::{IsIterParser, IterParser, IterParserDebug, Iterates};
+use chumsky_parser::parser::{IsParser, Parser};
+use std::marker::PhantomData;
+
+/// A parser of items that is configured by the context, once for each iteration. Where it stands as a parser of `()`, it
+/// passes over its items. See `configure`.
+#[derive(Drop)]
+#[derive_where(Clone, Copy; A, F)]
+pub struct IterConfigure<A, F, O> {
+    pub parser: A,
+    pub configurer: F,
+    pub of: PhantomData<O>,
+}
+
+impl<I, O, E, A: IsConfigIterParser<I, O, E>, F> IsIterParser<I, O, E> for IterConfigure<A, F, O> {}
+
+impl<A: Iterates + Configurable, F, O> Iterates for IterConfigure<A, F, O> {
+    /// The iteration of the items, and the configuration.
+    type IterState = (A::IterState, A::Config);
+}
+
+impl<'src, I, O, E, A, F> IterParser<'src, I, O, E> for IterConfigure<A, F, O>
+where
+    I: Input<'src>,
+    E: ParserExtra<I>,
+    A: ConfigIterParser<'src, I, O, E>,
+    F: Configurer<A::Config, E::Context>,
+{
+    ghost use Rattle.chumsky_context.specs.Configured.{Sets, IsDeterministic};
+    ghost use Rattle.chumsky_context.specs.ConfiguredItems.{BeginsBeside, GivesBeside, AlikeBeside};
+    ghost use Rattle.chumsky_context.specs.ConfiguredItemsLaws.{beside-end, beside-agree};
+
+    ghost ready = { λ p. A.ready p.parser × F.callable p.configurer };
+
+    ghost may_step = { λ p s. A.may_step p.parser s.0 };
+
+    ghost begins = { λ p errors states. BeginsBeside (Sets A.Config.is_default (F.gives p.configurer)) (A.begins p.parser errors states) };
+
+    ghost gives = { λ p d s errors states. GivesBeside (λ c t. A.gives_cfg p.parser d c t errors states) s };
+
+    ghost steady = { λ p. A.steady p.parser × IsDeterministic (Sets A.Config.is_default (F.gives p.configurer)) };
+
+    ghost same = { λ p. A.same p.parser };
+
+    ghost alike = { λ p. AlikeBeside (A.alike p.parser) };
+
+    ghost ends_after_start = { λ p d. beside-end _ _ _ (A.IterParser.ends_after_start p.parser d).begin (A.ends_after_start_cfg p.parser d) };
+
+    ghost agrees = { λ p s d. beside-agree _ _ _ s.1 (A.same p.parser) (A.alike p.parser) (A.IterParser.agrees p.parser s.0 d).begin (A.agrees_cfg p.parser s.0 d) };
+
+    #[inline(always)]
+    fn make_iter(&self, inp: &mut InputRef<'src, '_, I, E>) -> PResult<(A::IterState, A::Config)> {
+        let items = self.parser.make_iter(inp)?;
+        let config = self.configurer.configured(Default::default(), inp.ctx());
+        Ok((items, config))
+    }
+
+    #[inline(always)]
+    fn next_emit(
+        &self,
+        inp: &mut InputRef<'src, '_, I, E>,
+        state: &mut (A::IterState, A::Config),
+        debug: IterParserDebug,
+    ) -> PResult<Option<O>> {
+        self.parser
+            .next_emit_cfg(inp, &mut state.0, &state.1, debug)
+    }
+
+    #[inline(always)]
+    fn next_check(
+        &self,
+        inp: &mut InputRef<'src, '_, I, E>,
+        state: &mut (A::IterState, A::Config),
+        debug: IterParserDebug,
+    ) -> PResult<Option<()>> {
+        self.parser
+            .next_check_cfg(inp, &mut state.0, &state.1, debug)
+    }
+}
+
+impl<I, O, E, A: IsConfigIterParser<I, O, E>, F> IsParser<I, (), E> for IterConfigure<A, F, O> {}
+
+impl<'src, I, O, E, A, F> Parser<'src, I, (), E> for IterConfigure<A, F, O>
+where
+    I: Input<'src>,
+    O: Drop,
+    E: ParserExtra<I>,
+    A: ConfigIterParser<'src, I, O, E>,
+    F: Configurer<A::Config, E::Context>,
+{
+    ghost use Rattle.std.specs.Prelude.{false};
+    ghost use Rattle.chumsky_parser.specs.FailureLaws.{SameUnit};
+    ghost use Rattle.chumsky_parser.specs.Ignoring.{Gives, IgnoringFirst};
+    ghost use Rattle.chumsky_parser.specs.IgnoringLaws.{gives-ends, gives-agrees, ignoring_first-ends, ignoring_first-agrees};
+    ghost use Rattle.chumsky_items.specs.Consumers.{Passes};
+    ghost use Rattle.chumsky_items.specs.ConsumersLaws.{passes-ends, passes-agree};
+    ghost use Rattle.chumsky_context.specs.Configured.{Sets, IsDeterministic};
+    ghost use Rattle.chumsky_context.specs.ConfiguredItems.{BeginsBeside, GivesBeside, AlikeBeside};
+    ghost use Rattle.chumsky_context.specs.ConfiguredItemsLaws.{beside-end, beside-agree};
+
+    ghost ready = { λ p. A.ready p.parser × F.callable p.configurer };
+
+    ghost meaning = { λ p errors states. IgnoringFirst (Passes (GivesBeside (λ c t. A.gives_cfg p.parser (record { nonconsumption_is_ok = false }) c t errors states)) (BeginsBeside (Sets A.Config.is_default (F.gives p.configurer)) (A.begins p.parser errors states)) (Unit {0})) (Gives tt) };
+
+    ghost steady = { λ p. A.steady p.parser × IsDeterministic (Sets A.Config.is_default (F.gives p.configurer)) };
+
+    ghost same = { λ _. SameUnit };
+
+    ghost ends_after_start = { λ p. ignoring_first-ends _ _ (passes-ends _ _ (Unit {0}) (beside-end _ _ _ (A.IterParser.ends_after_start p.parser (record { nonconsumption_is_ok = false })).begin (A.ends_after_start_cfg p.parser (record { nonconsumption_is_ok = false })))) (gives-ends tt) };
+
+    ghost agrees = { λ p s. ignoring_first-agrees _ _ SameUnit SameUnit (passes-agree _ _ (A.same p.parser) (AlikeBeside (A.alike p.parser)) SameUnit (beside-agree _ _ _ s.1 (A.same p.parser) (A.alike p.parser) (A.IterParser.agrees p.parser s.0 (record { nonconsumption_is_ok = false })).begin (A.agrees_cfg p.parser s.0 (record { nonconsumption_is_ok = false })))) (gives-agrees tt SameUnit tt) };
+
+    #[inline(always)]
+    fn go_emit(&self, inp: &mut InputRef<'src, '_, I, E>) -> PResult<()> {
+        pass_all::<(), I, O, E, IterConfigure<A, F, O>>(self, inp)
+    }
+
+    #[inline(always)]
+    fn go_check(&self, inp: &mut InputRef<'src, '_, I, E>) -> PResult<()> {
+        pass_all::<(), I, O, E, IterConfigure<A, F, O>>(self, inp)
+    }
+}

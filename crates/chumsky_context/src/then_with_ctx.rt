@@ -1,0 +1,61 @@
+//! `ThenWithCtx`: a parser, and another under its output, for both outputs.
+use crate::under::{check_under, emit_under};
+use chumsky_input::extra::ParserExtra;
+use chumsky_input::input::Input;
+use chumsky_input::input_ref::InputRef;
+use chumsky_input::stop::PResult;
+use chumsky_parser::parser::{IsParser, Parser};
+use std::marker::PhantomData;
+
+/// Two parsers, the second with the output of the first as its context, for both outputs; or, where the second gives items,
+/// for those. `X` is the extra of the second. See `then_with_ctx`.
+#[derive(Drop)]
+#[derive_where(Clone, Copy; A, B)]
+pub struct ThenWithCtx<A, B, O, I, X> {
+    pub parser: A,
+    pub then: B,
+    pub of: PhantomData<(O, I, X)>,
+}
+
+impl<I, O, U, E, X, A: IsParser<I, O, E>, B: IsParser<I, U, X>> IsParser<I, (O, U), E>
+    for ThenWithCtx<A, B, O, I, X> {}
+
+impl<'src, I, O, U, E, X, A, B> Parser<'src, I, (O, U), E> for ThenWithCtx<A, B, O, I, X>
+where
+    I: Input<'src>,
+    I::Token: 'src,
+    O: Drop,
+    E: ParserExtra<I>,
+    A: Parser<'src, I, O, E>,
+    X: ParserExtra<I, Error = E::Error, State = E::State, Context = O>,
+    B: Parser<'src, I, U, X>,
+{
+    ghost use Rattle.chumsky_parser.specs.Chained.{SamePair};
+    ghost use Rattle.chumsky_context.specs.Under.{SequenceUnder, SameAreEqual};
+    ghost use Rattle.chumsky_context.specs.UnderLaws.{sequence_under-ends, sequence_under-agrees};
+
+    ghost ready = { λ p. A.ready p.parser × B.ready p.then };
+
+    ghost meaning = { λ p errors states. SequenceUnder (A.meaning p.parser errors states) (B.meaning p.then errors states) };
+
+    ghost steady = { λ p. A.steady p.parser × B.steady p.then × SameAreEqual (A.same p.parser) };
+
+    ghost same = { λ p. SamePair (A.same p.parser) (B.same p.then) };
+
+    ghost ends_after_start = { λ p. sequence_under-ends _ _ (A.ends_after_start p.parser) (B.ends_after_start p.then) };
+
+    ghost agrees = { λ p s. sequence_under-agrees _ _ (A.same p.parser) (B.same p.then) s.2 (A.agrees p.parser s.0) (B.agrees p.then s.1) };
+
+    #[inline]
+    fn go_emit(&self, inp: &mut InputRef<'src, '_, I, E>) -> PResult<(O, U)> {
+        let value = self.parser.go_emit(inp)?;
+        let other = emit_under::<I, U, E, X, B>(&self.then, &value, inp)?;
+        Ok((value, other))
+    }
+
+    #[inline]
+    fn go_check(&self, inp: &mut InputRef<'src, '_, I, E>) -> PResult<()> {
+        let value = self.parser.go_emit(inp)?;
+        check_under::<I, U, E, X, B>(&self.then, &value, inp)
+    }
+}

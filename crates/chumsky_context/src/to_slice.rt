@@ -1,0 +1,53 @@
+//! `ToSlice`: the part of the input that a parser took.
+use chumsky_input::extra::ParserExtra;
+use chumsky_input::input::SliceInput;
+use chumsky_input::input_ref::InputRef;
+use chumsky_input::stop::PResult;
+use chumsky_parser::parser::{IsParser, Parser};
+use std::marker::PhantomData;
+
+/// A parser that gives the part of the input that its part took, which runs without its output. See `to_slice`.
+#[derive(Drop)]
+#[derive_where(Clone, Copy; A)]
+pub struct ToSlice<A, O> {
+    pub parser: A,
+    pub of: PhantomData<O>,
+}
+
+impl<'src, I: SliceInput<'src>, O, E, A: IsParser<I, O, E>> IsParser<I, I::Slice, E>
+    for ToSlice<A, O> {}
+
+impl<'src, I: SliceInput<'src>, O, E: ParserExtra<I>, A: Parser<'src, I, O, E>> Parser<
+    'src,
+    I,
+    I::Slice,
+    E,
+> for ToSlice<A, O> {
+    ghost use Rattle.std.specs.Prelude.{◌≡◌, slice_range};
+    ghost use Rattle.chumsky_context.specs.Covered.{Covers};
+    ghost use Rattle.chumsky_context.specs.CoveredLaws.{covers-ends, covers-agree};
+
+    ghost ready = { λ p. A.ready p.parser };
+
+    ghost meaning = { λ p errors states. Covers (λ ts i j w. I.slice_seen w ≡ I.slice_of (slice_range ts i j)) (A.meaning p.parser errors states) };
+
+    ghost steady = { λ p. A.steady p.parser };
+
+    ghost same = { λ p v w. I.slice_seen v ≡ I.slice_seen w };
+
+    ghost ends_after_start = { λ p. covers-ends _ _ (A.ends_after_start p.parser) };
+
+    ghost agrees = { λ p s. covers-agree _ _ (A.same p.parser) (λ v w. I.slice_seen v ≡ I.slice_seen w) (λ ts i j v w e d. Prim.search (e, d)) (A.agrees p.parser s) };
+
+    #[inline(always)]
+    fn go_emit(&self, inp: &mut InputRef<'src, '_, I, E>) -> PResult<I::Slice> {
+        let before = inp.cursor;
+        self.parser.go_check(inp)?;
+        Ok(inp.slice_since(&before))
+    }
+
+    #[inline(always)]
+    fn go_check(&self, inp: &mut InputRef<'src, '_, I, E>) -> PResult<()> {
+        self.parser.go_check(inp)
+    }
+}

@@ -1,0 +1,52 @@
+//! `ToSpan`: the span of what a parser took.
+use chumsky_input::extra::ParserExtra;
+use chumsky_input::input::{Input, Tokens};
+use chumsky_input::input_ref::InputRef;
+use chumsky_input::stop::PResult;
+use chumsky_parser::parser::{IsParser, Parser};
+use std::marker::PhantomData;
+
+/// A parser that gives the span of what its part took, which runs without its output. See `to_span`.
+#[derive(Drop)]
+#[derive_where(Clone, Copy; A)]
+pub struct ToSpan<A, O> {
+    pub parser: A,
+    pub of: PhantomData<O>,
+}
+
+impl<I: Tokens, O, E, A: IsParser<I, O, E>> IsParser<I, I::Span, E> for ToSpan<A, O> {}
+
+impl<'src, I: Input<'src>, O, E: ParserExtra<I>, A: Parser<'src, I, O, E>> Parser<
+    'src,
+    I,
+    I::Span,
+    E,
+> for ToSpan<A, O> {
+    ghost use Rattle.std.specs.Prelude.{◌≡◌};
+    ghost use Rattle.chumsky_context.specs.Covered.{Covers};
+    ghost use Rattle.chumsky_context.specs.CoveredLaws.{covers-ends, covers-agree};
+
+    ghost ready = { λ p. A.ready p.parser };
+
+    ghost meaning = { λ p errors states. Covers (λ ts i j w. w ≡ I.span_between ts i j) (A.meaning p.parser errors states) };
+
+    ghost steady = { λ p. A.steady p.parser };
+
+    ghost same = { λ p v w. v ≡ w };
+
+    ghost ends_after_start = { λ p. covers-ends _ _ (A.ends_after_start p.parser) };
+
+    ghost agrees = { λ p s. covers-agree _ _ (A.same p.parser) (λ v w. v ≡ w) (λ ts i j v w e d. Prim.search (e, d)) (A.agrees p.parser s) };
+
+    #[inline(always)]
+    fn go_emit(&self, inp: &mut InputRef<'src, '_, I, E>) -> PResult<I::Span> {
+        let before = inp.cursor;
+        self.parser.go_check(inp)?;
+        Ok(inp.span_since(&before))
+    }
+
+    #[inline(always)]
+    fn go_check(&self, inp: &mut InputRef<'src, '_, I, E>) -> PResult<()> {
+        self.parser.go_check(inp)
+    }
+}

@@ -1,0 +1,156 @@
+//! `emit_under`, `check_under`: running a parser under another context than that of the run.
+ghost use Rattle.std.specs.Prelude.{◌≡◌, true, false, Some};
+ghost use Rattle.chumsky_input.specs.Held.{held};
+ghost use Rattle.chumsky_input.specs.Run.{Ran, with_value, without_value};
+ghost use Rattle.chumsky_context.specs.Under.{held_from_parts, UnderValue};
+
+use chumsky_input::aside::Aside;
+use chumsky_input::extra::ParserExtra;
+use chumsky_input::input::Input;
+use chumsky_input::input_ref::{Finished, InputRef};
+use chumsky_input::stop::PResult;
+use chumsky_parser::parser::Parser;
+use std::alloc::Global;
+
+/// What a run that was made of parts comes to: its answer, its last cursor, and its errors.
+pub(crate) struct Returned<O, C, E> {
+    pub answer: PResult<O>,
+    pub cursor: C,
+    pub errors: Aside<E>,
+}
+
+/// Runs a parser for its output from `cursor`, with `errors` as those of the run so far, on a state and under a context.
+pub(crate) fn emit_parts<'src, I: Input<'src>, O, E: ParserExtra<I>, P: Parser<'src, I, O, E>>(
+    parser: &P,
+    cursor: I::Cursor,
+    errors: Aside<E::Error>,
+    state: &mut E::State,
+    context: &E::Context,
+    alloc: Global,
+) -> Returned<O, I::Cursor, E::Error>
+where
+    I::Token: 'src,
+    requires { P.ready parser.now }
+    ensures { Ran E.Error.merged E.Error.takes_no_memory (P.meaning parser.now E.Error.Error E.State.Inspector) true (held_from_parts I.Input E.Error.Error E.State.Inspector cursor errors state.old context.now) (held_from_parts I.Input E.Error.Error E.State.Inspector result.cursor result.errors state.new context.now) (with_value result.answer) }
+{
+    let mut inp: InputRef<'src, '_, I, E> = InputRef::resume(alloc, cursor, state, context);
+    inp.kept = errors.kept;
+    inp.emitted = errors.emitted;
+    let answer = parser.go_emit(&mut inp);
+    let Finished {
+        cursor,
+        state: last,
+        errors,
+    } = inp.finish();
+    let _last = &*last;
+    Returned {
+        answer,
+        cursor,
+        errors,
+    }
+}
+
+/// Runs a parser without its output from `cursor`, with `errors` as those of the run so far, on a state and under a context.
+pub(crate) fn check_parts<'src, I: Input<'src>, O, E: ParserExtra<I>, P: Parser<'src, I, O, E>>(
+    parser: &P,
+    cursor: I::Cursor,
+    errors: Aside<E::Error>,
+    state: &mut E::State,
+    context: &E::Context,
+    alloc: Global,
+) -> Returned<(), I::Cursor, E::Error>
+where
+    I::Token: 'src,
+    requires { P.ready parser.now }
+    ensures { Ran E.Error.merged E.Error.takes_no_memory (P.meaning parser.now E.Error.Error E.State.Inspector) false (held_from_parts I.Input E.Error.Error E.State.Inspector cursor errors state.old context.now) (held_from_parts I.Input E.Error.Error E.State.Inspector result.cursor result.errors state.new context.now) (without_value result.answer) }
+{
+    let mut inp: InputRef<'src, '_, I, E> = InputRef::resume(alloc, cursor, state, context);
+    inp.kept = errors.kept;
+    inp.emitted = errors.emitted;
+    let answer = parser.go_check(&mut inp);
+    let Finished {
+        cursor,
+        state: last,
+        errors,
+    } = inp.finish();
+    let _last = &*last;
+    Returned {
+        answer,
+        cursor,
+        errors,
+    }
+}
+
+/// Runs a parser for its output, from where a run stands, under `context` in place of the run's. The run has its own context
+/// back afterwards, and stands where the parser left it. The extra of the parser, `X`, has the run's errors and state.
+///
+/// A parser type of one's own calls it in its `go_emit`: `emit_under::<I, O, E, X, A>(&self.part, &context, inp)`.
+pub fn emit_under<'src, I, O, E, X, P>(
+    parser: &P,
+    context: &X::Context,
+    inp: &mut InputRef<'src, '_, I, E>,
+) -> PResult<O>
+where
+    I: Input<'src>,
+    I::Token: 'src,
+    E: ParserExtra<I>,
+    X: ParserExtra<I, Error = E::Error, State = E::State>,
+    P: Parser<'src, I, O, X>,
+    requires { P.ready parser.now }
+    ensures ran { Ran E.Error.merged E.Error.takes_no_memory (UnderValue (P.meaning parser.now E.Error.Error E.State.Inspector) (Some context.now)) true (held I.Input E.Error.Error E.State.Inspector inp.old) (held I.Input E.Error.Error E.State.Inspector inp.new) (with_value result) }
+    ensures lent { inp.new.state.ghost_name ≡ inp.old.state.ghost_name }
+{
+    let errors = inp.set_aside();
+    let Returned {
+        answer,
+        cursor,
+        errors,
+    } = emit_parts::<I, O, X, P>(
+        parser,
+        inp.cursor,
+        errors,
+        &mut *inp.state,
+        context,
+        inp.alloc,
+    );
+    inp.cursor = cursor;
+    inp.kept = errors.kept;
+    inp.emitted = errors.emitted;
+    answer
+}
+
+/// Runs a parser without its output, from where a run stands, under `context` in place of the run's. The run has its own
+/// context back afterwards, and stands where the parser left it.
+pub fn check_under<'src, I, O, E, X, P>(
+    parser: &P,
+    context: &X::Context,
+    inp: &mut InputRef<'src, '_, I, E>,
+) -> PResult<()>
+where
+    I: Input<'src>,
+    I::Token: 'src,
+    E: ParserExtra<I>,
+    X: ParserExtra<I, Error = E::Error, State = E::State>,
+    P: Parser<'src, I, O, X>,
+    requires { P.ready parser.now }
+    ensures ran { Ran E.Error.merged E.Error.takes_no_memory (UnderValue (P.meaning parser.now E.Error.Error E.State.Inspector) (Some context.now)) false (held I.Input E.Error.Error E.State.Inspector inp.old) (held I.Input E.Error.Error E.State.Inspector inp.new) (without_value result) }
+    ensures lent { inp.new.state.ghost_name ≡ inp.old.state.ghost_name }
+{
+    let errors = inp.set_aside();
+    let Returned {
+        answer,
+        cursor,
+        errors,
+    } = check_parts::<I, O, X, P>(
+        parser,
+        inp.cursor,
+        errors,
+        &mut *inp.state,
+        context,
+        inp.alloc,
+    );
+    inp.cursor = cursor;
+    inp.kept = errors.kept;
+    inp.emitted = errors.emitted;
+    answer
+}

@@ -1,0 +1,3 @@
+pub mod Labelled
+pub mod LabelledLaws
+pub mod RichLabel

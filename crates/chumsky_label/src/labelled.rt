@@ -1,0 +1,125 @@
+//! A parser that a label names.
+ghost use Rattle.std.specs.Prelude.{◌≡◌, MatchResult, option_map};
+ghost use Rattle.chumsky_input.specs.Held.{held, located};
+ghost use Rattle.chumsky_shield.specs.MapErr.{MapsSeen};
+ghost use Rattle.chumsky_label.specs.Labelled.{Relabelled, Unlabelled, KeepsLabelled, LosesLabelled};
+
+use crate::label_error::LabelError;
+use chumsky_input::extra::ParserExtra;
+use chumsky_input::input::Input;
+use chumsky_input::input_ref::{InputRef, Located};
+use chumsky_input::stop::{Fault, PResult};
+use chumsky_parser::parser::{IsParser, Parser};
+use std::alloc::AllocError;
+
+/// A parser that a label names. See `labelled`.
+#[derive(Clone, Copy, Drop)]
+pub struct Labelled<A, L> {
+    pub parser: A,
+    pub label: L,
+}
+
+impl<I, O, E, A: IsParser<I, O, E>, L> IsParser<I, O, E> for Labelled<A, L> {}
+
+impl<'src, I, O, E, A, L> Parser<'src, I, O, E> for Labelled<A, L>
+where
+    I: Input<'src>,
+    O: Drop,
+    E: ParserExtra<I>,
+    E::Error: LabelError<L>,
+    A: Parser<'src, I, O, E>,
+{
+    ghost use Rattle.chumsky_shield.specs.MapErr.{MapsOnce};
+    ghost use Rattle.chumsky_label.specs.Labelled.{MeansLabelled};
+    ghost use Rattle.chumsky_label.specs.LabelledLaws.{labelled-ends, labelled-agrees};
+
+    ghost ready = { λ p. A.ready p.parser };
+
+    ghost meaning = { λ p errors states. MeansLabelled errors.merged (MapsSeen errors.seen (E.Error.LabelError.labels p.label)) E.Error.LabelError.labels_freely (A.meaning p.parser errors states) };
+
+    ghost steady = { λ p. A.steady p.parser × MapsOnce (MapsSeen E.Error.Error.seen (E.Error.LabelError.labels p.label)) };
+
+    ghost same = { λ p. A.same p.parser };
+
+    ghost ends_after_start = { λ p. labelled-ends _ _ _ _ (A.ends_after_start p.parser) };
+
+    ghost agrees = { λ p s. labelled-agrees _ _ _ _ (A.same p.parser) s.1 (A.agrees p.parser s.0) };
+
+    #[inline]
+    fn go_emit(&self, inp: &mut InputRef<'src, '_, I, E>) -> PResult<O> {
+        let start = I::place(&inp.cursor);
+        let older = inp.take_kept();
+        match self.parser.go_emit(inp) {
+            Ok(value) => {
+                keep_labelled(&self.label, start, older, inp)?;
+                Ok(value)
+            }
+            Err(Fault::Fail) => {
+                keep_labelled(&self.label, start, older, inp)?;
+                Err(Fault::Fail)
+            }
+            Err(Fault::Stop(stop)) => Err(Fault::Stop(stop)),
+        }
+    }
+
+    #[inline]
+    fn go_check(&self, inp: &mut InputRef<'src, '_, I, E>) -> PResult<()> {
+        let start = I::place(&inp.cursor);
+        let older = inp.take_kept();
+        match self.parser.go_check(inp) {
+            Ok(()) => {
+                keep_labelled(&self.label, start, older, inp)?;
+                Ok(())
+            }
+            Err(Fault::Fail) => {
+                keep_labelled(&self.label, start, older, inp)?;
+                Err(Fault::Fail)
+            }
+            Err(Fault::Stop(stop)) => Err(Fault::Stop(stop)),
+        }
+    }
+}
+
+/// Puts the label into the error that is kept, if that stands at the start, and an older error before it.
+#[inline]
+fn keep_labelled<'src, I: Input<'src>, E: ParserExtra<I>, L>(
+    label: &L,
+    start: usize,
+    older: Option<Located<E::Error>>,
+    inp: &mut InputRef<'src, '_, I, E>,
+) -> Result<(), AllocError>
+where
+    E::Error: LabelError<L>,
+    ensures keeps { MatchResult result (λ _. KeepsLabelled E.Error.Error.merged (MapsSeen E.Error.Error.seen (E.Error.LabelError.labels label.now)) start (option_map (located E.Error.Error.seen) older) (held I.Input E.Error.Error E.State.Inspector inp.old) (held I.Input E.Error.Error E.State.Inspector inp.new)) (λ _. LosesLabelled E.Error.Error.takes_no_memory (MapsSeen E.Error.Error.seen (E.Error.LabelError.labels label.now)) E.Error.LabelError.labels_freely start (option_map (located E.Error.Error.seen) older) (held I.Input E.Error.Error E.State.Inspector inp.old) (held I.Input E.Error.Error E.State.Inspector inp.new)) }
+    ensures lent { inp.new.state.ghost_name ≡ inp.old.state.ghost_name }
+{
+    relabel(label, start, inp)?;
+    inp.keep_before(older)
+}
+
+/// Puts the label into the error that is kept, if that stands at the start. A refusal loses it.
+#[inline]
+fn relabel<'src, I: Input<'src>, E: ParserExtra<I>, L>(
+    label: &L,
+    start: usize,
+    inp: &mut InputRef<'src, '_, I, E>,
+) -> Result<(), AllocError>
+where
+    E::Error: LabelError<L>,
+    ensures labels { MatchResult result (λ _. Relabelled (MapsSeen E.Error.Error.seen (E.Error.LabelError.labels label.now)) start (held I.Input E.Error.Error E.State.Inspector inp.old) (held I.Input E.Error.Error E.State.Inspector inp.new)) (λ _. Unlabelled E.Error.LabelError.labels_freely (held I.Input E.Error.Error E.State.Inspector inp.old) (held I.Input E.Error.Error E.State.Inspector inp.new)) }
+    ensures lent { inp.new.state.ghost_name ≡ inp.old.state.ghost_name }
+{
+    match inp.take_kept() {
+        None => Ok(()),
+        Some(kept) => {
+            let Located { place, error } = kept;
+            if place == start {
+                let told = error.label_with(inp.alloc, label)?;
+                inp.kept = Some(Located { place, error: told });
+            } else {
+                inp.kept = Some(Located { place, error });
+            }
+            Ok(())
+        }
+    }
+}

@@ -1,0 +1,54 @@
+//! The longest run of tokens of a kind.
+use crate::kind::Kind;
+use crate::skip::{end_run, skip_run};
+use chumsky_input::extra::ParserExtra;
+use chumsky_input::input::SliceInput;
+use chumsky_input::input_ref::InputRef;
+use chumsky_input::stop::PResult;
+use chumsky_parser::parser::{IsParser, Parser};
+use std::marker::PhantomData;
+
+/// The longest run of tokens of a kind, be it empty. See `whitespace`.
+#[derive(Drop)]
+#[derive_where(Clone, Copy; K)]
+pub struct Run<K, I, E> {
+    pub kind: K,
+    pub of: PhantomData<(I, E)>,
+}
+
+impl<'src, K, I: SliceInput<'src>, E> IsParser<I, I::Slice, E> for Run<K, I, E> {}
+
+impl<'src, K: Kind<I::Token>, I: SliceInput<'src>, E: ParserExtra<I>> Parser<'src, I, I::Slice, E>
+    for Run<K, I, E> {
+    ghost use Rattle.std.specs.Prelude.{◌≡◌, ⊤, slice_range};
+    ghost use Rattle.chumsky_text.specs.TextRun.{MeansRun};
+    ghost use Rattle.chumsky_text.specs.TextRunLaws.{run-ends, run-agrees};
+
+    ghost ready = { λ p. K.fits p.kind };
+
+    ghost meaning = { λ p errors states. MeansRun I.Input (λ ts i j w. I.slice_seen w ≡ I.slice_of (slice_range ts i j)) errors states (K.holds p.kind) (K.wants p.kind) };
+
+    ghost steady = { λ _. ⊤ };
+
+    ghost same = { λ p v w. I.slice_seen v ≡ I.slice_seen w };
+
+    ghost ends_after_start = { λ p. run-ends _ _ _ _ (K.holds p.kind) (K.wants p.kind) };
+
+    ghost agrees = { λ p _. run-agrees _ _ _ _ (λ v w. I.slice_seen v ≡ I.slice_seen w) (λ ts i j v w e d. Prim.search (e, d)) (K.holds p.kind) (K.wants p.kind) };
+
+    #[inline(always)]
+    fn go_emit(&self, inp: &mut InputRef<'src, '_, I, E>) -> PResult<I::Slice> {
+        let before = inp.cursor;
+        skip_run(&self.kind, inp);
+        let taken = inp.slice_since(&before);
+        end_run(&self.kind, inp)?;
+        Ok(taken)
+    }
+
+    #[inline(always)]
+    fn go_check(&self, inp: &mut InputRef<'src, '_, I, E>) -> PResult<()> {
+        skip_run(&self.kind, inp);
+        end_run(&self.kind, inp)?;
+        Ok(())
+    }
+}

@@ -1,0 +1,35 @@
+//! Words, numbers and white space.
+use chumsky::Stop;
+use chumsky::extra::RichText;
+use chumsky::prelude::*;
+use std::alloc::Global;
+
+/// A name and its number, as `size = 10`.
+pub fn setting<'src>(
+    alloc: Global,
+    line: &'src str,
+) -> Result<ParseResult<(&'src str, &'src str), Rich<char>>, Stop> {
+    let name = text::ascii::ident::<_, RichText>().padded();
+    let value = text::int(10).padded();
+    name.then_ignore(just('=')).then(value).parse(alloc, line)
+}
+
+/// The name after a `let`.
+pub fn bound<'src>(
+    alloc: Global,
+    line: &'src str,
+) -> Result<ParseResult<&'src str, Rich<char>>, Stop> {
+    let binding = text::ascii::keyword::<_, RichText>("let")
+        .padded()
+        .ignore_then(text::ascii::ident());
+    binding.parse(alloc, line)
+}
+
+/// A number that a byte holds.
+pub fn byte(alloc: Global, line: &str) -> Result<ParseResult<u8, Rich<char>>, Stop> {
+    let number = text::int::<_, RichText>(10)
+        .from_str::<u8>()
+        .filter_map(|read| read.ok())
+        .labelled("a number below 256");
+    number.parse(alloc, line)
+}
