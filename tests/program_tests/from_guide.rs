@@ -6,6 +6,7 @@ use guide::arithmetic::value_of;
 use guide::checking::{minute, port};
 use guide::closure::{day, foo_or_nothing, one_x};
 use guide::conclusion::two;
+use guide::contexts::{declared, prefixed, settings};
 use guide::extras::Plain;
 use guide::flattening::{all_letters, number_plate};
 use guide::folding::{spanned_sum, sum};
@@ -55,7 +56,8 @@ fn a_port_fits_its_type(rt: HostRuntime) {
 fn a_text_is_read_as_tokens_and_tokens_as_a_sum(rt: HostRuntime) {
     let tokens = "ok [Number(1), Plus, Number(23), Plus]";
     assert_line(&rt, tokens_of(rt.alloc(), "1 +23+  "), tokens);
-    let no_token = "error 2..3 expected ' ', '0', '1', '2', '3', '4', '5', '6', '7', '8', '9', '+', end of input found 'x'";
+    let no_token =
+        "error 2..3 expected ' ', '0', '1', '2', '3', '4', '5', '6', '7', '8', '9', '+', end of input found 'x'";
     assert_line(&rt, tokens_of(rt.alloc(), "1 x"), no_token);
     let sum = [Token::Number(1), Token::Plus, Token::Number(23)];
     assert_line(&rt, sum_of(rt.alloc(), &sum), "ok 24");
@@ -274,4 +276,34 @@ fn arithmetic_stays_at_the_greatest_number(rt: HostRuntime) {
     }
     let parsed = value_of(rt.alloc(), text.as_str()).expect(&rt, "refused");
     assert!(rt; parsed.output() == Some(&u64::MAX));
+}
+
+#[test]
+fn a_byte_says_how_many_follow(rt: HostRuntime) {
+    let rows: [(&[u8], &str); 3] = [
+        (&[2, 7, 8], "ok [7, 8]"),
+        (&[2, 7], "error 2..2 expected any found end"),
+        (&[0, 7], "error 1..2 expected end of input found 7"),
+    ];
+    for (bytes, line) in rows {
+        assert_line(&rt, prefixed(rt.alloc(), bytes), line);
+    }
+}
+
+#[test]
+fn a_name_that_is_called_is_not_declared(rt: HostRuntime) {
+    let names = declared(rt.alloc(), "a;b!c;").expect(&rt, "refused");
+    assert!(rt; names.as_slice() == ['a', 'c'].as_slice());
+}
+
+#[test]
+fn each_line_holds_a_setting(rt: HostRuntime) {
+    let rows: [(&[&str], &str); 3] = [
+        (&["a=1", "b=2"], "ok [('a', '1'), ('b', '2')]"),
+        (&["a=1", "b:2"], "error 1..2"),
+        (&["a=12"], "error 3..4"),
+    ];
+    for (lines, line) in rows {
+        assert_line(&rt, settings(rt.alloc(), lines), line);
+    }
 }

@@ -7,6 +7,7 @@ pub mod builders;
 pub mod checking;
 pub mod closure;
 pub mod conclusion;
+pub mod contexts;
 pub mod extras;
 pub mod flattening;
 pub mod folding;
