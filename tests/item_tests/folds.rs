@@ -159,7 +159,7 @@ fn numbered_items_are_folded(rt: HostRuntime) {
 /// Items that end where they began, without a cap.
 #[test]
 fn folds_ask_for_progress(rt: HostRuntime) {
-    let rows = [("", "refused NoProgress"), ("a", "refused NoProgress")];
+    let rows = [("", "refused NoProgress"), ("a+b+c", "refused NoProgress")];
     let fold = empty::<_, Own>().repeated().fold(0u8, |count, _| count);
     assert_answers(&rt, &fold, &rows);
     let items = empty::<_, Own>().repeated();

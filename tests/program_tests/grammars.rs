@@ -53,7 +53,7 @@ fn one_rule_more_than_the_limit_is_too_deep(rt: HostRuntime) {
 
 /// Values are how many leaves there are.
 #[derive(Drop)]
-struct Counts;
+pub struct Counts;
 
 impl Values<SimpleSpan, Rich<char>> for Counts {
     type Value = usize;

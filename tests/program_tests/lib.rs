@@ -16,3 +16,5 @@ mod from_guide;
 mod grammars;
 #[cfg(test)]
 mod input_ref;
+#[cfg(test)]
+mod odd;

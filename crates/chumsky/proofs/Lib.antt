@@ -1,2 +1,1 @@
 pub mod AnswerLemmas
-mod Refusing

@@ -7,7 +7,6 @@ mod ext;
 mod macros;
 mod made;
 pub mod prelude;
-mod refusals;
 mod run;
 mod steady;
 
@@ -211,7 +210,6 @@ pub mod recursive {
 /// Laws of grammars, each the contract of a function that does nothing, or looks at the nodes alone: how answers under limits
 /// agree, and for what well-founded rules are refused.
 pub mod grammar_laws {
-    pub use crate::refusals::founded_runs_are_refused_as_leaves;
     pub use chumsky_recursive::laws::{
         a_run_begins_with_room, an_answer_is_derived, answers_agree_under_any_limit,
         answers_stand_under_a_greater_limit, founded_grammars_are_refused_as_leaves,
