@@ -1,6 +1,6 @@
 //! The grammar `settings`: lines of a name, `=` and a value. A value is a number, a name, or values in brackets, with commas
 //! between them and maybe one after the last.
-ghost use Rattle.std.specs.Prelude.{◌≡◌, ◌++◌, IfOk, flat_map, string_bytes, ⊤};
+ghost use Rattle.std.specs.Prelude.{◌≡◌, ◌++◌, All, IfOk, flat_map, string_bytes, ⊤};
 ghost use Rattle.chk_run.specs.Settings.{InBrackets, Printed, ReadsNumber};
 
 use crate::grammar::{Answer, Command, run_parser};
@@ -8,7 +8,7 @@ use crate::show::Refusal;
 use chumsky::Stop;
 use chumsky::extra::RichText;
 use chumsky::prelude::*;
-use chumsky::recursive::{BuildError, Leaves, Node, RecursiveError, SepCfg, Values};
+use chumsky::recursive::{BuildError, Leaves, Moving, Node, RecursiveError, SepCfg, Values};
 use either::Either;
 use std::alloc::{AllocError, Global};
 
@@ -165,6 +165,27 @@ fn settings(rules: &mut Rules) -> Result<Recursive, RecursiveError> {
     Ok(settings)
 }
 
+/// The settings of the text, by these leaves.
+fn run_over<'src, P: Moving<'src, &'src str, String, RichText>>(
+    rules: &Rules,
+    start: Recursive,
+    leaves: &[P],
+    alloc: Global,
+    command: Command,
+    text: &'src str,
+) -> Result<Answer<String>, Refusal>
+    requires { All P.ready leaves.now }
+{
+    let actions = Leaves {
+        leaves,
+        values: Texts,
+    };
+    match rules.close_founded(start, &actions, text.chars().count()) {
+        Ok(grammar) => run_parser(&grammar, alloc, command, text).map_err(Refusal::Run),
+        Err(error) => Err(Refusal::Rules(error)),
+    }
+}
+
 /// The settings of the text, as they are printed.
 pub fn run_settings(
     alloc: Global,
@@ -186,12 +207,5 @@ pub fn run_settings(
         Either::Right(just(',').to(String::new(alloc))),
         Either::Right(just(']').to(String::new(alloc))),
     ];
-    let actions = Leaves {
-        leaves: &leaves,
-        values: Texts,
-    };
-    match rules.close_founded(start, &actions, text.chars().count()) {
-        Ok(grammar) => run_parser(&grammar, alloc, command, text).map_err(Refusal::Run),
-        Err(error) => Err(Refusal::Rules(error)),
-    }
+    run_over(&rules, start, &leaves, alloc, command, text)
 }
