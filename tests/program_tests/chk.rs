@@ -219,6 +219,70 @@ fn ten_thousand_pairs_within_one_another_are_counted(rt: HostRuntime) -> Result<
     Ok(())
 }
 
+/// What is printed of `a=1`, which has no end of line.
+const NO_LINE_END: &str =
+    "error 3..3 expected '0', '1', '2', '3', '4', '5', '6', '7', '8', '9', U+000A found end\n";
+
+#[test]
+fn parses_settings(rt: HostRuntime) -> Result<(), Fail> {
+    let rows = [
+        ("", 0, "ok\n"),
+        ("a=01\nb=[1,[x,],]\n", 0, "ok a=1 b=[1,[x]]\n"),
+        ("ab=xy\nc=[]\n", 0, "ok ab=xy c=[]\n"),
+        ("a=000\n", 0, "ok a=0\n"),
+        ("a=1", 1, NO_LINE_END),
+        (
+            "a=18446744073709551615\n",
+            0,
+            "ok a=18446744073709551615\n",
+        ),
+        (
+            "a=18446744073709551616\n",
+            1,
+            "error 2..22 number too large\n",
+        ),
+        (
+            "a=99999999999999999999\n",
+            1,
+            "error 2..22 number too large\n",
+        ),
+    ];
+    assert_prints(&rt, &["parse", "settings"], &rows)?;
+    Ok(())
+}
+
+#[test]
+fn checks_settings(rt: HostRuntime) -> Result<(), Fail> {
+    let rows = [
+        ("", 0, "ok\n"),
+        ("a=01\nb=[1,[x,],]\n", 0, "ok\n"),
+        ("a=1", 1, NO_LINE_END),
+        (
+            "a=99999999999999999999\n",
+            1,
+            "error 2..22 number too large\n",
+        ),
+        ("a=18446744073709551615\n", 0, "ok\n"),
+    ];
+    assert_prints(&rt, &["check", "settings"], &rows)?;
+    Ok(())
+}
+
+#[test]
+fn two_thousand_lists_within_one_another_are_read(rt: HostRuntime) -> Result<(), Fail> {
+    let alloc = rt.alloc();
+    let lists = nested(alloc, 2_000)?;
+    let text = format!(in alloc; "a={lists}\n")?;
+    let line = format!(in alloc; "ok a={lists}\n")?;
+    assert_prints(
+        &rt,
+        &["parse", "settings"],
+        &[(text.as_str(), 0, line.as_str())],
+    )?;
+    assert_prints(&rt, &["check", "settings"], &[(text.as_str(), 0, "ok\n")])?;
+    Ok(())
+}
+
 fn is_usage(alloc: Global, words: &[&str]) -> Result<bool, AllocError> {
     let words = owned(alloc, words)?;
     let mut out = Vec::new(alloc);
@@ -332,6 +396,7 @@ fn a_write_that_fails_says_nothing_more(rt: HostRuntime) -> Result<(), Fail> {
         (["parse", "ab"], "ac", "error 1..2 expected 'b' found 'c'\n"),
         (["check", "ab"], "ac", "error 1..2 expected 'b' found 'c'\n"),
         (["parse", "list"], "[12,3]", "ok 12 3\n"),
+        (["parse", "settings"], "a=1\n", "ok a=1\n"),
     ];
     for (words, text, line) in rows {
         let needed = writes_needed(alloc, &words, text, line)?;

@@ -3,6 +3,7 @@
 #![tactic(auto)]
 
 use chk_run::run::{refuse, run};
+use chk_run::show::Refusal;
 use chumsky::Stop;
 use std::alloc::Global;
 use std::io::ErrorKind;
@@ -23,7 +24,7 @@ fn main(rt: HostRuntime) -> ExitCode {
     let words = match words(&rt, alloc) {
         Ok(words) => words,
         Err(error) if error.kind() == ErrorKind::OutOfMemory => {
-            return ExitCode::from(refuse(&mut out, Stop::Memory));
+            return ExitCode::from(refuse(&mut out, Refusal::Run(Stop::Memory)));
         }
         Err(_) => Vec::new(alloc),
     };

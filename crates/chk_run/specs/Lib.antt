@@ -1,2 +1,3 @@
 pub mod Show
 pub mod Lines
+pub mod Settings

@@ -8,6 +8,10 @@ use Rattle.chumsky_input.specs.declared.rich.RichPattern.{RichPattern}
 use Rattle.chumsky_input.specs.declared.rich.RichPattern.TheVariants as Pattern
 use Rattle.chumsky_input.specs.declared.stop.Stop.{Stop}
 use Rattle.chumsky_input.specs.declared.stop.Stop.TheVariants as Why
+use Rattle.chumsky_recursive.specs.declared.founded.FoundedError.{FoundedError}
+use Rattle.chumsky_recursive.specs.declared.founded.FoundedError.TheVariants as Founded
+use Rattle.chk_run.specs.declared.show.Refusal.{Refusal}
+use Rattle.chk_run.specs.declared.show.Refusal.TheVariants as reason
 
 -- from a space to a tilde
 abbrev pub is_plain : ℕ → Bool
@@ -40,6 +44,18 @@ stop_text Why.Memory = codes "Memory"
 stop_text Why.NoProgress = codes "NoProgress"
 stop_text Why.TooDeep = codes "TooDeep"
 stop_text Why.CountTooLarge = codes "CountTooLarge"
+
+-- the name of a reason why rules make no grammar
+abbrev pub rules_text : FoundedError → List ℕ
+rules_text (Founded.Close e) = codes "Close"
+rules_text Founded.Memory = codes "Memory"
+rules_text (Founded.EmptyRound n) = codes "EmptyRound"
+rules_text (Founded.LeftCycle r) = codes "LeftCycle"
+rules_text Founded.LimitTooLarge = codes "LimitTooLarge"
+
+abbrev pub refusal_text : Refusal → List ℕ
+refusal_text (reason.Run stop) = stop_text stop
+refusal_text (reason.Rules error) = rules_text error
 
 -- the patterns with commas between them
 abbrev pub patterns_text : List (RichPattern ℕ) → List ℕ

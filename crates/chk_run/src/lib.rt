@@ -6,4 +6,5 @@ mod grammar;
 mod list;
 mod loops;
 pub mod run;
+mod settings;
 pub mod show;

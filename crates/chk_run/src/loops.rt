@@ -2,6 +2,7 @@
 ghost use Rattle.std.specs.Prelude.{IfOk, ⊤};
 
 use crate::grammar::{Answer, Command, run_parser};
+use crate::show::Refusal;
 use chumsky::Stop;
 use chumsky::extra::RichText;
 use chumsky::prelude::*;
@@ -77,10 +78,10 @@ fn loops(rules: &mut Rules) -> Result<Recursive, RecursiveError> {
 }
 
 /// How many pairs of brackets the text has.
-pub fn run_loops(alloc: Global, command: Command, text: &str) -> Result<Answer<usize>, Stop> {
+pub fn run_loops(alloc: Global, command: Command, text: &str) -> Result<Answer<usize>, Refusal> {
     let mut rules = Rules::new(alloc);
     let Ok(start) = loops(&mut rules) else {
-        return Err(Stop::Memory);
+        return Err(Refusal::Run(Stop::Memory));
     };
     let leaves = [
         just::<_, _, RichText>('+').to(0),
@@ -91,8 +92,8 @@ pub fn run_loops(alloc: Global, command: Command, text: &str) -> Result<Answer<u
         leaves: &leaves,
         values: Pairs,
     };
-    match close_founded(&rules, start, &actions, text.chars().count()) {
-        Ok(grammar) => run_parser(&grammar, alloc, command, text),
-        Err(_) => Err(Stop::Memory),
+    match rules.close_founded(start, &actions, text.chars().count()) {
+        Ok(grammar) => run_parser(&grammar, alloc, command, text).map_err(Refusal::Run),
+        Err(error) => Err(Refusal::Rules(error)),
     }
 }

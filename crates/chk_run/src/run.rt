@@ -2,15 +2,17 @@
 ghost use Rattle.std.specs.Prelude.{◌≡◌, ◌⊎◌, ◌≤◌, [], ◌∷◌, ◌++◌, codes, OnOk, IfSome, IfOk, IfErr, option_map};
 ghost use Rattle.std.specs.Option.{option_copied};
 ghost use Rattle.std.specs.Io.KnownBytes.{Appends};
-ghost use Rattle.chk_run.specs.Lines.{error_lines, alone, pair_text, count_text, Tells, TellsSome};
-ghost use Rattle.chk_run.specs.Show.{items_text, stop_text};
+ghost use Rattle.chk_run.specs.Lines.{error_lines, alone, pair_text, count_text, settings_text, Tells, TellsSome};
+ghost use Rattle.chk_run.specs.Show.{items_text, refusal_text};
 ghost use Rattle.chk_run.specs.declared.run.Failure.TheVariants.{Refused, Unwritable};
+ghost use Rattle.chk_run.specs.declared.show.Refusal.TheVariants as reason;
 
 use crate::ab::run_ab;
 use crate::grammar::{Answer, Command};
 use crate::list::run_list;
 use crate::loops::run_loops;
-use crate::show::{ErrorLine, Items, stop_name};
+use crate::settings::run_settings;
+use crate::show::{ErrorLine, Items, Refusal, refusal_name};
 use chumsky::error::Rich;
 use chumsky::{ParseResult, Stop};
 use std::alloc::Global;
@@ -31,6 +33,7 @@ enum Grammar {
     Ab,
     List,
     Loops,
+    Settings,
 }
 
 /// Why a run gives no answer.
@@ -39,15 +42,23 @@ enum Failure {
     Usage,
     Unreadable,
     NotUtf8,
-    Refused(Stop),
+    Refused(Refusal),
     Unwritable,
 }
 
 impl From<Stop> for Failure {
-    ghost from_gives = { λ stop failure. failure ≡ Refused stop };
+    ghost from_gives = { λ stop failure. failure ≡ Refused (reason.Run stop) };
 
     fn from(stop: Stop) -> Failure {
-        Failure::Refused(stop)
+        Failure::Refused(Refusal::Run(stop))
+    }
+}
+
+impl From<Refusal> for Failure {
+    ghost from_gives = { λ refusal failure. failure ≡ Refused refusal };
+
+    fn from(refusal: Refusal) -> Failure {
+        Failure::Refused(refusal)
     }
 }
 
@@ -61,14 +72,14 @@ pub fn run<R: Read, W: Write, E: Write>(
 ) -> u8
     ensures status { result ≤ REFUSED }
     ensures told { (result ≡ ACCEPTED) ⊎ (result ≡ REJECTED) → TellsSome (W.contents out.old) (W.contents out.new) result }
-    ensures refused { result ≡ REFUSED → (stop : Stop) × Appends (W.contents out.old) (W.contents out.new) (codes "refused " ++ (stop_text stop ++ 10 ∷ [])) }
+    ensures refused { result ≡ REFUSED → (why : Refusal) × Appends (W.contents out.old) (W.contents out.new) (codes "refused " ++ (refusal_text why ++ 10 ∷ [])) }
 {
     match answer(alloc, words, input, out) {
         Ok(status) => status,
         Err(Failure::Usage) => complain(err, "usage: chk parse|check NAME"),
         Err(Failure::Unreadable) => complain(err, "cannot read input"),
         Err(Failure::NotUtf8) => complain(err, "input is not UTF-8"),
-        Err(Failure::Refused(stop)) => refuse(out, stop),
+        Err(Failure::Refused(refusal)) => refuse(out, refusal),
         Err(Failure::Unwritable) => FAILED,
     }
 }
@@ -81,12 +92,12 @@ fn complain<E: Write>(err: &mut E, message: &str) -> u8
     FAILED
 }
 
-/// Says why the run was refused.
-pub fn refuse<W: Write>(out: &mut W, stop: Stop) -> u8
+/// Says why there is no answer.
+pub fn refuse<W: Write>(out: &mut W, refusal: Refusal) -> u8
     ensures status { (result ≡ REFUSED) ⊎ (result ≡ FAILED) }
-    ensures printed { result ≡ REFUSED → Appends (W.contents out.old) (W.contents out.new) (codes "refused " ++ (stop_text stop ++ 10 ∷ [])) }
+    ensures printed { result ≡ REFUSED → Appends (W.contents out.old) (W.contents out.new) (codes "refused " ++ (refusal_text refusal ++ 10 ∷ [])) }
 {
-    match writeln!(out, "refused {}", stop_name(stop)) {
+    match writeln!(out, "refused {}", refusal_name(refusal)) {
         Ok(()) => REFUSED,
         Err(_) => FAILED,
     }
@@ -122,6 +133,7 @@ fn request(words: &[String]) -> Option<(Command, Grammar)> {
         "ab" => Grammar::Ab,
         "list" => Grammar::List,
         "loops" => Grammar::Loops,
+        "settings" => Grammar::Settings,
         _ => return None,
     };
     Some((command, grammar))
@@ -132,7 +144,9 @@ fn read_text<R: Read>(alloc: Global, input: &mut R) -> Result<String, Failure> {
     let mut bytes = Vec::new(alloc);
     match input.read_to_end(&mut bytes) {
         Ok(_) => String::from_utf8(bytes).map_err(|_| Failure::NotUtf8),
-        Err(error) if error.kind() == ErrorKind::OutOfMemory => Err(Failure::Refused(Stop::Memory)),
+        Err(error) if error.kind() == ErrorKind::OutOfMemory => {
+            Err(Failure::Refused(Refusal::Run(Stop::Memory)))
+        }
         Err(_) => Err(Failure::Unreadable),
     }
 }
@@ -159,6 +173,10 @@ fn tell<W: Write>(
         },
         Grammar::Loops => match run_loops(alloc, command, text)? {
             Answer::Parsed(answer) => tell_count(out, &answer),
+            Answer::Checked(answer) => tell_checked(out, &answer),
+        },
+        Grammar::Settings => match run_settings(alloc, command, text)? {
+            Answer::Parsed(answer) => tell_settings(out, &answer),
             Answer::Checked(answer) => tell_checked(out, &answer),
         },
     }
@@ -199,6 +217,20 @@ fn tell_count<W: Write>(out: &mut W, answer: &ParseResult<usize, Rich<char>>) ->
 {
     match report(out, answer)? {
         Some(count) => accept(out, format_args!("ok {count}")),
+        None => Ok(REJECTED),
+    }
+}
+
+/// Prints the settings of an answer, or its errors.
+fn tell_settings<W: Write>(
+    out: &mut W,
+    answer: &ParseResult<String, Rich<char>>,
+) -> Result<u8, Failure>
+    ensures told { IfOk result (λ status. Tells (W.contents out.old) (W.contents out.new) answer.now.errors.items (option_map settings_text answer.now.output) status) }
+    ensures unwritten { IfErr result (λ why. why ≡ Unwritable) }
+{
+    match report(out, answer)? {
+        Some(settings) => accept(out, format_args!("ok{settings}")),
         None => Ok(REJECTED),
     }
 }

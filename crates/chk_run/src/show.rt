@@ -1,10 +1,11 @@
 //! How errors print.
 ghost use Rattle.std.specs.Prelude.{◌≡◌, Some};
 ghost use Rattle.std.specs.Option.{option_copied};
-ghost use Rattle.chk_run.specs.Show.{is_plain, symbol_text, pattern_text, patterns_text, found_text, error_text, items_text, stop_text};
+ghost use Rattle.chk_run.specs.Show.{is_plain, symbol_text, pattern_text, patterns_text, found_text, error_text, items_text, stop_text, rules_text, refusal_text};
 
 use chumsky::Stop;
 use chumsky::error::{Rich, RichPattern};
+use chumsky::recursive::FoundedError;
 use std::fmt;
 use std::fmt::Display;
 
@@ -121,8 +122,8 @@ impl Display for Items<'_> {
     }
 }
 
-/// The name of a refusal.
-pub fn stop_name(stop: Stop) -> &'static str
+/// The name of a reason why a run is refused.
+fn stop_name(stop: Stop) -> &'static str
     ensures { result.now ≡ stop_text stop }
 {
     match stop {
@@ -130,5 +131,37 @@ pub fn stop_name(stop: Stop) -> &'static str
         Stop::NoProgress => "NoProgress",
         Stop::TooDeep => "TooDeep",
         Stop::CountTooLarge => "CountTooLarge",
+    }
+}
+
+/// The name of a reason why rules make no grammar.
+fn rules_name(error: FoundedError) -> &'static str
+    ensures { result.now ≡ rules_text error }
+{
+    match error {
+        FoundedError::Close(_) => "Close",
+        FoundedError::Memory => "Memory",
+        FoundedError::EmptyRound(_) => "EmptyRound",
+        FoundedError::LeftCycle(_) => "LeftCycle",
+        FoundedError::LimitTooLarge => "LimitTooLarge",
+    }
+}
+
+/// Why there is no answer.
+#[derive(Clone, Copy)]
+pub enum Refusal {
+    /// The run was refused.
+    Run(Stop),
+    /// The rules make no grammar.
+    Rules(FoundedError),
+}
+
+/// The name of a refusal.
+pub fn refusal_name(refusal: Refusal) -> &'static str
+    ensures { result.now ≡ refusal_text refusal }
+{
+    match refusal {
+        Refusal::Run(stop) => stop_name(stop),
+        Refusal::Rules(error) => rules_name(error),
     }
 }

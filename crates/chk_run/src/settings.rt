@@ -1,0 +1,211 @@
+//! The grammar `settings`: lines of a name, `=` and a value. A value is a number, a name, or values in brackets, with commas
+//! between them and maybe one after the last.
+ghost use Rattle.std.specs.Prelude.{◌≡◌, ◌++◌, All, IfOk, flat_map, string_bytes, ⊤};
+ghost use Rattle.chk_run.specs.Settings.{InBrackets, Printed, ReadsNumber};
+
+use crate::grammar::{Answer, Command, run_parser};
+use crate::show::Refusal;
+use chumsky::Stop;
+use chumsky::extra::RichText;
+use chumsky::prelude::*;
+use chumsky::recursive::{BuildError, Leaves, Moving, Node, RecursiveError, SepCfg, Values};
+use either::Either;
+use std::alloc::{AllocError, Global};
+
+/// The leaves, by number.
+const NAME: usize = 0;
+
+const DIGITS: usize = 1;
+
+const EQUALS: usize = 2;
+
+const LINE_END: usize = 3;
+
+const OPENING: usize = 4;
+
+const COMMA: usize = 5;
+
+const CLOSING: usize = 6;
+
+/// The mappers, by number: what is printed of a name before its value, of a value in brackets, and of all values in brackets.
+const SETTING: usize = 0;
+
+const ITEM: usize = 1;
+
+const LIST: usize = 2;
+
+/// The fallible mapper: what is printed of digits.
+const NUMBER: usize = 0;
+
+/// Values are texts to print. That of a mark, as `=`, is empty.
+#[derive(Drop)]
+struct Texts;
+
+impl Values<SimpleSpan, Rich<char>> for Texts {
+    type Value = String;
+
+    ghost pair_gives = { λ _ p text. string_bytes text ≡ string_bytes p.0 ++ string_bytes p.1 };
+
+    ghost map_gives = { λ _ mapper value text. Printed mapper (string_bytes value) (string_bytes text) };
+
+    ghost list_gives = { λ _ items text. string_bytes text ≡ flat_map string_bytes items };
+
+    ghost try_gives = { λ _ _ digits span r. ReadsNumber (string_bytes digits) span r };
+
+    fn pair(&self, _alloc: Global, first: String, second: String) -> Result<String, AllocError> {
+        let mut text = first;
+        text.push_str(second.as_str())?;
+        Ok(text)
+    }
+
+    fn option(&self, alloc: Global, text: Option<String>) -> Result<String, AllocError>
+        ensures { IfOk result (λ _. ⊤) }
+    {
+        Ok(text.unwrap_or(String::new(alloc)))
+    }
+
+    fn unit(&self, alloc: Global) -> Result<String, AllocError> {
+        Ok(String::new(alloc))
+    }
+
+    fn map(&self, alloc: Global, mapper: usize, text: String) -> Result<String, AllocError> {
+        match mapper {
+            SETTING => format!(in alloc; " {text}="),
+            ITEM => format!(in alloc; "{text},"),
+            _ => in_brackets(alloc, text),
+        }
+    }
+
+    fn list(&self, alloc: Global, items: Vec<String>) -> Result<String, AllocError>
+        ensures { IfOk result (λ text. string_bytes text ≡ flat_map string_bytes items.items) }
+    {
+        let mut text = String::new(alloc);
+        for item in items.as_slice() {
+            text.push_str(item.as_str())?;
+        }
+        Ok(text)
+    }
+
+    fn try_map(
+        &self,
+        alloc: Global,
+        _mapper: usize,
+        digits: String,
+        span: SimpleSpan,
+    ) -> Result<Result<String, Rich<char>>, AllocError> {
+        match digits.as_str().parse::<u64>() {
+            Ok(number) => Ok(Ok(format!(in alloc; "{number}")?)),
+            Err(_) => Ok(Err(Rich::custom_in(alloc, span, "number too large")?)),
+        }
+    }
+}
+
+/// Items that end in a comma each, in brackets and without the last comma.
+fn in_brackets(alloc: Global, items: String) -> Result<String, AllocError>
+    ensures { IfOk result (λ text. InBrackets (string_bytes items) (string_bytes text)) }
+{
+    let mut inside = items;
+    match inside.pop() {
+        Some(_) => format!(in alloc; "[{inside}]"),
+        None => String::from_str(alloc, "[]"),
+    }
+}
+
+/// Any number of values, with commas between them and maybe one after the last.
+const VALUES: SepCfg = SepCfg {
+    at_least: 0,
+    at_most: None,
+    allow_leading: false,
+    allow_trailing: true,
+};
+
+/// Values in brackets.
+fn list(rules: &mut Rules, value: Recursive) -> Result<Node, BuildError> {
+    let opening = rules.leaf(OPENING)?;
+    let inside = rules.rule(value)?;
+    let item = rules.map(inside, ITEM)?;
+    let comma = rules.leaf(COMMA)?;
+    let items = rules.separated_by(item, comma, VALUES)?;
+    let closing = rules.leaf(CLOSING)?;
+    let closed = rules.then(items, closing)?;
+    let opened = rules.then(opening, closed)?;
+    rules.map(opened, LIST)
+}
+
+/// A number, a name, or values in brackets.
+fn value(rules: &mut Rules) -> Result<Recursive, RecursiveError> {
+    rules.recursive(|rules, value| {
+        let digits = rules.leaf(DIGITS)?;
+        let number = rules.try_map(digits, NUMBER)?;
+        let name = rules.leaf(NAME)?;
+        let list = list(rules, value)?;
+        rules.choice(&[number, name, list])
+    })
+}
+
+/// A line: a name, `=` and a value.
+fn setting(rules: &mut Rules, value: Recursive) -> Result<Node, BuildError> {
+    let name = rules.leaf(NAME)?;
+    let named = rules.map(name, SETTING)?;
+    let equals = rules.leaf(EQUALS)?;
+    let given = rules.rule(value)?;
+    let line_end = rules.leaf(LINE_END)?;
+    let ended = rules.then(given, line_end)?;
+    let valued = rules.then(equals, ended)?;
+    rules.then(named, valued)
+}
+
+/// Any number of lines.
+fn settings(rules: &mut Rules) -> Result<Recursive, RecursiveError> {
+    let settings = rules.declare()?;
+    let value = value(rules)?;
+    let setting = setting(rules, value)?;
+    let lines = rules.repeated(setting, 0, None)?;
+    rules.define(settings, lines)?;
+    Ok(settings)
+}
+
+/// The settings of the text, by these leaves.
+fn run_over<'src, P: Moving<'src, &'src str, String, RichText>>(
+    rules: &Rules,
+    start: Recursive,
+    leaves: &[P],
+    alloc: Global,
+    command: Command,
+    text: &'src str,
+) -> Result<Answer<String>, Refusal>
+    requires { All P.ready leaves.now }
+{
+    let actions = Leaves {
+        leaves,
+        values: Texts,
+    };
+    match rules.close_founded(start, &actions, text.chars().count()) {
+        Ok(grammar) => run_parser(&grammar, alloc, command, text).map_err(Refusal::Run),
+        Err(error) => Err(Refusal::Rules(error)),
+    }
+}
+
+/// The settings of the text, as they are printed.
+pub fn run_settings(
+    alloc: Global,
+    command: Command,
+    text: &str,
+) -> Result<Answer<String>, Refusal> {
+    let mut rules = Rules::new(alloc);
+    let Ok(start) = settings(&mut rules) else {
+        return Err(Refusal::Run(Stop::Memory));
+    };
+    let letters = one_of::<_, _, RichText>('a'..='z');
+    let digits = one_of('0'..='9');
+    let leaves = [
+        Either::Left(letters.repeated().at_least(1).collect::<String>()),
+        Either::Left(digits.repeated().at_least(1).collect()),
+        Either::Right(just('=').to(String::new(alloc))),
+        Either::Right(just('\n').to(String::new(alloc))),
+        Either::Right(just('[').to(String::new(alloc))),
+        Either::Right(just(',').to(String::new(alloc))),
+        Either::Right(just(']').to(String::new(alloc))),
+    ];
+    run_over(&rules, start, &leaves, alloc, command, text)
+}
