@@ -283,6 +283,16 @@ fn two_thousand_lists_within_one_another_are_read(rt: HostRuntime) -> Result<(),
     Ok(())
 }
 
+/// `loops` and `settings` are closed with the limit for their text, which only rules in order have.
+#[test]
+fn each_grammar_of_rules_is_well_founded(rt: HostRuntime) -> Result<(), Fail> {
+    for name in ["loops", "settings"] {
+        let ran = run_on(rt.alloc(), &["check", name], b"")?;
+        assert_eq!(rt; ran.status, 0);
+    }
+    Ok(())
+}
+
 fn is_usage(alloc: Global, words: &[&str]) -> Result<bool, AllocError> {
     let words = owned(alloc, words)?;
     let mut out = Vec::new(alloc);

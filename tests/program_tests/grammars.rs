@@ -3,6 +3,7 @@ use chumsky::extra::RichText;
 use chumsky::prelude::*;
 use chumsky::recursive::{Leaves, RecursiveError, Stack, Todo, Values, step};
 use chumsky::{Failure, Fault, Stop};
+use guide::arithmetic::value_of;
 use guide::recursion::{Refused, depth, depth_within};
 use std::alloc::{AllocError, Global};
 
@@ -149,5 +150,16 @@ fn steps_by_hand_end_with_the_answer_and_have_room(rt: HostRuntime) {
     match by_steps.parse(rt.alloc(), "[[[[]]]]") {
         Err(stop) => assert!(rt; stop == Stop::TooDeep),
         Ok(_) => assert!(rt; false),
+    }
+}
+
+/// Each grammar of the guide is closed with the limit for its text, which only rules in order have.
+#[test]
+fn each_grammar_of_the_guide_is_well_founded(rt: HostRuntime) {
+    for text in ["", "[]", "]"] {
+        assert!(rt; depth(rt.alloc(), text).is_ok());
+    }
+    for text in ["", "1+2*(3)", "+"] {
+        assert!(rt; value_of(rt.alloc(), text).is_ok());
     }
 }

@@ -274,3 +274,82 @@ fn each_refusal_becomes_one_of_a_recursive_call(rt: HostRuntime) {
     let first = rules.bodies().len();
     assert_eq!(rt; first, 1);
 }
+
+/// Asserts what these rules answer, and that they are in order, where their one leaf is a grammar of brackets under a limit.
+fn assert_around<R: Abort + AllocGlobal>(
+    rt: &R,
+    rules: &Rules,
+    start: Recursive,
+    limit: usize,
+    rows: &[(&str, &str)],
+) {
+    let mut inner = Rules::new(rt.alloc());
+    let brackets = inner.recursive(brackets).expect(rt, "refused");
+    let leaves = [
+        just_text("a").to(1),
+        just_text("+").to(1),
+        just_text("").to(0),
+        just_text("[").to(1),
+        just_text("]").to(1),
+    ];
+    let actions = Leaves {
+        leaves: &leaves,
+        values: Counts,
+    };
+    let within = inner.close(brackets, &actions, limit).expect(rt, "not closed");
+    let grammars = [within];
+    let outer = Leaves {
+        leaves: &grammars,
+        values: Counts,
+    };
+    let grammar = rules.close(start, &outer, 1).expect(rt, "not closed");
+    assert_answers(rt, &grammar, rows);
+    match grammar.well_founded().expect(rt, "refused") {
+        WellFounded::Order(order) => assert_eq!(rt; order.len(), 1),
+        _ => assert!(rt; false),
+    }
+}
+
+#[test]
+fn a_grammar_is_a_leaf_of_another_grammar(rt: HostRuntime) {
+    let mut rules = Rules::new(rt.alloc());
+    let twice = rules.recursive(|rules, _| {
+        let brackets = rules.leaf(0)?;
+        rules.then(brackets, brackets)
+    });
+    let twice = twice.expect(&rt, "refused");
+    let rows = [
+        ("", "ok 0"),
+        ("+[+]", "ok 4"),
+        ("[[]]", "ok 4"),
+        ("[", "error 1..1 expected '+', '[', ']' found end"),
+    ];
+    assert_around(&rt, &rules, twice, 3, &rows);
+    assert_around(&rt, &rules, twice, 2, &[("[]", "ok 2"), ("[[]]", "refused TooDeep")]);
+}
+
+/// A grammar says nothing of where its successes end, so a list of one may go round without moving.
+#[test]
+fn a_grammar_that_is_a_leaf_may_be_empty(rt: HostRuntime) {
+    let leaves = [just_text("a").to(1)];
+    let actions = Leaves {
+        leaves: &leaves,
+        values: Counts,
+    };
+    let mut rules = Rules::new(rt.alloc());
+    let letter = rules.recursive(|rules, _| rules.leaf(0)).expect(&rt, "refused");
+    let grammars = [rules.close(letter, &actions, 1).expect(&rt, "not closed")];
+    let outer = Leaves {
+        leaves: &grammars,
+        values: Counts,
+    };
+    let mut around = Rules::new(rt.alloc());
+    let list = around.recursive(|rules, _| {
+        let letter = rules.leaf(0)?;
+        rules.repeated(letter, 0, None)
+    });
+    let list = list.expect(&rt, "refused");
+    assert!(rt; matches!(around.close_founded(list, &outer, 3), Err(FoundedError::EmptyRound(_))));
+    let grammar = around.close(list, &outer, 1).expect(&rt, "not closed");
+    assert_answers(&rt, &grammar, &[("aaa", "ok 3"), ("", "ok 0")]);
+}

@@ -1,6 +1,7 @@
 //! Grammars whose rules alone never refuse a run.
-ghost use Rattle.std.specs.Prelude.{◌≡◌, ℕ, ◌+◌, ◌*◌, length, IfOk, IfErr, ◌<◌, ◌≤◌, ◌^◌};
+ghost use Rattle.std.specs.Prelude.{◌≡◌, ℕ, ◌+◌, ◌*◌, length, IfOk, IfErr, ◌<◌, ◌≤◌, ◌^◌, true, false};
 ghost use Rattle.chumsky_input.specs.Held.{held};
+ghost use Rattle.chumsky_input.specs.Run.{Runs, with_value, without_value};
 ghost use Rattle.chumsky_rules.specs.Founded.{IsOrder};
 ghost use Rattle.chumsky_recursive.specs.Moving.{answers_of};
 ghost use Rattle.chumsky_recursive.specs.Refused.{IsRefusedAsLeaves, FailsAsLeaves};
@@ -128,7 +129,9 @@ pub fn emit_founded<'r, 'src, I: Input<'src>, E: ParserExtra<I>, A: Actions<'src
     requires ready { ⟦<Grammar<'r, A> as Parser<'src, I, A::Value, E>>⟧.ready grammar.now }
     requires stands { IsRefusedAsLeaves (λ n. A.leaf_meaning grammar.now.actions.now n E.Error.Error E.State.Inspector) grammar.now.rules.rules.now tokens (⟦<Grammar<'r, A> as Parser<'src, I, A::Value, E>>⟧.meaning grammar.now E.Error.Error E.State.Inspector) }
     requires few { length (held I.Input E.Error.Error E.State.Inspector inp.old).tokens ≤ tokens }
-    ensures { IfErr result (FailsAsLeaves (λ n. A.leaf_meaning grammar.now.actions.now n E.Error.Error E.State.Inspector) grammar.now.rules.rules.now (held I.Input E.Error.Error E.State.Inspector inp.old).tokens) }
+    ensures ran { Runs I.Input E.Error.Error E.State.Inspector (⟦<Grammar<'r, A> as Parser<'src, I, A::Value, E>>⟧.meaning grammar.now E.Error.Error E.State.Inspector) true inp.old inp.new (with_value result) }
+    ensures refused { IfErr result (FailsAsLeaves (λ n. A.leaf_meaning grammar.now.actions.now n E.Error.Error E.State.Inspector) grammar.now.rules.rules.now (held I.Input E.Error.Error E.State.Inspector inp.old).tokens) }
+    ensures lent { inp.new.state.ghost_name ≡ inp.old.state.ghost_name }
 {
     grammar.go_emit(inp)
 }
@@ -143,7 +146,9 @@ pub fn check_founded<'r, 'src, I: Input<'src>, E: ParserExtra<I>, A: Actions<'sr
     requires ready { ⟦<Grammar<'r, A> as Parser<'src, I, A::Value, E>>⟧.ready grammar.now }
     requires stands { IsRefusedAsLeaves (λ n. A.leaf_meaning grammar.now.actions.now n E.Error.Error E.State.Inspector) grammar.now.rules.rules.now tokens (⟦<Grammar<'r, A> as Parser<'src, I, A::Value, E>>⟧.meaning grammar.now E.Error.Error E.State.Inspector) }
     requires few { length (held I.Input E.Error.Error E.State.Inspector inp.old).tokens ≤ tokens }
-    ensures { IfErr result (FailsAsLeaves (λ n. A.leaf_meaning grammar.now.actions.now n E.Error.Error E.State.Inspector) grammar.now.rules.rules.now (held I.Input E.Error.Error E.State.Inspector inp.old).tokens) }
+    ensures ran { Runs I.Input E.Error.Error E.State.Inspector (⟦<Grammar<'r, A> as Parser<'src, I, A::Value, E>>⟧.meaning grammar.now E.Error.Error E.State.Inspector) false inp.old inp.new (without_value result) }
+    ensures refused { IfErr result (FailsAsLeaves (λ n. A.leaf_meaning grammar.now.actions.now n E.Error.Error E.State.Inspector) grammar.now.rules.rules.now (held I.Input E.Error.Error E.State.Inspector inp.old).tokens) }
+    ensures lent { inp.new.state.ghost_name ≡ inp.old.state.ghost_name }
 {
     grammar.go_check(inp)
 }
