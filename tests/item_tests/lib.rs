@@ -5,6 +5,8 @@ mod collecting;
 #[cfg(test)]
 mod containers;
 #[cfg(test)]
+mod docstrings;
+#[cfg(test)]
 mod edges;
 #[cfg(test)]
 mod flattened;

@@ -3,9 +3,11 @@
 //! The modules are those of the Rust crate `chumsky`. Most programs need `use chumsky::prelude::*;` alone.
 #![tactic(auto)]
 
-mod ext;
+mod config_parser_ext;
+mod iter_parser_ext;
 mod macros;
 mod made;
+mod parser_ext;
 pub mod prelude;
 mod run;
 mod steady;
@@ -305,24 +307,16 @@ pub mod laws {
     };
 }
 
-pub use chumsky_combinator::ext::IterMapExt;
 pub use chumsky_context::config::{ConfigParser, Configurable, IsConfigParser};
-pub use chumsky_context::config_ext::{ConfigIterParserExt, ConfigParserExt};
 pub use chumsky_context::config_iter::{ConfigIterParser, IsConfigIterParser};
-pub use chumsky_context::context_ext::ContextExt;
-pub use chumsky_flatten::ext::{FlattenExt, IntoIterExt};
-pub use chumsky_folds::ext::{FoldExt, IterFoldExt};
 pub use chumsky_input::same::SameClone;
 pub use chumsky_input::stop::{Failure, Fault, PResult, Stop};
 pub use chumsky_input::util::DefaultExpected;
-pub use chumsky_items::ext::IterParserExt;
-pub use chumsky_label::ext::LabelExt;
-pub use chumsky_parse_iter::ext::ParseIterExt;
 pub use chumsky_parse_iter::parse_iter::ParseIter;
 pub use chumsky_parser::input_ref_ext::InputRefExt;
 pub use chumsky_parser::iter::{IsIterParser, IterParser, IterParserDebug, Iterates};
 pub use chumsky_parser::parser::{IsParser, Parser};
 pub use chumsky_parser::result::ParseResult;
-pub use chumsky_shield::ext::ShieldExt;
-pub use chumsky_text::ext::TextExt;
-pub use ext::ParserExt;
+pub use config_parser_ext::{ConfigIterParserExt, ConfigParserExt};
+pub use iter_parser_ext::IterParserExt;
+pub use parser_ext::ParserExt;

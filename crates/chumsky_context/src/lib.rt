@@ -3,11 +3,9 @@
 #![tactic(auto)]
 
 pub mod config;
-pub mod config_ext;
 pub mod config_iter;
 pub mod configure;
 pub mod configurer;
-pub mod context_ext;
 pub mod contextual;
 pub mod ignore_with_ctx;
 mod ignore_with_ctx_items;

@@ -1,7 +1,6 @@
 //! Items out of collections: those of an output, and those of each item.
 #![tactic(auto)]
 
-pub mod ext;
 pub mod flatten;
 pub mod into_iter;
 pub mod laws;

@@ -2,7 +2,6 @@
 #![tactic(auto)]
 
 pub mod enumerate;
-pub mod ext;
 pub mod fold;
 pub mod folder;
 pub mod folder_with;

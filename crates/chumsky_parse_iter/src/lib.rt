@@ -2,7 +2,6 @@
 #![tactic(auto)]
 
 mod close;
-pub mod ext;
 pub mod laws;
 pub mod parse_iter;
 pub mod settle;

@@ -172,8 +172,8 @@ where
     }
 }
 
-/// `ParseIterExt::parse_iter_with_state`.
-pub(crate) fn begin<'p, 'src, P, I, O, E>(
+/// Makes the iterator over the items of `parser`, run over `input` from its start on a state of the caller's.
+pub fn begin<'p, 'src, P, I, O, E>(
     parser: &'p P,
     alloc: Global,
     input: I,

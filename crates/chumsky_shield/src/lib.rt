@@ -2,7 +2,6 @@
 #![tactic(auto)]
 
 pub mod and_is;
-pub mod ext;
 pub mod filter;
 pub mod filter_map;
 pub mod laws;

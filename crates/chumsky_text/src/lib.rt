@@ -3,7 +3,6 @@
 
 pub mod ascii;
 pub mod chars;
-pub mod ext;
 pub mod ident;
 pub mod keyword;
 pub mod kind;

@@ -1,20 +1,18 @@
-//! Builders of parsers that are configured by the context: `configure`, `try_configure`.
+//! The builders of parsers that are configured by the context: `configure`, `try_configure`.
 ghost use Rattle.std.specs.Prelude.{◌≡◌};
 
-use crate::config::{Configurable, IsConfigParser};
-use crate::config_iter::IsConfigIterParser;
-use crate::configure::Configure;
-use crate::configurer::{Configurer, TryConfigurer};
-use crate::iter_configure::IterConfigure;
-use crate::try_iter_configure::TryIterConfigure;
-use chumsky_input::extra::ParserExtra;
-use chumsky_input::input::Tokens;
+use crate::combinator::{Configure, Configurer, IterConfigure, TryConfigurer, TryIterConfigure};
+use crate::extra::ParserExtra;
+use crate::input::Tokens;
+use chumsky_context::config::{Configurable, IsConfigParser};
+use chumsky_context::config_iter::IsConfigIterParser;
 use std::marker::PhantomData;
 
-/// Builders of parsers that can be configured: `just`, `one_of`, and what `contextual` makes.
+/// The builders of parsers that can be configured: `just`, `one_of`, and what `contextual` makes.
 pub trait ConfigParserExt<I, O, E>: Configurable + Sized {
     /// Configures this parser at each run by what `configurer` makes of the default configuration and the context:
-    /// `just('?').configure(|c, wanted| c.seq(*wanted))` takes the character that the context is.
+    /// `any().then_with_ctx(just('?').configure(|c, first| c.seq(*first)))` on `aa` gives `('a', 'a')`, and on `ab`
+    /// `'a'` is expected at 1..2. It fails as the configured parser does.
     #[inline]
     final fn configure<F>(self, configurer: F) -> Configure<Self, F>
     where
@@ -30,8 +28,8 @@ pub trait ConfigParserExt<I, O, E>: Configurable + Sized {
         }
     }
 
-    /// Configures this parser as `configure` does, by a value of a type with an impl of `Configurer`. The parser's type can
-    /// then be written down, and what is set is known where the parser is run.
+    /// Configures this parser as `configure` does, by a value of a type with an impl of `Configurer`. The parser's type
+    /// can then be written down, and what is set is known where the parser is run.
     #[inline]
     final fn configure_by<F>(self, configurer: F) -> Configure<Self, F>
     where
@@ -50,10 +48,11 @@ pub trait ConfigParserExt<I, O, E>: Configurable + Sized {
 
 impl<I, O, E, A: Configurable + IsConfigParser<I, O, E>> ConfigParserExt<I, O, E> for A {}
 
-/// Builders of parsers of items that can be configured: `repeated`.
+/// The builders of parsers of items that can be configured: `repeated`.
 pub trait ConfigIterParserExt<I, O, E>: Configurable + Sized {
-    /// Configures these items, where an iteration is made, by what `configurer` makes of the default configuration and the
-    /// context: `any().repeated().configure(|c, n| c.exactly(*n))` takes as many tokens as the context says.
+    /// Configures these items, where an iteration is made, by what `configurer` makes of the default configuration and
+    /// the context: `number.ignore_with_ctx(just('x').repeated().configure(|c, n| c.exactly(*n)).count())` on `3xxx`
+    /// gives `3`, and on `3xx` `'x'` is expected at 3..3. They fail as the configured items do.
     #[inline]
     final fn configure<F>(self, configurer: F) -> IterConfigure<Self, F, O>
     where
@@ -70,8 +69,8 @@ pub trait ConfigIterParserExt<I, O, E>: Configurable + Sized {
         }
     }
 
-    /// Configures these items as `configure` does, by a value of a type with an impl of `Configurer`. The type of the items
-    /// can then be written down, and what is set is known where they are run.
+    /// Configures these items as `configure` does, by a value of a type with an impl of `Configurer`. The type of the
+    /// items can then be written down, and what is set is known where they are run.
     #[inline]
     final fn configure_by<F>(self, configurer: F) -> IterConfigure<Self, F, O>
     where
@@ -88,9 +87,9 @@ pub trait ConfigIterParserExt<I, O, E>: Configurable + Sized {
         }
     }
 
-    /// Configures these items as `configure` does, by a closure that is handed the empty span here too and may refuse: its
-    /// error is then a failure here, and no iteration is made. `items.try_configure(|c, n, span| ..)` so refuses a count
-    /// that is too large before the first item is read.
+    /// Configures these items as `configure` does, by a closure that is handed the empty span where they begin too and
+    /// may refuse: its error is then the failure there, and no iteration is made.
+    /// `items.try_configure(|c, n, span| ..)` so refuses a count that is too large before the first item is read.
     #[inline]
     final fn try_configure<F>(self, configurer: F) -> TryIterConfigure<Self, F, O>
     where
@@ -107,8 +106,8 @@ pub trait ConfigIterParserExt<I, O, E>: Configurable + Sized {
         }
     }
 
-    /// Configures these items as `try_configure` does, by a value of a type with an impl of `TryConfigurer`. The type of the
-    /// items can then be written down, and what is set or refused is known where they are run.
+    /// Configures these items as `try_configure` does, by a value of a type with an impl of `TryConfigurer`. The type
+    /// of the items can then be written down, and what is set or refused is known where they are run.
     #[inline]
     final fn try_configure_by<F>(self, configurer: F) -> TryIterConfigure<Self, F, O>
     where
