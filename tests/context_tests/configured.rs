@@ -85,12 +85,14 @@ fn a_list_that_is_refused_fails_before_its_first_item(rt: HostRuntime) {
     let refused = just::<_, &str, Own>('a')
         .repeated()
         .try_configure(move |_: RepeatedCfg, _: &(), span: SimpleSpan| {
-            Err(Rich::custom(span, String::new(alloc)))
+            let no = Rich::custom_in(alloc, span, "no");
+            Err(no.unwrap_or(Rich::custom(span, String::new(alloc))))
         })
         .count();
-    assert_answers(&rt, &refused, &[("aa", "error 0..0 \"\"")]);
+    assert_answers(&rt, &refused, &[("aa", "error 0..0 \"no\"")]);
     let else_one = refused.map(|n| n as u64).or(just('b').to(1));
-    assert_answers(&rt, &else_one, &[("b", "ok 1"), ("c", "error 0..0 \"\"")]);
+    let rows = [("b", "ok 1"), ("c", "error 0..0 \"no\"")];
+    assert_answers(&rt, &else_one, &rows);
 }
 
 #[test]

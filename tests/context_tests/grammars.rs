@@ -1,31 +1,78 @@
-//! What nodes of a grammar do to a state that is restored, where they go back.
+//! What nodes of a grammar do to a state that is restored, and to a list that is cut, where they go back.
 use answers::asserts::assert_line;
 use chumsky::Failure;
 use chumsky::input::InputRef;
-use chumsky::inspector::RollbackState;
+use chumsky::inspector::{Inspector, RollbackState, TruncateState};
 use chumsky::prelude::*;
 use chumsky::primitive::Reader;
-use chumsky::recursive::{BuildError, Leaves, Node, SepCfg, Values};
+use chumsky::recursive::{BuildError, Leaves, Node, Recursive, SepCfg, Values};
 use std::alloc::{AllocError, AllocGlobal, Global};
 use std::process::Abort;
 
-/// The errors of a text, and a number that is restored.
-type OnValue = extra::Full<Rich<char>, RollbackState<u64>, ()>;
+/// The errors of a text, and a state.
+type On<S> = extra::Full<Rich<char>, S, ()>;
 
-/// Takes a letter. First it adds to the number of the state, on both paths.
+/// A state that adds up numbers.
+trait Adds {
+    /// Nothing yet.
+    fn nothing(alloc: Global) -> Self;
+
+    /// Adds a number, unless it is zero.
+    fn add(&mut self, number: u64);
+
+    /// The sum of what was added and not gone back from.
+    fn sum(&self) -> u64;
+}
+
+/// The sum is restored.
+impl Adds for RollbackState<u64> {
+    fn nothing(_alloc: Global) -> RollbackState<u64> {
+        RollbackState(0)
+    }
+
+    fn add(&mut self, number: u64) {
+        self.0 = self.0.wrapping_add(number);
+    }
+
+    fn sum(&self) -> u64 {
+        self.0
+    }
+}
+
+/// The numbers are a list that is cut.
+impl Adds for TruncateState<u64> {
+    fn nothing(alloc: Global) -> TruncateState<u64> {
+        TruncateState(Vec::new(alloc))
+    }
+
+    fn add(&mut self, number: u64) {
+        if number != 0 {
+            let _pushed = self.0.push(number);
+        }
+    }
+
+    fn sum(&self) -> u64 {
+        let mut sum: u64 = 0;
+        for number in self.0.as_slice() {
+            sum = sum.wrapping_add(*number);
+        }
+        sum
+    }
+}
+
+/// Takes a letter. First it adds to the state, on both paths.
 #[derive(Clone, Copy, Drop)]
 struct Adding {
     letter: char,
     adds: u64,
 }
 
-impl<'src> Reader<'src, &'src str, u64, OnValue> for Adding {
+impl<'src, S: Adds + Inspector<&'src str>> Reader<'src, &'src str, u64, On<S>> for Adding {
     fn read(
         &self,
-        inp: &mut InputRef<'src, '_, &'src str, OnValue>,
+        inp: &mut InputRef<'src, '_, &'src str, On<S>>,
     ) -> Result<u64, Failure<Rich<char>>> {
-        let state = inp.state();
-        state.0 = state.0.wrapping_add(self.adds);
+        inp.state().add(self.adds);
         match inp.check(just(self.letter)) {
             Ok(()) => Ok(self.adds),
             Err(Failure::Error(error)) => Err(Failure::Error(error)),
@@ -87,7 +134,8 @@ const B: usize = 3;
 
 const C: usize = 4;
 
-/// Asserts what a node answers as the body of the one rule, and the number that `parse` and `check` leave of a zero.
+/// Asserts what a node answers as the body of the one rule, and which sum `parse` and `check` leave, both in a number that is
+/// restored and in a list that is cut.
 fn assert_node<R: Abort + AllocGlobal>(
     rt: &R,
     rules: &mut Rules,
@@ -97,8 +145,18 @@ fn assert_node<R: Abort + AllocGlobal>(
     let node = node.expect(rt, "refused");
     let start = rules.declare().expect(rt, "refused");
     rules.define(start, node).expect(rt, "refused");
+    assert_on::<RollbackState<u64>, R>(rt, rules, start, rows);
+    assert_on::<TruncateState<u64>, R>(rt, rules, start, rows);
+}
+
+/// Asserts what rules answer in states of a type, and which sum `parse` and `check` leave.
+fn assert_on<'src, S, R>(rt: &R, rules: &Rules, start: Recursive, rows: &[(&'src str, &str, u64)])
+where
+    S: Adds + Inspector<&'src str> + Drop,
+    R: Abort + AllocGlobal,
+{
     let leaves = [
-        custom_by::<_, &str, u64, OnValue>(Adding {
+        custom_by::<_, &str, u64, On<S>>(Adding {
             letter: 'a',
             adds: 1,
         }),
@@ -126,14 +184,14 @@ fn assert_node<R: Abort + AllocGlobal>(
     match close(rules, start, &actions, 1) {
         Ok(grammar) => {
             for (input, line, left) in rows {
-                let mut state = RollbackState(0);
+                let mut state = S::nothing(rt.alloc());
                 let parsed = grammar.parse_with_state(rt.alloc(), *input, &mut state);
                 assert_line(rt, parsed, *line);
-                assert_eq!(rt; state.0, *left);
-                let mut other = RollbackState(0);
+                assert_eq!(rt; state.sum(), *left);
+                let mut other = S::nothing(rt.alloc());
                 let checked = grammar.check_with_state(rt.alloc(), *input, &mut other);
                 assert!(rt; checked.is_ok());
-                assert_eq!(rt; other.0, *left);
+                assert_eq!(rt; other.sum(), *left);
             }
         }
         Err(_) => assert!(rt; false),

@@ -129,6 +129,20 @@ fn what_map_with_wrote_is_undone_or_stays(rt: HostRuntime) {
         "ok ('a', 'c')",
     );
     assert_eq!(rt; state.0, 0);
+    let stays = any::<&str, OnCount>()
+        .map_with(|c, extra| {
+            extra.state().0 = extra.state().0.wrapping_add(1);
+            c
+        })
+        .then(just('b'))
+        .or(any().then(any()));
+    let mut state = SimpleState(0);
+    assert_line(
+        &rt,
+        stays.parse_with_state(rt.alloc(), "ac", &mut state),
+        "ok ('a', 'c')",
+    );
+    assert_eq!(rt; state.0, 1);
 }
 
 /// All alternatives of a `choice` go back by one mark: what the first removes doesn't come back, and of what the second adds
@@ -212,6 +226,24 @@ fn a_separated_list_undoes_what_its_last_separator_wrote(rt: HostRuntime) {
         ("a,,", "ok (\"a\", ())", "xa", "xa"),
     ];
     assert_cut(&rt, &parser, "x", &rows);
+    let comma = select::<_, &str, _, OnValue>(|c: char, extra| {
+        if c != ',' {
+            return None;
+        }
+        extra.state().0 = extra.state().0.wrapping_add(10);
+        Some(c)
+    });
+    let restored = count!(OnValue)
+        .filter(|c| *c != ',')
+        .separated_by(comma)
+        .collect::<String>()
+        .then(any().repeated());
+    let rows = [
+        ("a", "ok (\"a\", ())", 1),
+        ("a,b,", "ok (\"ab\", ())", 12),
+        (",", "ok (\"\", ())", 0),
+    ];
+    assert_restored(&rt, &restored, &rows);
 }
 
 #[test]
@@ -274,10 +306,38 @@ fn with_state_of_a_list_leaves_the_list_of_the_run(rt: HostRuntime) {
         .with_state(TruncateState(Vec::new(rt.alloc())))
         .then_ignore(end::<&str, OnList>());
     assert_cut(&rt, &parser, "z", &[("a", "ok 'a'", "z", "z")]);
+    let pushes = any::<&str, OnList>().map_with(|c, extra| {
+        let _pushed = extra.state().0.push(c);
+        c
+    });
+    let parser = pushes
+        .with_state(TruncateState(Vec::new(rt.alloc())))
+        .then_ignore(end::<&str, OnList>());
+    assert_cut(&rt, &parser, "z", &[("a", "ok 'a'", "z", "z")]);
 }
 
 /// Errors that say nothing, and a number of tokens.
 type OnTokens = extra::Full<EmptyErr, Told, ()>;
+
+/// Each run begins with a copy, and that is told of each token.
+#[test]
+fn what_with_state_runs_on_is_told_of_its_tokens(rt: HostRuntime) {
+    let told = any::<&str, OnTokens>()
+        .then(any())
+        .map_with(|_, extra| extra.state().tokens)
+        .with_state(Told { tokens: 3 });
+    let parser = told
+        .repeated()
+        .collect::<Vec<_>>()
+        .then_ignore(end::<&str, OnTokens>());
+    let mut state = Told { tokens: 0 };
+    assert_line(
+        &rt,
+        parser.parse_with_state(rt.alloc(), "abcd", &mut state),
+        "ok [5, 5]",
+    );
+    assert_eq!(rt; state.tokens, 0);
+}
 
 /// The state of the run is not told of the tokens that are taken on another one.
 #[test]

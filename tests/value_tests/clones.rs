@@ -2,10 +2,12 @@
 use crate::counted::{Counted, Counts, assert_clones, counted_letter, make_counts};
 use answers::extras::Quiet;
 use arrayvec::ArrayVec;
-use chumsky::combinator::To;
+use chumsky::combinator::{Configurer, RepeatedCfg, To};
+use chumsky::inspector::SimpleState;
 use chumsky::prelude::*;
 use chumsky::primitive::{Just, select, select_ref};
 use std::alloc::AllocGlobal;
+use std::cell::Cell;
 use std::collections::BTreeMap;
 use std::process::Abort;
 use std::rc::Rc;
@@ -406,6 +408,54 @@ fn the_output_that_is_a_context_is_let_go(rt: HostRuntime) {
         &counts,
         &[("ab", 1, 1), ("a", 1, 1), ("b", 0, 0)],
     );
+}
+
+#[test]
+fn a_state_is_copied_once_for_each_run(rt: HostRuntime) {
+    let counts = make_counts(&rt);
+    let state = SimpleState(counted_letter(&rt, 's', &counts));
+    let list = any::<&str, extra::Full<EmptyErr, SimpleState<Counted>, ()>>()
+        .repeated()
+        .with_state(state)
+        .then_ignore(end::<&str, Quiet>());
+    assert_clones(&rt, &list, &counts, &[("", 1, 1), ("abc", 1, 1)]);
+}
+
+/// How often a configurer is called.
+#[derive(Drop)]
+struct Calls {
+    made: Cell<u32>,
+}
+
+/// Sets three items, and counts that.
+#[derive(Drop)]
+struct Three {
+    calls: Rc<Calls>,
+}
+
+impl Configurer<RepeatedCfg, ()> for Three {
+    ghost use Rattle.std.specs.Prelude.{⊤};
+
+    ghost gives = { λ _ _ _ _. ⊤ };
+
+    fn configured(&self, config: RepeatedCfg, _context: &()) -> RepeatedCfg {
+        self.calls.made.set(self.calls.made.get().wrapping_add(1));
+        config.exactly(3)
+    }
+}
+
+#[test]
+fn a_list_is_configured_once_for_each_iteration(rt: HostRuntime) {
+    let none = Calls { made: Cell::new(0) };
+    let calls = Rc::new(rt.alloc(), none).expect(&rt, "want of memory");
+    let three = Three {
+        calls: calls.clone().expect(&rt, "want of memory"),
+    };
+    let list = any::<&str, Quiet>().repeated().configure_by(three).count();
+    assert!(rt; list.parse(rt.alloc(), "abc").is_ok());
+    assert_eq!(rt; calls.made.get(), 1);
+    assert!(rt; list.check(rt.alloc(), "abcd").is_ok());
+    assert_eq!(rt; calls.made.get(), 2);
 }
 
 #[test]
