@@ -1,0 +1,5 @@
+use Rattle.chumsky_memory.specs.MemoryLaws.{mapped-spares}
+use Rattle.chumsky_memory.proofs.laws.map_is_never_out_of_memory.Goals as goal
+
+pub returns : goal.returns
+returns g c a = mapped-spares _ _ a

@@ -1,0 +1,4 @@
+pub mod Memory
+pub mod MemoryLaws
+pub mod PrimitivesSpare
+pub mod ItemsSpare

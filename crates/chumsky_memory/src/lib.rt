@@ -1,0 +1,4 @@
+//! Which parsers are never refused for memory.
+#![tactic(auto)]
+
+pub mod laws;
