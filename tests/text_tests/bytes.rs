@@ -48,3 +48,13 @@ fn an_end_of_a_line_of_bytes_is_one_of_ascii(rt: HostRuntime) {
     ];
     assert_answers(&rt, &newline::<&[u8], Own>(), &rows);
 }
+
+#[test]
+fn a_label_is_put_into_an_error_over_bytes(rt: HostRuntime) {
+    let number = int::<&[u8], Own>(10).labelled("a number");
+    let rows = [
+        ("7".as_bytes(), "ok [55]"),
+        ("x".as_bytes(), "error 0..1 expected a number found 120"),
+    ];
+    assert_answers(&rt, &number, &rows);
+}

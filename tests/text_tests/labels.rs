@@ -1,8 +1,15 @@
 //! Parsers under a label.
+ghost use Rattle.std.specs.Prelude.{⊤};
+
 use answers::asserts::assert_answers;
-use answers::extras::{Own, Quiet};
+use answers::extras::{Merging, Own, Quiet};
 use answers::leaves::{any_char, just_char, just_text};
+use chumsky::error::Error;
+use chumsky::label::LabelError;
 use chumsky::prelude::*;
+use own_types::merges::Merges;
+use std::alloc::{AllocError, Global};
+use std::cell::Cell;
 
 #[test]
 fn a_failure_at_the_start_says_the_label_alone(rt: HostRuntime) {
@@ -107,4 +114,46 @@ fn errors_that_know_no_labels_stay_as_they_are(rt: HostRuntime) {
         .labelled("a month");
     let rows = [("Jan", "ok \"Jan\""), ("Mar", "error"), ("", "error")];
     assert_answers(&rt, &month, &rows);
+}
+
+/// A label that counts the errors that it was put into, and leaves them as they are.
+#[derive(Clone, Copy)]
+struct Counted<'l> {
+    errors: &'l Cell<u32>,
+}
+
+impl<'src, 'l> LabelError<&'src str, Counted<'l>> for Merges {
+    ghost labelled = { λ errors _ e. errors.seen e };
+
+    ghost labels_freely = { ⊤ };
+
+    fn label_with(self, _alloc: Global, label: &Counted<'l>) -> Result<Merges, AllocError>
+    where
+        Self: Error<&'src str>,
+    {
+        label.errors.set(label.errors.get().wrapping_add(1));
+        Ok(self)
+    }
+}
+
+#[test]
+fn a_label_is_put_only_into_an_error_that_may_be_reported(rt: HostRuntime) {
+    let errors = Cell::new(0);
+    let longer = just::<_, &str, Merging>("abc");
+    let value = just("x").or(just("y")).labelled(Counted { errors: &errors });
+    // How often it is put in, by four runs: with a state and without, `parse` and `check`.
+    let rows = [
+        // Its part has no failure.
+        ("x", "ok \"x\"", 0),
+        // Its part failed at its start, and then succeeded.
+        ("y", "ok \"y\"", 4),
+        ("z", "error (a (x y))", 4),
+        // An older error stands further on, and hides that of the part.
+        ("abz", "error c", 0),
+    ];
+    for (text, wanted, times) in rows {
+        errors.set(0);
+        assert_answers(&rt, &longer.or(value), &[(text, wanted)]);
+        assert!(rt; errors.get() == times);
+    }
 }

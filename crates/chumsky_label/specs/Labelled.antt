@@ -1,6 +1,6 @@
 -- A part that a label names.
 -- Main words: MeansLabelled, AnswersButEvents. Laws: LabelledLaws.antt. Read first: chumsky_shield's Shielded.antt.
-use Rattle.std.specs.Prelude.{◌≡◌, ℕ, Bool, true, false, eqb, Option, Some, None, List, ◌⊎◌, option_to_list, map}
+use Rattle.std.specs.Prelude.{◌≡◌, ℕ, Bool, true, false, eqb, Option, Some, None, List, ◌⊎◌, ⊤, option_to_list, map}
 use Rattle.chumsky_input.specs.Held.{Held}
 use Rattle.chumsky_input.specs.Aside.{kept_after, ClashesWith}
 use Rattle.chumsky_input.specs.Outcome.{Event, Meaning, Beginning, Outcome, Verdict, Yes, No, IsAnswer}
@@ -50,9 +50,10 @@ module _ {Tok Cx St Er : Type 0} (safe : Type 0) (maps : Er → Er → Type 0) (
   abbrev pub LosesLabelled : ℕ → Option (Event Er) → Held Tok Cx St Er → Held Tok Cx St Er → Type 0
   LosesLabelled start older old new = (((free → ⊥) ⊎ ((k : Option (Event Er)) × Relabels maps start old.kept k × ClashesWith safe older k))) × (new ≡ record old { kept = None })
 
--- each error has one that is made of it
-abbrev pub MapsSome : {Er : Type 0} → (Er → Er → Type 0) → Type 0
-MapsSome {Er} maps = (e : Er) → (r : Er) × maps e r
+-- the event, if there is one, is of an error
+abbrev pub IsOfError : {E S : Type 0} → (E → S) → Option (Event S) → Type 0
+IsOfError seen None = ⊤
+IsOfError {E} seen (Some e) = (x : E) × (seen x ≡ e.error)
 
 -- where events stand
 abbrev pub places : {Er : Type 0} → List (Event Er) → List ℕ
@@ -69,6 +70,6 @@ module _ {Tok Cx St Er V : Type 0} (merged : Er → Er → Er) (part m : Meaning
   abbrev pub AnswersButEvents : Type 0
   AnswersButEvents = (b : Beginning Tok Cx St) (o : Outcome V Er St) → m b o → IsAnswer o.verdict → (p : Outcome V Er St) × part b p × ButEvents merged p o
 
-  -- and of each answer of the part there is one
-  abbrev pub EachAnswered : Type 0
-  EachAnswered = (b : Beginning Tok Cx St) (p : Outcome V Er St) → part b p → IsAnswer p.verdict → (o : Outcome V Er St) × m b o × ButEvents merged p o
+  -- and to each answer of the part there is one, where the event that counts is of an error
+  abbrev pub EachAnswered : {E : Type 0} → (E → Er) → Type 0
+  EachAnswered seen = (b : Beginning Tok Cx St) (p : Outcome V Er St) → part b p → IsAnswer p.verdict → IsOfError seen (primary merged p.events) → (o : Outcome V Er St) × m b o × ButEvents merged p o

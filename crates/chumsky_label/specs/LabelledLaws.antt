@@ -8,7 +8,8 @@ use Rattle.chumsky_parser.specs.Chained.{retold}
 use Rattle.chumsky_shield.specs.Shielded.{Judges, OrClash}
 use Rattle.chumsky_shield.specs.ShieldedLaws.{or_clash-whole, shielded-ends, shielded-agrees}
 use Rattle.chumsky_shield.specs.MapErr.{MapsOnce}
-use Rattle.chumsky_label.specs.Labelled.{RelabelsAt, Relabels, LabelledAs, MeansLabelled, MapsSome, places, ButEvents, AnswersButEvents, EachAnswered}
+use Rattle.chumsky_label.specs.Labelling.{LabelsSeen}
+use Rattle.chumsky_label.specs.Labelled.{RelabelsAt, Relabels, LabelledAs, MeansLabelled, IsOfError, places, ButEvents, AnswersButEvents, EachAnswered}
 
 module _ {Er : Type 0} (maps : Er → Er → Type 0) (once : MapsOnce maps) where
   one_at : (e : Bool) (x : Event Er) (k l : Option (Event Er)) → RelabelsAt maps e x k → RelabelsAt maps e x l → k ≡ l
@@ -60,14 +61,15 @@ module _ {Er : Type 0} (maps : Er → Er → Type 0) where
   relabels_place start None k m = ap (λ z. places (option_to_list z)) m
   relabels_place start (Some x) k m = place_at (eqb x.place start) x k m
 
-  module _ (some : MapsSome maps) where
-    made_at : (e : Bool) (x : Event Er) → (k : Option (Event Er)) × RelabelsAt maps e x k
-    made_at true x = let m = some x.error in (Some (record { place = x.place; error = m.0 }), (m.0, m.1, refl))
-    made_at false x = (Some x, refl)
+module _ {E S : Type 0} (seen labelled : E → S) where
+  made_at : (at : Bool) (x : Event S) → IsOfError seen (Some x) → (k : Option (Event S)) × RelabelsAt (LabelsSeen seen labelled) at x k
+  made_at true x h = (Some (record { place = x.place; error = labelled h.0 }), (labelled h.0, record { error = h.0; counts = h.1; says = refl }, refl))
+  made_at false x h = (Some x, refl)
 
-    relabels_some : (start : ℕ) (x : Option (Event Er)) → (k : Option (Event Er)) × Relabels maps start x k
-    relabels_some start None = (None, refl)
-    relabels_some start (Some x) = made_at (eqb x.place start) x
+  -- an event of an error can be labelled
+  pub relabels-made : (start : ℕ) (x : Option (Event S)) → IsOfError seen x → (k : Option (Event S)) × Relabels (LabelsSeen seen labelled) start x k
+  relabels-made start None h = (None, refl)
+  relabels-made start (Some x) h = made_at (eqb x.place start) x h
 
 module _ {Tok Cx St Er V : Type 0} (merged : Er → Er → Er) (maps : Er → Er → Type 0) (free : Type 0) (part : Meaning Tok Cx St Er V) where
   retold-same : (v : Verdict V Er) (p : Outcome V Er St) → p.verdict ≡ v → retold v p ≡ p
@@ -92,26 +94,28 @@ module _ {Tok Cx St Er V : Type 0} (merged : Er → Er → Er) (maps : Er → Er
   pub labelled-as_part : AnswersButEvents merged part (MeansLabelled merged maps free part)
   labelled-as_part b o m a = as_part m.run.first.verdict b m.run.first o m.run.meant refl m.run.judges a
 
-  module _ (some : MapsSome maps) where
-    -- the outcome of the part with its events as one, labelled
-    abbrev with_label : Beginning Tok Cx St → Outcome V Er St → Outcome V Er St
-    with_label b p = record p { events = option_to_list (relabels_some maps some b.start (primary merged p.events)).0 }
+  -- the outcome of the part with its events as one, labelled
+  abbrev with_label : Outcome V Er St → Option (Event Er) → Outcome V Er St
+  with_label p k = record p { events = option_to_list k }
 
-    labels_it : (u : Verdict V Er) (b : Beginning Tok Cx St) (p : Outcome V Er St) → p.verdict ≡ u → LabelledAs merged maps free u b p (with_label b p)
-    labels_it u b p e =
-        let k = relabels_some maps some b.start (primary merged p.events) in
-        record { says = inr (k.0, k.1, inl (sym (ap (λ (z : Outcome V Er St). record z { events = option_to_list k.0 }) (retold-same u p e)))) }
+  labels_it : (u : Verdict V Er) (b : Beginning Tok Cx St) (p : Outcome V Er St) (k : Option (Event Er)) → Relabels maps b.start (primary merged p.events) k → p.verdict ≡ u → LabelledAs merged maps free u b p (with_label p k)
+  labels_it u b p k m e = record { says = inr (k, m, inl (sym (ap (λ (z : Outcome V Er St). record z { events = option_to_list k }) (retold-same u p e)))) }
 
-    but_it : (b : Beginning Tok Cx St) (p : Outcome V Er St) → ButEvents merged p (with_label b p)
-    but_it b p =
-        let k = relabels_some maps some b.start (primary merged p.events) in
-        record { rest = refl; place = relabels_place maps b.start (primary merged p.events) k.0 k.1 }
+  judged : (u : Verdict V Er) (b : Beginning Tok Cx St) (p : Outcome V Er St) (k : Option (Event Er)) → Relabels maps b.start (primary merged p.events) k → p.verdict ≡ u → IsAnswer u → Judges u (λ b v p o. LabelledAs merged maps free (Yes v) b p o) (λ b p o. LabelledAs merged maps free No b p o) b p (with_label p k)
+  judged (Yes v) b p k m e a = labels_it (Yes v) b p k m e
+  judged No b p k m e a = labels_it No b p k m e
+  judged (Halt s) b p k m e a = absurd a
+  judged (Clash s) b p k m e a = absurd a
 
-    judged : (u : Verdict V Er) (b : Beginning Tok Cx St) (p : Outcome V Er St) → p.verdict ≡ u → IsAnswer u → Judges u (λ b v p o. LabelledAs merged maps free (Yes v) b p o) (λ b p o. LabelledAs merged maps free No b p o) b p (with_label b p)
-    judged (Yes v) b p e a = labels_it (Yes v) b p e
-    judged No b p e a = labels_it No b p e
-    judged (Halt s) b p e a = absurd a
-    judged (Clash s) b p e a = absurd a
+  answered_by : (b : Beginning Tok Cx St) (p : Outcome V Er St) → part b p → IsAnswer p.verdict → (k : Option (Event Er)) → Relabels maps b.start (primary merged p.events) k → (o : Outcome V Er St) × MeansLabelled merged maps free part b o × ButEvents merged p o
+  answered_by b p m a k l = (
+    with_label p k,
+    record { run = record { first = p; meant = m; judges = judged p.verdict b p k l refl a } },
+    record { rest = refl; place = relabels_place maps b.start (primary merged p.events) k l },
+  )
 
-    pub labelled-each : EachAnswered merged part (MeansLabelled merged maps free part)
-    labelled-each b p m a = (with_label b p, record { run = record { first = p; meant = m; judges = judged p.verdict b p refl a } }, but_it b p)
+module _ {Tok Cx St E Er V : Type 0} (merged : Er → Er → Er) (seen labelled : E → Er) (free : Type 0) (part : Meaning Tok Cx St Er V) where
+  pub labelled-each : EachAnswered merged part (MeansLabelled merged (LabelsSeen seen labelled) free part) seen
+  labelled-each b p m a h =
+      let k = relabels-made seen labelled b.start (primary merged p.events) h in
+      answered_by merged (LabelsSeen seen labelled) free part b p m a k.0 k.1

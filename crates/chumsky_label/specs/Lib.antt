@@ -1,3 +1,4 @@
 pub mod Labelled
 pub mod LabelledLaws
+pub mod Labelling
 pub mod RichLabel

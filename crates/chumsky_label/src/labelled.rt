@@ -1,7 +1,7 @@
 //! A parser that a label names.
-ghost use Rattle.std.specs.Prelude.{◌≡◌, MatchResult, option_map};
+ghost use Rattle.std.specs.Prelude.{◌≡◌, ◌<◌, IsTrue, MatchOption, MatchResult, option_map};
 ghost use Rattle.chumsky_input.specs.Held.{held, located};
-ghost use Rattle.chumsky_shield.specs.MapErr.{MapsSeen};
+ghost use Rattle.chumsky_label.specs.Labelling.{LabelsSeen};
 ghost use Rattle.chumsky_label.specs.Labelled.{Relabelled, Unlabelled, KeepsLabelled, LosesLabelled};
 
 use crate::label_error::LabelError;
@@ -26,7 +26,7 @@ where
     I: Input<'src>,
     O: Drop,
     E: ParserExtra<I>,
-    E::Error: LabelError<L>,
+    E::Error: LabelError<I, L>,
     A: Parser<'src, I, O, E>,
 {
     ghost use Rattle.chumsky_shield.specs.MapErr.{MapsOnce};
@@ -35,9 +35,9 @@ where
 
     ghost ready = { λ p. A.ready p.parser };
 
-    ghost meaning = { λ p errors states. MeansLabelled errors.merged (MapsSeen errors.seen (E.Error.LabelError.labels p.label)) E.Error.LabelError.labels_freely (A.meaning p.parser errors states) };
+    ghost meaning = { λ p errors states. MeansLabelled errors.merged (LabelsSeen errors.seen (E.Error.LabelError.labelled errors p.label)) E.Error.LabelError.labels_freely (A.meaning p.parser errors states) };
 
-    ghost steady = { λ p. A.steady p.parser × MapsOnce (MapsSeen E.Error.Error.seen (E.Error.LabelError.labels p.label)) };
+    ghost steady = { λ p. A.steady p.parser × MapsOnce (LabelsSeen E.Error.Error.seen (E.Error.LabelError.labelled E.Error.Error p.label)) };
 
     ghost same = { λ p. A.same p.parser };
 
@@ -80,7 +80,8 @@ where
     }
 }
 
-/// Puts the label into the error that is kept, if that stands at the start, and an older error before it.
+/// Puts the label into the error that is kept, if that stands at the start and no older error hides it, and the older error
+/// before it.
 #[inline]
 fn keep_labelled<'src, I: Input<'src>, E: ParserExtra<I>, L>(
     label: &L,
@@ -89,12 +90,27 @@ fn keep_labelled<'src, I: Input<'src>, E: ParserExtra<I>, L>(
     inp: &mut InputRef<'src, '_, I, E>,
 ) -> Result<(), AllocError>
 where
-    E::Error: LabelError<L>,
-    ensures keeps { MatchResult result (λ _. KeepsLabelled E.Error.Error.merged (MapsSeen E.Error.Error.seen (E.Error.LabelError.labels label.now)) start (option_map (located E.Error.Error.seen) older) (held I.Input E.Error.Error E.State.Inspector inp.old) (held I.Input E.Error.Error E.State.Inspector inp.new)) (λ _. LosesLabelled E.Error.Error.takes_no_memory (MapsSeen E.Error.Error.seen (E.Error.LabelError.labels label.now)) E.Error.LabelError.labels_freely start (option_map (located E.Error.Error.seen) older) (held I.Input E.Error.Error E.State.Inspector inp.old) (held I.Input E.Error.Error E.State.Inspector inp.new)) }
+    E::Error: LabelError<I, L>,
+    ensures keeps { MatchResult result (λ _. KeepsLabelled E.Error.Error.merged (LabelsSeen E.Error.Error.seen (E.Error.LabelError.labelled E.Error.Error label.now)) start (option_map (located E.Error.Error.seen) older) (held I.Input E.Error.Error E.State.Inspector inp.old) (held I.Input E.Error.Error E.State.Inspector inp.new)) (λ _. LosesLabelled E.Error.Error.takes_no_memory (LabelsSeen E.Error.Error.seen (E.Error.LabelError.labelled E.Error.Error label.now)) E.Error.LabelError.labels_freely start (option_map (located E.Error.Error.seen) older) (held I.Input E.Error.Error E.State.Inspector inp.old) (held I.Input E.Error.Error E.State.Inspector inp.new)) }
     ensures lent { inp.new.state.ghost_name ≡ inp.old.state.ghost_name }
 {
+    if lies_past(start, &older) {
+        // The older error hides the one at the start, so no label is put into that.
+        return inp.keep_before(older);
+    }
     relabel(label, start, inp)?;
     inp.keep_before(older)
+}
+
+/// Whether there is an error past a place.
+#[inline]
+fn lies_past<X>(place: usize, error: &Option<Located<X>>) -> bool
+    ensures past { IsTrue result → MatchOption error.now ⊥ (λ e. place < e.place) }
+{
+    match error {
+        None => false,
+        Some(error) => place < error.place,
+    }
 }
 
 /// Puts the label into the error that is kept, if that stands at the start. A refusal loses it.
@@ -105,8 +121,8 @@ fn relabel<'src, I: Input<'src>, E: ParserExtra<I>, L>(
     inp: &mut InputRef<'src, '_, I, E>,
 ) -> Result<(), AllocError>
 where
-    E::Error: LabelError<L>,
-    ensures labels { MatchResult result (λ _. Relabelled (MapsSeen E.Error.Error.seen (E.Error.LabelError.labels label.now)) start (held I.Input E.Error.Error E.State.Inspector inp.old) (held I.Input E.Error.Error E.State.Inspector inp.new)) (λ _. Unlabelled E.Error.LabelError.labels_freely (held I.Input E.Error.Error E.State.Inspector inp.old) (held I.Input E.Error.Error E.State.Inspector inp.new)) }
+    E::Error: LabelError<I, L>,
+    ensures labels { MatchResult result (λ _. Relabelled (LabelsSeen E.Error.Error.seen (E.Error.LabelError.labelled E.Error.Error label.now)) start (held I.Input E.Error.Error E.State.Inspector inp.old) (held I.Input E.Error.Error E.State.Inspector inp.new)) (λ _. Unlabelled E.Error.LabelError.labels_freely (held I.Input E.Error.Error E.State.Inspector inp.old) (held I.Input E.Error.Error E.State.Inspector inp.new)) }
     ensures lent { inp.new.state.ghost_name ≡ inp.old.state.ghost_name }
 {
     match inp.take_kept() {

@@ -1,6 +1,5 @@
 //! A law that compares a labelled parser with its part, the contract of a function that does nothing.
-ghost use Rattle.chumsky_label.specs.Labelled.{AnswersButEvents, EachAnswered, MapsSome};
-ghost use Rattle.chumsky_shield.specs.MapErr.{MapsSeen};
+ghost use Rattle.chumsky_label.specs.Labelled.{AnswersButEvents, EachAnswered};
 
 use crate::label_error::LabelError;
 use crate::labelled::Labelled;
@@ -9,8 +8,7 @@ use chumsky_input::input::Input;
 use chumsky_parser::parser::Parser;
 
 /// `a.labelled(label)` answers as `a` does: the same verdict, output, end, state and emitted errors. Of its failures the
-/// one that counts is kept, where it stood. And to each answer of `a` there is one of `a.labelled(label)`, where the label
-/// can be put into each error.
+/// one that counts is kept, where it stood. And to each answer of `a` there is one of `a.labelled(label)`.
 pub fn labelled_answers_as_its_part<
     'src,
     I: Input<'src>,
@@ -20,7 +18,7 @@ pub fn labelled_answers_as_its_part<
     L,
 >(labelled: &Labelled<A, L>)
 where
-    E::Error: LabelError<L>,
+    E::Error: LabelError<I, L>,
     ensures of_part { AnswersButEvents E.Error.merged (A.meaning labelled.now.parser E.Error.Error E.State.Inspector) (⟦<Labelled<A, L> as Parser<'src, I, O, E>>⟧.meaning labelled.now E.Error.Error E.State.Inspector) }
-    ensures each { MapsSome (MapsSeen E.Error.Error.seen (E.Error.LabelError.labels labelled.now.label)) → EachAnswered E.Error.merged (A.meaning labelled.now.parser E.Error.Error E.State.Inspector) (⟦<Labelled<A, L> as Parser<'src, I, O, E>>⟧.meaning labelled.now E.Error.Error E.State.Inspector) }
+    ensures each { EachAnswered E.Error.merged (A.meaning labelled.now.parser E.Error.Error E.State.Inspector) (⟦<Labelled<A, L> as Parser<'src, I, O, E>>⟧.meaning labelled.now E.Error.Error E.State.Inspector) E.Error.seen }
 {}

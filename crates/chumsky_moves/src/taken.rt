@@ -74,7 +74,7 @@ where
     I: Input<'src>,
     O: Drop,
     E: ParserExtra<I>,
-    E::Error: LabelError<L>,
+    E::Error: LabelError<I, L>,
     A: Moving<'src, I, O, E>,
 {
     ghost use Rattle.chumsky_moves.specs.TakenMove.{labelled-moves};

@@ -5,4 +5,4 @@ pub returns-clause-of_part : goal.returns-clause-of_part
 returns-clause-of_part g c = labelled-as_part _ _ _ _
 
 pub returns-clause-each : goal.returns-clause-each
-returns-clause-each g c some = labelled-each _ _ _ _ some
+returns-clause-each g c = labelled-each _ _ _ _ _
