@@ -6,6 +6,7 @@
 mod ext;
 mod macros;
 mod made;
+mod moving_part;
 pub mod prelude;
 mod run;
 mod steady;
@@ -191,6 +192,7 @@ pub mod text {
 /// Rules as data: recursive grammars, the parser that runs them, whether they are well-founded, which leaves move, and why a call
 /// on them is refused.
 pub mod recursive {
+    pub use crate::moving_part::run_moving;
     pub use chumsky_moves::moving::{MayStay, Moving, MovingItems, MovingPart};
     pub use chumsky_recursive::actions::Actions;
     pub use chumsky_recursive::closing::CloseRules;
