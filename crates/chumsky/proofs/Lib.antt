@@ -1,2 +1,3 @@
 pub mod AnswerLemmas
+mod Refusing
 mod Taking

@@ -8,6 +8,7 @@ mod macros;
 mod made;
 mod moving_part;
 pub mod prelude;
+mod refusals;
 mod run;
 mod steady;
 
@@ -212,6 +213,7 @@ pub mod recursive {
 /// Laws of grammars, each the contract of a function that does nothing, or looks at the nodes alone: how answers under limits
 /// agree, and for what well-founded rules are refused.
 pub mod grammar_laws {
+    pub use crate::refusals::founded_runs_are_refused_as_leaves;
     pub use chumsky_recursive::laws::{
         a_run_begins_with_room, an_answer_is_derived, answers_agree_under_any_limit,
         answers_stand_under_a_greater_limit, founded_grammars_are_refused_as_leaves,
