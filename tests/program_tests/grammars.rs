@@ -3,7 +3,8 @@ use chumsky::extra::RichText;
 use chumsky::prelude::*;
 use chumsky::recursive::{Leaves, RecursiveError, Stack, Todo, Values, step};
 use chumsky::{Failure, Fault, Stop};
-use guide::recursion::{Refused, depth, depth_within};
+use guide::json::Refused;
+use guide::recursion::{depth, depth_within};
 use std::alloc::{AllocError, Global};
 
 #[test]
