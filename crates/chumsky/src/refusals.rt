@@ -1,5 +1,5 @@
 //! For what `parse` and `check` of well-founded rules are refused, as the contract of a function that does nothing.
-ghost use Rattle.std.specs.Prelude.{◌≤◌, List, length, Result, Some, None, IfErr, Unit, true, false};
+ghost use Rattle.std.specs.Prelude.{◌≤◌, List, length, Result, Some, None, IfErr, true, false};
 ghost use Rattle.chumsky.specs.Answer.{WholeRun, Parses};
 ghost use Rattle.chumsky_parser.specs.declared.result.ParseResult.{ParseResult};
 ghost use Rattle.chumsky_recursive.specs.Refused.{IsRefusedAsLeaves, RefusesAsLeaves};

@@ -1,5 +1,5 @@
 //! JSON as rules: ten leaves of one type, and values that are trees.
-ghost use Rattle.std.specs.Prelude.{IfOk, ⊤};
+ghost use Rattle.std.specs.Prelude.{IfOk, true, ⊤};
 ghost use Rattle.chumsky.specs.Values.{TakesAToken};
 
 use chumsky::combinator::{Part, part_of};
