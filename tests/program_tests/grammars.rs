@@ -4,7 +4,8 @@ use chumsky::prelude::*;
 use chumsky::recursive::{Leaves, RecursiveError, Stack, Todo, Values, step};
 use chumsky::{Failure, Fault, Stop};
 use guide::arithmetic::value_of;
-use guide::recursion::{Refused, depth, depth_within};
+use guide::json::Refused;
+use guide::recursion::{depth, depth_within};
 use std::alloc::{AllocError, Global};
 
 #[test]

@@ -107,6 +107,7 @@ fn left_recursive(rules: &mut Rules, sum: Recursive) -> Result<Node, BuildError>
 fn a_rule_that_calls_itself_first_is_a_left_cycle(rt: HostRuntime) {
     let mut rules = Rules::new(rt.alloc());
     let start = rules.recursive(left_recursive).expect(&rt, "refused");
+    assert_eq!(rt; start.number(), 0);
     assert_eq!(rt; limit_or_refusal(&rules, start, 3), Err(FoundedError::LeftCycle(start)));
     assert_runs(&rt, &rules, start, 10, &[("a", "refused TooDeep")]);
 }
@@ -123,6 +124,7 @@ fn signed(rules: &mut Rules, again: Recursive) -> Result<Node, BuildError> {
 fn a_call_behind_what_may_be_absent_is_a_left_cycle(rt: HostRuntime) {
     let mut rules = Rules::new(rt.alloc());
     let start = rules.recursive(signed).expect(&rt, "refused");
+    assert_eq!(rt; start.number(), 0);
     assert_eq!(rt; limit_or_refusal(&rules, start, 3), Err(FoundedError::LeftCycle(start)));
 }
 

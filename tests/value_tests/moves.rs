@@ -1,4 +1,8 @@
 //! Which parsers move wherever they succeed: what each type of the library says.
+ghost use Rattle.std.specs.Prelude.{true};
+ghost use Rattle.chumsky.specs.Values.{TakesAToken};
+
+use answers::asserts::assert_answers;
 use answers::extras::{Own, Quiet};
 use answers::leaves::{any_char, just_char, just_text};
 use arrayvec::ArrayVec;
@@ -6,7 +10,7 @@ use chumsky::combinator::{Part, part_of, run_part};
 use chumsky::input::InputRef;
 use chumsky::prelude::*;
 use chumsky::primitive::{any_ref, select, select_ref};
-use chumsky::recursive::{MayStay, Moving, MovingItems, MovingPart};
+use chumsky::recursive::{MayStay, Moving, MovingItems, MovingPart, run_moving};
 use chumsky::{Fault, PResult};
 use std::process::Abort;
 use std::rc::Rc;
@@ -310,4 +314,44 @@ fn a_type_of_ones_own_says_nothing_by_one_line(rt: HostRuntime) {
             ("made of it", moves(part_of(Letter).then(just_char('a'))), true),
         ],
     );
+}
+
+/// A part of one's own that takes a letter wherever it succeeds.
+#[derive(Drop)]
+struct Taken;
+
+impl<'src> IsParser<Text<'src>, char, Own> for Taken {}
+
+impl<'src> Part<'src, Text<'src>, char, Own> for Taken {
+    ghost means = { λ _ _ _. TakesAToken };
+
+    fn run(
+        &self,
+        wanted: bool,
+        inp: &mut InputRef<'src, '_, Text<'src>, Own>,
+    ) -> PResult<Option<char>> {
+        run_moving(&just_char('a').or(just_char('b')), wanted, inp)
+    }
+}
+
+impl<'src> MovingPart<'src, Text<'src>, char, Own> for Taken {
+    ghost moves = { λ _. true };
+
+    ghost moved = { λ _ _ _ _ takes. takes };
+
+    fn always_moves(&self) -> bool {
+        true
+    }
+}
+
+#[test]
+fn a_part_that_moves_answers_as_its_parser(rt: HostRuntime) {
+    assert!(rt; moves(part_of(Taken)));
+    let rows = [
+        ("a", "ok 'a'"),
+        ("b", "ok 'b'"),
+        ("c", "error 0..1 expected 'a', 'b' found 'c'"),
+        ("", "error 0..0 expected 'a', 'b' found end"),
+    ];
+    assert_answers(&rt, &part_of(Taken), &rows);
 }

@@ -1,6 +1,8 @@
 -- What is printed of an answer, and the status that goes with it.
-use Rattle.std.specs.Prelude.{◌≡◌, ℕ, List, [], ◌∷◌, ◌++◌, flat_map, Option, Some, None, codes, decimal, String, string_bytes}
+use Rattle.std.specs.Prelude.{◌≡◌, ℕ, List, [], ◌∷◌, ◌++◌, flat_map, Option, Some, None, codes, decimal}
 use Rattle.std.specs.Char.{encode_utf8}
+use Rattle.std.specs.Cow.{cow_str_bytes}
+use Rattle.std.specs.declared.borrow.CowStr.{CowStr}
 use Rattle.std.specs.Io.KnownBytes.{Appends}
 use Rattle.chumsky_input.specs.declared.rich.Rich.{Rich}
 use Rattle.chk_run.specs.Show.{error_text}
@@ -23,8 +25,8 @@ abbrev pub count_text : ℕ → List ℕ
 count_text n = codes "ok " ++ decimal n
 
 -- what the line of an output of `settings` says
-abbrev pub settings_text : {Al : Type 0} → String Al → List ℕ
-settings_text s = codes "ok" ++ string_bytes s
+abbrev pub settings_text : {Al : Type 0} → CowStr Al → List ℕ
+settings_text s = codes "ok" ++ cow_str_bytes s
 
 -- of an output without errors its line is printed, with status 0; else the lines of the errors, with status 1
 abbrev pub Tells : Option (List ℕ) → Option (List ℕ) → List (Rich ℕ) → Option (List ℕ) → ℕ → Type 0

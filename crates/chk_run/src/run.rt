@@ -16,6 +16,7 @@ use crate::show::{ErrorLine, Items, Refusal, refusal_name};
 use chumsky::error::Rich;
 use chumsky::{ParseResult, Stop};
 use std::alloc::Global;
+use std::borrow::CowStr;
 use std::fmt::Display;
 use std::io::{ErrorKind, Read, Write};
 
@@ -175,9 +176,10 @@ fn tell<W: Write>(
             Answer::Parsed(answer) => tell_count(out, &answer),
             Answer::Checked(answer) => tell_checked(out, &answer),
         },
-        Grammar::Settings => match run_settings(alloc, command, text)? {
-            Answer::Parsed(answer) => tell_settings(out, &answer),
-            Answer::Checked(answer) => tell_checked(out, &answer),
+        Grammar::Settings => match run_settings(alloc, command, text) {
+            Ok(Answer::Parsed(answer)) => tell_settings(out, &answer),
+            Ok(Answer::Checked(answer)) => tell_checked(out, &answer),
+            Err(refusal) => Err(Failure::Refused(refusal)),
         },
     }
 }
@@ -224,7 +226,7 @@ fn tell_count<W: Write>(out: &mut W, answer: &ParseResult<usize, Rich<char>>) ->
 /// Prints the settings of an answer, or its errors.
 fn tell_settings<W: Write>(
     out: &mut W,
-    answer: &ParseResult<String, Rich<char>>,
+    answer: &ParseResult<CowStr<'_>, Rich<char>>,
 ) -> Result<u8, Failure>
     ensures told { IfOk result (λ status. Tells (W.contents out.old) (W.contents out.new) answer.now.errors.items (option_map settings_text answer.now.output) status) }
     ensures unwritten { IfErr result (λ why. why ≡ Unwritable) }

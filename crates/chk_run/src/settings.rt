@@ -1,6 +1,7 @@
 //! The grammar `settings`: lines of a name, `=` and a value. A value is a number, a name, or values in brackets, with commas
 //! between them and maybe one after the last.
 ghost use Rattle.std.specs.Prelude.{◌≡◌, ◌++◌, All, IfOk, flat_map, string_bytes, ⊤};
+ghost use Rattle.std.specs.Cow.{cow_str_bytes};
 ghost use Rattle.chk_run.specs.Settings.{InBrackets, Printed, ReadsNumber};
 
 use crate::grammar::{Answer, Command, run_parser};
@@ -11,6 +12,8 @@ use chumsky::prelude::*;
 use chumsky::recursive::{BuildError, Leaves, Moving, Node, RecursiveError, SepCfg, Values};
 use either::Either;
 use std::alloc::{AllocError, Global};
+use std::borrow::CowStr;
+use std::marker::PhantomData;
 
 /// The leaves, by number.
 const NAME: usize = 0;
@@ -37,74 +40,94 @@ const LIST: usize = 2;
 /// The fallible mapper: what is printed of digits.
 const NUMBER: usize = 0;
 
-/// Values are texts to print. That of a mark, as `=`, is empty.
+/// Values are texts to print. That of a name or a number is the slice of the input that it was read from, until a mapper makes
+/// another of it; that of a mark, as `=`, is empty.
 #[derive(Drop)]
-struct Texts;
+struct Texts<'src> {
+    of: PhantomData<&'src str>,
+}
 
-impl Values<SimpleSpan, Rich<char>> for Texts {
-    type Value = String;
+impl<'src> Values<SimpleSpan, Rich<char>> for Texts<'src> {
+    type Value = CowStr<'src>;
 
-    ghost pair_gives = { λ _ p text. string_bytes text ≡ string_bytes p.0 ++ string_bytes p.1 };
+    ghost pair_gives = { λ _ p text. cow_str_bytes text ≡ cow_str_bytes p.0 ++ cow_str_bytes p.1 };
 
-    ghost map_gives = { λ _ mapper value text. Printed mapper (string_bytes value) (string_bytes text) };
+    ghost map_gives = { λ _ mapper value text. Printed mapper (cow_str_bytes value) (cow_str_bytes text) };
 
-    ghost list_gives = { λ _ items text. string_bytes text ≡ flat_map string_bytes items };
+    ghost list_gives = { λ _ items text. cow_str_bytes text ≡ flat_map cow_str_bytes items };
 
-    ghost try_gives = { λ _ _ digits span r. ReadsNumber (string_bytes digits) span r };
+    ghost try_gives = { λ _ _ digits span r. ReadsNumber (cow_str_bytes digits) span r };
 
-    fn pair(&self, _alloc: Global, first: String, second: String) -> Result<String, AllocError> {
-        let mut text = first;
+    fn pair(
+        &self,
+        alloc: Global,
+        first: CowStr<'src>,
+        second: CowStr<'src>,
+    ) -> Result<CowStr<'src>, AllocError> {
+        let mut text = first.into_owned(alloc)?;
         text.push_str(second.as_str())?;
-        Ok(text)
+        Ok(CowStr::Owned(text))
     }
 
-    fn option(&self, alloc: Global, text: Option<String>) -> Result<String, AllocError>
+    fn option(&self, _alloc: Global, text: Option<CowStr<'src>>) -> Result<CowStr<'src>, AllocError>
         ensures { IfOk result (λ _. ⊤) }
     {
-        Ok(text.unwrap_or(String::new(alloc)))
+        Ok(text.unwrap_or(CowStr::Borrowed("")))
     }
 
-    fn unit(&self, alloc: Global) -> Result<String, AllocError> {
-        Ok(String::new(alloc))
+    fn unit(&self, _alloc: Global) -> Result<CowStr<'src>, AllocError> {
+        Ok(CowStr::Borrowed(""))
     }
 
-    fn map(&self, alloc: Global, mapper: usize, text: String) -> Result<String, AllocError> {
-        match mapper {
-            SETTING => format!(in alloc; " {text}="),
-            ITEM => format!(in alloc; "{text},"),
-            _ => in_brackets(alloc, text),
-        }
+    fn map(
+        &self,
+        alloc: Global,
+        mapper: usize,
+        text: CowStr<'src>,
+    ) -> Result<CowStr<'src>, AllocError> {
+        Ok(CowStr::Owned(printed(alloc, mapper, text)?))
     }
 
-    fn list(&self, alloc: Global, items: Vec<String>) -> Result<String, AllocError>
-        ensures { IfOk result (λ text. string_bytes text ≡ flat_map string_bytes items.items) }
+    fn list(&self, alloc: Global, items: Vec<CowStr<'src>>) -> Result<CowStr<'src>, AllocError>
+        ensures { IfOk result (λ text. cow_str_bytes text ≡ flat_map cow_str_bytes items.items) }
     {
         let mut text = String::new(alloc);
         for item in items.as_slice() {
             text.push_str(item.as_str())?;
         }
-        Ok(text)
+        Ok(CowStr::Owned(text))
     }
 
     fn try_map(
         &self,
         alloc: Global,
         _mapper: usize,
-        digits: String,
+        digits: CowStr<'src>,
         span: SimpleSpan,
-    ) -> Result<Result<String, Rich<char>>, AllocError> {
+    ) -> Result<Result<CowStr<'src>, Rich<char>>, AllocError> {
         match digits.as_str().parse::<u64>() {
-            Ok(number) => Ok(Ok(format!(in alloc; "{number}")?)),
+            Ok(number) => Ok(Ok(CowStr::Owned(format!(in alloc; "{number}")?))),
             Err(_) => Ok(Err(Rich::custom_in(alloc, span, "number too large")?)),
         }
     }
 }
 
-/// Items that end in a comma each, in brackets and without the last comma.
-fn in_brackets(alloc: Global, items: String) -> Result<String, AllocError>
-    ensures { IfOk result (λ text. InBrackets (string_bytes items) (string_bytes text)) }
+/// What the mapper of a number prints of a text.
+fn printed(alloc: Global, mapper: usize, text: CowStr<'_>) -> Result<String, AllocError>
+    ensures { IfOk result (λ made. Printed mapper (cow_str_bytes text) (string_bytes made)) }
 {
-    let mut inside = items;
+    match mapper {
+        SETTING => format!(in alloc; " {text}="),
+        ITEM => format!(in alloc; "{text},"),
+        _ => in_brackets(alloc, text),
+    }
+}
+
+/// Items that end in a comma each, in brackets and without the last comma.
+fn in_brackets(alloc: Global, items: CowStr<'_>) -> Result<String, AllocError>
+    ensures { IfOk result (λ text. InBrackets (cow_str_bytes items) (string_bytes text)) }
+{
+    let mut inside = items.into_owned(alloc)?;
     match inside.pop() {
         Some(_) => format!(in alloc; "[{inside}]"),
         None => String::from_str(alloc, "[]"),
@@ -166,19 +189,19 @@ fn settings(rules: &mut Rules) -> Result<Recursive, RecursiveError> {
 }
 
 /// The settings of the text, by these leaves.
-fn run_over<'src, P: Moving<'src, &'src str, String, RichText>>(
+fn run_over<'src, P: Moving<'src, &'src str, CowStr<'src>, RichText>>(
     rules: &Rules,
     start: Recursive,
     leaves: &[P],
     alloc: Global,
     command: Command,
     text: &'src str,
-) -> Result<Answer<String>, Refusal>
+) -> Result<Answer<CowStr<'src>>, Refusal>
     requires { All P.ready leaves.now }
 {
     let actions = Leaves {
         leaves,
-        values: Texts,
+        values: Texts { of: PhantomData },
     };
     match rules.close_founded(start, &actions, text.chars().count()) {
         Ok(grammar) => run_parser(&grammar, alloc, command, text).map_err(Refusal::Run),
@@ -187,11 +210,11 @@ fn run_over<'src, P: Moving<'src, &'src str, String, RichText>>(
 }
 
 /// The settings of the text, as they are printed.
-pub fn run_settings(
+pub fn run_settings<'src>(
     alloc: Global,
     command: Command,
-    text: &str,
-) -> Result<Answer<String>, Refusal> {
+    text: &'src str,
+) -> Result<Answer<CowStr<'src>>, Refusal> {
     let mut rules = Rules::new(alloc);
     let Ok(start) = settings(&mut rules) else {
         return Err(Refusal::Run(Stop::Memory));
@@ -199,13 +222,25 @@ pub fn run_settings(
     let letters = one_of::<_, _, RichText>('a'..='z');
     let digits = one_of('0'..='9');
     let leaves = [
-        Either::Left(letters.repeated().at_least(1).collect::<String>()),
-        Either::Left(digits.repeated().at_least(1).collect()),
-        Either::Right(just('=').to(String::new(alloc))),
-        Either::Right(just('\n').to(String::new(alloc))),
-        Either::Right(just('[').to(String::new(alloc))),
-        Either::Right(just(',').to(String::new(alloc))),
-        Either::Right(just(']').to(String::new(alloc))),
+        Either::Left(
+            letters
+                .repeated()
+                .at_least(1)
+                .to_slice()
+                .map(CowStr::Borrowed),
+        ),
+        Either::Left(
+            digits
+                .repeated()
+                .at_least(1)
+                .to_slice()
+                .map(CowStr::Borrowed),
+        ),
+        Either::Right(just('=').to(CowStr::Borrowed(""))),
+        Either::Right(just('\n').to(CowStr::Borrowed(""))),
+        Either::Right(just('[').to(CowStr::Borrowed(""))),
+        Either::Right(just(',').to(CowStr::Borrowed(""))),
+        Either::Right(just(']').to(CowStr::Borrowed(""))),
     ];
     run_over(&rules, start, &leaves, alloc, command, text)
 }

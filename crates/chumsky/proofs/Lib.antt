@@ -1,1 +1,3 @@
 pub mod AnswerLemmas
+mod Refusing
+mod Taking

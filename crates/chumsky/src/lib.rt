@@ -7,8 +7,10 @@ mod config_parser_ext;
 mod iter_parser_ext;
 mod macros;
 mod made;
+mod moving_part;
 mod parser_ext;
 pub mod prelude;
+mod refusals;
 mod run;
 mod steady;
 
@@ -193,6 +195,7 @@ pub mod text {
 /// Rules as data: recursive grammars, the parser that runs them, whether they are well-founded, which leaves move, and why a call
 /// on them is refused.
 pub mod recursive {
+    pub use crate::moving_part::run_moving;
     pub use chumsky_moves::moving::{MayStay, Moving, MovingItems, MovingPart};
     pub use chumsky_recursive::actions::Actions;
     pub use chumsky_recursive::closing::CloseRules;
@@ -212,6 +215,7 @@ pub mod recursive {
 /// Laws of grammars, each the contract of a function that does nothing, or looks at the nodes alone: how answers under limits
 /// agree, and for what well-founded rules are refused.
 pub mod grammar_laws {
+    pub use crate::refusals::founded_runs_are_refused_as_leaves;
     pub use chumsky_recursive::laws::{
         a_run_begins_with_room, an_answer_is_derived, answers_agree_under_any_limit,
         answers_stand_under_a_greater_limit, founded_grammars_are_refused_as_leaves,

@@ -12,6 +12,7 @@ pub mod extras;
 pub mod flattening;
 pub mod folding;
 pub mod handed;
+pub mod json;
 pub mod laws;
 pub mod mapping;
 pub mod parts;
