@@ -1,5 +1,5 @@
-//! Which parsers that hold another are steady, each the contract of a function that does nothing: those whose own parser
-//! is. And which of their outputs count as the same: those that do to their own parser.
+//! Which parsers that hold another are ready to run, and which are steady, each the contract of a function that does nothing:
+//! those whose own parser is. And which of their outputs count as the same: those that do to their own parser.
 ghost use Rattle.std.specs.Rc.{rc_value};
 ghost use Rattle.either.specs.Either.{MatchEither};
 
@@ -18,6 +18,9 @@ pub fn by_reference_is_steady<
     E: ParserExtra<I>,
     P: Parser<'src, I, O, E>,
 >(reference: &&'a P, boxed: &Box<P>, counted: &Rc<P>)
+    ensures ready_by_reference { P.ready reference.now.now → ⟦<&'a P as Parser<'src, I, O, E>>⟧.ready reference.now }
+    ensures ready_boxed { P.ready boxed.now.value → ⟦<Box<P> as Parser<'src, I, O, E>>⟧.ready boxed.now }
+    ensures ready_counted { P.ready (rc_value counted.now) → ⟦<Rc<P> as Parser<'src, I, O, E>>⟧.ready counted.now }
     ensures reference { P.steady reference.now.now → ⟦<&'a P as Parser<'src, I, O, E>>⟧.steady reference.now }
     ensures boxed { P.steady boxed.now.value → ⟦<Box<P> as Parser<'src, I, O, E>>⟧.steady boxed.now }
     ensures counted { P.steady (rc_value counted.now) → ⟦<Rc<P> as Parser<'src, I, O, E>>⟧.steady counted.now }
@@ -35,6 +38,7 @@ pub fn either_is_steady<
     A: Parser<'src, I, O, E>,
     B: Parser<'src, I, O, E>,
 >(either: &Either<A, B>)
+    ensures ready { MatchEither either.now A.ready B.ready → ⟦<Either<A, B> as Parser<'src, I, O, E>>⟧.ready either.now }
     ensures steady { MatchEither either.now A.steady B.steady → ⟦<Either<A, B> as Parser<'src, I, O, E>>⟧.steady either.now }
     ensures same { (x y : O) → ⟦<Either<A, B> as Parser<'src, I, O, E>>⟧.same either.now x y → MatchEither either.now (λ a. A.same a x y) (λ b. B.same b x y) }
 {}
