@@ -273,3 +273,29 @@ fn an_output_configures_what_follows(rt: HostRuntime) {
     ];
     assert_answers(&rt, &digit!().ignore_with_ctx(xs), &rows);
 }
+
+#[test]
+fn an_output_is_an_input(rt: HostRuntime) {
+    let inner = just::<_, &str, extra::Full<Rich<char>, (), ()>>('x').then(just('y'));
+    let nested = inner.nested_in(a!().to("xy"));
+    assert_answers(&rt, &nested, &[("a", "ok ('x', 'y')")]);
+}
+
+#[test]
+fn a_part_asks_its_context(rt: HostRuntime) {
+    let same = just::<_, &str, extra::Full<Rich<char>, (), char>>('?');
+    let same = same.configure(|c, wanted| c.seq(*wanted));
+    let rows = [("ab", "ok ('a', 'b')")];
+    assert_answers(
+        &rt,
+        &same.with_ctx('a').then(just::<_, _, RichText>('b')),
+        &rows,
+    );
+    let foo = just::<_, &str, extra::Full<Rich<char>, (), bool>>("foo");
+    let foo = foo.contextual().configure(|_, on| *on);
+    let end = empty::<_, RichText>();
+    let rows = [("foo", "ok (\"foo\", ())")];
+    assert_answers(&rt, &foo.with_ctx(true).then(end), &rows);
+    let rows = [("foo", "error 0..0 expected nothing found end")];
+    assert_answers(&rt, &foo.with_ctx(false).then(end), &rows);
+}

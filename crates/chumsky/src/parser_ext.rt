@@ -274,9 +274,10 @@ pub trait ParserExt<'src, I, O, E>: Sized {
         }
     }
 
-    /// Gives what `mapper` makes of this parser's output and its span, where no output is wanted too. Where it answers
-    /// an error, that is the failure, at the start, and this parser's own failures are dropped:
-    /// `digit.try_map(|n, span| if n < 5 { Ok(n) } else { Err(too_large(span)) })` on `3` gives `3`, and fails on `7`.
+    /// Gives what `mapper` makes of this parser's output and its span, where no output is wanted too:
+    /// `digit.try_map(|n, span| if n < 5 { Ok(n) } else { Err(too_large(span)) })` on `3` gives `3`, and fails on `7`
+    /// with that error at 0..1. An error of the mapper is the failure, at the start, and this parser's own failures are
+    /// dropped.
     #[inline]
     final fn try_map<U, F>(self, mapper: F) -> TryMap<Self, O, F, U>
     where
@@ -312,7 +313,8 @@ pub trait ParserExt<'src, I, O, E>: Sized {
     }
 
     /// Maps as `try_map` does, by a closure that is shown the run in place of the span alone, as that of `map_with` is:
-    /// `digit.try_map_with(|n, extra| if n < *extra.ctx() { Ok(n) } else { Err(too_large(extra.span())) })`.
+    /// `digit.try_map_with(|n, extra| if n < 5 { Ok(n) } else { Err(too_large(extra.span())) })` on `3` gives `3`, and
+    /// fails on `7` with that error at 0..1.
     #[inline]
     final fn try_map_with<U, F>(self, mapper: F) -> TryMapWith<Self, O, F, U>
     where
@@ -410,8 +412,8 @@ pub trait ParserExt<'src, I, O, E>: Sized {
     }
 
     /// Runs `outer` for its output, which is an input, and then this parser over the whole of that input, and gives the
-    /// output of this one: `sum.nested_in(select_ref! { Tree::Group(trees) => trees.as_slice() })` reads a sum within
-    /// brackets that were matched before. Its errors count as one failure where `outer` began.
+    /// output of this one: `just('x').then(just('y')).nested_in(just('a').to("xy"))` on `a` gives `('x', 'y')`. Its
+    /// errors count as one failure where `outer` began; their spans are those of the input within.
     #[inline]
     final fn nested_in<K, G, B>(
         self,
@@ -478,8 +480,8 @@ pub trait ParserExt<'src, I, O, E>: Sized {
         }
     }
 
-    /// Runs this parser under `ctx` as its context, whatever that of the run is: `line.with_ctx(4)` reads a line that
-    /// is indented by four, where `line` asks its context how far. It fails as this parser does there.
+    /// Runs this parser under `ctx` as its context, whatever that of the run is: `same.with_ctx('a')` on `a` gives
+    /// `'a'`, where `same` takes the character that its context is. It fails as this parser does there.
     #[inline]
     final fn with_ctx(self, ctx: E::Context) -> WithCtx<Self, E::Context>
     where
@@ -874,8 +876,9 @@ pub trait ParserExt<'src, I, O, E>: Sized {
         }
     }
 
-    /// Makes this parser one that `configure` can turn off: `part.contextual().configure(|_, on| *on)` runs where the
-    /// context is `true`, and fails elsewhere, expecting nothing else. Without `configure` it is on.
+    /// Makes this parser one that `configure` can turn off: `just("foo").contextual().configure(|_, on| *on)` on `foo`
+    /// gives `"foo"` where the context is `true`, and elsewhere fails at 0..0, expecting nothing else. Without
+    /// `configure` it is on.
     #[inline]
     final fn contextual(self) -> Contextual<Self>
         ensures inner { result.inner ≡ self }
