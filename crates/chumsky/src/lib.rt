@@ -187,7 +187,8 @@ pub mod text {
     /// What holds of parsers of text, as those of `chumsky::laws`.
     pub mod laws {
         pub use chumsky_text::steady::{
-            keyword_is_steady, newline_is_steady, padded_is_steady, run_is_steady, word_is_steady,
+            keyword_is_steady, newline_is_steady, padded_is_steady, run_is_steady,
+            tokens_may_be_tested, word_is_steady,
         };
     }
 }
