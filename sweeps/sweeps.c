@@ -79,7 +79,7 @@ static const struct row rows[] = {
     {"filtered_merges", sweep_filtered_merges, 0, BY_BOTH, "no output; ((a (b c)) d)"},
     {"merges", sweep_merges, 0, BY_BOTH, "no output; (((a b) c) d)"},
     {"filter", sweep_filter, 0, BY_BOTH, "no output; 0..1 expected a something c found b"},
-    {"nested", sweep_nested, 0, BY_BOTH, "no output; 0..1 expected one found two"},
+    {"nested", sweep_nested, 0, BY_BOTH, "no output; 0..1 expected 1 found 2"},
     {"chained_items", sweep_chained_items, 0, BY_PARSE, "ok [abbcc]"},
     {"chained_items", sweep_chained_items, 0, BY_CHECK, "ok ()"},
     {"chained_items", sweep_chained_items, 1, BY_BOTH, "no output; 0..1 expected a found b"},

@@ -5,14 +5,12 @@ use crate::line::{Line, Say};
 use crate::plans::{Built, Call, Plan, build};
 use crate::run::{once, say_stop};
 use chumsky::Stop;
-use chumsky::combinator::To;
 use chumsky::extra::RichText;
 use chumsky::prelude::*;
-use chumsky::primitive::Just;
 use chumsky::recursive::{BuildError, Leaves, Node, RecursiveError, SepCfg, Values, WellFounded};
 use std::alloc::{AllocError, Global};
 
-/// The leaves, by number. The last may succeed without moving.
+/// The leaves, by number: texts, each with the value 1. The last may succeed without moving.
 const A: usize = 0;
 
 const B: usize = 1;
@@ -26,22 +24,6 @@ const OPENING: usize = 4;
 const CLOSING: usize = 5;
 
 const NOTHING: usize = 6;
-
-/// A leaf: a text, whose value is 1.
-type Leaf<'src> = To<Just<&'static str, &'src str, RichText>, &'static str, usize>;
-
-/// All leaves.
-fn leaves<'src>() -> [Leaf<'src>; 7] {
-    [
-        just("a").to(1),
-        just("b").to(1),
-        just(",").to(1),
-        just("+").to(1),
-        just("[").to(1),
-        just("]").to(1),
-        just("").to(1),
-    ]
-}
 
 /// Values are how many leaves there are.
 #[derive(Drop)]
@@ -145,7 +127,15 @@ fn over_plan(alloc: Global, plan: Plan<'_>, asks: Asks, again: bool) -> Line {
 
 /// Closes rules, and asks them.
 fn ask(alloc: Global, built: &Built, asks: Asks, line: &mut Line) {
-    let leaves = leaves();
+    let leaves = [
+        just::<_, &str, RichText>("a").to(1),
+        just("b").to(1),
+        just(",").to(1),
+        just("+").to(1),
+        just("[").to(1),
+        just("]").to(1),
+        just("").to(1),
+    ];
     let actions = Leaves {
         leaves: &leaves,
         values: Counts,

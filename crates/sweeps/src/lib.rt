@@ -9,7 +9,6 @@ mod cloning;
 mod grammars;
 mod items;
 mod line;
-mod nested;
 mod plans;
 mod rows;
 mod run;

@@ -1,4 +1,4 @@
-//! Sets, groups and choices over texts.
+//! Sets, groups, filters and nested inputs over texts.
 use crate::run::{Asked, over};
 use chumsky::extra::{Err, RichText};
 use chumsky::prelude::*;
@@ -70,4 +70,18 @@ pub extern "C" fn sweep_filter(
         just("c"),
     ));
     over(&three, alloc, "b", Asked { check, again }).hand_over(out)
+}
+
+/// A character of an inner text, and not that of the row.
+#[unsafe(no_mangle)]
+pub extern "C" fn sweep_nested(
+    alloc: Global,
+    _row: usize,
+    check: bool,
+    again: bool,
+    out: &mut [u8],
+) -> usize {
+    let outer = just::<_, &str, Err<Rich<char>>>('a').to("2");
+    let one = just::<_, &str, Err<Rich<char>>>('1').nested_in(outer);
+    over(&one, alloc, "a", Asked { check, again }).hand_over(out)
 }
