@@ -89,7 +89,7 @@ impl<'src> Values<SimpleSpan, Rich<char>> for Texts<'src> {
     }
 
     fn list(&self, alloc: Global, items: Vec<CowStr<'src>>) -> Result<CowStr<'src>, AllocError>
-        ensures { IfOk result (λ text. cow_str_bytes text ≡ flat_map cow_str_bytes items.items) }
+        ensures { IfOk result (λ text. cow_str_bytes text ≡ flat_map cow_str_bytes items.entry.items) }
     {
         let mut text = String::new(alloc);
         for item in items.as_slice() {
@@ -114,7 +114,7 @@ impl<'src> Values<SimpleSpan, Rich<char>> for Texts<'src> {
 
 /// What the mapper of a number prints of a text.
 fn printed(alloc: Global, mapper: usize, text: CowStr<'_>) -> Result<String, AllocError>
-    ensures { IfOk result (λ made. Printed mapper (cow_str_bytes text) (string_bytes made)) }
+    ensures { IfOk result (λ made. Printed mapper (cow_str_bytes text.entry) (string_bytes made)) }
 {
     match mapper {
         SETTING => format!(in alloc; " {text}="),
@@ -125,7 +125,7 @@ fn printed(alloc: Global, mapper: usize, text: CowStr<'_>) -> Result<String, All
 
 /// Items that end in a comma each, in brackets and without the last comma.
 fn in_brackets(alloc: Global, items: CowStr<'_>) -> Result<String, AllocError>
-    ensures { IfOk result (λ text. InBrackets (cow_str_bytes items) (string_bytes text)) }
+    ensures { IfOk result (λ text. InBrackets (cow_str_bytes items.entry) (string_bytes text)) }
 {
     let mut inside = items.into_owned(alloc)?;
     match inside.pop() {
@@ -221,21 +221,10 @@ pub fn run_settings<'src>(
     };
     let letters = one_of::<_, _, RichText>('a'..='z');
     let digits = one_of('0'..='9');
+    let taken = |slice| CowStr::Borrowed(slice);
     let leaves = [
-        Either::Left(
-            letters
-                .repeated()
-                .at_least(1)
-                .to_slice()
-                .map(CowStr::Borrowed),
-        ),
-        Either::Left(
-            digits
-                .repeated()
-                .at_least(1)
-                .to_slice()
-                .map(CowStr::Borrowed),
-        ),
+        Either::Left(letters.repeated().at_least(1).to_slice().map(taken)),
+        Either::Left(digits.repeated().at_least(1).to_slice().map(taken)),
         Either::Right(just('=').to(CowStr::Borrowed(""))),
         Either::Right(just('\n').to(CowStr::Borrowed(""))),
         Either::Right(just('[').to(CowStr::Borrowed(""))),

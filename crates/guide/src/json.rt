@@ -64,12 +64,19 @@ impl<'src> Part<'src, &'src str, Json<'src>, RichText> for Leaf {
                     .or_not()
                     .then(text::int(10))
                     .then(fraction.or_not());
-                run_moving(&number.to_slice().map(Json::Number).padded(), wanted, inp)
+                run_moving(
+                    &number
+                        .to_slice()
+                        .map(|digits| Json::Number(digits))
+                        .padded(),
+                    wanted,
+                    inp,
+                )
             }
             Leaf::Text => {
                 let inside = none_of('"').repeated().to_slice();
                 let text = inside.delimited_by(just('"'), just('"'));
-                run_moving(&text.map(Json::Text).padded(), wanted, inp)
+                run_moving(&text.map(|text| Json::Text(text)).padded(), wanted, inp)
             }
             Leaf::Mark(mark) => run_moving(&just(mark).map(|_| Json::Mark).padded(), wanted, inp),
         }
