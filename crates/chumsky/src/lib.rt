@@ -227,14 +227,16 @@ pub mod grammar_laws {
     pub use chumsky_rules::caps::caps_fit;
 }
 
-/// When parsers under contexts, states, configurations and nested inputs are steady, as in `laws`.
+/// When parsers under contexts, states, configurations and nested inputs are ready and steady, as in `laws`.
 pub mod context_laws {
     pub use chumsky_context::steady::{
         any_nested_in_any_is_steady, any_under_any_is_steady, configure_is_steady,
-        configured_items_are_steady, contextual_is_steady, ignore_with_ctx_is_steady,
-        items_with_ctx_are_steady, map_ctx_is_steady, nested_in_is_steady, spanned_is_steady,
-        then_with_ctx_is_steady, to_slice_is_steady, to_span_is_steady, try_configure_is_steady,
-        with_ctx_is_steady, with_state_is_steady,
+        configured_items_are_steady, configured_just_is_steady, configured_list_is_steady,
+        configured_one_of_is_steady, contextual_is_steady, ignore_with_ctx_is_steady,
+        ignored_items_with_ctx_are_steady, items_with_ctx_are_steady, map_ctx_is_steady,
+        nested_in_is_steady, spanned_is_steady, then_with_ctx_is_steady, to_slice_is_steady,
+        to_span_is_steady, tried_list_is_steady, try_configure_is_steady, with_ctx_is_steady,
+        with_state_is_steady,
     };
 }
 

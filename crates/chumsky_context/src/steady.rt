@@ -1,4 +1,5 @@
-//! Which of these parsers are steady, so that two runs agree, each the contract of a function that does nothing.
+//! Which of these parsers are ready, and which are steady, each the contract of a function that does nothing: ready are those
+//! whose parts are and whose closures may be called, and of those that are steady two runs agree.
 ghost use Rattle.std.specs.Prelude.{◌≡◌, ℕ};
 ghost use Rattle.chumsky_input.specs.declared.span.Spanned as output;
 ghost use Rattle.chumsky_context.specs.Configured.{Sets, IsDeterministic};
@@ -25,13 +26,16 @@ use crate::with_ctx::WithCtx;
 use crate::with_state::WithState;
 use chumsky_input::error::{EmptyErr, Error};
 use chumsky_input::extra::{Err, Full, ParserExtra};
-use chumsky_input::input::{Input, SliceInput, TextCursor};
+use chumsky_input::input::{Input, SliceInput, TextCursor, ValueInput};
 use chumsky_input::inspector::Inspector;
 use chumsky_input::simple::Cheap;
 use chumsky_input::span::{SimpleSpan, Spanned as SpannedOutput};
+use chumsky_parser::container::{OrderedSeq, Seq};
 use chumsky_parser::iter::IterParser;
 use chumsky_parser::parser::Parser;
 use chumsky_primitive::any::Any;
+use chumsky_primitive::just::Just;
+use chumsky_primitive::one_of::OneOf;
 
 /// `configure` is steady where its part is, and the configurer makes one configuration under one context.
 pub fn configure_is_steady<'src, I, O, E, A, F>(parser: &Configure<A, F>)
@@ -40,6 +44,7 @@ where
     E: ParserExtra<I>,
     A: ConfigParser<'src, I, O, E>,
     F: Configurer<A::Config, E::Context>,
+    ensures ready { A.ready parser.now.parser → F.callable parser.now.configurer → ⟦<Configure<A, F> as Parser<'src, I, O, E>>⟧.ready parser.now }
     ensures steady { A.steady parser.now.parser → IsDeterministic (Sets A.Config.is_default (F.gives parser.now.configurer)) → ⟦<Configure<A, F> as Parser<'src, I, O, E>>⟧.steady parser.now }
 {}
 
@@ -50,7 +55,21 @@ where
     E: ParserExtra<I>,
     A: ConfigIterParser<'src, I, O, E>,
     F: Configurer<A::Config, E::Context>,
+    ensures ready { A.ready items.now.parser → F.callable items.now.configurer → ⟦<IterConfigure<A, F, O> as IterParser<'src, I, O, E>>⟧.ready items.now }
     ensures steady { A.steady items.now.parser → IsDeterministic (Sets A.Config.is_default (F.gives items.now.configurer)) → ⟦<IterConfigure<A, F, O> as IterParser<'src, I, O, E>>⟧.steady items.now }
+{}
+
+/// A configured list that stands as a parser of `()` is steady where its items are, and the configurer makes one configuration
+/// under one context.
+pub fn configured_list_is_steady<'src, I, O, E, A, F>(list: &IterConfigure<A, F, O>)
+where
+    I: Input<'src>,
+    O: Drop,
+    E: ParserExtra<I>,
+    A: ConfigIterParser<'src, I, O, E>,
+    F: Configurer<A::Config, E::Context>,
+    ensures ready { A.ready list.now.parser → F.callable list.now.configurer → ⟦<IterConfigure<A, F, O> as Parser<'src, I, (), E>>⟧.ready list.now }
+    ensures steady { A.steady list.now.parser → IsDeterministic (Sets A.Config.is_default (F.gives list.now.configurer)) → ⟦<IterConfigure<A, F, O> as Parser<'src, I, (), E>>⟧.steady list.now }
 {}
 
 /// `try_configure` is steady where its items are, and the configurer answers one context with one configuration, or with errors
@@ -61,7 +80,43 @@ where
     E: ParserExtra<I>,
     A: ConfigIterParser<'src, I, O, E>,
     F: TryConfigurer<A::Config, E::Context, I::Span, E::Error>,
+    ensures ready { A.ready items.now.parser → F.callable items.now.configurer → ⟦<TryIterConfigure<A, F, O> as IterParser<'src, I, O, E>>⟧.ready items.now }
     ensures steady { A.steady items.now.parser → OneRuling E.Error.seen (TrySets A.Config.is_default (F.gives items.now.configurer)) → ⟦<TryIterConfigure<A, F, O> as IterParser<'src, I, O, E>>⟧.steady items.now }
+{}
+
+/// A list under `try_configure` that stands as a parser of `()` is steady where its items are, and the configurer answers one
+/// context with one configuration, or with errors that count as one.
+pub fn tried_list_is_steady<'src, I, O, E, A, F>(list: &TryIterConfigure<A, F, O>)
+where
+    I: Input<'src>,
+    O: Drop,
+    E: ParserExtra<I>,
+    A: ConfigIterParser<'src, I, O, E>,
+    F: TryConfigurer<A::Config, E::Context, I::Span, E::Error>,
+    ensures ready { A.ready list.now.parser → F.callable list.now.configurer → ⟦<TryIterConfigure<A, F, O> as Parser<'src, I, (), E>>⟧.ready list.now }
+    ensures steady { A.steady list.now.parser → OneRuling E.Error.seen (TrySets A.Config.is_default (F.gives list.now.configurer)) → ⟦<TryIterConfigure<A, F, O> as Parser<'src, I, (), E>>⟧.steady list.now }
+{}
+
+/// `just` is ready and steady by each configuration.
+pub fn configured_just_is_steady<'src, T, I, E>(just: &Just<T, I, E>)
+where
+    T: OrderedSeq<I::Token> + Clone + Drop,
+    I: Input<'src>,
+    I::Token: PartialEq,
+    E: ParserExtra<I>,
+    ensures ready { ⟦<Just<T, I, E> as ConfigParser<'src, I, T, E>>⟧.ready just.now }
+    ensures steady { ⟦<Just<T, I, E> as ConfigParser<'src, I, T, E>>⟧.steady just.now }
+{}
+
+/// `one_of` is ready and steady by each configuration.
+pub fn configured_one_of_is_steady<'src, S, I, E>(one_of: &OneOf<S, I, E>)
+where
+    S: Seq<I::Token> + Drop,
+    I: ValueInput<'src>,
+    I::Token: PartialEq,
+    E: ParserExtra<I>,
+    ensures ready { ⟦<OneOf<S, I, E> as ConfigParser<'src, I, I::Token, E>>⟧.ready one_of.now }
+    ensures steady { ⟦<OneOf<S, I, E> as ConfigParser<'src, I, I::Token, E>>⟧.steady one_of.now }
 {}
 
 /// `contextual` is steady where its part is. Its outputs that are the same are so to the part.
@@ -70,6 +125,8 @@ where
     I: Input<'src>,
     E: ParserExtra<I>,
     A: Parser<'src, I, O, E>,
+    ensures ready { A.ready parser.now.inner → ⟦<Contextual<A> as Parser<'src, I, O, E>>⟧.ready parser.now }
+    ensures ready_configured { A.ready parser.now.inner → ⟦<Contextual<A> as ConfigParser<'src, I, O, E>>⟧.ready parser.now }
     ensures steady { A.steady parser.now.inner → ⟦<Contextual<A> as Parser<'src, I, O, E>>⟧.steady parser.now }
     ensures configured { A.steady parser.now.inner → ⟦<Contextual<A> as ConfigParser<'src, I, O, E>>⟧.steady parser.now }
     ensures same { (x y : O) → ⟦<Contextual<A> as Parser<'src, I, O, E>>⟧.same parser.now x y → A.same parser.now.inner x y }
@@ -81,6 +138,7 @@ where
     I: SliceInput<'src>,
     E: ParserExtra<I>,
     A: Parser<'src, I, O, E>,
+    ensures ready { A.ready parser.now.parser → ⟦<ToSlice<A, O> as Parser<'src, I, I::Slice, E>>⟧.ready parser.now }
     ensures steady { A.steady parser.now.parser → ⟦<ToSlice<A, O> as Parser<'src, I, I::Slice, E>>⟧.steady parser.now }
     ensures same { (x y : I.Slice) → ⟦<ToSlice<A, O> as Parser<'src, I, I::Slice, E>>⟧.same parser.now x y → I.slice_seen x ≡ I.slice_seen y }
 {}
@@ -91,6 +149,7 @@ where
     I: Input<'src>,
     E: ParserExtra<I>,
     A: Parser<'src, I, O, E>,
+    ensures ready { A.ready parser.now.parser → ⟦<ToSpan<A, O> as Parser<'src, I, I::Span, E>>⟧.ready parser.now }
     ensures steady { A.steady parser.now.parser → ⟦<ToSpan<A, O> as Parser<'src, I, I::Span, E>>⟧.steady parser.now }
     ensures same { (x y : I.Span) → ⟦<ToSpan<A, O> as Parser<'src, I, I::Span, E>>⟧.same parser.now x y → x ≡ y }
 {}
@@ -102,6 +161,7 @@ where
     I::Token: 'src,
     E: ParserExtra<I>,
     A: Parser<'src, I, O, Full<E::Error, E::State, X>>,
+    ensures ready { A.ready parser.now.parser → ⟦<WithCtx<A, X> as Parser<'src, I, O, E>>⟧.ready parser.now }
     ensures steady { A.steady parser.now.parser → ⟦<WithCtx<A, X> as Parser<'src, I, O, E>>⟧.steady parser.now }
     ensures same { (x y : O) → ⟦<WithCtx<A, X> as Parser<'src, I, O, E>>⟧.same parser.now x y → A.same parser.now.parser x y }
 {}
@@ -116,6 +176,7 @@ where
     E: ParserExtra<I>,
     A: Parser<'src, I, O, X>,
     F: ContextMapper<E::Context, X::Context>,
+    ensures ready { A.ready parser.now.parser → F.callable parser.now.mapper → ⟦<MapCtx<A, X, F, I, E> as Parser<'src, I, O, E>>⟧.ready parser.now }
     ensures steady { A.steady parser.now.parser → IsDeterministic (F.gives parser.now.mapper) → ⟦<MapCtx<A, X, F, I, E> as Parser<'src, I, O, E>>⟧.steady parser.now }
     ensures same { (x y : O) → ⟦<MapCtx<A, X, F, I, E> as Parser<'src, I, O, E>>⟧.same parser.now x y → A.same parser.now.parser x y }
 {}
@@ -131,6 +192,7 @@ where
     A: Parser<'src, I, O, E>,
     X: ParserExtra<I, Error = E::Error, State = E::State, Context = O>,
     B: Parser<'src, I, U, X>,
+    ensures ready { A.ready parser.now.parser → B.ready parser.now.then → ⟦<IgnoreWithCtx<A, B, O, I, X> as Parser<'src, I, U, E>>⟧.ready parser.now }
     ensures steady { A.steady parser.now.parser → B.steady parser.now.then → SameAreEqual (A.same parser.now.parser) → ⟦<IgnoreWithCtx<A, B, O, I, X> as Parser<'src, I, U, E>>⟧.steady parser.now }
     ensures same { (x y : U) → ⟦<IgnoreWithCtx<A, B, O, I, X> as Parser<'src, I, U, E>>⟧.same parser.now x y → B.same parser.now.then x y }
 {}
@@ -146,6 +208,7 @@ where
     A: Parser<'src, I, O, E>,
     X: ParserExtra<I, Error = E::Error, State = E::State, Context = O>,
     B: Parser<'src, I, U, X>,
+    ensures ready { A.ready parser.now.parser → B.ready parser.now.then → ⟦<ThenWithCtx<A, B, O, I, X> as Parser<'src, I, (O, U), E>>⟧.ready parser.now }
     ensures steady { A.steady parser.now.parser → B.steady parser.now.then → SameAreEqual (A.same parser.now.parser) → ⟦<ThenWithCtx<A, B, O, I, X> as Parser<'src, I, (O, U), E>>⟧.steady parser.now }
     ensures same { (x y : O × U) → ⟦<ThenWithCtx<A, B, O, I, X> as Parser<'src, I, (O, U), E>>⟧.same parser.now x y → A.same parser.now.parser x.0 y.0 × B.same parser.now.then x.1 y.1 }
 {}
@@ -161,7 +224,25 @@ where
     A: Parser<'src, I, O, E>,
     X: ParserExtra<I, Error = E::Error, State = E::State, Context = O>,
     B: IterParser<'src, I, U, X>,
+    ensures ready { A.ready items.now.parser → B.ready items.now.then → ⟦<ThenWithCtx<A, B, O, I, X> as IterParser<'src, I, U, E>>⟧.ready items.now }
     ensures steady { A.steady items.now.parser → B.steady items.now.then → SameAreEqual (A.same items.now.parser) → ⟦<ThenWithCtx<A, B, O, I, X> as IterParser<'src, I, U, E>>⟧.steady items.now }
+{}
+
+/// Such items for the output of the second parser alone are steady where both parts are, and outputs of the first that are the
+/// same are equal.
+pub fn ignored_items_with_ctx_are_steady<'src, I, O, U, E, X, A, B>(
+    second: &IgnoreWithCtx<A, B, O, I, X>,
+)
+where
+    I: Input<'src>,
+    I::Token: 'src,
+    O: Drop,
+    E: ParserExtra<I>,
+    A: Parser<'src, I, O, E>,
+    X: ParserExtra<I, Error = E::Error, State = E::State, Context = O>,
+    B: IterParser<'src, I, U, X>,
+    ensures ready { A.ready second.now.parser → B.ready second.now.then → ⟦<IgnoreWithCtx<A, B, O, I, X> as IterParser<'src, I, U, E>>⟧.ready second.now }
+    ensures steady { A.steady second.now.parser → B.steady second.now.then → SameAreEqual (A.same second.now.parser) → ⟦<IgnoreWithCtx<A, B, O, I, X> as IterParser<'src, I, U, E>>⟧.steady second.now }
 {}
 
 /// `with_state` is steady where its part is, and any two copies of the state count as the same.
@@ -172,6 +253,7 @@ where
     E: ParserExtra<I>,
     S: Inspector<I> + Clone + Drop,
     A: Parser<'src, I, O, Full<E::Error, S, E::Context>>,
+    ensures ready { A.ready parser.now.parser → ⟦<WithState<A, S, I> as Parser<'src, I, O, E>>⟧.ready parser.now }
     ensures steady { A.steady parser.now.parser → CopiesCount (S.is_clone parser.now.state) S.seen → ⟦<WithState<A, S, I> as Parser<'src, I, O, E>>⟧.steady parser.now }
     ensures same { (x y : O) → ⟦<WithState<A, S, I> as Parser<'src, I, O, E>>⟧.same parser.now x y → A.same parser.now.parser x y }
 {}
@@ -195,6 +277,7 @@ where
     M: Drop,
     A: Parser<'src, J, U, Full<E::Error, E::State, E::Context>>,
     B: Parser<'src, I, J, E>,
+    ensures ready { A.ready parser.now.parser → B.ready parser.now.outer → ⟦<NestedIn<A, B, J, C, T, S, M> as Parser<'src, I, U, E>>⟧.ready parser.now }
     ensures steady { A.steady parser.now.parser → B.steady parser.now.outer → SameOverBoth J.Input ⟦<E::Error as Error<J>>⟧ ⟦<E::State as Inspector<J>>⟧ ⟦<E::Error as Error<I>>⟧ ⟦<E::State as Inspector<I>>⟧ (B.same parser.now.outer) → ⟦<NestedIn<A, B, J, C, T, S, M> as Parser<'src, I, U, E>>⟧.steady parser.now }
     ensures same { (x y : U) → ⟦<NestedIn<A, B, J, C, T, S, M> as Parser<'src, I, U, E>>⟧.same parser.now x y → A.same parser.now.parser x y }
 {}
@@ -206,6 +289,7 @@ where
     I: Input<'src>,
     E: ParserExtra<I>,
     A: Parser<'src, I, O, E>,
+    ensures ready { A.ready parser.now.parser → ⟦<Spanned<A, O> as Parser<'src, I, SpannedOutput<O, I::Span>, E>>⟧.ready parser.now }
     ensures steady { A.steady parser.now.parser → ⟦<Spanned<A, O> as Parser<'src, I, SpannedOutput<O, I::Span>, E>>⟧.steady parser.now }
     ensures same { (x y : output.Spanned O I.Span) → ⟦<Spanned<A, O> as Parser<'src, I, SpannedOutput<O, I::Span>, E>>⟧.same parser.now x y → A.same parser.now.parser x.inner y.inner × (x.span ≡ y.span) }
 {}
