@@ -6,6 +6,7 @@
 mod ext;
 mod macros;
 mod made;
+mod memory;
 pub mod prelude;
 mod run;
 mod steady;
@@ -218,6 +219,20 @@ pub mod grammar_laws {
     };
     pub use chumsky_recursive::steady::grammar_is_steady;
     pub use chumsky_rules::caps::caps_fit;
+}
+
+/// Which parsers are never refused for memory, as those of `laws`: primitives, where tokens, errors and states take none, and what
+/// is made of parts that never are. A run of one wants memory for nothing but the errors of a failure.
+pub mod memory_laws {
+    pub use crate::memory::memory_is_wanted_only_for_errors;
+    pub use chumsky_memory::laws::{
+        a_run_is_never_out_of_memory, any_is_never_out_of_memory, count_is_never_out_of_memory,
+        delimited_by_is_never_out_of_memory, end_is_never_out_of_memory,
+        ignore_then_is_never_out_of_memory, just_is_never_out_of_memory,
+        map_is_never_out_of_memory, one_of_is_never_out_of_memory, or_is_never_out_of_memory,
+        repeated_is_never_out_of_memory, then_is_never_out_of_memory, to_is_never_out_of_memory,
+        to_slice_is_never_out_of_memory, to_span_is_never_out_of_memory,
+    };
 }
 
 /// When parsers under contexts, states, configurations and nested inputs are steady, as in `laws`.
