@@ -7,6 +7,7 @@ mod config_parser_ext;
 mod iter_parser_ext;
 mod macros;
 mod made;
+mod memory;
 mod moving_part;
 mod parser_ext;
 pub mod prelude;
@@ -221,10 +222,24 @@ pub mod grammar_laws {
         a_run_begins_with_room, an_answer_is_derived, answers_agree_under_any_limit,
         answers_stand_under_a_greater_limit, founded_grammars_are_refused_as_leaves,
         founded_rules_make_progress, founded_rules_stay_within_depth, lists_count_their_items,
-        two_derivations_agree,
+        rules_that_never_wait_ask_for_no_memory, two_derivations_agree,
     };
-    pub use chumsky_recursive::steady::grammar_is_steady;
+    pub use chumsky_recursive::steady::{grammar_is_steady, leaves_are_steady};
     pub use chumsky_rules::caps::caps_fit;
+}
+
+/// Which parsers are never refused for memory, as those of `laws`: primitives, where tokens, errors and states take none, and what
+/// is made of parts that never are. A run of one wants memory for nothing but the errors of a failure.
+pub mod memory_laws {
+    pub use crate::memory::memory_is_wanted_only_for_errors;
+    pub use chumsky_memory::laws::{
+        a_run_is_never_out_of_memory, any_is_never_out_of_memory, count_is_never_out_of_memory,
+        delimited_by_is_never_out_of_memory, end_is_never_out_of_memory,
+        ignore_then_is_never_out_of_memory, just_is_never_out_of_memory,
+        map_is_never_out_of_memory, one_of_is_never_out_of_memory, or_is_never_out_of_memory,
+        repeated_is_never_out_of_memory, then_is_never_out_of_memory, to_is_never_out_of_memory,
+        to_slice_is_never_out_of_memory, to_span_is_never_out_of_memory,
+    };
 }
 
 /// When parsers under contexts, states, configurations and nested inputs are ready and steady, as in `laws`.
@@ -287,13 +302,9 @@ pub mod laws {
     };
     pub use chumsky_parser::steady::{by_reference_is_steady, either_is_steady};
     pub use chumsky_primitive::steady::{
-        any_is_steady, any_ref_is_steady, custom_is_steady, end_is_steady, just_is_steady,
-        one_of_is_steady, select_is_steady, select_ref_is_steady,
+        any_is_steady, any_ref_is_steady, closures_may_read, custom_is_steady, end_is_steady,
+        just_is_steady, one_of_is_steady, select_is_steady, select_ref_is_steady,
     };
-    pub use chumsky_recursive::laws::{
-        a_run_begins_with_room, answers_agree_under_any_limit, answers_stand_under_a_greater_limit,
-    };
-    pub use chumsky_recursive::steady::grammar_is_steady;
     pub use chumsky_set::laws::{
         a_list_takes_at_most_one_round_more, a_set_takes_at_most_one_round_more,
     };
