@@ -2,6 +2,7 @@
 use answers::asserts::assert_line;
 use examples::date::parse_date;
 use examples::header::parse_header;
+use examples::query::parse_query;
 use examples::request::parse_request;
 use examples::setting::parse_setting;
 
@@ -18,7 +19,10 @@ fn a_date_has_a_month_and_a_day(rt: HostRuntime) {
             "2026-1-01",
             "error 6..7 expected '0', '1', '2', '3', '4', '5', '6', '7', '8', '9' found '-'",
         ),
-        ("2026-01-32", "error 8..10 expected something else found '3'"),
+        (
+            "2026-01-32",
+            "error 8..10 expected something else found '3'",
+        ),
         ("2026-01", "error 7..7 expected '-' found end"),
         (
             "2026-01-011",
@@ -97,4 +101,97 @@ fn a_request_has_a_method_and_a_target(rt: HostRuntime) {
     for (text, line) in rows {
         assert_line(&rt, parse_request(rt.alloc(), text), line);
     }
+}
+
+#[test]
+fn a_query_has_as_many_questions_as_its_head_says(rt: HostRuntime) {
+    let rows: [(&[u8], &str); 5] = [
+        (
+            b"\x12\x34\x01\x00\x00\x01\x00\x00\x00\x00\x00\x01\x07example\x03com\x00\x00\x01\x00\x01",
+            "ok Query { head: Head { id: 4660, flags: 256, questions: 1, answers: 0, authorities: 0, additionals: 1 }, questions: [Question { name: [[101, 120, 97, 109, 112, 108, 101], [99, 111, 109]], kind: 1, class: 1 }] }",
+        ),
+        (
+            b"\x12\x34\x01\x00\x00\x02\x00\x00\x00\x00\x00\x00\x01a\x00\x00\x1c\x00\x01\x00\x00\x02\x01\x00",
+            "ok Query { head: Head { id: 4660, flags: 256, questions: 2, answers: 0, authorities: 0, additionals: 0 }, questions: [Question { name: [[97]], kind: 28, class: 1 }, Question { name: [], kind: 2, class: 256 }] }",
+        ),
+        (
+            b"\x00\x01\x00\x00\x00\x00\x00\x00\x00\x00\x00\x00",
+            "ok Query { head: Head { id: 1, flags: 0, questions: 0, answers: 0, authorities: 0, additionals: 0 }, questions: [] }",
+        ),
+        (
+            b"\x12\x34\x01\x00\x00\x02\x00\x00\x00\x00\x00\x00\x03com\x00\x00\x01\x00\x01",
+            "error 21..21 expected any, 0 found end",
+        ),
+        (
+            b"\x12\x34\x01\x00\x01\x00\x00\x00\x00\x00\x00\x00\x00\x00\x01\x00\x01",
+            "error 17..17 expected any, 0 found end",
+        ),
+    ];
+    for (bytes, line) in rows {
+        assert_line(&rt, parse_query(rt.alloc(), bytes), line);
+    }
+}
+
+/// The error stands where the bytes end.
+#[test]
+fn a_query_that_is_cut_short_is_refused_there(rt: HostRuntime) {
+    let whole = b"\x12\x34\x01\x00\x00\x01\x00\x00\x00\x00\x00\x00\x03com\x00\x00\x01\x00\x01";
+    let rows = [
+        (0, "error 0..0 expected any found end"),
+        (1, "error 1..1 expected any found end"),
+        (5, "error 5..5 expected any found end"),
+        (11, "error 11..11 expected any found end"),
+        (12, "error 12..12 expected any, 0 found end"),
+        (13, "error 13..13 expected any found end"),
+        (15, "error 15..15 expected any found end"),
+        (16, "error 16..16 expected any, 0 found end"),
+        (17, "error 17..17 expected any found end"),
+        (18, "error 18..18 expected any found end"),
+        (20, "error 20..20 expected any found end"),
+    ];
+    for (length, line) in rows {
+        let bytes = whole.get(..length).expect(&rt, "too short");
+        assert_line(&rt, parse_query(rt.alloc(), bytes), line);
+    }
+}
+
+/// A label has 63 bytes at most, and after the last question nothing follows.
+#[test]
+fn a_query_is_refused_at_the_byte_that_is_wrong(rt: HostRuntime) {
+    let rows: [(&[u8], &str); 4] = [
+        (
+            b"\x12\x34\x01\x00\x00\x01\x00\x00\x00\x00\x00\x00\x40com\x00\x00\x01\x00\x01",
+            "error 12..13 expected something else, 0 found 64",
+        ),
+        (
+            b"\x12\x34\x01\x00\x00\x01\x00\x00\x00\x00\x00\x00\x03com\xc0\x0c\x00\x01\x00\x01",
+            "error 16..17 expected something else, 0 found 192",
+        ),
+        (
+            b"\x12\x34\x01\x00\x00\x01\x00\x00\x00\x00\x00\x00\x03com\x00\x00\x01\x00\x01\xff",
+            "error 21..22 expected end of input found 255",
+        ),
+        (
+            b"\x12\x34\x01\x00\x00\x00\x00\x00\x00\x00\x00\x00\x00",
+            "error 12..13 expected end of input found 0",
+        ),
+    ];
+    for (bytes, line) in rows {
+        assert_line(&rt, parse_query(rt.alloc(), bytes), line);
+    }
+}
+
+#[test]
+fn a_label_of_63_bytes_is_taken(rt: HostRuntime) {
+    let bytes =
+        b"\x12\x34\x01\x00\x00\x01\x00\x00\x00\x00\x00\x00\x3f0123456789abcdef0123456789abcdef0123456789abcdef0123456789abcde\x00\x00\x01\x00\x01";
+    let parsed = parse_query(rt.alloc(), bytes).expect(&rt, "refused");
+    let query = parsed.output.expect(&rt, "no output");
+    let lengths = query.questions.as_slice().first().map(|question| {
+        (
+            question.name.len(),
+            question.name.as_slice().first().map(|label| label.len()),
+        )
+    });
+    assert!(rt; lengths == Some((1, Some(63))));
 }
