@@ -113,12 +113,32 @@ impl<'src> Part<'src, &'src [u8], Vec<Vec<u8>>, UnderHead> for Labels {
     }
 }
 
+/// A question: labels, and two numbers.
+#[derive(Clone, Copy)]
+struct Asked;
+
+impl<'src> IsParser<&'src [u8], Question, UnderHead> for Asked {}
+
+impl<'src> Part<'src, &'src [u8], Question, UnderHead> for Asked {
+    fn run(
+        &self,
+        wanted: bool,
+        inp: &mut InputRef<'src, '_, &'src [u8], UnderHead>,
+    ) -> PResult<Option<Question>> {
+        let kind = any::<&[u8], UnderHead>().then(any()).map(number_of);
+        let class = any().then(any()).map(number_of);
+        let question = group((part_of(Labels), kind, class)).map(|(name, kind, class)| Question {
+            name,
+            kind,
+            class,
+        });
+        run_part(&question, wanted, inp)
+    }
+}
+
 /// A query, whole.
 pub fn parse_query(alloc: Global, bytes: &[u8]) -> Result<ParseResult<Query, Rich<u8>>, Stop> {
-    let kind = any::<&[u8], UnderHead>().then(any()).map(number_of);
-    let class = any().then(any()).map(number_of);
-    let questions = group((part_of(Labels), kind, class))
-        .map(|(name, kind, class)| Question { name, kind, class })
+    let questions = part_of(Asked)
         .repeated()
         .configure(|config, head: &Head| config.exactly(head.questions as usize))
         .collect::<Vec<_>>();
