@@ -1,0 +1,161 @@
+//! Lines of a log. A line that can't be read is an error of its own, and the lines after it are read.
+use crate::digits::{any_digit, number_of};
+use chumsky::combinator::{Part, Picker, part_of, run_part};
+use chumsky::extra::RichText;
+use chumsky::input::InputRef;
+use chumsky::prelude::*;
+use chumsky::primitive::Reader;
+use chumsky::{Failure, PResult, Stop};
+use std::alloc::Global;
+use std::fmt;
+use std::fmt::{Display, Formatter};
+
+/// How grave it is.
+#[derive(Clone, Copy, Debug, PartialEq)]
+pub enum Level {
+    Info,
+    Warning,
+    Error,
+}
+
+/// A line: when, how grave, and what.
+#[derive(Clone, Copy, Debug, PartialEq)]
+pub struct Line<'src> {
+    /// Hours, minutes and seconds.
+    pub time: (u8, u8, u8),
+    pub level: Level,
+    pub message: &'src str,
+}
+
+/// Picks the number of two digits, where it is below a bound.
+#[derive(Clone, Copy)]
+struct Below(u8);
+
+impl Picker<(char, char), u8> for Below {
+    fn pick(&self, digits: (char, char)) -> Option<u8> {
+        let (tens, ones) = digits;
+        let number = number_of(tens, ones);
+        if number < self.0 { Some(number) } else { None }
+    }
+}
+
+/// A time, as `07:30:59`.
+#[derive(Clone, Copy)]
+struct Time;
+
+impl<'src> IsParser<&'src str, (u8, u8, u8), RichText> for Time {}
+
+impl<'src> Part<'src, &'src str, (u8, u8, u8), RichText> for Time {
+    fn run(
+        &self,
+        wanted: bool,
+        inp: &mut InputRef<'src, '_, &'src str, RichText>,
+    ) -> PResult<Option<(u8, u8, u8)>> {
+        let hour = any_digit().then(any_digit()).filter_map_by(Below(24));
+        let minute = any_digit().then(any_digit()).filter_map_by(Below(60));
+        let second = any_digit().then(any_digit()).filter_map_by(Below(60));
+        let time = group((
+            hour.labelled("an hour"),
+            just(':'),
+            minute.labelled("a minute"),
+            just(':'),
+            second.labelled("a second"),
+        ));
+        let time = time.map(|(hour, _, minute, _, second)| (hour, minute, second));
+        run_part(&time, wanted, inp)
+    }
+}
+
+/// A line that is right, as `07:30:59 WARN disk almost full`.
+#[derive(Clone, Copy)]
+struct WholeLine;
+
+impl<'src> IsParser<&'src str, Line<'src>, RichText> for WholeLine {}
+
+impl<'src> Part<'src, &'src str, Line<'src>, RichText> for WholeLine {
+    fn run(
+        &self,
+        wanted: bool,
+        inp: &mut InputRef<'src, '_, &'src str, RichText>,
+    ) -> PResult<Option<Line<'src>>> {
+        let level = choice((
+            just("INFO").to(Level::Info),
+            just("WARN").to(Level::Warning),
+            just("ERROR").to(Level::Error),
+        ));
+        let message = none_of("\r\n").repeated().at_least(1).to_slice();
+        let line = group((
+            part_of(Time),
+            just(' '),
+            level.labelled("a level"),
+            just(' '),
+            message.labelled("a message"),
+        ));
+        let line = line.map(|(time, _, level, _, message)| Line {
+            time,
+            level,
+            message,
+        });
+        run_part(&line, wanted, inp)
+    }
+}
+
+/// A line. One that isn't right is emitted as an error and left out, with all that stands on it.
+#[derive(Clone, Copy)]
+struct AnyLine;
+
+impl<'src> Reader<'src, &'src str, Option<Line<'src>>, RichText> for AnyLine {
+    fn read(
+        &self,
+        inp: &mut InputRef<'src, '_, &'src str, RichText>,
+    ) -> Result<Option<Line<'src>>, Failure<Rich<char>>> {
+        match inp.parse(part_of(WholeLine)) {
+            Ok(line) => Ok(Some(line)),
+            Err(Failure::Error(error)) => {
+                inp.emit(error)?;
+                inp.check(none_of("\r\n").repeated())?;
+                Ok(None)
+            }
+            Err(Failure::Stop(stop)) => Err(Failure::Stop(stop)),
+        }
+    }
+}
+
+/// The lines that are right, and an error for each other line. Lines that are empty are passed over.
+pub fn parse_log<'src>(
+    alloc: Global,
+    text: &'src str,
+) -> Result<ParseResult<Vec<Line<'src>>, Rich<char>>, Stop> {
+    let line = none_of("\r\n")
+        .rewind()
+        .ignore_then(custom_by(AnyLine))
+        .or_not()
+        .map(|line: Option<Option<Line>>| line.flatten());
+    line.separated_by(text::newline())
+        .flatten()
+        .collect::<Vec<_>>()
+        .parse(alloc, text)
+}
+
+/// Lines as a text, gravest last in each: the message, the time and the level.
+#[derive(Clone, Copy)]
+pub struct LogText<'a, 'src>(pub &'a [Line<'src>]);
+
+impl Display for LogText<'_, '_> {
+    fn fmt<W: fmt::Write>(&self, f: &mut Formatter<W>) -> fmt::Result {
+        for line in self.0 {
+            let (hour, minute, second) = line.time;
+            let level = match line.level {
+                Level::Info => "info",
+                Level::Warning => "warning",
+                Level::Error => "error",
+            };
+            writeln!(
+                f,
+                "{level} at {hour:02}:{minute:02}:{second:02}: {}",
+                line.message
+            )?;
+        }
+        Ok(())
+    }
+}
