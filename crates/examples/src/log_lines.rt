@@ -112,8 +112,8 @@ impl<'src> Reader<'src, &'src str, Option<Line<'src>>, RichText> for AnyLine {
         match inp.parse(part_of(WholeLine)) {
             Ok(line) => Ok(Some(line)),
             Err(Failure::Error(error)) => {
-                inp.emit(error)?;
                 inp.check(none_of("\r\n").repeated())?;
+                inp.emit(error)?;
                 Ok(None)
             }
             Err(Failure::Stop(stop)) => Err(Failure::Stop(stop)),
