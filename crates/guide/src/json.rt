@@ -211,7 +211,7 @@ fn map(rules: &mut Rules, value: Node) -> Result<Node, BuildError> {
 }
 
 /// A value.
-fn json(rules: &mut Rules) -> Result<Recursive, RecursiveError> {
+fn json_rules(rules: &mut Rules) -> Result<Recursive, RecursiveError> {
     rules.recursive(|rules, json| {
         let value = rules.rule(json)?;
         let null = rules.leaf(NULL)?;
@@ -242,7 +242,7 @@ pub fn read_json<'src>(
     text: &'src str,
 ) -> Result<ParseResult<Json<'src>, Rich<char>>, Refused> {
     let mut rules = Rules::new(alloc);
-    let start = match json(&mut rules) {
+    let start = match json_rules(&mut rules) {
         Ok(start) => start,
         Err(error) => return Err(Refused::Building(error)),
     };
