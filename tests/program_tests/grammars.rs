@@ -4,8 +4,7 @@ use chumsky::prelude::*;
 use chumsky::recursive::{Leaves, RecursiveError, Stack, Todo, Values, step};
 use chumsky::{Failure, Fault, Stop};
 use guide::arithmetic::value_of;
-use guide::json::Refused;
-use guide::recursion::{depth, depth_within};
+use guide::recursion::{Refused, depth, depth_within};
 use std::alloc::{AllocError, Global};
 
 #[test]

@@ -17,6 +17,4 @@ mod grammars;
 #[cfg(test)]
 mod input_ref;
 #[cfg(test)]
-mod json;
-#[cfg(test)]
 mod odd;

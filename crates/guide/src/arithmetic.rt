@@ -1,7 +1,7 @@
 //! A grammar of two levels: sums of products, as rules.
 ghost use Rattle.std.specs.Prelude.{IfOk, ⊤};
 
-use crate::json::Refused;
+use crate::recursion::Refused;
 use chumsky::extra::RichText;
 use chumsky::prelude::*;
 use chumsky::recursive::{Leaves, RecursiveError, SepCfg, Values};

@@ -12,7 +12,6 @@ pub mod extras;
 pub mod flattening;
 pub mod folding;
 pub mod handed;
-pub mod json;
 pub mod laws;
 pub mod mapping;
 pub mod parts;

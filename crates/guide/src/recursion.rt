@@ -1,7 +1,7 @@
 //! A grammar that calls itself: rules as data, closed and run.
 ghost use Rattle.std.specs.Prelude.{IfOk, ⊤};
 
-use crate::json::Refused;
+use chumsky::Stop;
 use chumsky::extra::RichText;
 use chumsky::prelude::*;
 use chumsky::recursive::{FoundedError, Leaves, RecursiveError, Values};
@@ -70,6 +70,14 @@ fn brackets(rules: &mut Rules) -> Result<Recursive, RecursiveError> {
         let pair = rules.map(opened, 0)?;
         rules.repeated(pair, 0, None)
     })
+}
+
+/// Why no depth is told.
+#[derive(Debug, Drop)]
+pub enum Refused {
+    Building(RecursiveError),
+    Closing(FoundedError),
+    Running(Stop),
 }
 
 /// How deep the brackets of a text go. However deep they go, the run is refused for memory alone.
