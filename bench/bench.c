@@ -3,19 +3,25 @@
 #include <stdio.h>
 #include <stdlib.h>
 #include <string.h>
+#include <sys/resource.h>
+#include <sys/wait.h>
 #include <time.h>
+#include <unistd.h>
 
 typedef uint64_t job_function(const uint8_t *bytes, size_t length);
 
 job_function bench_dates_parse, bench_dates_check, bench_words_parse, bench_words_check, bench_headers_parse,
     bench_headers_check, bench_digits_parse, bench_digits_check, bench_lists_parse, bench_lists_check,
-    bench_settings_parse, bench_settings_check, bench_brackets_parse, bench_brackets_check, bench_json_parse,
+    bench_settings_parse, bench_settings_check, bench_keys_parse, bench_keys_check, bench_slices_parse,
+    bench_slices_check, bench_sums_parse, bench_sums_check, bench_messages_parse, bench_messages_check,
+    bench_brackets_parse, bench_brackets_check, bench_json_parse,
     bench_json_check, bench_fail_empty, bench_fail_rich;
 
 #ifdef WITH_RUST
 job_function rust_dates_parse, rust_dates_check, rust_words_parse, rust_words_check, rust_headers_parse,
     rust_headers_check, rust_digits_parse, rust_digits_check, rust_lists_parse, rust_lists_check,
-    rust_settings_parse, rust_settings_check, rust_brackets_parse, rust_brackets_check, rust_json_parse,
+    rust_settings_parse, rust_settings_check, rust_slices_parse, rust_sums_parse, rust_sums_check,
+    rust_messages_parse, rust_messages_check, rust_brackets_parse, rust_brackets_check, rust_json_parse,
     rust_json_check, rust_fail;
 #define RUST(name) rust_##name
 #else
@@ -233,6 +239,114 @@ static uint64_t lists_check(const uint8_t *bytes, size_t length) {
     return times;
 }
 
+/* The numbers of a list, each where it lies. */
+struct slices {
+    struct slice {
+        const uint8_t *at;
+        size_t length;
+    } * items;
+    size_t count, room;
+};
+
+static void push_slice(struct slices *slices, const uint8_t *at, size_t length) {
+    if (slices->count == slices->room) {
+        slices->room = slices->room ? 2 * slices->room : 4;
+        slices->items = realloc(slices->items, slices->room * sizeof *slices->items);
+        if (!slices->items) exit(2);
+    }
+    slices->items[slices->count++] = (struct slice){at, length};
+}
+
+/* Where a list and the end of its line end, or null. */
+static inline const uint8_t *list_of_slices(const uint8_t *at, const uint8_t *end, struct slices *slices) {
+    if (at == end || *at++ != '[') return NULL;
+    size_t count = digits_at(at, end);
+    while (count) {
+        push_slice(slices, at, count);
+        at += count;
+        count = at != end && *at == ',' ? digits_at(at + 1, end) : 0;
+        at += count != 0;
+    }
+    if (at == end || *at++ != ']') return NULL;
+    return at == end || *at++ != '\n' ? NULL : at;
+}
+
+static uint64_t slices_parse(const uint8_t *bytes, size_t length) {
+    const uint8_t *at = bytes, *end = bytes + length;
+    uint64_t total = 0;
+    for (;;) {
+        struct slices slices = {0};
+        at = list_of_slices(at, end, &slices);
+        uint64_t digits = 0;
+        for (size_t each = 0; each < slices.count; each++) digits += slices.items[each].length;
+        free(slices.items);
+        if (!at) return total;
+        total += digits;
+    }
+}
+
+/* Where a number ends, or null, and its value. */
+static inline const uint8_t *number(const uint8_t *at, const uint8_t *end, uint64_t *value) {
+    size_t count = digits_at(at, end);
+    if (!count) return NULL;
+    *value = 0;
+    for (; count; count--) *value = *value * 10 + (*at++ - '0');
+    return at;
+}
+
+static inline const uint8_t *product(const uint8_t *at, const uint8_t *end, uint64_t *value) {
+    at = number(at, end, value);
+    while (at && at != end && *at == '*') {
+        uint64_t factor = 0;
+        const uint8_t *past = number(at + 1, end, &factor);
+        if (!past) return at;
+        *value *= factor;
+        at = past;
+    }
+    return at;
+}
+
+/* Where a sum of products and the end of its line end, or null, and what it comes to. */
+static inline const uint8_t *sum(const uint8_t *at, const uint8_t *end, uint64_t *value) {
+    at = product(at, end, value);
+    while (at && at != end && (*at == '+' || *at == '-')) {
+        uint64_t term = 0;
+        int is_added = *at == '+';
+        const uint8_t *past = product(at + 1, end, &term);
+        if (!past) break;
+        *value = is_added ? *value + term : *value - term;
+        at = past;
+    }
+    return !at || at == end || *at++ != '\n' ? NULL : at;
+}
+
+static uint64_t sums_parse(const uint8_t *bytes, size_t length) {
+    const uint8_t *at = bytes, *end = bytes + length;
+    uint64_t total = 0, value = 0;
+    while ((at = sum(at, end, &value))) total += value;
+    return total;
+}
+
+static uint64_t sums_check(const uint8_t *bytes, size_t length) {
+    const uint8_t *at = bytes, *end = bytes + length;
+    uint64_t times = 0, value = 0;
+    while ((at = sum(at, end, &value))) times += 1;
+    return times;
+}
+
+/* Messages: a byte that says how many bytes follow, and these. */
+static uint64_t messages_parse(const uint8_t *bytes, size_t length) {
+    uint64_t total = 0;
+    for (size_t at = 0; at < length && length - at - 1 >= bytes[at]; at += 1 + bytes[at]) total += bytes[at];
+    return total;
+}
+
+static uint64_t messages_check(const uint8_t *bytes, size_t length) {
+    uint64_t times = 0;
+    for (size_t at = 0; at < length && length - at - 1 >= bytes[at]; at += 1 + bytes[at]) times += 1;
+    return times;
+}
+
 static const char *const keywords[] = {"host", "port", "user", "group", "root", "index",
                                        "log", "level", "cache", "timeout", "retries", "verbose"};
 enum { KEYWORDS = sizeof keywords / sizeof *keywords };
@@ -435,6 +549,48 @@ static struct input make_lists(unsigned count) {
     return made;
 }
 
+/* One list of so many numbers. */
+static struct input make_list(unsigned count) {
+    struct input made = room((size_t)count * 6 + 2);
+    uint8_t *at = made.bytes;
+    *at++ = '[';
+    for (unsigned left = count; left; left--) {
+        at += write_digits(at, 5);
+        if (left > 1) *at++ = ',';
+    }
+    *at++ = ']';
+    *at++ = '\n';
+    made.length = (size_t)(at - made.bytes);
+    return made;
+}
+
+static struct input make_sums(unsigned count) {
+    struct input made = room((size_t)count * (NUMBERS * 5 + 6));
+    uint8_t *at = made.bytes;
+    for (unsigned line = 0; line < count; line++) {
+        at += write_digits(at, 4);
+        for (unsigned left = below(NUMBERS); left; left--) {
+            *at++ = (uint8_t)"+-*"[below(3)];
+            at += write_digits(at, 4);
+        }
+        *at++ = '\n';
+    }
+    made.length = (size_t)(at - made.bytes);
+    return made;
+}
+
+static struct input make_messages(unsigned count) {
+    struct input made = room((size_t)count * 65);
+    uint8_t *at = made.bytes;
+    for (unsigned each = 0; each < count; each++) {
+        unsigned length = below(65);
+        *at++ = (uint8_t)length;
+        while (length--) *at++ = (uint8_t)below(256);
+    }
+    made.length = (size_t)(at - made.bytes);
+    return made;
+}
+
 static struct input make_settings(unsigned count) {
     struct input made = room((size_t)count * 16);
     uint8_t *at = made.bytes;
@@ -502,9 +658,10 @@ static struct input make_json(unsigned count) {
 
 /* Rounds. */
 
+/* The processor's time, so that what else runs on the machine counts less. */
 static double now(void) {
     struct timespec time;
-    clock_gettime(CLOCK_MONOTONIC, &time);
+    clock_gettime(CLOCK_PROCESS_CPUTIME_ID, &time);
     return (double)time.tv_sec + (double)time.tv_nsec * 1e-9;
 }
 
@@ -553,13 +710,91 @@ static void print(const struct job *job) {
     printf("\n");
 }
 
+/* Growth: how long a byte takes, and how much memory, of inputs of several sizes. */
+
+struct growth {
+    const char *name;
+    job_function *ways[WAYS];
+    struct input (*make)(unsigned count);
+    unsigned bytes_each;
+};
+
+struct cost {
+    double nanoseconds, peak;
+};
+
+/* One way of a job, in a process of its own, whose memory is its own too. */
+static struct cost cost_of(job_function *way, struct input input, double seconds) {
+    struct cost cost = {0, 0};
+    int ends[2];
+    if (pipe(ends)) exit(2);
+    pid_t child = fork();
+    if (child < 0) exit(2);
+    if (child == 0) {
+        struct rusage before, after;
+        getrusage(RUSAGE_SELF, &before);
+        double start = now(), best = 1e9;
+        for (int round = 0; round < 1 || now() - start < seconds; round++) {
+            double from = now();
+            volatile uint64_t number = way(input.bytes, input.length);
+            (void)number;
+            if (now() - from < best) best = now() - from;
+        }
+        getrusage(RUSAGE_SELF, &after);
+        cost.nanoseconds = best * 1e9 / (double)input.length;
+        cost.peak = (double)(after.ru_maxrss - before.ru_maxrss) * 1024 / (double)input.length;
+        _exit(write(ends[1], &cost, sizeof cost) != sizeof cost);
+    }
+    int status;
+    if (waitpid(child, &status, 0) != child || status) exit(2);
+    if (read(ends[0], &cost, sizeof cost) != sizeof cost) exit(2);
+    close(ends[0]);
+    close(ends[1]);
+    return cost;
+}
+
+static int grow(double seconds, const char *only) {
+    struct growth growths[] = {
+        {"list of strings", {bench_lists_parse, lists_parse, RUST(lists_parse)}, make_list, 4},
+        {"list of slices", {bench_slices_parse, slices_parse, RUST(slices_parse)}, make_list, 4},
+        {"json parse", {bench_json_parse, json_parse, RUST(json_parse)}, make_json, 195},
+        {"json check", {bench_json_check, json_check, RUST(json_check)}, make_json, 195},
+    };
+    static const char *const names[WAYS] = {"parsers", "C", "Rust"};
+    int all_agree = 1;
+    printf("%-16s %11s   %s\n", "job", "bytes", "of each way nanoseconds a byte, and from 10 MB on peak bytes a byte above the input");
+    for (size_t each = 0; each < sizeof growths / sizeof *growths; each++) {
+        const struct growth *growth = growths + each;
+        if (strncmp(growth->name, only, strlen(only))) continue;
+        for (unsigned size = 1000; size <= 100000000; size *= size == 1000 || size == 100000 ? 100 : 10) {
+            struct input input = growth->make(size / growth->bytes_each + 1);
+            struct job job = {growth->name, {growth->ways[0], growth->ways[1], growth->ways[2]}, input, {0}};
+            if (size <= 100000 && !agree(&job)) all_agree = 0;
+            printf("%-16s %11zu  ", growth->name, input.length);
+            for (int way = 0; way < WAYS; way++) {
+                if (!growth->ways[way]) continue;
+                struct cost cost = cost_of(growth->ways[way], input, seconds);
+                printf("  %8s %7.2f", names[way], cost.nanoseconds);
+                if (size >= 1000000) printf(" %6.2f", cost.peak);
+            }
+            printf("\n");
+            fflush(stdout);
+            free(input.bytes);
+        }
+    }
+    return all_agree ? 0 : 1;
+}
+
 int main(int count, char **arguments) {
+    int grows = count > 1 && !strcmp(arguments[1], "growth");
+    if (grows) count--, arguments++;
     double seconds = count > 1 ? atof(arguments[1]) : 1;
     const char *only = count > 2 ? arguments[2] : "";
+    if (grows) return grow(seconds, only);
     struct input dates = make_dates(5000), words = make_words(10000), headers = make_headers(10000);
     struct input digits = make_digits(5000), lists = make_lists(2000), settings = make_settings(5000);
     struct input shallow = make_brackets(2, 25000), deep = make_brackets(100000, 1), json = make_json(300);
-    struct input failing = make_failing(2000);
+    struct input failing = make_failing(2000), sums = make_sums(3000), messages = make_messages(2000);
     struct job jobs[] = {
         {"dates parse", {bench_dates_parse, dates_parse, RUST(dates_parse)}, dates, {0}},
         {"dates check", {bench_dates_check, dates_check, RUST(dates_check)}, dates, {0}},
@@ -573,6 +808,14 @@ int main(int count, char **arguments) {
         {"lists check", {bench_lists_check, lists_check, RUST(lists_check)}, lists, {0}},
         {"settings parse", {bench_settings_parse, settings_parse, RUST(settings_parse)}, settings, {0}},
         {"settings check", {bench_settings_check, settings_check, RUST(settings_check)}, settings, {0}},
+        {"keys parse", {bench_keys_parse, settings_parse, RUST(settings_parse)}, settings, {0}},
+        {"keys check", {bench_keys_check, settings_check, RUST(settings_check)}, settings, {0}},
+        {"slices parse", {bench_slices_parse, slices_parse, RUST(slices_parse)}, lists, {0}},
+        {"slices check", {bench_slices_check, lists_check, RUST(lists_check)}, lists, {0}},
+        {"sums parse", {bench_sums_parse, sums_parse, RUST(sums_parse)}, sums, {0}},
+        {"sums check", {bench_sums_check, sums_check, RUST(sums_check)}, sums, {0}},
+        {"messages parse", {bench_messages_parse, messages_parse, RUST(messages_parse)}, messages, {0}},
+        {"messages check", {bench_messages_check, messages_check, RUST(messages_check)}, messages, {0}},
         {"shallow parse", {bench_brackets_parse, brackets_parse, RUST(brackets_parse)}, shallow, {0}},
         {"shallow check", {bench_brackets_check, brackets_check, RUST(brackets_check)}, shallow, {0}},
         {"deep parse", {bench_brackets_parse, brackets_parse, RUST(brackets_parse)}, deep, {0}},

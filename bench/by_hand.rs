@@ -32,6 +32,11 @@ jobs! {
     rust_lists_check = lists_check;
     rust_settings_parse = settings_parse;
     rust_settings_check = settings_check;
+    rust_slices_parse = slices_parse;
+    rust_sums_parse = sums_parse;
+    rust_sums_check = sums_check;
+    rust_messages_parse = messages_parse;
+    rust_messages_check = messages_check;
     rust_brackets_parse = brackets_parse;
     rust_brackets_check = brackets_check;
     rust_json_parse = json_parse;
@@ -180,6 +185,86 @@ fn lists_parse(mut bytes: &[u8]) -> u64 {
 fn lists_check(mut bytes: &[u8]) -> u64 {
     let mut times = 0;
     while let Some(rest) = list(bytes, |_| ()) {
+        times += 1;
+        bytes = rest;
+    }
+    times
+}
+
+fn slices_parse(mut bytes: &[u8]) -> u64 {
+    let mut total = 0;
+    loop {
+        let mut numbers: Vec<&[u8]> = Vec::new();
+        let Some(rest) = list(bytes, |digits| numbers.push(digits)) else {
+            return total;
+        };
+        total += numbers.iter().map(|number| number.len() as u64).sum::<u64>();
+        bytes = rest;
+    }
+}
+
+fn number(bytes: &[u8]) -> Option<(u64, &[u8])> {
+    let (digits, rest) = split_digits(bytes)?;
+    let with_digit = |number: u64, digit: &u8| number.wrapping_mul(10).wrapping_add(u64::from(digit - b'0'));
+    Some((digits.iter().fold(0, with_digit), rest))
+}
+
+fn product(bytes: &[u8]) -> Option<(u64, &[u8])> {
+    let (mut value, mut rest) = number(bytes)?;
+    while let Some((factor, after)) = rest.strip_prefix(b"*").and_then(number) {
+        value = value.wrapping_mul(factor);
+        rest = after;
+    }
+    Some((value, rest))
+}
+
+/// What a sum of products comes to, and what follows it and the end of its line.
+fn sum(bytes: &[u8]) -> Option<(u64, &[u8])> {
+    let (mut value, mut rest) = product(bytes)?;
+    while let Some((sign @ (b'+' | b'-'), after)) = rest.split_first() {
+        let Some((term, after)) = product(after) else { break };
+        value = if *sign == b'+' { value.wrapping_add(term) } else { value.wrapping_sub(term) };
+        rest = after;
+    }
+    Some((value, rest.strip_prefix(b"\n")?))
+}
+
+fn sums_parse(mut bytes: &[u8]) -> u64 {
+    let mut total = 0u64;
+    while let Some((value, rest)) = sum(bytes) {
+        total = total.wrapping_add(value);
+        bytes = rest;
+    }
+    total
+}
+
+fn sums_check(mut bytes: &[u8]) -> u64 {
+    let mut times = 0;
+    while let Some((_, rest)) = sum(bytes) {
+        times += 1;
+        bytes = rest;
+    }
+    times
+}
+
+/// What a message holds, and what follows it.
+fn message(bytes: &[u8]) -> Option<(&[u8], &[u8])> {
+    let (length, rest) = bytes.split_first()?;
+    rest.split_at_checked(usize::from(*length))
+}
+
+fn messages_parse(mut bytes: &[u8]) -> u64 {
+    let mut total = 0;
+    while let Some((content, rest)) = message(bytes) {
+        total += content.len() as u64;
+        bytes = rest;
+    }
+    total
+}
+
+fn messages_check(mut bytes: &[u8]) -> u64 {
+    let mut times = 0;
+    while let Some((_, rest)) = message(bytes) {
         times += 1;
         bytes = rest;
     }

@@ -6,6 +6,8 @@ mod dates;
 mod grammars;
 mod headers;
 mod lists;
+mod messages;
 mod run;
 mod settings;
+mod sums;
 mod words;

@@ -19,6 +19,18 @@ pub extern "C" fn bench_settings_check(alloc: Global, bytes: &[u8]) -> u64 {
     settings(alloc, bytes, false)
 }
 
+/// The sum of `bench_settings_parse`, by keywords in tuples.
+#[unsafe(no_mangle)]
+pub extern "C" fn bench_keys_parse(alloc: Global, bytes: &[u8]) -> u64 {
+    keys(alloc, bytes, true)
+}
+
+/// The number of lines.
+#[unsafe(no_mangle)]
+pub extern "C" fn bench_keys_check(alloc: Global, bytes: &[u8]) -> u64 {
+    keys(alloc, bytes, false)
+}
+
 type Word<'src> = To<Just<&'static str, &'src str, EmptyText>, &'static str, u64>;
 
 fn word<'src>(text: &'static str, number: u64) -> Word<'src> {
@@ -52,6 +64,41 @@ fn settings(alloc: Global, bytes: &[u8], wanted: bool) -> u64 {
             let digits = one_of('0'..='9').repeated().at_least(1).at_most(4);
             let value = switch().or(digits.count().map(|count| count as u64));
             let line = group((keyword(), just(" = "), value, just('\n'))).map(|(key, _, value, _): (
+                u64,
+                &str,
+                u64,
+                char,
+            )| key.wrapping_mul(value));
+            again(&line, alloc, text, wanted)
+        }
+        Err(_) => 0,
+    }
+}
+
+fn keys(alloc: Global, bytes: &[u8], wanted: bool) -> u64 {
+    match std::str::from_utf8(bytes) {
+        Ok(text) => {
+            let first = choice((
+                word("host", 1),
+                word("port", 2),
+                word("user", 3),
+                word("group", 4),
+                word("root", 5),
+                word("index", 6),
+            ));
+            let second = choice((
+                word("log", 7),
+                word("level", 8),
+                word("cache", 9),
+                word("timeout", 10),
+                word("retries", 11),
+                word("verbose", 12),
+            ));
+            let key = choice((first, second));
+            let digits = one_of('0'..='9').repeated().at_least(1).at_most(4);
+            let count = digits.count().map(|count| count as u64);
+            let value = choice((word("true", 1), word("false", 2))).or(count);
+            let line = group((key, just(" = "), value, just('\n'))).map(|(key, _, value, _): (
                 u64,
                 &str,
                 u64,
