@@ -12,15 +12,15 @@ typedef uint64_t job_function(const uint8_t *bytes, size_t length);
 
 job_function bench_dates_parse, bench_dates_check, bench_words_parse, bench_words_check, bench_headers_parse,
     bench_headers_check, bench_digits_parse, bench_digits_check, bench_lists_parse, bench_lists_check,
-    bench_settings_parse, bench_settings_check, bench_keys_parse, bench_keys_check, bench_slices_parse,
-    bench_slices_check, bench_sums_parse, bench_sums_check, bench_messages_parse, bench_messages_check,
+    bench_settings_parse, bench_settings_check, bench_keys_parse, bench_keys_check, bench_sums_parse,
+    bench_sums_check, bench_messages_parse, bench_messages_check,
     bench_brackets_parse, bench_brackets_check, bench_json_parse,
     bench_json_check, bench_fail_empty, bench_fail_rich;
 
 #ifdef WITH_RUST
 job_function rust_dates_parse, rust_dates_check, rust_words_parse, rust_words_check, rust_headers_parse,
     rust_headers_check, rust_digits_parse, rust_digits_check, rust_lists_parse, rust_lists_check,
-    rust_settings_parse, rust_settings_check, rust_slices_parse, rust_sums_parse, rust_sums_check,
+    rust_settings_parse, rust_settings_check, rust_sums_parse, rust_sums_check,
     rust_messages_parse, rust_messages_check, rust_brackets_parse, rust_brackets_check, rust_json_parse,
     rust_json_check, rust_fail;
 #define RUST(name) rust_##name
@@ -237,52 +237,6 @@ static uint64_t lists_check(const uint8_t *bytes, size_t length) {
     uint64_t times = 0;
     while ((at = list(at, end, NULL))) times += 1;
     return times;
-}
-
-/* The numbers of a list, each where it lies. */
-struct slices {
-    struct slice {
-        const uint8_t *at;
-        size_t length;
-    } * items;
-    size_t count, room;
-};
-
-static void push_slice(struct slices *slices, const uint8_t *at, size_t length) {
-    if (slices->count == slices->room) {
-        slices->room = slices->room ? 2 * slices->room : 4;
-        slices->items = realloc(slices->items, slices->room * sizeof *slices->items);
-        if (!slices->items) exit(2);
-    }
-    slices->items[slices->count++] = (struct slice){at, length};
-}
-
-/* Where a list and the end of its line end, or null. */
-static inline const uint8_t *list_of_slices(const uint8_t *at, const uint8_t *end, struct slices *slices) {
-    if (at == end || *at++ != '[') return NULL;
-    size_t count = digits_at(at, end);
-    while (count) {
-        push_slice(slices, at, count);
-        at += count;
-        count = at != end && *at == ',' ? digits_at(at + 1, end) : 0;
-        at += count != 0;
-    }
-    if (at == end || *at++ != ']') return NULL;
-    return at == end || *at++ != '\n' ? NULL : at;
-}
-
-static uint64_t slices_parse(const uint8_t *bytes, size_t length) {
-    const uint8_t *at = bytes, *end = bytes + length;
-    uint64_t total = 0;
-    for (;;) {
-        struct slices slices = {0};
-        at = list_of_slices(at, end, &slices);
-        uint64_t digits = 0;
-        for (size_t each = 0; each < slices.count; each++) digits += slices.items[each].length;
-        free(slices.items);
-        if (!at) return total;
-        total += digits;
-    }
 }
 
 /* Where a number ends, or null, and its value. */
@@ -756,7 +710,6 @@ static struct cost cost_of(job_function *way, struct input input, double seconds
 static int grow(double seconds, const char *only) {
     struct growth growths[] = {
         {"list of strings", {bench_lists_parse, lists_parse, RUST(lists_parse)}, make_list, 4},
-        {"list of slices", {bench_slices_parse, slices_parse, RUST(slices_parse)}, make_list, 4},
         {"json parse", {bench_json_parse, json_parse, RUST(json_parse)}, make_json, 195},
         {"json check", {bench_json_check, json_check, RUST(json_check)}, make_json, 195},
     };
@@ -810,8 +763,6 @@ int main(int count, char **arguments) {
         {"settings check", {bench_settings_check, settings_check, RUST(settings_check)}, settings, {0}},
         {"keys parse", {bench_keys_parse, settings_parse, RUST(settings_parse)}, settings, {0}},
         {"keys check", {bench_keys_check, settings_check, RUST(settings_check)}, settings, {0}},
-        {"slices parse", {bench_slices_parse, slices_parse, RUST(slices_parse)}, lists, {0}},
-        {"slices check", {bench_slices_check, lists_check, RUST(lists_check)}, lists, {0}},
         {"sums parse", {bench_sums_parse, sums_parse, RUST(sums_parse)}, sums, {0}},
         {"sums check", {bench_sums_check, sums_check, RUST(sums_check)}, sums, {0}},
         {"messages parse", {bench_messages_parse, messages_parse, RUST(messages_parse)}, messages, {0}},

@@ -32,7 +32,6 @@ jobs! {
     rust_lists_check = lists_check;
     rust_settings_parse = settings_parse;
     rust_settings_check = settings_check;
-    rust_slices_parse = slices_parse;
     rust_sums_parse = sums_parse;
     rust_sums_check = sums_check;
     rust_messages_parse = messages_parse;
@@ -189,18 +188,6 @@ fn lists_check(mut bytes: &[u8]) -> u64 {
         bytes = rest;
     }
     times
-}
-
-fn slices_parse(mut bytes: &[u8]) -> u64 {
-    let mut total = 0;
-    loop {
-        let mut numbers: Vec<&[u8]> = Vec::new();
-        let Some(rest) = list(bytes, |digits| numbers.push(digits)) else {
-            return total;
-        };
-        total += numbers.iter().map(|number| number.len() as u64).sum::<u64>();
-        bytes = rest;
-    }
 }
 
 fn number(bytes: &[u8]) -> Option<(u64, &[u8])> {
