@@ -1,5 +1,6 @@
 //! One clone of each type that can be cloned, of parts whose clones take memory.
 use crate::cloning::Cloning;
+use crate::line::Line;
 use arrayvec::ArrayVec;
 use chumsky::combinator::RepeatedCfg;
 use chumsky::extra::RichText;
@@ -13,14 +14,7 @@ use chumsky::{DefaultExpected, IterParserDebug, Stop};
 use std::alloc::Global;
 
 /// Primitives.
-#[unsafe(no_mangle)]
-pub extern "C" fn sweep_clone_primitive(
-    alloc: Global,
-    row: usize,
-    _check: bool,
-    again: bool,
-    out: &mut [u8],
-) -> usize {
+pub fn sweep_clone_primitive(alloc: Global, row: usize, _check: bool, again: bool) -> Line {
     let mut cloning = Cloning::new(alloc, again);
     match row {
         0 => cloning.show(end::<&str, RichText>()),
@@ -44,18 +38,11 @@ pub extern "C" fn sweep_clone_primitive(
         9 => cloning.show(select_ref::<_, &[char], char, extra::Default>(|c, _| Some(*c))),
         _ => cloning.none(),
     }
-    cloning.hand_over(out)
+    cloning.line()
 }
 
 /// Sequences, choices, groups and sets.
-#[unsafe(no_mangle)]
-pub extern "C" fn sweep_clone_sequence(
-    alloc: Global,
-    row: usize,
-    _check: bool,
-    again: bool,
-    out: &mut [u8],
-) -> usize {
+pub fn sweep_clone_sequence(alloc: Global, row: usize, _check: bool, again: bool) -> Line {
     let mut cloning = Cloning::new(alloc, again);
     let (a, b) = (cloning.held(), cloning.held());
     match row {
@@ -78,18 +65,11 @@ pub extern "C" fn sweep_clone_sequence(
         13 => cloning.show(a.lazy()),
         _ => cloning.none(),
     }
-    cloning.hand_over(out)
+    cloning.line()
 }
 
 /// What is made of an output.
-#[unsafe(no_mangle)]
-pub extern "C" fn sweep_clone_mapped(
-    alloc: Global,
-    row: usize,
-    _check: bool,
-    again: bool,
-    out: &mut [u8],
-) -> usize {
+pub fn sweep_clone_mapped(alloc: Global, row: usize, _check: bool, again: bool) -> Line {
     let mut cloning = Cloning::new(alloc, again);
     let a = cloning.held();
     match row {
@@ -115,18 +95,11 @@ pub extern "C" fn sweep_clone_mapped(
         16 => cloning.show(a.map_err_with_state(|error, _, _| error)),
         _ => cloning.none(),
     }
-    cloning.hand_over(out)
+    cloning.line()
 }
 
 /// Lists, and what is made of them.
-#[unsafe(no_mangle)]
-pub extern "C" fn sweep_clone_items(
-    alloc: Global,
-    row: usize,
-    _check: bool,
-    again: bool,
-    out: &mut [u8],
-) -> usize {
+pub fn sweep_clone_items(alloc: Global, row: usize, _check: bool, again: bool) -> Line {
     let mut cloning = Cloning::new(alloc, again);
     let a = cloning.held();
     match row {
@@ -167,18 +140,11 @@ pub extern "C" fn sweep_clone_items(
         }
         _ => cloning.none(),
     }
-    cloning.hand_over(out)
+    cloning.line()
 }
 
 /// Parsers under contexts, states and configurations, and over nested inputs.
-#[unsafe(no_mangle)]
-pub extern "C" fn sweep_clone_under(
-    alloc: Global,
-    row: usize,
-    _check: bool,
-    again: bool,
-    out: &mut [u8],
-) -> usize {
+pub fn sweep_clone_under(alloc: Global, row: usize, _check: bool, again: bool) -> Line {
     let mut cloning = Cloning::new(alloc, again);
     let text = cloning.text();
     match row {
@@ -222,7 +188,7 @@ pub extern "C" fn sweep_clone_under(
         }
         _ => cloning.none(),
     }
-    cloning.hand_over(out)
+    cloning.line()
 }
 
 /// Errors that say what was expected, under a text.
@@ -232,14 +198,7 @@ type OnText = extra::Full<Rich<char>, (), String>;
 type OnByte = extra::Full<Rich<char>, (), u8>;
 
 /// Values.
-#[unsafe(no_mangle)]
-pub extern "C" fn sweep_clone_value(
-    alloc: Global,
-    row: usize,
-    _check: bool,
-    again: bool,
-    out: &mut [u8],
-) -> usize {
+pub fn sweep_clone_value(alloc: Global, row: usize, _check: bool, again: bool) -> Line {
     let mut cloning = Cloning::new(alloc, again);
     let text = cloning.text();
     match row {
@@ -279,20 +238,13 @@ pub extern "C" fn sweep_clone_value(
         },
         _ => cloning.none(),
     }
-    cloning.hand_over(out)
+    cloning.line()
 }
 
 /// An expectation of a token that is lent, as one of its own.
-#[unsafe(no_mangle)]
-pub extern "C" fn sweep_into_owned(
-    alloc: Global,
-    _row: usize,
-    _check: bool,
-    again: bool,
-    out: &mut [u8],
-) -> usize {
+pub fn sweep_into_owned(alloc: Global, _row: usize, _check: bool, again: bool) -> Line {
     let mut cloning = Cloning::new(alloc, again);
     let text = cloning.text();
     cloning.show_owned(&text);
-    cloning.hand_over(out)
+    cloning.line()
 }

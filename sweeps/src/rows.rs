@@ -1,4 +1,5 @@
 //! Sets, groups, filters and nested inputs over texts.
+use crate::line::Line;
 use crate::run::{Asked, over};
 use chumsky::extra::{Err, RichText};
 use chumsky::prelude::*;
@@ -9,79 +10,44 @@ use std::alloc::Global;
 type Merging = Err<Merges>;
 
 /// Three texts in any order.
-#[unsafe(no_mangle)]
-pub extern "C" fn sweep_set(
-    alloc: Global,
-    _row: usize,
-    check: bool,
-    again: bool,
-    out: &mut [u8],
-) -> usize {
+pub fn sweep_set(alloc: Global, _row: usize, check: bool, again: bool) -> Line {
     let three = set((just::<_, &str, RichText>("abc"), just("def"), just("ijk")));
-    over(&three, alloc, "ijkdefabc", Asked { check, again }).hand_over(out)
+    over(&three, alloc, "ijkdefabc", Asked { check, again })
 }
 
 /// Failures at one place, which are merged from the left, those of a filtered part before the others.
-#[unsafe(no_mangle)]
-pub extern "C" fn sweep_filtered_merges(
-    alloc: Global,
-    _row: usize,
-    check: bool,
-    again: bool,
-    out: &mut [u8],
-) -> usize {
+pub fn sweep_filtered_merges(alloc: Global, _row: usize, check: bool, again: bool) -> Line {
     let three = group((
         just::<_, &str, Merging>('a').or_not(),
         choice((just('b'), just('c'))).filter(|_| true).or_not(),
         just('d'),
     ));
-    over(&three, alloc, "", Asked { check, again }).hand_over(out)
+    over(&three, alloc, "", Asked { check, again })
 }
 
 /// Failures at one place, which are merged from the left.
-#[unsafe(no_mangle)]
-pub extern "C" fn sweep_merges(
-    alloc: Global,
-    _row: usize,
-    check: bool,
-    again: bool,
-    out: &mut [u8],
-) -> usize {
+pub fn sweep_merges(alloc: Global, _row: usize, check: bool, again: bool) -> Line {
     let three = group((
         just::<_, &str, Merging>('a').or_not(),
         choice((just('b'), just('c'))).or_not(),
         just('d'),
     ));
-    over(&three, alloc, "", Asked { check, again }).hand_over(out)
+    over(&three, alloc, "", Asked { check, again })
 }
 
 /// A filter that lets nothing pass.
-#[unsafe(no_mangle)]
-pub extern "C" fn sweep_filter(
-    alloc: Global,
-    _row: usize,
-    check: bool,
-    again: bool,
-    out: &mut [u8],
-) -> usize {
+pub fn sweep_filter(alloc: Global, _row: usize, check: bool, again: bool) -> Line {
     let three = group((
         just::<_, &str, RichText>("a").or_not(),
         just("b").filter(|_| false).or_not(),
         just("c"),
     ));
-    over(&three, alloc, "b", Asked { check, again }).hand_over(out)
+    over(&three, alloc, "b", Asked { check, again })
 }
 
 /// A character of an inner text, and not that of the row.
-#[unsafe(no_mangle)]
-pub extern "C" fn sweep_nested(
-    alloc: Global,
-    _row: usize,
-    check: bool,
-    again: bool,
-    out: &mut [u8],
-) -> usize {
+pub fn sweep_nested(alloc: Global, _row: usize, check: bool, again: bool) -> Line {
     let outer = just::<_, &str, Err<Rich<char>>>('a').to("2");
     let one = just::<_, &str, Err<Rich<char>>>('1').nested_in(outer);
-    over(&one, alloc, "a", Asked { check, again }).hand_over(out)
+    over(&one, alloc, "a", Asked { check, again })
 }

@@ -251,38 +251,17 @@ fn over_row(alloc: Global, row: usize, asks: Asks, again: bool) -> Line {
 }
 
 /// Builds and closes the rules of a row, and asks for the limit of three tokens.
-#[unsafe(no_mangle)]
-pub extern "C" fn sweep_closing(
-    alloc: Global,
-    row: usize,
-    _check: bool,
-    again: bool,
-    out: &mut [u8],
-) -> usize {
-    over_row(alloc, row, Asks::Limit, again).hand_over(out)
+pub fn sweep_closing(alloc: Global, row: usize, _check: bool, again: bool) -> Line {
+    over_row(alloc, row, Asks::Limit, again)
 }
 
 /// Asks whether the rules of a row are well-founded.
-#[unsafe(no_mangle)]
-pub extern "C" fn sweep_well_founded(
-    alloc: Global,
-    row: usize,
-    _check: bool,
-    again: bool,
-    out: &mut [u8],
-) -> usize {
-    over_row(alloc, row, Asks::Founded, again).hand_over(out)
+pub fn sweep_well_founded(alloc: Global, row: usize, _check: bool, again: bool) -> Line {
+    over_row(alloc, row, Asks::Founded, again)
 }
 
 /// Runs a grammar.
-#[unsafe(no_mangle)]
-pub extern "C" fn sweep_grammar(
-    alloc: Global,
-    row: usize,
-    check: bool,
-    again: bool,
-    out: &mut [u8],
-) -> usize {
+pub fn sweep_grammar(alloc: Global, row: usize, check: bool, again: bool) -> Line {
     let (grammar, text, limit) = match row {
         0 => (0, "[[]]", 3),
         1 => (0, "[[]]", 2),
@@ -294,7 +273,7 @@ pub extern "C" fn sweep_grammar(
         7 => (3, "a", 1),
         _ => (3, "b", 1),
     };
-    over_row(alloc, grammar, Asks::Run(text, limit, check), again).hand_over(out)
+    over_row(alloc, grammar, Asks::Run(text, limit, check), again)
 }
 
 /// Each node call once.
@@ -337,19 +316,12 @@ fn say_recursive(alloc: Global, line: &mut Line) {
 }
 
 /// Builds rules by `recursive`, new ones each time.
-#[unsafe(no_mangle)]
-pub extern "C" fn sweep_recursive(
-    alloc: Global,
-    _row: usize,
-    _check: bool,
-    again: bool,
-    out: &mut [u8],
-) -> usize {
+pub fn sweep_recursive(alloc: Global, _row: usize, _check: bool, again: bool) -> Line {
     let mut line = Line::new();
     say_recursive(alloc, &mut line);
     if again {
         line.byte(b'\n');
         say_recursive(alloc, &mut line);
     }
-    line.hand_over(out)
+    line
 }

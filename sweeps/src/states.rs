@@ -11,14 +11,7 @@ use std::alloc::Global;
 type Restored = Full<Rich<char>, RollbackState<u64>, ()>;
 
 /// What is left of a number that a failed alternative counted up.
-#[unsafe(no_mangle)]
-pub extern "C" fn sweep_restored_state(
-    alloc: Global,
-    _row: usize,
-    check: bool,
-    again: bool,
-    out: &mut [u8],
-) -> usize {
+pub fn sweep_restored_state(alloc: Global, _row: usize, check: bool, again: bool) -> Line {
     let pair = any::<&str, Restored>()
         .map_with(|c, extra| {
             extra.state().0 = extra.state().0.wrapping_add(1);
@@ -32,21 +25,14 @@ pub extern "C" fn sweep_restored_state(
         line.byte(b'\n');
         from_zero(&pair, alloc, check, &mut line);
     }
-    line.hand_over(out)
+    line
 }
 
 /// Errors of a text, and a text that is restored: each save and each rewind takes memory.
 type RestoredText = Full<Rich<char>, RollbackState<String>, ()>;
 
 /// A text that is restored, where an alternative failed.
-#[unsafe(no_mangle)]
-pub extern "C" fn sweep_restored_text(
-    alloc: Global,
-    _row: usize,
-    check: bool,
-    again: bool,
-    out: &mut [u8],
-) -> usize {
+pub fn sweep_restored_text(alloc: Global, _row: usize, check: bool, again: bool) -> Line {
     let pair = any::<&str, RestoredText>()
         .map_with(|c, extra| {
             extra.state().0.clear();
@@ -60,7 +46,7 @@ pub extern "C" fn sweep_restored_text(
         line.byte(b'\n');
         from_text(&pair, alloc, check, &mut line);
     }
-    line.hand_over(out)
+    line
 }
 
 /// Runs a parser of two characters from a state of one letter, and writes what it leaves of the state where it isn't refused.

@@ -6,7 +6,7 @@ use std::io;
 use std::io::Write;
 
 /// A line that is being written. What is written past its room is lost.
-#[derive(Drop)]
+#[derive(Clone, Copy)]
 pub struct Line {
     bytes: [u8; 320],
     length: usize,
@@ -72,14 +72,6 @@ impl Line {
         for byte in other.written() {
             self.byte(*byte);
         }
-    }
-
-    /// Puts what was written into a buffer, as far as there is room, and says how many bytes it is.
-    pub fn hand_over(&self, out: &mut [u8]) -> usize {
-        for (place, byte) in out.iter_mut().zip(self.written().iter()) {
-            *place = *byte;
-        }
-        self.length
     }
 }
 

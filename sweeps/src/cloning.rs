@@ -139,8 +139,8 @@ impl Cloning {
         self.line.text("no such row");
     }
 
-    /// Puts what was written into a buffer.
-    pub fn hand_over(&self, out: &mut [u8]) -> usize {
-        self.line.hand_over(out)
+    /// What was written.
+    pub fn line(&self) -> Line {
+        self.line
     }
 }

@@ -7,14 +7,7 @@ use std::alloc::Global;
 
 /// One run of the program on the words `parse` or `check` and a name, over a text: its status and what it printed, with `|` at the
 /// end of each line.
-#[unsafe(no_mangle)]
-pub extern "C" fn sweep_chk(
-    alloc: Global,
-    row: usize,
-    check: bool,
-    again: bool,
-    out: &mut [u8],
-) -> usize {
+pub fn sweep_chk(alloc: Global, row: usize, check: bool, again: bool) -> Line {
     let (name, text) = match row {
         0 => ("ab", "ab"),
         1 => ("ab", "ac"),
@@ -40,7 +33,7 @@ pub extern "C" fn sweep_chk(
         line.byte(b'\n');
         say_run(alloc, words.as_slice(), text, &mut line);
     }
-    line.hand_over(out)
+    line
 }
 
 /// Two words, each asked for once more where it is refused.
