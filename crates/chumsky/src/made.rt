@@ -1,5 +1,5 @@
 //! Parsers that are made of others, and have names of their own.
-use chumsky_combinator::mapped::{Map, Mapper};
+use chumsky_combinator::map::{Map, Mapper};
 use chumsky_combinator::then_ignore::ThenIgnore;
 use chumsky_input::input::Tokens;
 use chumsky_items::repeated::Repeated;

@@ -6,7 +6,7 @@ ghost use Rattle.chumsky_choice.specs.InOrder.{StandsByOne, StandsByOneIfAny};
 ghost use Rattle.chumsky_choice.specs.OrLaws.{IsWithin, IsWithinButMemory};
 
 use crate::choice::Choice;
-use chumsky_combinator::choice::Or;
+use chumsky_combinator::or::Or;
 use chumsky_input::extra::ParserExtra;
 use chumsky_input::input::Input;
 use chumsky_parser::parser::Parser;

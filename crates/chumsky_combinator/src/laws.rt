@@ -4,12 +4,12 @@ ghost use Rattle.chumsky_combinator.specs.Compared.{AgreesAs, MapsBlindly, SameO
 ghost use Rattle.chumsky_combinator.specs.Optional.{NeverSaysNo};
 ghost use Rattle.chumsky_combinator.specs.Standing.{SameByStanding};
 
-use crate::choice::Or;
 use crate::ignore_then::IgnoreThen;
+use crate::map::{Map, Mapper};
 use crate::map_with::{MapWith, MapperWith};
-use crate::mapped::{Map, Mapper};
+use crate::or::Or;
 use crate::or_not::OrNot;
-use crate::sequence::Then;
+use crate::then::Then;
 use chumsky_input::extra::ParserExtra;
 use chumsky_input::input::Input;
 use chumsky_parser::parser::Parser;

@@ -1,5 +1,5 @@
 //! The items of one parser, and then those of another.
-use crate::sequence::Then;
+use crate::then::Then;
 use chumsky_input::extra::ParserExtra;
 use chumsky_input::input::Input;
 use chumsky_input::input_ref::InputRef;

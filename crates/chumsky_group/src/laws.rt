@@ -3,7 +3,7 @@ ghost use Rattle.chumsky_combinator.specs.Compared.{ShownAs};
 ghost use Rattle.chumsky_combinator.specs.Compared.{SameOutcomes};
 
 use crate::group::Group;
-use chumsky_combinator::sequence::Then;
+use chumsky_combinator::then::Then;
 use chumsky_input::extra::ParserExtra;
 use chumsky_input::input::Input;
 use chumsky_parser::parser::Parser;

@@ -7,14 +7,14 @@ ghost use Rattle.chumsky_input.specs.Held.{Held};
 ghost use Rattle.chumsky_input.specs.Run.{Ran};
 ghost use Rattle.chumsky_memory.specs.Memory.{NeverOutOfMemory, ItemsNeverOutOfMemory, AnswersWithoutMemory};
 
-use chumsky_combinator::choice::Or;
+use chumsky_combinator::or::Or;
 use chumsky_combinator::delimited_by::DelimitedBy;
 use chumsky_combinator::ignore_then::IgnoreThen;
 use chumsky_combinator::ignored::Ignored;
-use chumsky_combinator::mapped::{Map, Mapper};
+use chumsky_combinator::map::{Map, Mapper};
 use chumsky_combinator::or_not::OrNot;
 use chumsky_combinator::padded_by::PaddedBy;
-use chumsky_combinator::sequence::Then;
+use chumsky_combinator::then::Then;
 use chumsky_combinator::then_ignore::ThenIgnore;
 use chumsky_combinator::to::To;
 use chumsky_context::to_slice::ToSlice;

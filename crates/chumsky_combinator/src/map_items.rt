@@ -1,0 +1,74 @@
+//! Items whose outputs go through a mapper.
+use crate::map::{Map, Mapper};
+use chumsky_input::extra::ParserExtra;
+use chumsky_input::input::Input;
+use chumsky_input::input_ref::InputRef;
+use chumsky_input::stop::PResult;
+use chumsky_parser::iter::{IsIterParser, IterParser, IterParserDebug, Iterates};
+
+impl<I, O, U, E, A: IsIterParser<I, O, E>, F> IsIterParser<I, U, E> for Map<A, O, F, U> {}
+
+impl<A: Iterates, O, F, U> Iterates for Map<A, O, F, U> {
+    /// The iteration inside.
+    type IterState = A::IterState;
+}
+
+impl<
+    'src,
+    I: Input<'src>,
+    O,
+    U,
+    E: ParserExtra<I>,
+    A: IterParser<'src, I, O, E>,
+    F: Mapper<O, U>,
+> IterParser<'src, I, U, E> for Map<A, O, F, U> {
+    ghost use Rattle.chumsky_combinator.specs.Mapped.{IsFunction, SameMapped};
+    ghost use Rattle.chumsky_combinator.specs.MappedItems.{MapsItem};
+    ghost use Rattle.chumsky_combinator.specs.MappedItemsLaws.{maps_item-end, maps_item-agree};
+
+    ghost ready = { λ p. A.ready p.parser × F.callable p.mapper };
+
+    ghost may_step = { λ p s. A.may_step p.parser s × F.callable p.mapper };
+
+    ghost begins = { λ p errors states. A.begins p.parser errors states };
+
+    ghost gives = { λ p d s errors states. MapsItem (F.gives p.mapper) (A.gives p.parser d s errors states) };
+
+    ghost steady = { λ p. A.steady p.parser × IsFunction (F.gives p.mapper) };
+
+    ghost same = { λ p. SameMapped (A.same p.parser) (F.gives p.mapper) };
+
+    ghost alike = { λ p. A.alike p.parser };
+
+    ghost ends_after_start = { λ p d. maps_item-end (F.gives p.mapper) _ _ (A.ends_after_start p.parser d) };
+
+    ghost agrees = { λ p s d. maps_item-agree (F.gives p.mapper) _ _ (A.same p.parser) (A.alike p.parser) (A.agrees p.parser s.0 d) };
+
+    #[inline(always)]
+    fn make_iter(&self, inp: &mut InputRef<'src, '_, I, E>) -> PResult<A::IterState> {
+        self.parser.make_iter(inp)
+    }
+
+    #[inline(always)]
+    fn next_emit(
+        &self,
+        inp: &mut InputRef<'src, '_, I, E>,
+        state: &mut A::IterState,
+        debug: IterParserDebug,
+    ) -> PResult<Option<U>> {
+        match self.parser.next_emit(inp, state, debug)? {
+            None => Ok(None),
+            Some(item) => Ok(Some(self.mapper.apply(item))),
+        }
+    }
+
+    #[inline(always)]
+    fn next_check(
+        &self,
+        inp: &mut InputRef<'src, '_, I, E>,
+        state: &mut A::IterState,
+        debug: IterParserDebug,
+    ) -> PResult<Option<()>> {
+        self.parser.next_check(inp, state, debug)
+    }
+}
