@@ -71,14 +71,6 @@ impl<'s, T: Drop> Iterator for One<'s, T> {
     fn next(&mut self) -> Option<MaybeLabel<'s, T>> {
         self.left.take()
     }
-
-    #[inline]
-    fn size_hint(&self) -> (usize, Option<usize>) {
-        match &self.left {
-            Some(_) => (1, Some(1)),
-            None => (0, Some(0)),
-        }
-    }
 }
 
 impl<'src, 'p, I: Input<'src>, E: ParserExtra<I>> InputRef<'src, 'p, I, E> {
