@@ -273,7 +273,9 @@ where
 #[inline]
 fn room_for(hint: (usize, Option<usize>)) -> usize {
     let (least, most) = hint;
-    most.unwrap_or(least).min(64)
+    let count = most.unwrap_or(least);
+    // The first push makes room for four by itself, and a few patterns are often merged with others.
+    if count > 4 { count.min(64) } else { 0 }
 }
 
 /// Appends a pattern that `patterns` lacks. The bits of `marks` are the buckets that the patterns are in: one in another
