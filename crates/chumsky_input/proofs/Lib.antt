@@ -4,3 +4,4 @@ pub mod Events
 pub mod AsideLemmas
 pub mod Ascii
 pub mod RichLemmas
+pub mod MarkLemmas

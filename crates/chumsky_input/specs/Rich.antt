@@ -1,5 +1,6 @@
 -- What counts of a `Rich`, and how two are merged.
-use Rattle.std.specs.Prelude.{ℕ, Bool, cond, List, [], ◌∷◌, ◌++◌, Option, Some, None, option_map, map, string_bytes}
+use Rattle.std.specs.Prelude.{◌≡◌, ℕ, ◌%◌, ⊤, Bool, true, cond, List, [], ◌∷◌, ◌++◌, Option, Some, None, option_map, map, string_bytes}
+use Rattle.std.specs.Int.{bit_at}
 use Rattle.std.specs.List.{list_any, filter_map}
 use Rattle.std.specs.Ordering.{on}
 use Rattle.chumsky_input.specs.Wanted.{Wanted, wanted_map, wanted_same}
@@ -30,6 +31,34 @@ pattern_seen seen p = wanted_map seen (pattern_wanted p)
 abbrev pub wanted_pattern : {T S : Type 0} → (T → S) → Wanted T → Option (Wanted S)
 wanted_pattern seen wanted.NothingElse = None
 wanted_pattern seen w = Some (wanted_map seen w)
+
+-- the bucket of what was expected, of 128: that of its token, or one for each other kind
+abbrev pub wanted_bucket : {T : Type 0} → (T → ℕ) → Wanted T → ℕ
+wanted_bucket bucket (wanted.Token t) = bucket t % 128
+wanted_bucket bucket wanted.Any = 1
+wanted_bucket bucket wanted.SomethingElse = 2
+wanted_bucket bucket wanted.NothingElse = 3
+wanted_bucket bucket wanted.EndOfInput = 4
+wanted_bucket bucket (wanted.Label text) = 5
+
+-- of m the bits of the buckets are set that t is in, and each token that is equal to t
+pub record MarksToken {T : Type 0} (eq : T → T → Bool) (bucket : T → ℕ) (t : T) (m : ℕ) : Type 0 where
+  pub own : bit_at m (bucket t % 128) ≡ 1
+  pub shared : (y : T) → eq y t ≡ true → bit_at m (bucket y % 128) ≡ 1
+
+-- m has the bit of the bucket of what was expected
+abbrev pub Marks : {T : Type 0} → (T → T → Bool) → (T → ℕ) → Wanted T → ℕ → Type 0
+Marks eq bucket (wanted.Token t) m = MarksToken eq bucket t m
+Marks eq bucket wanted.Any m = m ≡ 2
+Marks eq bucket wanted.SomethingElse m = m ≡ 4
+Marks eq bucket wanted.NothingElse m = m ≡ 8
+Marks eq bucket wanted.EndOfInput m = m ≡ 16
+Marks eq bucket (wanted.Label text) m = m ≡ 32
+
+-- that the bit of each pattern's bucket is set in `marks`
+abbrev pub AreMarked : {T : Type 0} → (T → ℕ) → ℕ → List (RichPattern T) → Type 0
+AreMarked bucket marks [] = ⊤
+AreMarked bucket marks (p ∷ ps) = (bit_at marks (wanted_bucket bucket (pattern_wanted p)) ≡ 1) × AreMarked bucket marks ps
 
 -- the items xs, and then those of ys that are new
 abbrev pub add_new : {P : Type 0} → (P → P → Bool) → List P → List P → List P

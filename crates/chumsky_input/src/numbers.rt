@@ -11,6 +11,13 @@ impl SameClone for u8 {
 
     ghost same = { λ x y. x == y };
 
+    ghost bucket_of = { λ x. x };
+
+    #[inline]
+    fn bucket(&self) -> Option<u32> {
+        Some(*self as u32)
+    }
+
     ghost clone_same = { λ x y e. e };
 
     ghost eq_same = { λ x y. refl };

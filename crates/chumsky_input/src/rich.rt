@@ -1,11 +1,12 @@
 //! An error that says what was expected and what was found.
-ghost use Rattle.std.specs.Prelude.{◌≡◌, ℕ, List, [], ◌∷◌, Option, Some, None, IfOk, IfSome, OnOk, IsOk, map, option_map, option_copied, string_bytes};
+ghost use Rattle.std.specs.Prelude.{◌≡◌, ℕ, ◌%◌, List, [], ◌∷◌, Option, Some, None, IfOk, IfSome, OnOk, IsOk, map, option_map, option_copied, string_bytes};
 ghost use Rattle.std.specs.Iterator.{IsFinite, Drains};
+ghost use Rattle.std.specs.Int.{bit_at};
 ghost use Rattle.std.specs.List.{filter_map};
 ghost use Rattle.std.specs.Slice.Iter.{iter_rest};
 ghost use Rattle.chumsky_input.specs.Maybe.{maybe_value};
 ghost use Rattle.chumsky_input.specs.Wanted.{Label, wanted_same};
-ghost use Rattle.chumsky_input.specs.Rich.{RichSeen, rich_seen, rich_span, rich_found, rich_patterns, rich_message, rich_expectation, rich_merged, Empty, add_new, pattern_same, pattern_seen, pattern_wanted, wanted_pattern};
+ghost use Rattle.chumsky_input.specs.Rich.{RichSeen, rich_seen, rich_span, rich_found, rich_patterns, rich_message, rich_expectation, rich_merged, Empty, add_new, pattern_same, pattern_seen, pattern_wanted, wanted_pattern, Marks, MarksToken, AreMarked};
 ghost use Rattle.chumsky_input.specs.RichLaws.{pattern_same_laws};
 
 use crate::error::Error;
@@ -258,13 +259,79 @@ where
     requires ends { IsFinite (X.remaining expected) }
     ensures { IfOk result (λ v. (xs : List X.Item) × Drains X.next_gives expected xs × (map (pattern_seen T.seen) v.items ≡ add_new (wanted_same T.same) [] (filter_map (wanted_pattern T.seen) (map X.Item.expectation xs)))) }
 {
-    let mut patterns = Vec::new(alloc);
+    let mut patterns = Vec::with_capacity(alloc, room_for(expected.size_hint()))?;
+    let mut marks = 0;
     for item in expected {
         if let Some(pattern) = pattern_of(alloc, &item)? {
-            push_new(&mut patterns, pattern)?;
+            push_pattern(&mut patterns, &mut marks, pattern)?;
         }
     }
     Ok(patterns)
+}
+
+/// How many patterns to make room for at once: as many as may come, but no more than 64, since the hint may be too high.
+#[inline]
+fn room_for(hint: (usize, Option<usize>)) -> usize {
+    let (least, most) = hint;
+    let count = most.unwrap_or(least);
+    // The first push makes room for four by itself, and a few patterns are often merged with others.
+    if count > 4 { count.min(64) } else { 0 }
+}
+
+/// Appends a pattern that `patterns` lacks. The bits of `marks` are the buckets that the patterns are in: one in another
+/// bucket differs from all of them, and is compared with none.
+#[inline]
+fn push_pattern<T: SameClone + Drop>(
+    patterns: &mut Vec<RichPattern<T>>,
+    marks: &mut u128,
+    pattern: RichPattern<T>,
+) -> Result<(), AllocError>
+    requires marked { AreMarked T.bucket_of marks.old patterns.old.items }
+    ensures items { OnOk result (patterns.new.items ≡ add_new (pattern_same T.eq) patterns.old.items (pattern ∷ [])) }
+    ensures marked { OnOk result (AreMarked T.bucket_of marks.new patterns.new.items) }
+{
+    let mark = mark_of(&pattern);
+    let is_new = *marks & mark == 0;
+    *marks |= mark;
+    if is_new {
+        patterns.push(pattern)?;
+    } else {
+        push_new(patterns, pattern)?;
+    }
+    Ok(())
+}
+
+/// The bit of a pattern's bucket: that of its token, or one for each other kind.
+#[inline]
+fn mark_of<T: SameClone>(pattern: &RichPattern<T>) -> u128
+    ensures { Marks T.eq T.bucket_of (pattern_wanted pattern.now) result }
+{
+    match pattern {
+        RichPattern::Token(token) => token_mark(token),
+        RichPattern::Any => 2,
+        RichPattern::SomethingElse => 4,
+        RichPattern::EndOfInput => 16,
+        RichPattern::Label(_) => 32,
+    }
+}
+
+/// The bit of a token's bucket, or all bits where its bucket isn't known.
+#[inline]
+fn token_mark<T: SameClone>(token: &T) -> u128
+    ensures { MarksToken T.eq T.bucket_of token.now result }
+{
+    match token.bucket() {
+        Some(bucket) => bucket_bit(bucket),
+        None => u128::MAX,
+    }
+}
+
+/// The bit of a bucket, of 128.
+#[inline]
+fn bucket_bit(bucket: u32) -> u128
+    ensures { bit_at result (bucket % 128) ≡ 1 }
+{
+    1 << (bucket % 128)
 }
 
 /// Appends the items of `others` that `items` lacks.

@@ -1,8 +1,8 @@
 //! Values whose clones are as good as they.
-ghost use Rattle.std.specs.Prelude.{◌≡◌, ◌==◌, ℕ, Bool, true, List, ◌&&◌, map, nat_eq, refl, string_bytes, ⊤};
+ghost use Rattle.std.specs.Prelude.{◌≡◌, ◌==◌, ℕ, Bool, true, List, ◌&&◌, map, nat_eq, refl, string_bytes, ⊤, IfSome};
 ghost use Rattle.std.specs.Cmp.Lexicographic.{pointwise};
 ghost use Rattle.std.proofs.Math.Bool.{beq};
-ghost use Rattle.chumsky_input.specs.Same.{map_same, pair_same, items_equal, both_equal};
+ghost use Rattle.chumsky_input.specs.Same.{IsBucket, map_same, pair_same, items_equal, both_equal};
 
 /// A type whose clones contracts can't tell from their originals, and whose `==` looks at nothing else.
 ///
@@ -16,6 +16,17 @@ pub trait SameClone: Clone + PartialEq {
     /// `==`, by what counts.
     ghost same: { Seen → Seen → Bool };
 
+    /// The number of a value's bucket.
+    ghost bucket_of: { Self → ℕ } = { λ _. 0 };
+
+    /// The number of the value's bucket, by which values in two buckets are told apart with no comparison: two that are
+    /// equal are in one, and others may be. None where the type has no quick answer, as by default.
+    fn bucket(&self) -> Option<u32>
+        ensures { IfSome result (IsBucket Self.eq bucket_of self.now) }
+    {
+        None
+    }
+
     ghost clone_same: { (x y : Self) → Self.is_clone x y → seen y ≡ seen x };
 
     ghost eq_same: { (x y : Self) → Self.eq x y ≡ same (seen x) (seen y) };
@@ -27,6 +38,13 @@ impl SameClone for char {
     ghost seen = { λ x. x };
 
     ghost same = { λ x y. x == y };
+
+    ghost bucket_of = { λ x. x };
+
+    #[inline]
+    fn bucket(&self) -> Option<u32> {
+        Some(*self as u32)
+    }
 
     ghost clone_same = { λ x y e. e };
 
