@@ -4,3 +4,6 @@ pub mod AmongLaws
 pub mod OrLaws
 pub mod InOrder
 pub mod InOrderLaws
+pub mod Alternatives
+pub mod AlternativesLaws
+pub mod Repeated

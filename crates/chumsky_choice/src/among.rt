@@ -1,11 +1,8 @@
 //! Choice among the parsers of a slice.
-ghost use Rattle.std.specs.Prelude.{◌≡◌, ◌≢◌, true, false, None, [], map, length, All, IfSome, MatchOption};
+ghost use Rattle.std.specs.Prelude.{◌≡◌, ◌≢◌, true, false, length, All, IfSome, MatchOption};
 ghost use Rattle.std.specs.List.{IsFirstAndRest};
-ghost use Rattle.chumsky_input.specs.Held.{held};
-ghost use Rattle.chumsky_input.specs.Run.{Runs, Fails, with_value, without_value};
-ghost use Rattle.chumsky_parser.specs.Choice.{FirstOf};
-ghost use Rattle.chumsky_parser.specs.Failure.{expects};
-ghost use Rattle.chumsky_choice.specs.Among.{FirstAmong};
+ghost use Rattle.chumsky_input.specs.Run.{with_value, without_value};
+ghost use Rattle.chumsky_choice.specs.Next.{RunsAmong, RunsFirst, ExpectsNothing};
 
 use crate::step::{check_next, emit_next};
 use chumsky_input::extra::ParserExtra;
@@ -22,7 +19,8 @@ pub fn emit_among<'src, I: Input<'src>, O, E: ParserExtra<I>, P: Parser<'src, I,
     inp: &mut InputRef<'src, '_, I, E>,
 ) -> PResult<O>
     requires { All P.ready parsers.now }
-    ensures ran { Runs I.Input E.Error.Error E.State.Inspector (FirstAmong I.Input E.Error.Error E.State.Inspector (map (λ p. P.meaning p E.Error.Error E.State.Inspector) parsers.now)) true inp.old inp.new (with_value result) }
+    ensures ran { RunsAmong I.Input E.Error.Error E.State.Inspector
+        P.meaning parsers.now true inp.old inp.new (with_value result) }
     ensures lent { inp.new.state.ghost_name ≡ inp.old.state.ghost_name }
 {
     let Some((first, others)) = first_and_others::<I, O, E, P>(parsers) else {
@@ -41,7 +39,8 @@ pub fn check_among<'src, I: Input<'src>, O, E: ParserExtra<I>, P: Parser<'src, I
     inp: &mut InputRef<'src, '_, I, E>,
 ) -> PResult<()>
     requires { All P.ready parsers.now }
-    ensures ran { Runs I.Input E.Error.Error E.State.Inspector (FirstAmong I.Input E.Error.Error E.State.Inspector (map (λ p. P.meaning p E.Error.Error E.State.Inspector) parsers.now)) false inp.old inp.new (without_value result) }
+    ensures ran { RunsAmong I.Input E.Error.Error E.State.Inspector
+        P.meaning parsers.now false inp.old inp.new (without_value result) }
     ensures lent { inp.new.state.ghost_name ≡ inp.old.state.ghost_name }
 {
     let Some((first, others)) = first_and_others::<I, O, E, P>(parsers) else {
@@ -76,7 +75,8 @@ fn emit_several<'src, I: Input<'src>, O, E: ParserExtra<I>, P: Parser<'src, I, O
     requires first { P.ready first.now }
     requires others { All P.ready others.now }
     requires several { length others.now ≢ 0 }
-    ensures ran { Runs I.Input E.Error.Error E.State.Inspector (FirstOf E.State.mark E.State.back E.State.takes_no_memory (P.meaning first.now E.Error.Error E.State.Inspector) (map (λ p. P.meaning p E.Error.Error E.State.Inspector) others.now)) true inp.old inp.new (with_value result) }
+    ensures ran { RunsFirst I.Input E.Error.Error E.State.Inspector
+        P.meaning first.now others.now true inp.old inp.new (with_value result) }
     ensures lent { inp.new.state.ghost_name ≡ inp.old.state.ghost_name }
 {
     let before = inp.save()?;
@@ -105,7 +105,8 @@ fn check_several<'src, I: Input<'src>, O, E: ParserExtra<I>, P: Parser<'src, I, 
     requires first { P.ready first.now }
     requires others { All P.ready others.now }
     requires several { length others.now ≢ 0 }
-    ensures ran { Runs I.Input E.Error.Error E.State.Inspector (FirstOf E.State.mark E.State.back E.State.takes_no_memory (P.meaning first.now E.Error.Error E.State.Inspector) (map (λ p. P.meaning p E.Error.Error E.State.Inspector) others.now)) false inp.old inp.new (without_value result) }
+    ensures ran { RunsFirst I.Input E.Error.Error E.State.Inspector
+        P.meaning first.now others.now false inp.old inp.new (without_value result) }
     ensures lent { inp.new.state.ghost_name ≡ inp.old.state.ghost_name }
 {
     let before = inp.save()?;
@@ -128,7 +129,7 @@ fn check_several<'src, I: Input<'src>, O, E: ParserExtra<I>, P: Parser<'src, I, 
 fn expect_nothing<'src, I: Input<'src>, E: ParserExtra<I>>(
     inp: &mut InputRef<'src, '_, I, E>,
 ) -> Fault
-    ensures fails { Fails E.Error.merged E.Error.takes_no_memory (expects I.Input E.Error.Error (held I.Input E.Error.Error E.State.Inspector inp.old).tokens [] None (held I.Input E.Error.Error E.State.Inspector inp.old).place (held I.Input E.Error.Error E.State.Inspector inp.old).place) (held I.Input E.Error.Error E.State.Inspector inp.old) (held I.Input E.Error.Error E.State.Inspector inp.new) result }
+    ensures fails { ExpectsNothing I.Input E.Error.Error E.State.Inspector inp.old inp.new result }
     ensures lent { inp.new.state.ghost_name ≡ inp.old.state.ghost_name }
 {
     let here = inp.cursor;

@@ -1,6 +1,7 @@
 //! Ordered choice among any number of parsers.
 #![tactic(auto)]
 
+pub mod alternatives;
 mod among;
 pub mod choice;
 pub mod laws;

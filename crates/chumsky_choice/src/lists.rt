@@ -12,12 +12,13 @@ impl<I, O, E, A: IsParser<I, O, E>> IsParser<I, O, E> for Choice<&[A]> {}
 impl<'src, I: Input<'src>, O, E: ParserExtra<I>, A: Parser<'src, I, O, E>> Parser<'src, I, O, E>
     for Choice<&[A]> {
     ghost use Rattle.std.specs.Prelude.{map, All};
-    ghost use Rattle.chumsky_choice.specs.Among.{FirstAmong, SameByAny};
+    ghost use Rattle.chumsky_choice.specs.Among.{SameByAny};
+    ghost use Rattle.chumsky_choice.specs.Alternatives.{DoesAmong};
     ghost use Rattle.chumsky_choice.specs.AmongLaws.{first_among-ends, first_among-agrees};
 
     ghost ready = { λ p. All A.ready p.parsers.now };
 
-    ghost meaning = { λ p errors states. FirstAmong I.Input errors states (map (λ a. A.meaning a errors states) p.parsers.now) };
+    ghost meaning = { λ p. DoesAmong I.Input A.meaning p.parsers.now };
 
     ghost steady = { λ p. All A.steady p.parsers.now };
 
@@ -43,12 +44,13 @@ impl<I, O, E, A: IsParser<I, O, E>> IsParser<I, O, E> for Choice<Vec<A>> {}
 impl<'src, I: Input<'src>, O, E: ParserExtra<I>, A: Parser<'src, I, O, E>> Parser<'src, I, O, E>
     for Choice<Vec<A>> {
     ghost use Rattle.std.specs.Prelude.{map, All};
-    ghost use Rattle.chumsky_choice.specs.Among.{FirstAmong, SameByAny};
+    ghost use Rattle.chumsky_choice.specs.Among.{SameByAny};
+    ghost use Rattle.chumsky_choice.specs.Alternatives.{DoesAmong};
     ghost use Rattle.chumsky_choice.specs.AmongLaws.{first_among-ends, first_among-agrees};
 
     ghost ready = { λ p. All A.ready p.parsers.items };
 
-    ghost meaning = { λ p errors states. FirstAmong I.Input errors states (map (λ a. A.meaning a errors states) p.parsers.items) };
+    ghost meaning = { λ p. DoesAmong I.Input A.meaning p.parsers.items };
 
     ghost steady = { λ p. All A.steady p.parsers.items };
 
@@ -78,12 +80,13 @@ impl<'src, I: Input<'src>, O, E: ParserExtra<I>, A: Parser<'src, I, O, E>, const
     E,
 > for Choice<[A; N]> {
     ghost use Rattle.std.specs.Prelude.{map, All};
-    ghost use Rattle.chumsky_choice.specs.Among.{FirstAmong, SameByAny};
+    ghost use Rattle.chumsky_choice.specs.Among.{SameByAny};
+    ghost use Rattle.chumsky_choice.specs.Alternatives.{DoesAmong};
     ghost use Rattle.chumsky_choice.specs.AmongLaws.{first_among-ends, first_among-agrees};
 
     ghost ready = { λ p. All A.ready p.parsers };
 
-    ghost meaning = { λ p errors states. FirstAmong I.Input errors states (map (λ a. A.meaning a errors states) p.parsers) };
+    ghost meaning = { λ p. DoesAmong I.Input A.meaning p.parsers };
 
     ghost steady = { λ p. All A.steady p.parsers };
 

@@ -35,30 +35,80 @@ pub fn choice_is_steady<
     seven: &Choice<(A, B, C, D, F, G, H)>,
     eight: &Choice<(A, B, C, D, F, G, H, J)>,
 )
-    ensures ready_one { A.ready one.now.parsers.0 → ⟦<Choice<(A,)> as Parser<'src, I, O, E>>⟧.ready one.now }
-    ensures ready_two { A.ready two.now.parsers.0 → B.ready two.now.parsers.1 → ⟦<Choice<(A, B)> as Parser<'src, I, O, E>>⟧.ready two.now }
-    ensures ready_three { A.ready three.now.parsers.0 → B.ready three.now.parsers.1 → C.ready three.now.parsers.2 → ⟦<Choice<(A, B, C)> as Parser<'src, I, O, E>>⟧.ready three.now }
-    ensures ready_four { A.ready four.now.parsers.0 → B.ready four.now.parsers.1 → C.ready four.now.parsers.2 → D.ready four.now.parsers.3 → ⟦<Choice<(A, B, C, D)> as Parser<'src, I, O, E>>⟧.ready four.now }
-    ensures ready_five { A.ready five.now.parsers.0 → B.ready five.now.parsers.1 → C.ready five.now.parsers.2 → D.ready five.now.parsers.3 → F.ready five.now.parsers.4 → ⟦<Choice<(A, B, C, D, F)> as Parser<'src, I, O, E>>⟧.ready five.now }
-    ensures ready_six { A.ready six.now.parsers.0 → B.ready six.now.parsers.1 → C.ready six.now.parsers.2 → D.ready six.now.parsers.3 → F.ready six.now.parsers.4 → G.ready six.now.parsers.5 → ⟦<Choice<(A, B, C, D, F, G)> as Parser<'src, I, O, E>>⟧.ready six.now }
-    ensures ready_seven { A.ready seven.now.parsers.0 → B.ready seven.now.parsers.1 → C.ready seven.now.parsers.2 → D.ready seven.now.parsers.3 → F.ready seven.now.parsers.4 → G.ready seven.now.parsers.5 → H.ready seven.now.parsers.6 → ⟦<Choice<(A, B, C, D, F, G, H)> as Parser<'src, I, O, E>>⟧.ready seven.now }
-    ensures ready_eight { A.ready eight.now.parsers.0 → B.ready eight.now.parsers.1 → C.ready eight.now.parsers.2 → D.ready eight.now.parsers.3 → F.ready eight.now.parsers.4 → G.ready eight.now.parsers.5 → H.ready eight.now.parsers.6 → J.ready eight.now.parsers.7 → ⟦<Choice<(A, B, C, D, F, G, H, J)> as Parser<'src, I, O, E>>⟧.ready eight.now }
-    ensures one { A.steady one.now.parsers.0 → ⟦<Choice<(A,)> as Parser<'src, I, O, E>>⟧.steady one.now }
-    ensures two { A.steady two.now.parsers.0 → B.steady two.now.parsers.1 → ⟦<Choice<(A, B)> as Parser<'src, I, O, E>>⟧.steady two.now }
-    ensures three { A.steady three.now.parsers.0 → B.steady three.now.parsers.1 → C.steady three.now.parsers.2 → ⟦<Choice<(A, B, C)> as Parser<'src, I, O, E>>⟧.steady three.now }
-    ensures four { A.steady four.now.parsers.0 → B.steady four.now.parsers.1 → C.steady four.now.parsers.2 → D.steady four.now.parsers.3 → ⟦<Choice<(A, B, C, D)> as Parser<'src, I, O, E>>⟧.steady four.now }
-    ensures five { A.steady five.now.parsers.0 → B.steady five.now.parsers.1 → C.steady five.now.parsers.2 → D.steady five.now.parsers.3 → F.steady five.now.parsers.4 → ⟦<Choice<(A, B, C, D, F)> as Parser<'src, I, O, E>>⟧.steady five.now }
-    ensures six { A.steady six.now.parsers.0 → B.steady six.now.parsers.1 → C.steady six.now.parsers.2 → D.steady six.now.parsers.3 → F.steady six.now.parsers.4 → G.steady six.now.parsers.5 → ⟦<Choice<(A, B, C, D, F, G)> as Parser<'src, I, O, E>>⟧.steady six.now }
-    ensures seven { A.steady seven.now.parsers.0 → B.steady seven.now.parsers.1 → C.steady seven.now.parsers.2 → D.steady seven.now.parsers.3 → F.steady seven.now.parsers.4 → G.steady seven.now.parsers.5 → H.steady seven.now.parsers.6 → ⟦<Choice<(A, B, C, D, F, G, H)> as Parser<'src, I, O, E>>⟧.steady seven.now }
-    ensures eight { A.steady eight.now.parsers.0 → B.steady eight.now.parsers.1 → C.steady eight.now.parsers.2 → D.steady eight.now.parsers.3 → F.steady eight.now.parsers.4 → G.steady eight.now.parsers.5 → H.steady eight.now.parsers.6 → J.steady eight.now.parsers.7 → ⟦<Choice<(A, B, C, D, F, G, H, J)> as Parser<'src, I, O, E>>⟧.steady eight.now }
-    ensures same_one { (x y : O) → ⟦<Choice<(A,)> as Parser<'src, I, O, E>>⟧.same one.now x y → A.same one.now.parsers.0 x y }
-    ensures same_two { (x y : O) → ⟦<Choice<(A, B)> as Parser<'src, I, O, E>>⟧.same two.now x y → SameByOne (A.same two.now.parsers.0) (B.same two.now.parsers.1 ∷ []) x y }
-    ensures same_three { (x y : O) → ⟦<Choice<(A, B, C)> as Parser<'src, I, O, E>>⟧.same three.now x y → SameByOne (A.same three.now.parsers.0) (B.same three.now.parsers.1 ∷ C.same three.now.parsers.2 ∷ []) x y }
-    ensures same_four { (x y : O) → ⟦<Choice<(A, B, C, D)> as Parser<'src, I, O, E>>⟧.same four.now x y → SameByOne (A.same four.now.parsers.0) (B.same four.now.parsers.1 ∷ C.same four.now.parsers.2 ∷ D.same four.now.parsers.3 ∷ []) x y }
-    ensures same_five { (x y : O) → ⟦<Choice<(A, B, C, D, F)> as Parser<'src, I, O, E>>⟧.same five.now x y → SameByOne (A.same five.now.parsers.0) (B.same five.now.parsers.1 ∷ C.same five.now.parsers.2 ∷ D.same five.now.parsers.3 ∷ F.same five.now.parsers.4 ∷ []) x y }
-    ensures same_six { (x y : O) → ⟦<Choice<(A, B, C, D, F, G)> as Parser<'src, I, O, E>>⟧.same six.now x y → SameByOne (A.same six.now.parsers.0) (B.same six.now.parsers.1 ∷ C.same six.now.parsers.2 ∷ D.same six.now.parsers.3 ∷ F.same six.now.parsers.4 ∷ G.same six.now.parsers.5 ∷ []) x y }
-    ensures same_seven { (x y : O) → ⟦<Choice<(A, B, C, D, F, G, H)> as Parser<'src, I, O, E>>⟧.same seven.now x y → SameByOne (A.same seven.now.parsers.0) (B.same seven.now.parsers.1 ∷ C.same seven.now.parsers.2 ∷ D.same seven.now.parsers.3 ∷ F.same seven.now.parsers.4 ∷ G.same seven.now.parsers.5 ∷ H.same seven.now.parsers.6 ∷ []) x y }
-    ensures same_eight { (x y : O) → ⟦<Choice<(A, B, C, D, F, G, H, J)> as Parser<'src, I, O, E>>⟧.same eight.now x y → SameByOne (A.same eight.now.parsers.0) (B.same eight.now.parsers.1 ∷ C.same eight.now.parsers.2 ∷ D.same eight.now.parsers.3 ∷ F.same eight.now.parsers.4 ∷ G.same eight.now.parsers.5 ∷ H.same eight.now.parsers.6 ∷ J.same eight.now.parsers.7 ∷ []) x y }
+    ensures ready_one { let t = one.now.parsers in
+        A.ready t.0 → ⟦<Choice<(A,)> as Parser<'src, I, O, E>>⟧.ready one.now }
+    ensures ready_two { let t = two.now.parsers in
+        A.ready t.0 → B.ready t.1 → ⟦<Choice<(A, B)> as Parser<'src, I, O, E>>⟧.ready two.now }
+    ensures ready_three { let t = three.now.parsers in
+        A.ready t.0 → B.ready t.1 → C.ready t.2 →
+        ⟦<Choice<(A, B, C)> as Parser<'src, I, O, E>>⟧.ready three.now }
+    ensures ready_four { let t = four.now.parsers in
+        A.ready t.0 → B.ready t.1 → C.ready t.2 → D.ready t.3 →
+        ⟦<Choice<(A, B, C, D)> as Parser<'src, I, O, E>>⟧.ready four.now }
+    ensures ready_five { let t = five.now.parsers in
+        A.ready t.0 → B.ready t.1 → C.ready t.2 → D.ready t.3 → F.ready t.4 →
+        ⟦<Choice<(A, B, C, D, F)> as Parser<'src, I, O, E>>⟧.ready five.now }
+    ensures ready_six { let t = six.now.parsers in
+        A.ready t.0 → B.ready t.1 → C.ready t.2 → D.ready t.3 → F.ready t.4 → G.ready t.5 →
+        ⟦<Choice<(A, B, C, D, F, G)> as Parser<'src, I, O, E>>⟧.ready six.now }
+    ensures ready_seven { let t = seven.now.parsers in
+        A.ready t.0 → B.ready t.1 → C.ready t.2 → D.ready t.3 → F.ready t.4 → G.ready t.5 →
+        H.ready t.6 →
+        ⟦<Choice<(A, B, C, D, F, G, H)> as Parser<'src, I, O, E>>⟧.ready seven.now }
+    ensures ready_eight { let t = eight.now.parsers in
+        A.ready t.0 → B.ready t.1 → C.ready t.2 → D.ready t.3 → F.ready t.4 → G.ready t.5 →
+        H.ready t.6 → J.ready t.7 →
+        ⟦<Choice<(A, B, C, D, F, G, H, J)> as Parser<'src, I, O, E>>⟧.ready eight.now }
+    ensures one { let t = one.now.parsers in
+        A.steady t.0 → ⟦<Choice<(A,)> as Parser<'src, I, O, E>>⟧.steady one.now }
+    ensures two { let t = two.now.parsers in
+        A.steady t.0 → B.steady t.1 → ⟦<Choice<(A, B)> as Parser<'src, I, O, E>>⟧.steady two.now }
+    ensures three { let t = three.now.parsers in
+        A.steady t.0 → B.steady t.1 → C.steady t.2 →
+        ⟦<Choice<(A, B, C)> as Parser<'src, I, O, E>>⟧.steady three.now }
+    ensures four { let t = four.now.parsers in
+        A.steady t.0 → B.steady t.1 → C.steady t.2 → D.steady t.3 →
+        ⟦<Choice<(A, B, C, D)> as Parser<'src, I, O, E>>⟧.steady four.now }
+    ensures five { let t = five.now.parsers in
+        A.steady t.0 → B.steady t.1 → C.steady t.2 → D.steady t.3 → F.steady t.4 →
+        ⟦<Choice<(A, B, C, D, F)> as Parser<'src, I, O, E>>⟧.steady five.now }
+    ensures six { let t = six.now.parsers in
+        A.steady t.0 → B.steady t.1 → C.steady t.2 → D.steady t.3 → F.steady t.4 → G.steady t.5 →
+        ⟦<Choice<(A, B, C, D, F, G)> as Parser<'src, I, O, E>>⟧.steady six.now }
+    ensures seven { let t = seven.now.parsers in
+        A.steady t.0 → B.steady t.1 → C.steady t.2 → D.steady t.3 → F.steady t.4 → G.steady t.5 →
+        H.steady t.6 →
+        ⟦<Choice<(A, B, C, D, F, G, H)> as Parser<'src, I, O, E>>⟧.steady seven.now }
+    ensures eight { let t = eight.now.parsers in
+        A.steady t.0 → B.steady t.1 → C.steady t.2 → D.steady t.3 → F.steady t.4 → G.steady t.5 →
+        H.steady t.6 → J.steady t.7 →
+        ⟦<Choice<(A, B, C, D, F, G, H, J)> as Parser<'src, I, O, E>>⟧.steady eight.now }
+    ensures same_one { (x y : O) →
+        ⟦<Choice<(A,)> as Parser<'src, I, O, E>>⟧.same one.now x y → A.same one.now.parsers.0 x y }
+    ensures same_two { let t = two.now.parsers in (x y : O) →
+        ⟦<Choice<(A, B)> as Parser<'src, I, O, E>>⟧.same two.now x y → SameByOne (A.same t.0)
+        (B.same t.1 ∷ []) x y }
+    ensures same_three { let t = three.now.parsers in (x y : O) →
+        ⟦<Choice<(A, B, C)> as Parser<'src, I, O, E>>⟧.same three.now x y → SameByOne (A.same t.0)
+        (B.same t.1 ∷ C.same t.2 ∷ []) x y }
+    ensures same_four { let t = four.now.parsers in (x y : O) →
+        ⟦<Choice<(A, B, C, D)> as Parser<'src, I, O, E>>⟧.same four.now x y →
+        SameByOne (A.same t.0) (B.same t.1 ∷ C.same t.2 ∷ D.same t.3 ∷ []) x y }
+    ensures same_five { let t = five.now.parsers in (x y : O) →
+        ⟦<Choice<(A, B, C, D, F)> as Parser<'src, I, O, E>>⟧.same five.now x y →
+        SameByOne (A.same t.0) (B.same t.1 ∷ C.same t.2 ∷ D.same t.3 ∷ F.same t.4 ∷ []) x y }
+    ensures same_six { let t = six.now.parsers in (x y : O) →
+        ⟦<Choice<(A, B, C, D, F, G)> as Parser<'src, I, O, E>>⟧.same six.now x y →
+        SameByOne (A.same t.0) (B.same t.1 ∷ C.same t.2 ∷ D.same t.3 ∷ F.same t.4 ∷
+        G.same t.5 ∷ []) x y }
+    ensures same_seven { let t = seven.now.parsers in (x y : O) →
+        ⟦<Choice<(A, B, C, D, F, G, H)> as Parser<'src, I, O, E>>⟧.same seven.now x y →
+        SameByOne (A.same t.0) (B.same t.1 ∷ C.same t.2 ∷ D.same t.3 ∷ F.same t.4 ∷
+        G.same t.5 ∷ H.same t.6 ∷ []) x y }
+    ensures same_eight { let t = eight.now.parsers in (x y : O) →
+        ⟦<Choice<(A, B, C, D, F, G, H, J)> as Parser<'src, I, O, E>>⟧.same eight.now x y →
+        SameByOne (A.same t.0) (B.same t.1 ∷ C.same t.2 ∷ D.same t.3 ∷ F.same t.4 ∷
+        G.same t.5 ∷ H.same t.6 ∷ J.same t.7 ∷ []) x y }
 {}
 
 /// A choice among the parsers of a slice, a `Vec` or an array.

@@ -1,8 +1,7 @@
 //! One more alternative of a choice.
 ghost use Rattle.std.specs.Prelude.{◌≡◌, true, false};
-ghost use Rattle.chumsky_input.specs.Held.{held, marks};
 ghost use Rattle.chumsky_input.specs.Run.{with_value, without_value};
-ghost use Rattle.chumsky_choice.specs.Next.{TriesNext};
+ghost use Rattle.chumsky_choice.specs.Next.{RunsNext};
 
 use chumsky_input::extra::ParserExtra;
 use chumsky_input::input::Input;
@@ -21,7 +20,8 @@ pub fn emit_next<'src, I: Input<'src>, O, E: ParserExtra<I>, P: Parser<'src, I, 
 ) -> PResult<O>
     requires ready { P.ready next.now }
     requires tokens { I.cursor_tokens before.now.cursor ≡ I.cursor_tokens inp.old.cursor }
-    ensures tries { TriesNext E.Error.merged E.Error.takes_no_memory E.State.back E.State.takes_no_memory (marks I.Input E.State.Inspector before.now) (P.meaning next.now E.Error.Error E.State.Inspector) true (held I.Input E.Error.Error E.State.Inspector inp.old) (held I.Input E.Error.Error E.State.Inspector inp.new) (with_value tried) (with_value result) }
+    ensures tries { RunsNext I.Input E.Error.Error E.State.Inspector
+        before.now (P.meaning next.now) true inp.old inp.new (with_value tried) (with_value result) }
     ensures tokens { I.cursor_tokens before.now.cursor ≡ I.cursor_tokens inp.new.cursor }
     ensures lent { inp.new.state.ghost_name ≡ inp.old.state.ghost_name }
 {
@@ -45,7 +45,8 @@ pub fn check_next<'src, I: Input<'src>, O, E: ParserExtra<I>, P: Parser<'src, I,
 ) -> PResult<()>
     requires ready { P.ready next.now }
     requires tokens { I.cursor_tokens before.now.cursor ≡ I.cursor_tokens inp.old.cursor }
-    ensures tries { TriesNext E.Error.merged E.Error.takes_no_memory E.State.back E.State.takes_no_memory (marks I.Input E.State.Inspector before.now) (P.meaning next.now E.Error.Error E.State.Inspector) false (held I.Input E.Error.Error E.State.Inspector inp.old) (held I.Input E.Error.Error E.State.Inspector inp.new) (without_value tried) (without_value result) }
+    ensures tries { RunsNext I.Input E.Error.Error E.State.Inspector
+        before.now (P.meaning next.now) false inp.old inp.new (without_value tried) (without_value result) }
     ensures tokens { I.cursor_tokens before.now.cursor ≡ I.cursor_tokens inp.new.cursor }
     ensures lent { inp.new.state.ghost_name ≡ inp.old.state.ghost_name }
 {

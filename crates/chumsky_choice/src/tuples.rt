@@ -45,20 +45,25 @@ impl<
     B: Parser<'src, I, O, E>,
 > Parser<'src, I, O, E> for Choice<(A, B)> {
     ghost use Rattle.std.specs.Prelude.{[], ◌∷◌};
-    ghost use Rattle.chumsky_parser.specs.Choice.{FirstOf, SameByOne};
+    ghost use Rattle.chumsky_parser.specs.Choice.{SameByOne};
     ghost use Rattle.chumsky_parser.specs.ChoiceLaws.{first_of-ends, first_of-agrees, none-end, and-ends, none-agree, and-agrees};
+    ghost use Rattle.chumsky_choice.specs.Alternatives.{DoesFirst};
 
-    ghost ready = { λ p. A.ready p.parsers.0 × B.ready p.parsers.1 };
+    ghost ready = { λ p. let t = p.parsers in A.ready t.0 × B.ready t.1 };
 
-    ghost meaning = { λ p errors states. FirstOf states.mark states.back states.takes_no_memory (A.meaning p.parsers.0 errors states) (B.meaning p.parsers.1 errors states ∷ []) };
+    ghost meaning = { λ p. let t = p.parsers in DoesFirst (A.meaning t.0) (B.meaning t.1 ∷ []) };
 
-    ghost steady = { λ p. A.steady p.parsers.0 × B.steady p.parsers.1 };
+    ghost steady = { λ p. let t = p.parsers in A.steady t.0 × B.steady t.1 };
 
-    ghost same = { λ p. SameByOne (A.same p.parsers.0) (B.same p.parsers.1 ∷ []) };
+    ghost same = { λ p. let t = p.parsers in SameByOne (A.same t.0) (B.same t.1 ∷ []) };
 
-    ghost ends_after_start = { λ p. first_of-ends _ _ _ _ _ (and-ends (A.ends_after_start p.parsers.0) (and-ends (B.ends_after_start p.parsers.1) none-end)) };
+    ghost ends_after_start = { λ p. let t = p.parsers in
+        first_of-ends _ _ _ _ _ (and-ends (A.ends_after_start t.0)
+        (and-ends (B.ends_after_start t.1) none-end)) };
 
-    ghost agrees = { λ p s. first_of-agrees _ _ _ (A.same p.parsers.0) (B.same p.parsers.1 ∷ []) _ _ (and-agrees (A.agrees p.parsers.0 s.0) (and-agrees (B.agrees p.parsers.1 s.1) none-agree)) };
+    ghost agrees = { λ p s. let t = p.parsers in
+        first_of-agrees _ _ _ (A.same t.0) (B.same t.1 ∷ []) _ _ (and-agrees (A.agrees t.0 s.0)
+        (and-agrees (B.agrees t.1 s.1) none-agree)) };
 
     #[inline(always)]
     fn go_emit(&self, inp: &mut InputRef<'src, '_, I, E>) -> PResult<O> {
@@ -88,20 +93,27 @@ impl<
     C: Parser<'src, I, O, E>,
 > Parser<'src, I, O, E> for Choice<(A, B, C)> {
     ghost use Rattle.std.specs.Prelude.{[], ◌∷◌};
-    ghost use Rattle.chumsky_parser.specs.Choice.{FirstOf, SameByOne};
+    ghost use Rattle.chumsky_parser.specs.Choice.{SameByOne};
     ghost use Rattle.chumsky_parser.specs.ChoiceLaws.{first_of-ends, first_of-agrees, none-end, and-ends, none-agree, and-agrees};
+    ghost use Rattle.chumsky_choice.specs.Alternatives.{DoesFirst};
 
-    ghost ready = { λ p. A.ready p.parsers.0 × B.ready p.parsers.1 × C.ready p.parsers.2 };
+    ghost ready = { λ p. let t = p.parsers in A.ready t.0 × B.ready t.1 × C.ready t.2 };
 
-    ghost meaning = { λ p errors states. FirstOf states.mark states.back states.takes_no_memory (A.meaning p.parsers.0 errors states) (B.meaning p.parsers.1 errors states ∷ C.meaning p.parsers.2 errors states ∷ []) };
+    ghost meaning = { λ p. let t = p.parsers in
+        DoesFirst (A.meaning t.0) (B.meaning t.1 ∷ C.meaning t.2 ∷ []) };
 
-    ghost steady = { λ p. A.steady p.parsers.0 × B.steady p.parsers.1 × C.steady p.parsers.2 };
+    ghost steady = { λ p. let t = p.parsers in A.steady t.0 × B.steady t.1 × C.steady t.2 };
 
-    ghost same = { λ p. SameByOne (A.same p.parsers.0) (B.same p.parsers.1 ∷ C.same p.parsers.2 ∷ []) };
+    ghost same = { λ p. let t = p.parsers in SameByOne (A.same t.0) (B.same t.1 ∷ C.same t.2 ∷ []) };
 
-    ghost ends_after_start = { λ p. first_of-ends _ _ _ _ _ (and-ends (A.ends_after_start p.parsers.0) (and-ends (B.ends_after_start p.parsers.1) (and-ends (C.ends_after_start p.parsers.2) none-end))) };
+    ghost ends_after_start = { λ p. let t = p.parsers in
+        first_of-ends _ _ _ _ _ (and-ends (A.ends_after_start t.0)
+        (and-ends (B.ends_after_start t.1) (and-ends (C.ends_after_start t.2) none-end))) };
 
-    ghost agrees = { λ p s. first_of-agrees _ _ _ (A.same p.parsers.0) (B.same p.parsers.1 ∷ C.same p.parsers.2 ∷ []) _ _ (and-agrees (A.agrees p.parsers.0 s.0) (and-agrees (B.agrees p.parsers.1 s.1) (and-agrees (C.agrees p.parsers.2 s.2) none-agree))) };
+    ghost agrees = { λ p s. let t = p.parsers in
+        first_of-agrees _ _ _ (A.same t.0) (B.same t.1 ∷ C.same t.2 ∷ []) _ _
+        (and-agrees (A.agrees t.0 s.0) (and-agrees (B.agrees t.1 s.1)
+        (and-agrees (C.agrees t.2 s.2) none-agree))) };
 
     #[inline(always)]
     fn go_emit(&self, inp: &mut InputRef<'src, '_, I, E>) -> PResult<O> {
@@ -141,20 +153,31 @@ impl<
     D: Parser<'src, I, O, E>,
 > Parser<'src, I, O, E> for Choice<(A, B, C, D)> {
     ghost use Rattle.std.specs.Prelude.{[], ◌∷◌};
-    ghost use Rattle.chumsky_parser.specs.Choice.{FirstOf, SameByOne};
+    ghost use Rattle.chumsky_parser.specs.Choice.{SameByOne};
     ghost use Rattle.chumsky_parser.specs.ChoiceLaws.{first_of-ends, first_of-agrees, none-end, and-ends, none-agree, and-agrees};
+    ghost use Rattle.chumsky_choice.specs.Alternatives.{DoesFirst};
 
-    ghost ready = { λ p. A.ready p.parsers.0 × B.ready p.parsers.1 × C.ready p.parsers.2 × D.ready p.parsers.3 };
+    ghost ready = { λ p. let t = p.parsers in
+        A.ready t.0 × B.ready t.1 × C.ready t.2 × D.ready t.3 };
 
-    ghost meaning = { λ p errors states. FirstOf states.mark states.back states.takes_no_memory (A.meaning p.parsers.0 errors states) (B.meaning p.parsers.1 errors states ∷ C.meaning p.parsers.2 errors states ∷ D.meaning p.parsers.3 errors states ∷ []) };
+    ghost meaning = { λ p. let t = p.parsers in
+        DoesFirst (A.meaning t.0) (B.meaning t.1 ∷ C.meaning t.2 ∷ D.meaning t.3 ∷ []) };
 
-    ghost steady = { λ p. A.steady p.parsers.0 × B.steady p.parsers.1 × C.steady p.parsers.2 × D.steady p.parsers.3 };
+    ghost steady = { λ p. let t = p.parsers in
+        A.steady t.0 × B.steady t.1 × C.steady t.2 × D.steady t.3 };
 
-    ghost same = { λ p. SameByOne (A.same p.parsers.0) (B.same p.parsers.1 ∷ C.same p.parsers.2 ∷ D.same p.parsers.3 ∷ []) };
+    ghost same = { λ p. let t = p.parsers in
+        SameByOne (A.same t.0) (B.same t.1 ∷ C.same t.2 ∷ D.same t.3 ∷ []) };
 
-    ghost ends_after_start = { λ p. first_of-ends _ _ _ _ _ (and-ends (A.ends_after_start p.parsers.0) (and-ends (B.ends_after_start p.parsers.1) (and-ends (C.ends_after_start p.parsers.2) (and-ends (D.ends_after_start p.parsers.3) none-end)))) };
+    ghost ends_after_start = { λ p. let t = p.parsers in
+        first_of-ends _ _ _ _ _ (and-ends (A.ends_after_start t.0)
+        (and-ends (B.ends_after_start t.1) (and-ends (C.ends_after_start t.2)
+        (and-ends (D.ends_after_start t.3) none-end)))) };
 
-    ghost agrees = { λ p s. first_of-agrees _ _ _ (A.same p.parsers.0) (B.same p.parsers.1 ∷ C.same p.parsers.2 ∷ D.same p.parsers.3 ∷ []) _ _ (and-agrees (A.agrees p.parsers.0 s.0) (and-agrees (B.agrees p.parsers.1 s.1) (and-agrees (C.agrees p.parsers.2 s.2) (and-agrees (D.agrees p.parsers.3 s.3) none-agree)))) };
+    ghost agrees = { λ p s. let t = p.parsers in
+        first_of-agrees _ _ _ (A.same t.0) (B.same t.1 ∷ C.same t.2 ∷ D.same t.3 ∷ []) _ _
+        (and-agrees (A.agrees t.0 s.0) (and-agrees (B.agrees t.1 s.1)
+        (and-agrees (C.agrees t.2 s.2) (and-agrees (D.agrees t.3 s.3) none-agree)))) };
 
     #[inline(always)]
     fn go_emit(&self, inp: &mut InputRef<'src, '_, I, E>) -> PResult<O> {
@@ -198,20 +221,33 @@ impl<
     F: Parser<'src, I, O, E>,
 > Parser<'src, I, O, E> for Choice<(A, B, C, D, F)> {
     ghost use Rattle.std.specs.Prelude.{[], ◌∷◌};
-    ghost use Rattle.chumsky_parser.specs.Choice.{FirstOf, SameByOne};
+    ghost use Rattle.chumsky_parser.specs.Choice.{SameByOne};
     ghost use Rattle.chumsky_parser.specs.ChoiceLaws.{first_of-ends, first_of-agrees, none-end, and-ends, none-agree, and-agrees};
+    ghost use Rattle.chumsky_choice.specs.Alternatives.{DoesFirst};
 
-    ghost ready = { λ p. A.ready p.parsers.0 × B.ready p.parsers.1 × C.ready p.parsers.2 × D.ready p.parsers.3 × F.ready p.parsers.4 };
+    ghost ready = { λ p. let t = p.parsers in
+        A.ready t.0 × B.ready t.1 × C.ready t.2 × D.ready t.3 × F.ready t.4 };
 
-    ghost meaning = { λ p errors states. FirstOf states.mark states.back states.takes_no_memory (A.meaning p.parsers.0 errors states) (B.meaning p.parsers.1 errors states ∷ C.meaning p.parsers.2 errors states ∷ D.meaning p.parsers.3 errors states ∷ F.meaning p.parsers.4 errors states ∷ []) };
+    ghost meaning = { λ p. let t = p.parsers in
+        DoesFirst (A.meaning t.0) (B.meaning t.1 ∷ C.meaning t.2 ∷ D.meaning t.3 ∷
+        F.meaning t.4 ∷ []) };
 
-    ghost steady = { λ p. A.steady p.parsers.0 × B.steady p.parsers.1 × C.steady p.parsers.2 × D.steady p.parsers.3 × F.steady p.parsers.4 };
+    ghost steady = { λ p. let t = p.parsers in
+        A.steady t.0 × B.steady t.1 × C.steady t.2 × D.steady t.3 × F.steady t.4 };
 
-    ghost same = { λ p. SameByOne (A.same p.parsers.0) (B.same p.parsers.1 ∷ C.same p.parsers.2 ∷ D.same p.parsers.3 ∷ F.same p.parsers.4 ∷ []) };
+    ghost same = { λ p. let t = p.parsers in
+        SameByOne (A.same t.0) (B.same t.1 ∷ C.same t.2 ∷ D.same t.3 ∷ F.same t.4 ∷ []) };
 
-    ghost ends_after_start = { λ p. first_of-ends _ _ _ _ _ (and-ends (A.ends_after_start p.parsers.0) (and-ends (B.ends_after_start p.parsers.1) (and-ends (C.ends_after_start p.parsers.2) (and-ends (D.ends_after_start p.parsers.3) (and-ends (F.ends_after_start p.parsers.4) none-end))))) };
+    ghost ends_after_start = { λ p. let t = p.parsers in
+        first_of-ends _ _ _ _ _ (and-ends (A.ends_after_start t.0)
+        (and-ends (B.ends_after_start t.1) (and-ends (C.ends_after_start t.2)
+        (and-ends (D.ends_after_start t.3) (and-ends (F.ends_after_start t.4) none-end))))) };
 
-    ghost agrees = { λ p s. first_of-agrees _ _ _ (A.same p.parsers.0) (B.same p.parsers.1 ∷ C.same p.parsers.2 ∷ D.same p.parsers.3 ∷ F.same p.parsers.4 ∷ []) _ _ (and-agrees (A.agrees p.parsers.0 s.0) (and-agrees (B.agrees p.parsers.1 s.1) (and-agrees (C.agrees p.parsers.2 s.2) (and-agrees (D.agrees p.parsers.3 s.3) (and-agrees (F.agrees p.parsers.4 s.4) none-agree))))) };
+    ghost agrees = { λ p s. let t = p.parsers in
+        first_of-agrees _ _ _ (A.same t.0) (B.same t.1 ∷ C.same t.2 ∷ D.same t.3 ∷ F.same t.4 ∷
+        []) _ _ (and-agrees (A.agrees t.0 s.0) (and-agrees (B.agrees t.1 s.1)
+        (and-agrees (C.agrees t.2 s.2) (and-agrees (D.agrees t.3 s.3)
+        (and-agrees (F.agrees t.4 s.4) none-agree))))) };
 
     #[inline(always)]
     fn go_emit(&self, inp: &mut InputRef<'src, '_, I, E>) -> PResult<O> {
@@ -259,20 +295,35 @@ impl<
     G: Parser<'src, I, O, E>,
 > Parser<'src, I, O, E> for Choice<(A, B, C, D, F, G)> {
     ghost use Rattle.std.specs.Prelude.{[], ◌∷◌};
-    ghost use Rattle.chumsky_parser.specs.Choice.{FirstOf, SameByOne};
+    ghost use Rattle.chumsky_parser.specs.Choice.{SameByOne};
     ghost use Rattle.chumsky_parser.specs.ChoiceLaws.{first_of-ends, first_of-agrees, none-end, and-ends, none-agree, and-agrees};
+    ghost use Rattle.chumsky_choice.specs.Alternatives.{DoesFirst};
 
-    ghost ready = { λ p. A.ready p.parsers.0 × B.ready p.parsers.1 × C.ready p.parsers.2 × D.ready p.parsers.3 × F.ready p.parsers.4 × G.ready p.parsers.5 };
+    ghost ready = { λ p. let t = p.parsers in
+        A.ready t.0 × B.ready t.1 × C.ready t.2 × D.ready t.3 × F.ready t.4 × G.ready t.5 };
 
-    ghost meaning = { λ p errors states. FirstOf states.mark states.back states.takes_no_memory (A.meaning p.parsers.0 errors states) (B.meaning p.parsers.1 errors states ∷ C.meaning p.parsers.2 errors states ∷ D.meaning p.parsers.3 errors states ∷ F.meaning p.parsers.4 errors states ∷ G.meaning p.parsers.5 errors states ∷ []) };
+    ghost meaning = { λ p. let t = p.parsers in
+        DoesFirst (A.meaning t.0) (B.meaning t.1 ∷ C.meaning t.2 ∷ D.meaning t.3 ∷
+        F.meaning t.4 ∷ G.meaning t.5 ∷ []) };
 
-    ghost steady = { λ p. A.steady p.parsers.0 × B.steady p.parsers.1 × C.steady p.parsers.2 × D.steady p.parsers.3 × F.steady p.parsers.4 × G.steady p.parsers.5 };
+    ghost steady = { λ p. let t = p.parsers in
+        A.steady t.0 × B.steady t.1 × C.steady t.2 × D.steady t.3 × F.steady t.4 × G.steady t.5 };
 
-    ghost same = { λ p. SameByOne (A.same p.parsers.0) (B.same p.parsers.1 ∷ C.same p.parsers.2 ∷ D.same p.parsers.3 ∷ F.same p.parsers.4 ∷ G.same p.parsers.5 ∷ []) };
+    ghost same = { λ p. let t = p.parsers in
+        SameByOne (A.same t.0) (B.same t.1 ∷ C.same t.2 ∷ D.same t.3 ∷ F.same t.4 ∷ G.same t.5 ∷
+        []) };
 
-    ghost ends_after_start = { λ p. first_of-ends _ _ _ _ _ (and-ends (A.ends_after_start p.parsers.0) (and-ends (B.ends_after_start p.parsers.1) (and-ends (C.ends_after_start p.parsers.2) (and-ends (D.ends_after_start p.parsers.3) (and-ends (F.ends_after_start p.parsers.4) (and-ends (G.ends_after_start p.parsers.5) none-end)))))) };
+    ghost ends_after_start = { λ p. let t = p.parsers in
+        first_of-ends _ _ _ _ _ (and-ends (A.ends_after_start t.0)
+        (and-ends (B.ends_after_start t.1) (and-ends (C.ends_after_start t.2)
+        (and-ends (D.ends_after_start t.3) (and-ends (F.ends_after_start t.4)
+        (and-ends (G.ends_after_start t.5) none-end)))))) };
 
-    ghost agrees = { λ p s. first_of-agrees _ _ _ (A.same p.parsers.0) (B.same p.parsers.1 ∷ C.same p.parsers.2 ∷ D.same p.parsers.3 ∷ F.same p.parsers.4 ∷ G.same p.parsers.5 ∷ []) _ _ (and-agrees (A.agrees p.parsers.0 s.0) (and-agrees (B.agrees p.parsers.1 s.1) (and-agrees (C.agrees p.parsers.2 s.2) (and-agrees (D.agrees p.parsers.3 s.3) (and-agrees (F.agrees p.parsers.4 s.4) (and-agrees (G.agrees p.parsers.5 s.5) none-agree)))))) };
+    ghost agrees = { λ p s. let t = p.parsers in
+        first_of-agrees _ _ _ (A.same t.0) (B.same t.1 ∷ C.same t.2 ∷ D.same t.3 ∷ F.same t.4 ∷
+        G.same t.5 ∷ []) _ _ (and-agrees (A.agrees t.0 s.0) (and-agrees (B.agrees t.1 s.1)
+        (and-agrees (C.agrees t.2 s.2) (and-agrees (D.agrees t.3 s.3)
+        (and-agrees (F.agrees t.4 s.4) (and-agrees (G.agrees t.5 s.5) none-agree)))))) };
 
     #[inline(always)]
     fn go_emit(&self, inp: &mut InputRef<'src, '_, I, E>) -> PResult<O> {
@@ -324,20 +375,38 @@ impl<
     H: Parser<'src, I, O, E>,
 > Parser<'src, I, O, E> for Choice<(A, B, C, D, F, G, H)> {
     ghost use Rattle.std.specs.Prelude.{[], ◌∷◌};
-    ghost use Rattle.chumsky_parser.specs.Choice.{FirstOf, SameByOne};
+    ghost use Rattle.chumsky_parser.specs.Choice.{SameByOne};
     ghost use Rattle.chumsky_parser.specs.ChoiceLaws.{first_of-ends, first_of-agrees, none-end, and-ends, none-agree, and-agrees};
+    ghost use Rattle.chumsky_choice.specs.Alternatives.{DoesFirst};
 
-    ghost ready = { λ p. A.ready p.parsers.0 × B.ready p.parsers.1 × C.ready p.parsers.2 × D.ready p.parsers.3 × F.ready p.parsers.4 × G.ready p.parsers.5 × H.ready p.parsers.6 };
+    ghost ready = { λ p. let t = p.parsers in
+        A.ready t.0 × B.ready t.1 × C.ready t.2 × D.ready t.3 × F.ready t.4 × G.ready t.5 ×
+        H.ready t.6 };
 
-    ghost meaning = { λ p errors states. FirstOf states.mark states.back states.takes_no_memory (A.meaning p.parsers.0 errors states) (B.meaning p.parsers.1 errors states ∷ C.meaning p.parsers.2 errors states ∷ D.meaning p.parsers.3 errors states ∷ F.meaning p.parsers.4 errors states ∷ G.meaning p.parsers.5 errors states ∷ H.meaning p.parsers.6 errors states ∷ []) };
+    ghost meaning = { λ p. let t = p.parsers in
+        DoesFirst (A.meaning t.0) (B.meaning t.1 ∷ C.meaning t.2 ∷ D.meaning t.3 ∷
+        F.meaning t.4 ∷ G.meaning t.5 ∷ H.meaning t.6 ∷ []) };
 
-    ghost steady = { λ p. A.steady p.parsers.0 × B.steady p.parsers.1 × C.steady p.parsers.2 × D.steady p.parsers.3 × F.steady p.parsers.4 × G.steady p.parsers.5 × H.steady p.parsers.6 };
+    ghost steady = { λ p. let t = p.parsers in
+        A.steady t.0 × B.steady t.1 × C.steady t.2 × D.steady t.3 × F.steady t.4 × G.steady t.5 ×
+        H.steady t.6 };
 
-    ghost same = { λ p. SameByOne (A.same p.parsers.0) (B.same p.parsers.1 ∷ C.same p.parsers.2 ∷ D.same p.parsers.3 ∷ F.same p.parsers.4 ∷ G.same p.parsers.5 ∷ H.same p.parsers.6 ∷ []) };
+    ghost same = { λ p. let t = p.parsers in
+        SameByOne (A.same t.0) (B.same t.1 ∷ C.same t.2 ∷ D.same t.3 ∷ F.same t.4 ∷ G.same t.5 ∷
+        H.same t.6 ∷ []) };
 
-    ghost ends_after_start = { λ p. first_of-ends _ _ _ _ _ (and-ends (A.ends_after_start p.parsers.0) (and-ends (B.ends_after_start p.parsers.1) (and-ends (C.ends_after_start p.parsers.2) (and-ends (D.ends_after_start p.parsers.3) (and-ends (F.ends_after_start p.parsers.4) (and-ends (G.ends_after_start p.parsers.5) (and-ends (H.ends_after_start p.parsers.6) none-end))))))) };
+    ghost ends_after_start = { λ p. let t = p.parsers in
+        first_of-ends _ _ _ _ _ (and-ends (A.ends_after_start t.0)
+        (and-ends (B.ends_after_start t.1) (and-ends (C.ends_after_start t.2)
+        (and-ends (D.ends_after_start t.3) (and-ends (F.ends_after_start t.4)
+        (and-ends (G.ends_after_start t.5) (and-ends (H.ends_after_start t.6) none-end))))))) };
 
-    ghost agrees = { λ p s. first_of-agrees _ _ _ (A.same p.parsers.0) (B.same p.parsers.1 ∷ C.same p.parsers.2 ∷ D.same p.parsers.3 ∷ F.same p.parsers.4 ∷ G.same p.parsers.5 ∷ H.same p.parsers.6 ∷ []) _ _ (and-agrees (A.agrees p.parsers.0 s.0) (and-agrees (B.agrees p.parsers.1 s.1) (and-agrees (C.agrees p.parsers.2 s.2) (and-agrees (D.agrees p.parsers.3 s.3) (and-agrees (F.agrees p.parsers.4 s.4) (and-agrees (G.agrees p.parsers.5 s.5) (and-agrees (H.agrees p.parsers.6 s.6) none-agree))))))) };
+    ghost agrees = { λ p s. let t = p.parsers in
+        first_of-agrees _ _ _ (A.same t.0) (B.same t.1 ∷ C.same t.2 ∷ D.same t.3 ∷ F.same t.4 ∷
+        G.same t.5 ∷ H.same t.6 ∷ []) _ _ (and-agrees (A.agrees t.0 s.0)
+        (and-agrees (B.agrees t.1 s.1) (and-agrees (C.agrees t.2 s.2)
+        (and-agrees (D.agrees t.3 s.3) (and-agrees (F.agrees t.4 s.4)
+        (and-agrees (G.agrees t.5 s.5) (and-agrees (H.agrees t.6 s.6) none-agree))))))) };
 
     #[inline(always)]
     fn go_emit(&self, inp: &mut InputRef<'src, '_, I, E>) -> PResult<O> {
@@ -393,20 +462,40 @@ impl<
     J: Parser<'src, I, O, E>,
 > Parser<'src, I, O, E> for Choice<(A, B, C, D, F, G, H, J)> {
     ghost use Rattle.std.specs.Prelude.{[], ◌∷◌};
-    ghost use Rattle.chumsky_parser.specs.Choice.{FirstOf, SameByOne};
+    ghost use Rattle.chumsky_parser.specs.Choice.{SameByOne};
     ghost use Rattle.chumsky_parser.specs.ChoiceLaws.{first_of-ends, first_of-agrees, none-end, and-ends, none-agree, and-agrees};
+    ghost use Rattle.chumsky_choice.specs.Alternatives.{DoesFirst};
 
-    ghost ready = { λ p. A.ready p.parsers.0 × B.ready p.parsers.1 × C.ready p.parsers.2 × D.ready p.parsers.3 × F.ready p.parsers.4 × G.ready p.parsers.5 × H.ready p.parsers.6 × J.ready p.parsers.7 };
+    ghost ready = { λ p. let t = p.parsers in
+        A.ready t.0 × B.ready t.1 × C.ready t.2 × D.ready t.3 × F.ready t.4 × G.ready t.5 ×
+        H.ready t.6 × J.ready t.7 };
 
-    ghost meaning = { λ p errors states. FirstOf states.mark states.back states.takes_no_memory (A.meaning p.parsers.0 errors states) (B.meaning p.parsers.1 errors states ∷ C.meaning p.parsers.2 errors states ∷ D.meaning p.parsers.3 errors states ∷ F.meaning p.parsers.4 errors states ∷ G.meaning p.parsers.5 errors states ∷ H.meaning p.parsers.6 errors states ∷ J.meaning p.parsers.7 errors states ∷ []) };
+    ghost meaning = { λ p. let t = p.parsers in
+        DoesFirst (A.meaning t.0) (B.meaning t.1 ∷ C.meaning t.2 ∷ D.meaning t.3 ∷
+        F.meaning t.4 ∷ G.meaning t.5 ∷ H.meaning t.6 ∷ J.meaning t.7 ∷ []) };
 
-    ghost steady = { λ p. A.steady p.parsers.0 × B.steady p.parsers.1 × C.steady p.parsers.2 × D.steady p.parsers.3 × F.steady p.parsers.4 × G.steady p.parsers.5 × H.steady p.parsers.6 × J.steady p.parsers.7 };
+    ghost steady = { λ p. let t = p.parsers in
+        A.steady t.0 × B.steady t.1 × C.steady t.2 × D.steady t.3 × F.steady t.4 × G.steady t.5 ×
+        H.steady t.6 × J.steady t.7 };
 
-    ghost same = { λ p. SameByOne (A.same p.parsers.0) (B.same p.parsers.1 ∷ C.same p.parsers.2 ∷ D.same p.parsers.3 ∷ F.same p.parsers.4 ∷ G.same p.parsers.5 ∷ H.same p.parsers.6 ∷ J.same p.parsers.7 ∷ []) };
+    ghost same = { λ p. let t = p.parsers in
+        SameByOne (A.same t.0) (B.same t.1 ∷ C.same t.2 ∷ D.same t.3 ∷ F.same t.4 ∷ G.same t.5 ∷
+        H.same t.6 ∷ J.same t.7 ∷ []) };
 
-    ghost ends_after_start = { λ p. first_of-ends _ _ _ _ _ (and-ends (A.ends_after_start p.parsers.0) (and-ends (B.ends_after_start p.parsers.1) (and-ends (C.ends_after_start p.parsers.2) (and-ends (D.ends_after_start p.parsers.3) (and-ends (F.ends_after_start p.parsers.4) (and-ends (G.ends_after_start p.parsers.5) (and-ends (H.ends_after_start p.parsers.6) (and-ends (J.ends_after_start p.parsers.7) none-end)))))))) };
+    ghost ends_after_start = { λ p. let t = p.parsers in
+        first_of-ends _ _ _ _ _ (and-ends (A.ends_after_start t.0)
+        (and-ends (B.ends_after_start t.1) (and-ends (C.ends_after_start t.2)
+        (and-ends (D.ends_after_start t.3) (and-ends (F.ends_after_start t.4)
+        (and-ends (G.ends_after_start t.5) (and-ends (H.ends_after_start t.6)
+        (and-ends (J.ends_after_start t.7) none-end)))))))) };
 
-    ghost agrees = { λ p s. first_of-agrees _ _ _ (A.same p.parsers.0) (B.same p.parsers.1 ∷ C.same p.parsers.2 ∷ D.same p.parsers.3 ∷ F.same p.parsers.4 ∷ G.same p.parsers.5 ∷ H.same p.parsers.6 ∷ J.same p.parsers.7 ∷ []) _ _ (and-agrees (A.agrees p.parsers.0 s.0) (and-agrees (B.agrees p.parsers.1 s.1) (and-agrees (C.agrees p.parsers.2 s.2) (and-agrees (D.agrees p.parsers.3 s.3) (and-agrees (F.agrees p.parsers.4 s.4) (and-agrees (G.agrees p.parsers.5 s.5) (and-agrees (H.agrees p.parsers.6 s.6) (and-agrees (J.agrees p.parsers.7 s.7) none-agree)))))))) };
+    ghost agrees = { λ p s. let t = p.parsers in
+        first_of-agrees _ _ _ (A.same t.0) (B.same t.1 ∷ C.same t.2 ∷ D.same t.3 ∷ F.same t.4 ∷
+        G.same t.5 ∷ H.same t.6 ∷ J.same t.7 ∷ []) _ _ (and-agrees (A.agrees t.0 s.0)
+        (and-agrees (B.agrees t.1 s.1) (and-agrees (C.agrees t.2 s.2)
+        (and-agrees (D.agrees t.3 s.3) (and-agrees (F.agrees t.4 s.4)
+        (and-agrees (G.agrees t.5 s.5) (and-agrees (H.agrees t.6 s.6)
+        (and-agrees (J.agrees t.7 s.7) none-agree)))))))) };
 
     #[inline(always)]
     fn go_emit(&self, inp: &mut InputRef<'src, '_, I, E>) -> PResult<O> {

@@ -3,3 +3,4 @@ pub mod RegroupedLaws
 pub mod Next
 pub mod InTurn
 pub mod InTurnLaws
+pub mod Paired

@@ -1,6 +1,5 @@
 //! Laws that compare groups with sequences, each the contract of a function that does nothing.
-ghost use Rattle.chumsky_combinator.specs.Compared.{ShownAs};
-ghost use Rattle.chumsky_combinator.specs.Compared.{SameOutcomes};
+ghost use Rattle.chumsky_group.specs.Paired.{then_of, DoesSame, DoesShown};
 
 use crate::group::Group;
 use chumsky_combinator::then::Then;
@@ -18,7 +17,9 @@ pub fn group_of_two_is_then<
     A: Parser<'src, I, O, E>,
     B: Parser<'src, I, U, E>,
 >(a: &A, b: &B)
-    ensures { SameOutcomes (⟦<Group<(A, B)> as Parser<'src, I, (O, U), E>>⟧.meaning (record { parsers = (a.now, b.now) }) E.Error.Error E.State.Inspector) (⟦<Then<A, B, O, U> as Parser<'src, I, (O, U), E>>⟧.meaning (record { first = a.now; second = b.now; of = record {} }) E.Error.Error E.State.Inspector) }
+    ensures { DoesSame E.Error.Error E.State.Inspector
+        (⟦<Group<(A, B)> as Parser<'src, I, (O, U), E>>⟧.meaning (record { parsers = (a.now, b.now) }))
+        (⟦<Then<A, B, O, U> as Parser<'src, I, (O, U), E>>⟧.meaning (then_of a.now b.now)) }
 {}
 
 /// `group((a, b, c))` has the outcomes of `a.then(b).then(c)`, and no others, up to the grouping of the values.
@@ -33,6 +34,10 @@ pub fn group_of_three_is_then_twice<
     B: Parser<'src, I, U, E>,
     C: Parser<'src, I, V, E>,
 >(a: &A, b: &B, c: &C)
-    ensures grouped { ShownAs (λ v. (v.0.0, v.0.1, v.1)) (⟦<Then<Then<A, B, O, U>, C, (O, U), V> as Parser<'src, I, ((O, U), V), E>>⟧.meaning (record { first = record { first = a.now; second = b.now; of = record {} }; second = c.now; of = record {} }) E.Error.Error E.State.Inspector) (⟦<Group<(A, B, C)> as Parser<'src, I, (O, U, V), E>>⟧.meaning (record { parsers = (a.now, b.now, c.now) }) E.Error.Error E.State.Inspector) }
-    ensures paired { ShownAs (λ v. ((v.0, v.1), v.2)) (⟦<Group<(A, B, C)> as Parser<'src, I, (O, U, V), E>>⟧.meaning (record { parsers = (a.now, b.now, c.now) }) E.Error.Error E.State.Inspector) (⟦<Then<Then<A, B, O, U>, C, (O, U), V> as Parser<'src, I, ((O, U), V), E>>⟧.meaning (record { first = record { first = a.now; second = b.now; of = record {} }; second = c.now; of = record {} }) E.Error.Error E.State.Inspector) }
+    ensures grouped { DoesShown E.Error.Error E.State.Inspector (λ v. (v.0.0, v.0.1, v.1))
+        (⟦<Then<Then<A, B, O, U>, C, (O, U), V> as Parser<'src, I, ((O, U), V), E>>⟧.meaning (then_of (then_of a.now b.now) c.now))
+        (⟦<Group<(A, B, C)> as Parser<'src, I, (O, U, V), E>>⟧.meaning (record { parsers = (a.now, b.now, c.now) })) }
+    ensures paired { DoesShown E.Error.Error E.State.Inspector (λ v. ((v.0, v.1), v.2))
+        (⟦<Group<(A, B, C)> as Parser<'src, I, (O, U, V), E>>⟧.meaning (record { parsers = (a.now, b.now, c.now) }))
+        (⟦<Then<Then<A, B, O, U>, C, (O, U), V> as Parser<'src, I, ((O, U), V), E>>⟧.meaning (then_of (then_of a.now b.now) c.now)) }
 {}

@@ -1,7 +1,6 @@
 //! One more part after an answer.
 ghost use Rattle.std.specs.Prelude.{◌≡◌};
-ghost use Rattle.chumsky_input.specs.Held.{held};
-ghost use Rattle.chumsky_group.specs.Next.{RanAfter, CheckedAfter};
+ghost use Rattle.chumsky_group.specs.Next.{EmitsBeside, ChecksBeside};
 
 use chumsky_input::extra::ParserExtra;
 use chumsky_input::input::Input;
@@ -20,7 +19,8 @@ pub(crate) fn emit_after<
     P: Parser<'src, I, U, E>,
 >(before: PResult<O>, next: &P, inp: &mut InputRef<'src, '_, I, E>) -> PResult<(O, U)>
     requires { P.ready next.now }
-    ensures ran { RanAfter E.Error.merged E.Error.takes_no_memory (P.meaning next.now E.Error.Error E.State.Inspector) before (held I.Input E.Error.Error E.State.Inspector inp.old) (held I.Input E.Error.Error E.State.Inspector inp.new) result }
+    ensures ran { EmitsBeside I.Input E.Error.Error E.State.Inspector
+        (P.meaning next.now) before inp.old inp.new result }
     ensures lent { inp.new.state.ghost_name ≡ inp.old.state.ghost_name }
 {
     let before = before?;
@@ -36,7 +36,8 @@ pub(crate) fn check_after<'src, I: Input<'src>, U, E: ParserExtra<I>, P: Parser<
     inp: &mut InputRef<'src, '_, I, E>,
 ) -> PResult<()>
     requires { P.ready next.now }
-    ensures ran { CheckedAfter E.Error.merged E.Error.takes_no_memory (P.meaning next.now E.Error.Error E.State.Inspector) before (held I.Input E.Error.Error E.State.Inspector inp.old) (held I.Input E.Error.Error E.State.Inspector inp.new) result }
+    ensures ran { ChecksBeside I.Input E.Error.Error E.State.Inspector
+        (P.meaning next.now) before inp.old inp.new result }
     ensures lent { inp.new.state.ghost_name ≡ inp.old.state.ghost_name }
 {
     before?;

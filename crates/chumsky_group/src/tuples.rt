@@ -15,12 +15,12 @@ impl<'src, I: Input<'src>, OA, E: ParserExtra<I>, A: Parser<'src, I, OA, E>> Par
     (OA,),
     E,
 > for Group<(A,)> {
-    ghost use Rattle.chumsky_group.specs.Regrouped.{Regrouped};
+    ghost use Rattle.chumsky_group.specs.Regrouped.{one_of_pairs, Grouped};
     ghost use Rattle.chumsky_group.specs.RegroupedLaws.{first-agrees, regrouped-ends, regrouped-agrees};
 
     ghost ready = { λ p. A.ready p.parsers.0 };
 
-    ghost meaning = { λ p errors states. Regrouped (λ v. record { 0 = v }) (A.meaning p.parsers.0 errors states) };
+    ghost meaning = { λ p. Grouped one_of_pairs (A.meaning p.parsers.0) };
 
     ghost steady = { λ p. A.steady p.parsers.0 };
 
@@ -54,20 +54,23 @@ impl<
     A: Parser<'src, I, OA, E>,
     B: Parser<'src, I, OB, E>,
 > Parser<'src, I, (OA, OB), E> for Group<(A, B)> {
-    ghost use Rattle.chumsky_parser.specs.Chained.{Sequence, SamePair};
+    ghost use Rattle.chumsky_parser.specs.Chained.{SamePair};
     ghost use Rattle.chumsky_parser.specs.Laws.{sequence-ends, sequence-agrees};
+    ghost use Rattle.chumsky_group.specs.Regrouped.{And};
 
     ghost ready = { λ p. A.ready p.parsers.0 × B.ready p.parsers.1 };
 
-    ghost meaning = { λ p errors states. Sequence (A.meaning p.parsers.0 errors states) (B.meaning p.parsers.1 errors states) };
+    ghost meaning = { λ p. And (A.meaning p.parsers.0) (B.meaning p.parsers.1) };
 
     ghost steady = { λ p. A.steady p.parsers.0 × B.steady p.parsers.1 };
 
     ghost same = { λ p. SamePair (A.same p.parsers.0) (B.same p.parsers.1) };
 
-    ghost ends_after_start = { λ p. sequence-ends _ _ (A.ends_after_start p.parsers.0) (B.ends_after_start p.parsers.1) };
+    ghost ends_after_start = { λ p. let t = p.parsers in
+        sequence-ends _ _ (A.ends_after_start t.0) (B.ends_after_start t.1) };
 
-    ghost agrees = { λ p s. sequence-agrees _ _ (A.same p.parsers.0) (B.same p.parsers.1) (A.agrees p.parsers.0 s.0) (B.agrees p.parsers.1 s.1) };
+    ghost agrees = { λ p s. let t = p.parsers in
+        sequence-agrees _ _ (A.same t.0) (B.same t.1) (A.agrees t.0 s.0) (B.agrees t.1 s.1) };
 
     #[inline(always)]
     fn go_emit(&self, inp: &mut InputRef<'src, '_, I, E>) -> PResult<(OA, OB)> {
@@ -104,22 +107,27 @@ impl<
     B: Parser<'src, I, OB, E>,
     C: Parser<'src, I, OC, E>,
 > Parser<'src, I, (OA, OB, OC), E> for Group<(A, B, C)> {
-    ghost use Rattle.chumsky_parser.specs.Chained.{Sequence};
     ghost use Rattle.chumsky_parser.specs.Laws.{sequence-ends};
-    ghost use Rattle.chumsky_group.specs.Regrouped.{Regrouped};
+    ghost use Rattle.chumsky_group.specs.Regrouped.{three_of_pairs, And, Grouped};
     ghost use Rattle.chumsky_group.specs.RegroupedLaws.{first-agrees, and-agrees, regrouped-ends, regrouped-agrees};
 
-    ghost ready = { λ p. A.ready p.parsers.0 × B.ready p.parsers.1 × C.ready p.parsers.2 };
+    ghost ready = { λ p. let t = p.parsers in A.ready t.0 × B.ready t.1 × C.ready t.2 };
 
-    ghost meaning = { λ p errors states. Regrouped (λ v. (v.0.0, v.0.1, v.1)) (Sequence (Sequence (A.meaning p.parsers.0 errors states) (B.meaning p.parsers.1 errors states)) (C.meaning p.parsers.2 errors states)) };
+    ghost meaning = { λ p. let t = p.parsers in
+        Grouped three_of_pairs (And (And (A.meaning t.0) (B.meaning t.1)) (C.meaning t.2)) };
 
-    ghost steady = { λ p. A.steady p.parsers.0 × B.steady p.parsers.1 × C.steady p.parsers.2 };
+    ghost steady = { λ p. let t = p.parsers in A.steady t.0 × B.steady t.1 × C.steady t.2 };
 
-    ghost same = { λ p v w. A.same p.parsers.0 v.0 w.0 × B.same p.parsers.1 v.1 w.1 × C.same p.parsers.2 v.2 w.2 };
+    ghost same = { λ p v w. let t = p.parsers in
+        A.same t.0 v.0 w.0 × B.same t.1 v.1 w.1 × C.same t.2 v.2 w.2 };
 
-    ghost ends_after_start = { λ p. regrouped-ends _ _ (sequence-ends _ _ (sequence-ends _ _ (A.ends_after_start p.parsers.0) (B.ends_after_start p.parsers.1)) (C.ends_after_start p.parsers.2)) };
+    ghost ends_after_start = { λ p. let t = p.parsers in
+        regrouped-ends _ _ (sequence-ends _ _ (sequence-ends _ _ (A.ends_after_start t.0)
+        (B.ends_after_start t.1)) (C.ends_after_start t.2)) };
 
-    ghost agrees = { λ p s. regrouped-agrees _ _ _ (λ v w t. (t.0.0, t.0.1, t.1)) (and-agrees (and-agrees (first-agrees (A.agrees p.parsers.0 s.0)) (B.agrees p.parsers.1 s.1)) (C.agrees p.parsers.2 s.2)) };
+    ghost agrees = { λ p s. let t = p.parsers in
+        regrouped-agrees _ _ _ (λ _ _ r. three_of_pairs r) (and-agrees (and-agrees
+        (first-agrees (A.agrees t.0 s.0)) (B.agrees t.1 s.1)) (C.agrees t.2 s.2)) };
 
     #[inline(always)]
     fn go_emit(&self, inp: &mut InputRef<'src, '_, I, E>) -> PResult<(OA, OB, OC)> {
@@ -165,22 +173,32 @@ impl<
     C: Parser<'src, I, OC, E>,
     D: Parser<'src, I, OD, E>,
 > Parser<'src, I, (OA, OB, OC, OD), E> for Group<(A, B, C, D)> {
-    ghost use Rattle.chumsky_parser.specs.Chained.{Sequence};
     ghost use Rattle.chumsky_parser.specs.Laws.{sequence-ends};
-    ghost use Rattle.chumsky_group.specs.Regrouped.{Regrouped};
+    ghost use Rattle.chumsky_group.specs.Regrouped.{four_of_pairs, And, Grouped};
     ghost use Rattle.chumsky_group.specs.RegroupedLaws.{first-agrees, and-agrees, regrouped-ends, regrouped-agrees};
 
-    ghost ready = { λ p. A.ready p.parsers.0 × B.ready p.parsers.1 × C.ready p.parsers.2 × D.ready p.parsers.3 };
+    ghost ready = { λ p. let t = p.parsers in
+        A.ready t.0 × B.ready t.1 × C.ready t.2 × D.ready t.3 };
 
-    ghost meaning = { λ p errors states. Regrouped (λ v. (v.0.0.0, v.0.0.1, v.0.1, v.1)) (Sequence (Sequence (Sequence (A.meaning p.parsers.0 errors states) (B.meaning p.parsers.1 errors states)) (C.meaning p.parsers.2 errors states)) (D.meaning p.parsers.3 errors states)) };
+    ghost meaning = { λ p. let t = p.parsers in
+        Grouped four_of_pairs (And (And (And (A.meaning t.0) (B.meaning t.1)) (C.meaning t.2))
+        (D.meaning t.3)) };
 
-    ghost steady = { λ p. A.steady p.parsers.0 × B.steady p.parsers.1 × C.steady p.parsers.2 × D.steady p.parsers.3 };
+    ghost steady = { λ p. let t = p.parsers in
+        A.steady t.0 × B.steady t.1 × C.steady t.2 × D.steady t.3 };
 
-    ghost same = { λ p v w. A.same p.parsers.0 v.0 w.0 × B.same p.parsers.1 v.1 w.1 × C.same p.parsers.2 v.2 w.2 × D.same p.parsers.3 v.3 w.3 };
+    ghost same = { λ p v w. let t = p.parsers in
+        A.same t.0 v.0 w.0 × B.same t.1 v.1 w.1 × C.same t.2 v.2 w.2 × D.same t.3 v.3 w.3 };
 
-    ghost ends_after_start = { λ p. regrouped-ends _ _ (sequence-ends _ _ (sequence-ends _ _ (sequence-ends _ _ (A.ends_after_start p.parsers.0) (B.ends_after_start p.parsers.1)) (C.ends_after_start p.parsers.2)) (D.ends_after_start p.parsers.3)) };
+    ghost ends_after_start = { λ p. let t = p.parsers in
+        regrouped-ends _ _ (sequence-ends _ _ (sequence-ends _ _ (sequence-ends _ _
+        (A.ends_after_start t.0) (B.ends_after_start t.1)) (C.ends_after_start t.2))
+        (D.ends_after_start t.3)) };
 
-    ghost agrees = { λ p s. regrouped-agrees _ _ _ (λ v w t. (t.0.0.0, t.0.0.1, t.0.1, t.1)) (and-agrees (and-agrees (and-agrees (first-agrees (A.agrees p.parsers.0 s.0)) (B.agrees p.parsers.1 s.1)) (C.agrees p.parsers.2 s.2)) (D.agrees p.parsers.3 s.3)) };
+    ghost agrees = { λ p s. let t = p.parsers in
+        regrouped-agrees _ _ _ (λ _ _ r. four_of_pairs r) (and-agrees (and-agrees (and-agrees
+        (first-agrees (A.agrees t.0 s.0)) (B.agrees t.1 s.1)) (C.agrees t.2 s.2))
+        (D.agrees t.3 s.3)) };
 
     #[inline(always)]
     fn go_emit(&self, inp: &mut InputRef<'src, '_, I, E>) -> PResult<(OA, OB, OC, OD)> {
@@ -232,22 +250,33 @@ impl<
     D: Parser<'src, I, OD, E>,
     F: Parser<'src, I, OF, E>,
 > Parser<'src, I, (OA, OB, OC, OD, OF), E> for Group<(A, B, C, D, F)> {
-    ghost use Rattle.chumsky_parser.specs.Chained.{Sequence};
     ghost use Rattle.chumsky_parser.specs.Laws.{sequence-ends};
-    ghost use Rattle.chumsky_group.specs.Regrouped.{Regrouped};
+    ghost use Rattle.chumsky_group.specs.Regrouped.{five_of_pairs, And, Grouped};
     ghost use Rattle.chumsky_group.specs.RegroupedLaws.{first-agrees, and-agrees, regrouped-ends, regrouped-agrees};
 
-    ghost ready = { λ p. A.ready p.parsers.0 × B.ready p.parsers.1 × C.ready p.parsers.2 × D.ready p.parsers.3 × F.ready p.parsers.4 };
+    ghost ready = { λ p. let t = p.parsers in
+        A.ready t.0 × B.ready t.1 × C.ready t.2 × D.ready t.3 × F.ready t.4 };
 
-    ghost meaning = { λ p errors states. Regrouped (λ v. (v.0.0.0.0, v.0.0.0.1, v.0.0.1, v.0.1, v.1)) (Sequence (Sequence (Sequence (Sequence (A.meaning p.parsers.0 errors states) (B.meaning p.parsers.1 errors states)) (C.meaning p.parsers.2 errors states)) (D.meaning p.parsers.3 errors states)) (F.meaning p.parsers.4 errors states)) };
+    ghost meaning = { λ p. let t = p.parsers in
+        Grouped five_of_pairs (And (And (And (And (A.meaning t.0) (B.meaning t.1)) (C.meaning t.2))
+        (D.meaning t.3)) (F.meaning t.4)) };
 
-    ghost steady = { λ p. A.steady p.parsers.0 × B.steady p.parsers.1 × C.steady p.parsers.2 × D.steady p.parsers.3 × F.steady p.parsers.4 };
+    ghost steady = { λ p. let t = p.parsers in
+        A.steady t.0 × B.steady t.1 × C.steady t.2 × D.steady t.3 × F.steady t.4 };
 
-    ghost same = { λ p v w. A.same p.parsers.0 v.0 w.0 × B.same p.parsers.1 v.1 w.1 × C.same p.parsers.2 v.2 w.2 × D.same p.parsers.3 v.3 w.3 × F.same p.parsers.4 v.4 w.4 };
+    ghost same = { λ p v w. let t = p.parsers in
+        A.same t.0 v.0 w.0 × B.same t.1 v.1 w.1 × C.same t.2 v.2 w.2 × D.same t.3 v.3 w.3 ×
+        F.same t.4 v.4 w.4 };
 
-    ghost ends_after_start = { λ p. regrouped-ends _ _ (sequence-ends _ _ (sequence-ends _ _ (sequence-ends _ _ (sequence-ends _ _ (A.ends_after_start p.parsers.0) (B.ends_after_start p.parsers.1)) (C.ends_after_start p.parsers.2)) (D.ends_after_start p.parsers.3)) (F.ends_after_start p.parsers.4)) };
+    ghost ends_after_start = { λ p. let t = p.parsers in
+        regrouped-ends _ _ (sequence-ends _ _ (sequence-ends _ _ (sequence-ends _ _
+        (sequence-ends _ _ (A.ends_after_start t.0) (B.ends_after_start t.1))
+        (C.ends_after_start t.2)) (D.ends_after_start t.3)) (F.ends_after_start t.4)) };
 
-    ghost agrees = { λ p s. regrouped-agrees _ _ _ (λ v w t. (t.0.0.0.0, t.0.0.0.1, t.0.0.1, t.0.1, t.1)) (and-agrees (and-agrees (and-agrees (and-agrees (first-agrees (A.agrees p.parsers.0 s.0)) (B.agrees p.parsers.1 s.1)) (C.agrees p.parsers.2 s.2)) (D.agrees p.parsers.3 s.3)) (F.agrees p.parsers.4 s.4)) };
+    ghost agrees = { λ p s. let t = p.parsers in
+        regrouped-agrees _ _ _ (λ _ _ r. five_of_pairs r) (and-agrees (and-agrees (and-agrees
+        (and-agrees (first-agrees (A.agrees t.0 s.0)) (B.agrees t.1 s.1)) (C.agrees t.2 s.2))
+        (D.agrees t.3 s.3)) (F.agrees t.4 s.4)) };
 
     #[inline(always)]
     fn go_emit(&self, inp: &mut InputRef<'src, '_, I, E>) -> PResult<(OA, OB, OC, OD, OF)> {
@@ -305,22 +334,34 @@ impl<
     F: Parser<'src, I, OF, E>,
     G: Parser<'src, I, OG, E>,
 > Parser<'src, I, (OA, OB, OC, OD, OF, OG), E> for Group<(A, B, C, D, F, G)> {
-    ghost use Rattle.chumsky_parser.specs.Chained.{Sequence};
     ghost use Rattle.chumsky_parser.specs.Laws.{sequence-ends};
-    ghost use Rattle.chumsky_group.specs.Regrouped.{Regrouped};
+    ghost use Rattle.chumsky_group.specs.Regrouped.{six_of_pairs, And, Grouped};
     ghost use Rattle.chumsky_group.specs.RegroupedLaws.{first-agrees, and-agrees, regrouped-ends, regrouped-agrees};
 
-    ghost ready = { λ p. A.ready p.parsers.0 × B.ready p.parsers.1 × C.ready p.parsers.2 × D.ready p.parsers.3 × F.ready p.parsers.4 × G.ready p.parsers.5 };
+    ghost ready = { λ p. let t = p.parsers in
+        A.ready t.0 × B.ready t.1 × C.ready t.2 × D.ready t.3 × F.ready t.4 × G.ready t.5 };
 
-    ghost meaning = { λ p errors states. Regrouped (λ v. (v.0.0.0.0.0, v.0.0.0.0.1, v.0.0.0.1, v.0.0.1, v.0.1, v.1)) (Sequence (Sequence (Sequence (Sequence (Sequence (A.meaning p.parsers.0 errors states) (B.meaning p.parsers.1 errors states)) (C.meaning p.parsers.2 errors states)) (D.meaning p.parsers.3 errors states)) (F.meaning p.parsers.4 errors states)) (G.meaning p.parsers.5 errors states)) };
+    ghost meaning = { λ p. let t = p.parsers in
+        Grouped six_of_pairs (And (And (And (And (And (A.meaning t.0) (B.meaning t.1))
+        (C.meaning t.2)) (D.meaning t.3)) (F.meaning t.4)) (G.meaning t.5)) };
 
-    ghost steady = { λ p. A.steady p.parsers.0 × B.steady p.parsers.1 × C.steady p.parsers.2 × D.steady p.parsers.3 × F.steady p.parsers.4 × G.steady p.parsers.5 };
+    ghost steady = { λ p. let t = p.parsers in
+        A.steady t.0 × B.steady t.1 × C.steady t.2 × D.steady t.3 × F.steady t.4 × G.steady t.5 };
 
-    ghost same = { λ p v w. A.same p.parsers.0 v.0 w.0 × B.same p.parsers.1 v.1 w.1 × C.same p.parsers.2 v.2 w.2 × D.same p.parsers.3 v.3 w.3 × F.same p.parsers.4 v.4 w.4 × G.same p.parsers.5 v.5 w.5 };
+    ghost same = { λ p v w. let t = p.parsers in
+        A.same t.0 v.0 w.0 × B.same t.1 v.1 w.1 × C.same t.2 v.2 w.2 × D.same t.3 v.3 w.3 ×
+        F.same t.4 v.4 w.4 × G.same t.5 v.5 w.5 };
 
-    ghost ends_after_start = { λ p. regrouped-ends _ _ (sequence-ends _ _ (sequence-ends _ _ (sequence-ends _ _ (sequence-ends _ _ (sequence-ends _ _ (A.ends_after_start p.parsers.0) (B.ends_after_start p.parsers.1)) (C.ends_after_start p.parsers.2)) (D.ends_after_start p.parsers.3)) (F.ends_after_start p.parsers.4)) (G.ends_after_start p.parsers.5)) };
+    ghost ends_after_start = { λ p. let t = p.parsers in
+        regrouped-ends _ _ (sequence-ends _ _ (sequence-ends _ _ (sequence-ends _ _
+        (sequence-ends _ _ (sequence-ends _ _ (A.ends_after_start t.0)
+        (B.ends_after_start t.1)) (C.ends_after_start t.2)) (D.ends_after_start t.3))
+        (F.ends_after_start t.4)) (G.ends_after_start t.5)) };
 
-    ghost agrees = { λ p s. regrouped-agrees _ _ _ (λ v w t. (t.0.0.0.0.0, t.0.0.0.0.1, t.0.0.0.1, t.0.0.1, t.0.1, t.1)) (and-agrees (and-agrees (and-agrees (and-agrees (and-agrees (first-agrees (A.agrees p.parsers.0 s.0)) (B.agrees p.parsers.1 s.1)) (C.agrees p.parsers.2 s.2)) (D.agrees p.parsers.3 s.3)) (F.agrees p.parsers.4 s.4)) (G.agrees p.parsers.5 s.5)) };
+    ghost agrees = { λ p s. let t = p.parsers in
+        regrouped-agrees _ _ _ (λ _ _ r. six_of_pairs r) (and-agrees (and-agrees (and-agrees
+        (and-agrees (and-agrees (first-agrees (A.agrees t.0 s.0)) (B.agrees t.1 s.1))
+        (C.agrees t.2 s.2)) (D.agrees t.3 s.3)) (F.agrees t.4 s.4)) (G.agrees t.5 s.5)) };
 
     #[inline(always)]
     fn go_emit(&self, inp: &mut InputRef<'src, '_, I, E>) -> PResult<(OA, OB, OC, OD, OF, OG)> {
@@ -384,22 +425,37 @@ impl<
     G: Parser<'src, I, OG, E>,
     H: Parser<'src, I, OH, E>,
 > Parser<'src, I, (OA, OB, OC, OD, OF, OG, OH), E> for Group<(A, B, C, D, F, G, H)> {
-    ghost use Rattle.chumsky_parser.specs.Chained.{Sequence};
     ghost use Rattle.chumsky_parser.specs.Laws.{sequence-ends};
-    ghost use Rattle.chumsky_group.specs.Regrouped.{Regrouped};
+    ghost use Rattle.chumsky_group.specs.Regrouped.{seven_of_pairs, And, Grouped};
     ghost use Rattle.chumsky_group.specs.RegroupedLaws.{first-agrees, and-agrees, regrouped-ends, regrouped-agrees};
 
-    ghost ready = { λ p. A.ready p.parsers.0 × B.ready p.parsers.1 × C.ready p.parsers.2 × D.ready p.parsers.3 × F.ready p.parsers.4 × G.ready p.parsers.5 × H.ready p.parsers.6 };
+    ghost ready = { λ p. let t = p.parsers in
+        A.ready t.0 × B.ready t.1 × C.ready t.2 × D.ready t.3 × F.ready t.4 × G.ready t.5 ×
+        H.ready t.6 };
 
-    ghost meaning = { λ p errors states. Regrouped (λ v. (v.0.0.0.0.0.0, v.0.0.0.0.0.1, v.0.0.0.0.1, v.0.0.0.1, v.0.0.1, v.0.1, v.1)) (Sequence (Sequence (Sequence (Sequence (Sequence (Sequence (A.meaning p.parsers.0 errors states) (B.meaning p.parsers.1 errors states)) (C.meaning p.parsers.2 errors states)) (D.meaning p.parsers.3 errors states)) (F.meaning p.parsers.4 errors states)) (G.meaning p.parsers.5 errors states)) (H.meaning p.parsers.6 errors states)) };
+    ghost meaning = { λ p. let t = p.parsers in
+        Grouped seven_of_pairs (And (And (And (And (And (And (A.meaning t.0) (B.meaning t.1))
+        (C.meaning t.2)) (D.meaning t.3)) (F.meaning t.4)) (G.meaning t.5)) (H.meaning t.6)) };
 
-    ghost steady = { λ p. A.steady p.parsers.0 × B.steady p.parsers.1 × C.steady p.parsers.2 × D.steady p.parsers.3 × F.steady p.parsers.4 × G.steady p.parsers.5 × H.steady p.parsers.6 };
+    ghost steady = { λ p. let t = p.parsers in
+        A.steady t.0 × B.steady t.1 × C.steady t.2 × D.steady t.3 × F.steady t.4 × G.steady t.5 ×
+        H.steady t.6 };
 
-    ghost same = { λ p v w. A.same p.parsers.0 v.0 w.0 × B.same p.parsers.1 v.1 w.1 × C.same p.parsers.2 v.2 w.2 × D.same p.parsers.3 v.3 w.3 × F.same p.parsers.4 v.4 w.4 × G.same p.parsers.5 v.5 w.5 × H.same p.parsers.6 v.6 w.6 };
+    ghost same = { λ p v w. let t = p.parsers in
+        A.same t.0 v.0 w.0 × B.same t.1 v.1 w.1 × C.same t.2 v.2 w.2 × D.same t.3 v.3 w.3 ×
+        F.same t.4 v.4 w.4 × G.same t.5 v.5 w.5 × H.same t.6 v.6 w.6 };
 
-    ghost ends_after_start = { λ p. regrouped-ends _ _ (sequence-ends _ _ (sequence-ends _ _ (sequence-ends _ _ (sequence-ends _ _ (sequence-ends _ _ (sequence-ends _ _ (A.ends_after_start p.parsers.0) (B.ends_after_start p.parsers.1)) (C.ends_after_start p.parsers.2)) (D.ends_after_start p.parsers.3)) (F.ends_after_start p.parsers.4)) (G.ends_after_start p.parsers.5)) (H.ends_after_start p.parsers.6)) };
+    ghost ends_after_start = { λ p. let t = p.parsers in
+        regrouped-ends _ _ (sequence-ends _ _ (sequence-ends _ _ (sequence-ends _ _
+        (sequence-ends _ _ (sequence-ends _ _ (sequence-ends _ _ (A.ends_after_start t.0)
+        (B.ends_after_start t.1)) (C.ends_after_start t.2)) (D.ends_after_start t.3))
+        (F.ends_after_start t.4)) (G.ends_after_start t.5)) (H.ends_after_start t.6)) };
 
-    ghost agrees = { λ p s. regrouped-agrees _ _ _ (λ v w t. (t.0.0.0.0.0.0, t.0.0.0.0.0.1, t.0.0.0.0.1, t.0.0.0.1, t.0.0.1, t.0.1, t.1)) (and-agrees (and-agrees (and-agrees (and-agrees (and-agrees (and-agrees (first-agrees (A.agrees p.parsers.0 s.0)) (B.agrees p.parsers.1 s.1)) (C.agrees p.parsers.2 s.2)) (D.agrees p.parsers.3 s.3)) (F.agrees p.parsers.4 s.4)) (G.agrees p.parsers.5 s.5)) (H.agrees p.parsers.6 s.6)) };
+    ghost agrees = { λ p s. let t = p.parsers in
+        regrouped-agrees _ _ _ (λ _ _ r. seven_of_pairs r) (and-agrees (and-agrees (and-agrees
+        (and-agrees (and-agrees (and-agrees (first-agrees (A.agrees t.0 s.0))
+        (B.agrees t.1 s.1)) (C.agrees t.2 s.2)) (D.agrees t.3 s.3)) (F.agrees t.4 s.4))
+        (G.agrees t.5 s.5)) (H.agrees t.6 s.6)) };
 
     #[inline(always)]
     fn go_emit(&self, inp: &mut InputRef<'src, '_, I, E>) -> PResult<(OA, OB, OC, OD, OF, OG, OH)> {
@@ -469,22 +525,39 @@ impl<
     H: Parser<'src, I, OH, E>,
     J: Parser<'src, I, OJ, E>,
 > Parser<'src, I, (OA, OB, OC, OD, OF, OG, OH, OJ), E> for Group<(A, B, C, D, F, G, H, J)> {
-    ghost use Rattle.chumsky_parser.specs.Chained.{Sequence};
     ghost use Rattle.chumsky_parser.specs.Laws.{sequence-ends};
-    ghost use Rattle.chumsky_group.specs.Regrouped.{Regrouped};
+    ghost use Rattle.chumsky_group.specs.Regrouped.{eight_of_pairs, And, Grouped};
     ghost use Rattle.chumsky_group.specs.RegroupedLaws.{first-agrees, and-agrees, regrouped-ends, regrouped-agrees};
 
-    ghost ready = { λ p. A.ready p.parsers.0 × B.ready p.parsers.1 × C.ready p.parsers.2 × D.ready p.parsers.3 × F.ready p.parsers.4 × G.ready p.parsers.5 × H.ready p.parsers.6 × J.ready p.parsers.7 };
+    ghost ready = { λ p. let t = p.parsers in
+        A.ready t.0 × B.ready t.1 × C.ready t.2 × D.ready t.3 × F.ready t.4 × G.ready t.5 ×
+        H.ready t.6 × J.ready t.7 };
 
-    ghost meaning = { λ p errors states. Regrouped (λ v. (v.0.0.0.0.0.0.0, v.0.0.0.0.0.0.1, v.0.0.0.0.0.1, v.0.0.0.0.1, v.0.0.0.1, v.0.0.1, v.0.1, v.1)) (Sequence (Sequence (Sequence (Sequence (Sequence (Sequence (Sequence (A.meaning p.parsers.0 errors states) (B.meaning p.parsers.1 errors states)) (C.meaning p.parsers.2 errors states)) (D.meaning p.parsers.3 errors states)) (F.meaning p.parsers.4 errors states)) (G.meaning p.parsers.5 errors states)) (H.meaning p.parsers.6 errors states)) (J.meaning p.parsers.7 errors states)) };
+    ghost meaning = { λ p. let t = p.parsers in
+        Grouped eight_of_pairs (And (And (And (And (And (And (And (A.meaning t.0) (B.meaning t.1))
+        (C.meaning t.2)) (D.meaning t.3)) (F.meaning t.4)) (G.meaning t.5)) (H.meaning t.6))
+        (J.meaning t.7)) };
 
-    ghost steady = { λ p. A.steady p.parsers.0 × B.steady p.parsers.1 × C.steady p.parsers.2 × D.steady p.parsers.3 × F.steady p.parsers.4 × G.steady p.parsers.5 × H.steady p.parsers.6 × J.steady p.parsers.7 };
+    ghost steady = { λ p. let t = p.parsers in
+        A.steady t.0 × B.steady t.1 × C.steady t.2 × D.steady t.3 × F.steady t.4 × G.steady t.5 ×
+        H.steady t.6 × J.steady t.7 };
 
-    ghost same = { λ p v w. A.same p.parsers.0 v.0 w.0 × B.same p.parsers.1 v.1 w.1 × C.same p.parsers.2 v.2 w.2 × D.same p.parsers.3 v.3 w.3 × F.same p.parsers.4 v.4 w.4 × G.same p.parsers.5 v.5 w.5 × H.same p.parsers.6 v.6 w.6 × J.same p.parsers.7 v.7 w.7 };
+    ghost same = { λ p v w. let t = p.parsers in
+        A.same t.0 v.0 w.0 × B.same t.1 v.1 w.1 × C.same t.2 v.2 w.2 × D.same t.3 v.3 w.3 ×
+        F.same t.4 v.4 w.4 × G.same t.5 v.5 w.5 × H.same t.6 v.6 w.6 × J.same t.7 v.7 w.7 };
 
-    ghost ends_after_start = { λ p. regrouped-ends _ _ (sequence-ends _ _ (sequence-ends _ _ (sequence-ends _ _ (sequence-ends _ _ (sequence-ends _ _ (sequence-ends _ _ (sequence-ends _ _ (A.ends_after_start p.parsers.0) (B.ends_after_start p.parsers.1)) (C.ends_after_start p.parsers.2)) (D.ends_after_start p.parsers.3)) (F.ends_after_start p.parsers.4)) (G.ends_after_start p.parsers.5)) (H.ends_after_start p.parsers.6)) (J.ends_after_start p.parsers.7)) };
+    ghost ends_after_start = { λ p. let t = p.parsers in
+        regrouped-ends _ _ (sequence-ends _ _ (sequence-ends _ _ (sequence-ends _ _
+        (sequence-ends _ _ (sequence-ends _ _ (sequence-ends _ _ (sequence-ends _ _
+        (A.ends_after_start t.0) (B.ends_after_start t.1)) (C.ends_after_start t.2))
+        (D.ends_after_start t.3)) (F.ends_after_start t.4)) (G.ends_after_start t.5))
+        (H.ends_after_start t.6)) (J.ends_after_start t.7)) };
 
-    ghost agrees = { λ p s. regrouped-agrees _ _ _ (λ v w t. (t.0.0.0.0.0.0.0, t.0.0.0.0.0.0.1, t.0.0.0.0.0.1, t.0.0.0.0.1, t.0.0.0.1, t.0.0.1, t.0.1, t.1)) (and-agrees (and-agrees (and-agrees (and-agrees (and-agrees (and-agrees (and-agrees (first-agrees (A.agrees p.parsers.0 s.0)) (B.agrees p.parsers.1 s.1)) (C.agrees p.parsers.2 s.2)) (D.agrees p.parsers.3 s.3)) (F.agrees p.parsers.4 s.4)) (G.agrees p.parsers.5 s.5)) (H.agrees p.parsers.6 s.6)) (J.agrees p.parsers.7 s.7)) };
+    ghost agrees = { λ p s. let t = p.parsers in
+        regrouped-agrees _ _ _ (λ _ _ r. eight_of_pairs r) (and-agrees (and-agrees (and-agrees
+        (and-agrees (and-agrees (and-agrees (and-agrees (first-agrees (A.agrees t.0 s.0))
+        (B.agrees t.1 s.1)) (C.agrees t.2 s.2)) (D.agrees t.3 s.3)) (F.agrees t.4 s.4))
+        (G.agrees t.5 s.5)) (H.agrees t.6 s.6)) (J.agrees t.7 s.7)) };
 
     #[inline(always)]
     fn go_emit(

@@ -1,23 +1,5 @@
-use Rattle.chumsky_choice.specs.InOrderLaws.{first_of-stands}
+use Rattle.std.proofs.Common.{rules}
 use Rattle.chumsky_choice.proofs.laws.one_alternative_stands.Goals as goal
 
-pub returns-clause-two : goal.returns-clause-two
-returns-clause-two g c = first_of-stands _ _ _ _ _
-
-pub returns-clause-three : goal.returns-clause-three
-returns-clause-three g c = first_of-stands _ _ _ _ _
-
-pub returns-clause-four : goal.returns-clause-four
-returns-clause-four g c = first_of-stands _ _ _ _ _
-
-pub returns-clause-five : goal.returns-clause-five
-returns-clause-five g c = first_of-stands _ _ _ _ _
-
-pub returns-clause-six : goal.returns-clause-six
-returns-clause-six g c = first_of-stands _ _ _ _ _
-
-pub returns-clause-seven : goal.returns-clause-seven
-returns-clause-seven g c = first_of-stands _ _ _ _ _
-
-pub returns-clause-eight : goal.returns-clause-eight
-returns-clause-eight g c = first_of-stands _ _ _ _ _
+pub returns : goal.returns
+returns g c = (g.met.T.Alternatives c.lifetimes (search rules)).stands_by_one c.args.choice.now

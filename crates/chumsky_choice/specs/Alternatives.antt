@@ -1,0 +1,45 @@
+-- The alternatives of a choice, each in the words of its errors and of its states.
+-- Main words: DoesFirst, DoesAmong, StandsByOneIn, SameByOneIn. Laws: AlternativesLaws.antt. Read first: Among.antt, InOrder.antt.
+use Rattle.std.specs.Prelude.{List, [], ◌∷◌, map}
+use Rattle.chumsky_input.specs.declared.error.Error as error_trait
+use Rattle.chumsky_input.specs.declared.inspector.Inspector as inspector_trait
+use Rattle.chumsky_input.specs.declared.input.Input as input_trait
+use Rattle.chumsky_input.specs.Outcome.{Meaning}
+use Rattle.chumsky_input.specs.Words.{Does}
+use Rattle.chumsky_parser.specs.Choice.{FirstOf}
+use Rattle.chumsky_combinator.specs.Standing.{SameByStandingIfAny}
+use Rattle.chumsky_choice.specs.Among.{FirstAmong}
+use Rattle.chumsky_choice.specs.InOrder.{StandsByOneIfAny}
+
+module _ {I Tok Sp Er St Mk Cx V : Type 0} (errors : error_trait.Ghosts Er I Tok Sp) (states : inspector_trait.Ghosts St I Mk Tok Sp) where
+  -- what each of some parsers may do
+  abbrev pub each_meant : List (Does I Tok Sp Er St Mk Cx V) → List (Meaning Tok Cx states.Seen errors.Seen V)
+  each_meant [] = []
+  each_meant (does ∷ others) = does errors states ∷ each_meant others
+
+  -- in each answer of the whole one of its alternatives stands; where it has none, the answer is no
+  abbrev pub StandsByOneIn : Does I Tok Sp Er St Mk Cx V → List (Does I Tok Sp Er St Mk Cx V) → Type 0
+  StandsByOneIn whole alternatives = StandsByOneIfAny states.mark states.back (whole errors states) (each_meant alternatives)
+
+  -- in any two answers of the whole, from alike beginnings, one and the same alternative stands, which calls their values the same
+  abbrev pub SameByOneIn : Does I Tok Sp Er St Mk Cx V → List (V → V → Type 0) → List (Does I Tok Sp Er St Mk Cx V) → Type 0
+  SameByOneIn whole sames alternatives = SameByStandingIfAny states.mark states.back states.takes_no_memory (whole errors states) sames (each_meant alternatives)
+
+module _ {I Tok Sp Er St Mk Cx V : Type 0} where
+  -- the first of several parsers that does not say no, else the last
+  abbrev pub DoesFirst : Does I Tok Sp Er St Mk Cx V → List (Does I Tok Sp Er St Mk Cx V) → Does I Tok Sp Er St Mk Cx V
+  DoesFirst first others errors states = FirstOf states.mark states.back states.takes_no_memory (first errors states) (each_meant errors states others)
+
+module _ {I Tok Sp Cu Er St Mk Cx V X : Type 0} (source : input_trait.Ghosts I Cu Tok Sp) where
+  -- the same of the parsers of a list: of none, a failure that expects nothing
+  abbrev pub DoesAmong : (X → Does I Tok Sp Er St Mk Cx V) → List X → Does I Tok Sp Er St Mk Cx V
+  DoesAmong meaning parsers errors states = FirstAmong source errors states (map (λ p. meaning p errors states) parsers)
+
+module _ {I Tok Sp Er St Mk Cx V X : Type 0} (errors : error_trait.Ghosts Er I Tok Sp) (states : inspector_trait.Ghosts St I Mk Tok Sp) where
+  -- in each answer of the whole one of a list of parsers stands; where there is none, the answer is no
+  abbrev pub StandsByOneOf : Does I Tok Sp Er St Mk Cx V → (X → Does I Tok Sp Er St Mk Cx V) → List X → Type 0
+  StandsByOneOf whole meaning parsers = StandsByOneIfAny states.mark states.back (whole errors states) (map (λ p. meaning p errors states) parsers)
+
+  -- in any two answers of the whole, from alike beginnings, one and the same of a list of parsers stands, which calls their values the same
+  abbrev pub SameByOneOf : Does I Tok Sp Er St Mk Cx V → (X → V → V → Type 0) → (X → Does I Tok Sp Er St Mk Cx V) → List X → Type 0
+  SameByOneOf whole same meaning parsers = SameByStandingIfAny states.mark states.back states.takes_no_memory (whole errors states) (map same parsers) (map (λ p. meaning p errors states) parsers)
