@@ -302,7 +302,8 @@ pub mod laws {
         collect_exactly_is_steady, collect_is_steady, repeated_is_steady, separated_by_is_steady,
     };
     pub use chumsky_parse_iter::laws::{
-        finish_answers_the_whole, once_none_is_given_none_is_any_more, run_may_be_asked,
+        finish_answers_the_whole, items_are_the_first_of_those_that_collect_gives,
+        once_none_is_given_none_is_any_more, run_may_be_asked,
     };
     pub use chumsky_parser::steady::{by_reference_is_steady, either_is_steady};
     pub use chumsky_primitive::steady::{
