@@ -233,12 +233,16 @@ pub mod grammar_laws {
 pub mod memory_laws {
     pub use crate::memory::memory_is_wanted_only_for_errors;
     pub use chumsky_memory::laws::{
-        a_run_is_never_out_of_memory, any_is_never_out_of_memory, count_is_never_out_of_memory,
+        a_run_is_never_out_of_memory, any_is_never_out_of_memory, choice_is_never_out_of_memory,
+        choice_of_a_list_is_never_out_of_memory, count_is_never_out_of_memory,
         delimited_by_is_never_out_of_memory, end_is_never_out_of_memory,
+        filter_is_never_out_of_memory, filter_map_is_never_out_of_memory,
+        group_is_never_out_of_memory, group_of_an_array_is_never_out_of_memory,
         ignore_then_is_never_out_of_memory, just_is_never_out_of_memory,
         map_is_never_out_of_memory, one_of_is_never_out_of_memory, or_is_never_out_of_memory,
-        repeated_is_never_out_of_memory, then_is_never_out_of_memory, to_is_never_out_of_memory,
-        to_slice_is_never_out_of_memory, to_span_is_never_out_of_memory,
+        repeated_is_never_out_of_memory, separated_by_is_never_out_of_memory,
+        then_is_never_out_of_memory, to_is_never_out_of_memory, to_slice_is_never_out_of_memory,
+        to_span_is_never_out_of_memory, try_map_is_never_out_of_memory,
     };
 }
 
@@ -298,7 +302,8 @@ pub mod laws {
         collect_exactly_is_steady, collect_is_steady, repeated_is_steady, separated_by_is_steady,
     };
     pub use chumsky_parse_iter::laws::{
-        finish_answers_the_whole, once_none_is_given_none_is_any_more, run_may_be_asked,
+        finish_answers_the_whole, items_are_the_first_of_those_that_collect_gives,
+        once_none_is_given_none_is_any_more, run_may_be_asked,
     };
     pub use chumsky_parser::steady::{by_reference_is_steady, either_is_steady};
     pub use chumsky_primitive::steady::{

@@ -1,16 +1,17 @@
 -- Lists are never refused for memory where their items aren't, nor what is made of them without a collection.
--- Main laws: repeats-spare, items-spare, counts-spare. Read first: Memory.antt, MemoryLaws.antt.
-use Rattle.std.proofs.Common.{◌≡◌, ℕ, zero, suc, ◌+◌, Bool, true, false, Option, Some, None}
-use Rattle.std.specs.Prelude.{option_map, nat_lt}
+-- Main laws: repeats-spare, separates-spare, items-spare, counts-spare. Read first: Memory.antt, MemoryLaws.antt.
+use Rattle.std.proofs.Common.{ℕ, zero, suc, ◌+◌, Bool, true, false, Option, Some, None}
+use Rattle.std.specs.Prelude.{option_map, nat_eq, nat_lt}
 use Rattle.chumsky_input.specs.declared.stop.Stop.TheVariants.{NoProgress, CountTooLarge}
-use Rattle.chumsky_input.specs.Outcome.{Meaning, Beginning, Outcome}
+use Rattle.chumsky_input.specs.Outcome.{Meaning}
 use Rattle.chumsky_parser.specs.Chained.{Chained, Given, Asked}
 use Rattle.chumsky_parser.specs.Failure.{Stops, wanting}
 use Rattle.chumsky_parser.specs.Items.{Next, More, End, AfterStep, FromMade, Items}
 use Rattle.chumsky_parser.specs.Steps.{AllSteps, unlisted}
 use Rattle.chumsky_items.specs.Consumers.{Skips, CountsUp, Passes, Counts}
 use Rattle.chumsky_items.specs.Repeating.{Settled, Settles, Counted, Closes, Uncapped, Repeats, is_stuck, fits, asks, at_cap}
-use Rattle.chumsky_memory.specs.Memory.{SparesMemory, NeverOutOfMemory, ItemsNeverOutOfMemory}
+use Rattle.chumsky_items.specs.Separating.{Bounds, Perhaps, Lead, Last, Staying, Round, Unfilled, Separates, asks_after, stays, trails}
+use Rattle.chumsky_memory.specs.Memory.{NeverOutOfMemory, ItemsNeverOutOfMemory}
 use Rattle.chumsky_memory.specs.MemoryLaws.{given-spares, no-spares, stops-spares, asked-spares, chained-spares, or_else-spares}
 
 module _ {Tok Cx St Er S V W : Type 0} where
@@ -68,3 +69,36 @@ module _ {Tok Cx St Mk Er V : Type 0} (mark : St → Mk) (back : St → Mk → S
     -- an item more, where items are never refused
     pub repeats-spare : (k : ℕ) → NeverOutOfMemory (Repeats mark back safe item free least most k)
     repeats-spare k b o m = uncapped-spares (at_cap most k) k b.start b o m.step
+
+module _ {Tok Cx St Mk Er U : Type 0} (mark : St → Mk) (back : St → Mk → St) (safe : Type 0) (separator : Meaning Tok Cx St Er U) (still : safe) (h : NeverOutOfMemory separator) where
+  perhaps-spares : NeverOutOfMemory (Perhaps mark back safe separator)
+  perhaps-spares = or_else-spares mark back safe (Asked false separator) (Given None) still (asked-spares false separator h) (given-spares None)
+
+  lead-spares : (first leading : Bool) → NeverOutOfMemory (Lead mark back safe separator first leading)
+  lead-spares false leading = asked-spares false separator h
+  lead-spares true true = perhaps-spares
+  lead-spares true false = given-spares None
+
+  last-spares : {V : Type 0} (tried : Bool) → NeverOutOfMemory (Last mark back safe {V = V} separator tried)
+  last-spares true = chained-spares (Perhaps mark back safe separator) _ perhaps-spares (λ _. given-spares (Some End))
+  last-spares false = given-spares (Some End)
+
+module _ {Tok Cx St Mk Er U V : Type 0} (mark : St → Mk) (back : St → Mk → St) (safe : Type 0) (separator : Meaning Tok Cx St Er U) (item : Meaning Tok Cx St Er V) (d : Bounds) where
+  module _ (still : safe) (hs : NeverOutOfMemory separator) (hi : NeverOutOfMemory item) where
+    staying-spares : (stay : Bool) (one : Meaning Tok Cx St Er (Next ℕ V)) → NeverOutOfMemory one → NeverOutOfMemory (Staying mark back safe stay one)
+    staying-spares true one h = or_else-spares mark back safe one (Closes false) still h (closes-spare false)
+    staying-spares false one h = h
+
+    round-spares : (k start : ℕ) → NeverOutOfMemory (Round mark back safe separator item d k start)
+    round-spares k start b o m =
+        chained-spares (Lead mark back safe separator (nat_eq k 0) d.leading) _ (lead-spares mark back safe separator still hs (nat_eq k 0) d.leading)
+        (λ _. staying-spares (stays d k) _ (counted-spares (asks_after (nat_eq k 0) d) k start item hi)) b o m.run
+
+    unfilled-spares : (full : Bool) (k start : ℕ) → NeverOutOfMemory (Unfilled mark back safe separator item d full k start)
+    unfilled-spares true k start = last-spares mark back safe separator still hs (trails d k)
+    unfilled-spares false k start =
+        or_else-spares mark back safe (Round mark back safe separator item d k start) (Closes (nat_lt k d.least)) still (round-spares k start) (closes-spare (nat_lt k d.least))
+
+    -- an item more and its separator, where neither is ever refused
+    pub separates-spare : (k : ℕ) → NeverOutOfMemory (Separates mark back safe separator item d k)
+    separates-spare k b o m = unfilled-spares (at_cap d.most k) k b.start b o m.step

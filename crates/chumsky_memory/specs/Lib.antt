@@ -2,3 +2,5 @@ pub mod Memory
 pub mod MemoryLaws
 pub mod PrimitivesSpare
 pub mod ItemsSpare
+pub mod PartsSpare
+pub mod VettedSpare

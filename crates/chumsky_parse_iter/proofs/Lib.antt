@@ -2,3 +2,4 @@ pub mod PartsLemmas
 pub mod FinishLemmas
 pub mod WalkLemmas
 pub mod NoneLemmas
+pub mod StartLemmas

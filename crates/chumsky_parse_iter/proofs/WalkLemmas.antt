@@ -169,7 +169,7 @@ module _ {Tok Cx St Er S V W : Type 0} (begins : Meaning Tok Cx St Er S) (gives 
       let c = m.meant.run.meant in
       unmade_yes c.first m.first m.meant.run.value m.meant.run.is c.first.verdict refl c.meant.run c.follows m.follows
 
-yes_of : {V Er : Type 0} (w : Verdict V Er) (v : Option V) → Ok v ≡ answer w → w ≡ Yes v
+pub yes_of : {V Er : Type 0} (w : Verdict V Er) (v : Option V) → Ok v ≡ answer w → w ≡ Yes v
 yes_of (Yes u) v e = cc
 yes_of No v e = let no : ⊥ = cc in absurd no
 yes_of (Halt z) v e = let no : ⊥ = cc in absurd no

@@ -67,6 +67,13 @@ StaysNone [] = ⊤
 StaysNone (Some x ∷ rs) = StaysNone rs
 StaysNone (None ∷ rs) = AllNone rs
 
+-- what calls of `next` gave is the beginning of a list, each item the same as that at its place; once none, no item any more
+abbrev pub IsStartOf : {V : Type 0} → (V → V → Type 0) → List (Option V) → List V → Type 0
+IsStartOf same [] ys = ⊤
+IsStartOf same (Some x ∷ rs) [] = ⊥
+IsStartOf same (Some x ∷ rs) (y ∷ ys) = same x y × IsStartOf same rs ys
+IsStartOf same (None ∷ rs) ys = AllNone rs
+
 -- an outcome of the part that is a yes
 pub record Succeeding {Tok Cx St Er W : Type 0} (part : Meaning Tok Cx St Er W) (b : Beginning Tok Cx St) (o : Outcome W Er St) : Type 0 where
   pub meant : part b o

@@ -1,12 +1,17 @@
 //! What is known of runs that give their items one after another, each the contract of a function that does nothing.
-ghost use Rattle.std.specs.Prelude.{◌≡◌, false, None, [], List, Option};
+ghost use Rattle.std.specs.Prelude.{◌≡◌, true, false, Some, None, [], List, Option, length};
+ghost use Rattle.std.specs.Global.{Vec};
+ghost use Rattle.chumsky_input.specs.Outcome.{Outcome, Yes};
+ghost use Rattle.chumsky_input.specs.Run.{begin};
 ghost use Rattle.chumsky_parse_iter.specs.Walk.{held_in, MayWalk};
-ghost use Rattle.chumsky_parse_iter.specs.Finish.{Called, StaysNone, AnswersTheWhole};
+ghost use Rattle.chumsky_parse_iter.specs.Finish.{Called, StaysNone, AnswersTheWhole, IsStartOf};
 
 use crate::parse_iter::{ParseIter, Phase};
 use chumsky_input::extra::ParserExtra;
 use chumsky_input::input::Input;
+use chumsky_items::collect::Collect;
 use chumsky_parser::iter::IterParser;
+use chumsky_parser::parser::Parser;
 
 /// A run may be asked for an item where its parser is ready, or the iteration that it goes on with may be asked; and after the
 /// end, a failure or a refusal in any case.
@@ -58,4 +63,24 @@ where
     E::Context: Drop,
     P: IterParser<'src, I, O, E>,
     ensures { (gave : List (Option O)) → run.now.phase ≡ Phase.Unbegun → run.now.given ≡ 0 → (held_in I.Input E.Error.Error E.State.Inspector run.now.parts).kept ≡ None → (held_in I.Input E.Error.Error E.State.Inspector run.now.parts).emitted ≡ [] → Called ⟦<ParseIter<'p, 'src, P, I, O, E, C> as Iterator>⟧.next_gives run.now gave last.now → AnswersTheWhole I.Input E.Error.Error E.State.Inspector (P.begins run.now.parser.now E.Error.Error E.State.Inspector) (λ s. P.gives run.now.parser.now (record { nonconsumption_is_ok = false }) s E.Error.Error E.State.Inspector) R (held_in I.Input E.Error.Error E.State.Inspector run.now.parts) gave last.now.phase (held_in I.Input E.Error.Error E.State.Inspector last.now.parts) }
+{}
+
+/// The items that a run of a steady parser gave are the first of those that `collect` of the same parser gives from where the
+/// run began, in order, each the same as the parser counts them; and once none was given, there is no item any more. Where the
+/// run has ended, they are as many.
+pub fn items_are_the_first_of_those_that_collect_gives<'p, 'src, I, O, E, P, C>(
+    run: &ParseIter<'p, 'src, P, I, O, E, C>,
+    last: &ParseIter<'p, 'src, P, I, O, E, C>,
+)
+where
+    I: Input<'src, Cursor = C>,
+    I::Token: 'src,
+    C: Copy,
+    O: Drop,
+    E: ParserExtra<I>,
+    E::State: Drop,
+    E::Context: Drop,
+    P: IterParser<'src, I, O, E>,
+    ensures first { P.steady run.now.parser.now → (gave : List (Option O)) → run.now.phase ≡ Phase.Unbegun → Called ⟦<ParseIter<'p, 'src, P, I, O, E, C> as Iterator>⟧.next_gives run.now gave last.now → (o : Outcome (Vec O) E.Error.Seen E.State.Seen) (v : Vec O) → ⟦<Collect<P, O, Vec<O>> as Parser<'src, I, Vec<O>, E>>⟧.meaning (record { parser = run.now.parser.now; of = record {} }) E.Error.Error E.State.Inspector (begin true (held_in I.Input E.Error.Error E.State.Inspector run.now.parts)) o → o.verdict ≡ Yes (Some v) → IsStartOf (P.same run.now.parser.now) gave v.items }
+    ensures all { P.steady run.now.parser.now → (gave : List (Option O)) → run.now.phase ≡ Phase.Unbegun → Called ⟦<ParseIter<'p, 'src, P, I, O, E, C> as Iterator>⟧.next_gives run.now gave last.now → (o : Outcome (Vec O) E.Error.Seen E.State.Seen) (v : Vec O) → ⟦<Collect<P, O, Vec<O>> as Parser<'src, I, Vec<O>, E>>⟧.meaning (record { parser = run.now.parser.now; of = record {} }) E.Error.Error E.State.Inspector (begin true (held_in I.Input E.Error.Error E.State.Inspector run.now.parts)) o → o.verdict ≡ Yes (Some v) → run.now.given ≡ 0 → last.now.phase ≡ Phase.Ended → last.now.given ≡ length v.items }
 {}

@@ -1,0 +1,9 @@
+use Rattle.chumsky_memory.specs.MemoryLaws.{given-spares, gives-spares, ignoring_first-spares}
+use Rattle.chumsky_memory.specs.ItemsSpare.{separates-spare, passes-spare}
+use Rattle.chumsky_memory.proofs.laws.separated_by_is_never_out_of_memory.Goals as goal
+
+pub returns-clause-items : goal.returns-clause-items
+returns-clause-items g c s a b free = record { begin = given-spares _; step = separates-spare _ _ _ _ _ _ s b a }
+
+pub returns-clause-plain : goal.returns-clause-plain
+returns-clause-plain g c s a b = ignoring_first-spares _ _ (passes-spare _ _ (record { begin = given-spares _; step = separates-spare _ _ _ _ _ _ s b a })) (gives-spares tt)
