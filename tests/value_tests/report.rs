@@ -105,22 +105,35 @@ fn three_that_follow_one_another_are_a_range(rt: HostRuntime) {
     let rows = [
         ("a", "input:1:1: expected 'a', found '~'\n~\n^\n"),
         ("ab", "input:1:1: expected 'a' or 'b', found '~'\n~\n^\n"),
-        ("abc", "input:1:1: expected 'a'..='c', found '~'\n~\n^\n"),
+        ("abc", "input:1:1: expected 'a' to 'c', found '~'\n~\n^\n"),
         (
             "ace",
             "input:1:1: expected 'a', 'c' or 'e', found '~'\n~\n^\n",
         ),
         (
             "xabcdyz",
-            "input:1:1: expected 'x', 'a'..='d', 'y' or 'z', found '~'\n~\n^\n",
+            "input:1:1: expected 'x', 'a' to 'd', 'y' or 'z', found '~'\n~\n^\n",
         ),
         (
             "_abcxyz",
-            "input:1:1: expected '_', 'a'..='c' or 'x'..='z', found '~'\n~\n^\n",
+            "input:1:1: expected '_', 'a' to 'c' or 'x' to 'z', found '~'\n~\n^\n",
         ),
         (
             "cba",
             "input:1:1: expected 'c', 'b' or 'a', found '~'\n~\n^\n",
+        ),
+        ("0123456789", "input:1:1: expected a digit, found '~'\n~\n^\n"),
+        (
+            "0123456789abcdef",
+            "input:1:1: expected a digit or 'a' to 'f', found '~'\n~\n^\n",
+        ),
+        (
+            "01234567",
+            "input:1:1: expected '0' to '7', found '~'\n~\n^\n",
+        ),
+        (
+            "0123456789:",
+            "input:1:1: expected '0' to ':', found '~'\n~\n^\n",
         ),
         (
             "\n\r\t'\\\"\u{85}",
@@ -146,7 +159,7 @@ fn what_names_no_token_is_in_words(rt: HostRuntime) {
     assert_reports(&rt, &none_of::<_, _, Own>(['\u{7f}']), &rows);
     let rows = [(
         "x",
-        "input:1:1: expected '0'..='9' or end of input, found 'x'\nx\n^\n",
+        "input:1:1: expected a digit or end of input, found 'x'\nx\n^\n",
     )];
     assert_reports(&rt, &one_of::<_, _, Own>('0'..='9').or_not(), &rows);
 }
@@ -214,7 +227,7 @@ fn a_caret_stands_below_each_character_of_the_span(rt: HostRuntime) {
         (
             11,
             23,
-            "days.txt:2:6: no such day\n\tlet y = é1;\n\t    ^^^^^^^",
+            "days.txt:2:6: no such day\n\tlet y = é1;\n\t    ^^^^^^^ to line 3",
         ),
         (9, 7, "days.txt:2:4: no such day\n\tlet y = é1;\n\t  ^"),
         (20, 20, "days.txt:3:1: no such day\nend\n^"),
@@ -224,6 +237,40 @@ fn a_caret_stands_below_each_character_of_the_span(rt: HostRuntime) {
     for (start, end, expected) in rows {
         let printed = report_of_message(rt.alloc(), text, start, end).expect(&rt, "want of memory");
         assert_eq!(rt; printed.as_str(), expected);
+    }
+}
+
+/// A line end belongs to the line that it ends, and so does the end of a text.
+#[test]
+fn a_span_over_several_lines_says_to_which_it_goes(rt: HostRuntime) {
+    let text = "one\ntwo\r\n\nfour";
+    let rows = [
+        (1, 3, "days.txt:1:2: no such day\none\n ^^"),
+        (1, 4, "days.txt:1:2: no such day\none\n ^^"),
+        (1, 5, "days.txt:1:2: no such day\none\n ^^ to line 2"),
+        (3, 4, "days.txt:1:4: no such day\none\n   ^"),
+        (3, 5, "days.txt:1:4: no such day\none\n   ^ to line 2"),
+        (1, 9, "days.txt:1:2: no such day\none\n ^^ to line 2"),
+        (1, 10, "days.txt:1:2: no such day\none\n ^^ to line 3"),
+        (0, 14, "days.txt:1:1: no such day\none\n^^^ to line 4"),
+        (0, 99, "days.txt:1:1: no such day\none\n^^^ to line 4"),
+        (9, 14, "days.txt:3:1: no such day\n\n^ to line 4"),
+        (10, 10, "days.txt:4:1: no such day\nfour\n^"),
+        (10, 2, "days.txt:4:1: no such day\nfour\n^"),
+        (14, 20, "days.txt:4:5: no such day\nfour\n    ^"),
+    ];
+    for (start, end, expected) in rows {
+        let printed = report_of_message(rt.alloc(), text, start, end).expect(&rt, "want of memory");
+        assert_eq!(rt; printed.as_str(), expected, "of {start}..{end}");
+    }
+    let lines = "a\nb\n";
+    for (end, expected) in [
+        (2, "days.txt:1:1: no such day\na\n^"),
+        (4, "days.txt:1:1: no such day\na\n^ to line 2"),
+        (9, "days.txt:1:1: no such day\na\n^ to line 2"),
+    ] {
+        let printed = report_of_message(rt.alloc(), lines, 0, end).expect(&rt, "want of memory");
+        assert_eq!(rt; printed.as_str(), expected, "of 0..{end}");
     }
 }
 
@@ -254,7 +301,7 @@ fn bytes_are_reported_in_hexadecimal(rt: HostRuntime) {
         (b"", Some("blob:0 (0x0): expected 0x52, found end of input")),
         (
             b"RT\x00",
-            Some("blob:2 (0x2): expected 0x01..=0x03 or 0x09, found 0x00"),
+            Some("blob:2 (0x2): expected 0x01 to 0x03 or 0x09, found 0x00"),
         ),
         (
             b"RT\x09\xff",

@@ -1,5 +1,5 @@
--- What an error says to people, of tokens that have a number and a text.
-use Rattle.std.specs.Prelude.{ℕ, zero, suc, ◌^◌, ◌+◌, ◌-◌, Bool, false, ◌||◌, if◌then◌else◌, nat_le, List, [], ◌∷◌, ◌++◌, length, take, Option, Some, None, codes, string_bytes, ◌==◌, slice_index_or}
+-- What an error says to people, of tokens that have a number and a text, and a text for all from one to another.
+use Rattle.std.specs.Prelude.{ℕ, zero, suc, ◌^◌, ◌+◌, ◌-◌, Bool, false, ◌||◌, ◌&&◌, if◌then◌else◌, nat_le, List, [], ◌∷◌, ◌++◌, length, take, Option, Some, None, codes, string_bytes, ◌==◌, slice_index_or}
 use Rattle.std.specs.Char.{encode_utf8, is_control}
 use Rattle.std.specs.Fmt.{digits, format_spec, padded_integral}
 use Rattle.chumsky_input.specs.Rich.{rich_found, rich_patterns, rich_message}
@@ -16,9 +16,18 @@ escaped c = if c == 10 then codes "\\n" else (if c == 13 then codes "\\r" else (
 abbrev pub character_text : ℕ → List ℕ
 character_text c = codes "'" ++ (escaped c ++ codes "'")
 
+-- all characters from one to another; the ten digits have a name
+abbrev pub character_range : ℕ → ℕ → List ℕ
+character_range first last = if first == 48 && last == 57 then codes "a digit"
+    else character_text first ++ (codes " to " ++ character_text last)
+
 -- a byte in two hexadecimal digits
 abbrev pub byte_text : ℕ → List ℕ
 byte_text b = codes "0x" ++ padded_integral (format_spec 32 0 4 2 (2 ^ 64 - 1)) false [] (digits 16 false b)
+
+-- all bytes from one to another
+abbrev pub byte_range : ℕ → ℕ → List ℕ
+byte_range first last = byte_text first ++ (codes " to " ++ byte_text last)
 
 -- what stands before an item that has others before it, and those in `later` after it
 abbrev pub separator : List (List ℕ) → List ℕ
@@ -35,7 +44,7 @@ abbrev pub listed : List (List ℕ) → List ℕ
 listed [] = codes "something else"
 listed (x ∷ others) = x ++ others_text others
 
-module _ {T : Type 0} (number : T → ℕ) (text : T → List ℕ) where
+module _ {T : Type 0} (number : T → ℕ) (text : T → List ℕ) (range : T → T → List ℕ) where
   abbrev pub pattern_text : RichPattern T → List ℕ
   pattern_text (Pattern.Token t) = text t
   pattern_text Pattern.Any = codes "anything"
@@ -58,11 +67,16 @@ module _ {T : Type 0} (number : T → ℕ) (text : T → List ℕ) where
   item_length [] = 0
   item_length (p ∷ ps) = if nat_le 2 (following p ps) then 1 + following p ps else 1
 
-  -- a pattern, or the first and the last of a run
+  -- all patterns from the first of a run to its last
+  abbrev pub run_text : RichPattern T → RichPattern T → List ℕ
+  run_text (Pattern.Token s) (Pattern.Token t) = range s t
+  run_text p q = pattern_text p ++ (codes " to " ++ pattern_text q)
+
+  -- a pattern, or a run of them
   abbrev pub item_text : List (RichPattern T) → List ℕ
   item_text [] = []
   item_text (p ∷ []) = pattern_text p
-  item_text (p ∷ q ∷ qs) = pattern_text p ++ (codes "..=" ++ pattern_text (slice_index_or (q ∷ qs) (length qs) q))
+  item_text (p ∷ q ∷ qs) = run_text p (slice_index_or (q ∷ qs) (length qs) q)
 
   -- the items of the patterns but for the first n, which belong to an item before
   abbrev pub items : ℕ → List (RichPattern T) → List (List ℕ)

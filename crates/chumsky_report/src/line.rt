@@ -18,11 +18,18 @@ pub fn place_of(text: &str, offset: usize) -> Place
     ensures line { result.line ≡ line_number text.now offset }
     ensures column { result.column ≡ column_number text.now offset }
 {
-    let (before, _) = text.as_bytes().split_at(offset.min(text.len()));
     Place {
-        line: line_ends(before) + 1,
+        line: line_number(text, offset),
         column: characters(line_before(text, offset)) + 1,
     }
+}
+
+/// The number of the line of a byte offset, which counts from one.
+pub fn line_number(text: &str, offset: usize) -> usize
+    ensures { result ≡ line_number text.now offset }
+{
+    let (before, _) = text.as_bytes().split_at(offset.min(text.len()));
+    line_ends(before) + 1
 }
 
 /// How many lines end in the bytes.

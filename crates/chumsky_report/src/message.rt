@@ -2,7 +2,7 @@
 ghost use Rattle.std.specs.Prelude.{◌≡◌, ◌<◌, ◌≤◌, ◌∷◌, [], List, Option, Some, None, length, take, ◌^◌, ℕ};
 ghost use Rattle.std.specs.Option.{option_copied};
 ghost use Rattle.std.specs.Fmt.{WritesOnOk};
-ghost use Rattle.chumsky_report.specs.Message.{character_text, byte_text, pattern_text, follows, following, item_length, item_text, listed, items, found_text, message_text};
+ghost use Rattle.chumsky_report.specs.Message.{character_text, character_range, byte_text, byte_range, pattern_text, follows, following, item_length, run_text, item_text, listed, items, found_text, message_text};
 
 use chumsky_input::rich::{Rich, RichPattern};
 use std::fmt;
@@ -14,6 +14,9 @@ pub trait Symbol: Copy {
 
     ghost text: { Self → List ℕ };
 
+    /// What all tokens from one to another are called.
+    ghost range: { Self → Self → List ℕ };
+
     /// The number of the token among those of its kind.
     fn number(self) -> u32
         ensures value { result ≡ number self }
@@ -21,6 +24,30 @@ pub trait Symbol: Copy {
 
     fn write<W: fmt::Write>(self, f: &mut Formatter<W>) -> fmt::Result
         ensures { WritesOnOk W.write_str_gives f.old result (text self) f.new };
+
+    /// Writes what all tokens from this one to the last are called.
+    fn write_range<W: fmt::Write>(self, last: Self, f: &mut Formatter<W>) -> fmt::Result
+        ensures { WritesOnOk W.write_str_gives f.old result (range self last) f.new };
+}
+
+/// A character in quotes, as a program writes it.
+#[derive(Clone, Copy)]
+struct Quoted(char);
+
+impl Display for Quoted {
+    ghost output = { λ q. Some (character_text q.0) };
+
+    fn fmt<W: fmt::Write>(&self, f: &mut Formatter<W>) -> fmt::Result {
+        let character = self.0;
+        match character {
+            '\n' => write!(f, "'\\n'"),
+            '\r' => write!(f, "'\\r'"),
+            '\t' => write!(f, "'\\t'"),
+            '\'' | '\\' => write!(f, "'\\{character}'"),
+            _ if character.is_control() => write!(f, "'\\u{{{:x}}}'", u32::from(character)),
+            _ => write!(f, "'{character}'"),
+        }
+    }
 }
 
 impl Symbol for char {
@@ -28,18 +55,20 @@ impl Symbol for char {
 
     ghost text = { character_text };
 
+    ghost range = { character_range };
+
     fn number(self) -> u32 {
         u32::from(self)
     }
 
     fn write<W: fmt::Write>(self, f: &mut Formatter<W>) -> fmt::Result {
-        match self {
-            '\n' => write!(f, "'\\n'"),
-            '\r' => write!(f, "'\\r'"),
-            '\t' => write!(f, "'\\t'"),
-            '\'' | '\\' => write!(f, "'\\{self}'"),
-            _ if self.is_control() => write!(f, "'\\u{{{:x}}}'", u32::from(self)),
-            _ => write!(f, "'{self}'"),
+        write!(f, "{}", Quoted(self))
+    }
+
+    fn write_range<W: fmt::Write>(self, last: Self, f: &mut Formatter<W>) -> fmt::Result {
+        match (self, last) {
+            ('0', '9') => write!(f, "a digit"),
+            _ => write!(f, "{} to {}", Quoted(self), Quoted(last)),
         }
     }
 }
@@ -49,12 +78,18 @@ impl Symbol for u8 {
 
     ghost text = { byte_text };
 
+    ghost range = { byte_range };
+
     fn number(self) -> u32 {
         u32::from(self)
     }
 
     fn write<W: fmt::Write>(self, f: &mut Formatter<W>) -> fmt::Result {
         write!(f, "0x{self:02x}")
+    }
+
+    fn write_range<W: fmt::Write>(self, last: Self, f: &mut Formatter<W>) -> fmt::Result {
+        write!(f, "0x{self:02x} to 0x{last:02x}")
     }
 }
 
@@ -63,7 +98,7 @@ impl Symbol for u8 {
 struct Pattern<'a, T>(&'a RichPattern<T>);
 
 impl<T: Symbol> Display for Pattern<'_, T> {
-    ghost output = { λ p. Some (pattern_text T.number T.text p.0.now) };
+    ghost output = { λ p. Some (pattern_text T.number T.text T.range p.0.now) };
 
     fn fmt<W: fmt::Write>(&self, f: &mut Formatter<W>) -> fmt::Result {
         match self.0 {
@@ -78,7 +113,7 @@ impl<T: Symbol> Display for Pattern<'_, T> {
 
 /// Whether both are tokens, and the second is the next after the first.
 fn follows<T: Symbol>(one: &RichPattern<T>, two: &RichPattern<T>) -> bool
-    ensures { result ≡ follows T.number T.text one.now two.now }
+    ensures { result ≡ follows T.number T.text T.range one.now two.now }
 {
     match (one, two) {
         (RichPattern::Token(one), RichPattern::Token(two)) => two.number() == one.number() + 1,
@@ -88,7 +123,7 @@ fn follows<T: Symbol>(one: &RichPattern<T>, two: &RichPattern<T>) -> bool
 
 /// How many patterns belong to the first item: three or more tokens that follow one another are one item.
 fn item_length<T: Symbol>(patterns: &[RichPattern<T>]) -> usize
-    ensures value { result ≡ item_length T.number T.text patterns.now }
+    ensures value { result ≡ item_length T.number T.text T.range patterns.now }
     ensures bound { result ≤ length patterns.now }
     ensures some { 0 < length patterns.now → 0 < result }
 {
@@ -101,7 +136,7 @@ fn item_length<T: Symbol>(patterns: &[RichPattern<T>]) -> usize
 
 /// How many patterns follow, each on the one before it.
 fn following<T: Symbol>(first: &RichPattern<T>, others: &[RichPattern<T>]) -> usize
-    ensures value { result ≡ following T.number T.text first.now others.now }
+    ensures value { result ≡ following T.number T.text T.range first.now others.now }
     ensures bound { result ≤ length others.now }
 {
     let mut last = first;
@@ -116,18 +151,33 @@ fn following<T: Symbol>(first: &RichPattern<T>, others: &[RichPattern<T>]) -> us
     count
 }
 
+/// The first and the last pattern of a run.
+#[derive_where(Clone, Copy)]
+struct Run<'a, T>(&'a RichPattern<T>, &'a RichPattern<T>);
+
+impl<T: Symbol> Display for Run<'_, T> {
+    ghost output = { λ p. Some (run_text T.number T.text T.range p.0.now p.1.now) };
+
+    fn fmt<W: fmt::Write>(&self, f: &mut Formatter<W>) -> fmt::Result {
+        match (self.0, self.1) {
+            (RichPattern::Token(first), RichPattern::Token(last)) => first.write_range(*last, f),
+            _ => write!(f, "{} to {}", Pattern(self.0), Pattern(self.1)),
+        }
+    }
+}
+
 /// An item of what was expected.
 #[derive_where(Clone, Copy)]
 struct Item<'a, T>(&'a [RichPattern<T>]);
 
 impl<T: Symbol> Display for Item<'_, T> {
-    ghost output = { λ p. Some (item_text T.number T.text p.0.now) };
+    ghost output = { λ p. Some (item_text T.number T.text T.range p.0.now) };
 
     fn fmt<W: fmt::Write>(&self, f: &mut Formatter<W>) -> fmt::Result {
         match self.0 {
             [] => Ok(()),
             [only] => write!(f, "{}", Pattern(only)),
-            [first, .., last] => write!(f, "{}..={}", Pattern(first), Pattern(last)),
+            [first, .., last] => write!(f, "{}", Run(first, last)),
         }
     }
 }
@@ -137,7 +187,7 @@ impl<T: Symbol> Display for Item<'_, T> {
 struct Patterns<'a, T>(&'a [RichPattern<T>]);
 
 impl<T: Symbol> Display for Patterns<'_, T> {
-    ghost output = { λ p. Some (listed (items T.number T.text 0 p.0.now)) };
+    ghost output = { λ p. Some (listed (items T.number T.text T.range 0 p.0.now)) };
 
     fn fmt<W: fmt::Write>(&self, f: &mut Formatter<W>) -> fmt::Result {
         if self.0.is_empty() {
@@ -160,7 +210,7 @@ impl<T: Symbol> Display for Patterns<'_, T> {
 struct Found<'a, T>(Option<&'a T>);
 
 impl<T: Symbol> Display for Found<'_, T> {
-    ghost output = { λ s. Some (found_text T.number T.text (option_copied s.0)) };
+    ghost output = { λ s. Some (found_text T.number T.text T.range (option_copied s.0)) };
 
     fn fmt<W: fmt::Write>(&self, f: &mut Formatter<W>) -> fmt::Result {
         match self.0 {
@@ -175,7 +225,7 @@ impl<T: Symbol> Display for Found<'_, T> {
 pub struct Message<'a, T>(pub &'a Rich<T>);
 
 impl<T: Symbol> Display for Message<'_, T> {
-    ghost output = { λ e. Some (message_text T.number T.text e.0.now) };
+    ghost output = { λ e. Some (message_text T.number T.text T.range e.0.now) };
 
     fn fmt<W: fmt::Write>(&self, f: &mut Formatter<W>) -> fmt::Result {
         match self.0.reason() {

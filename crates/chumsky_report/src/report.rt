@@ -1,8 +1,8 @@
 //! Errors as they are shown to people.
 ghost use Rattle.std.specs.Prelude.{◌≡◌, Some, replicate, flat_map, max};
-ghost use Rattle.chumsky_report.specs.Report.{below, marked, place_text, marks, report_text, byte_report_text};
+ghost use Rattle.chumsky_report.specs.Report.{below, marked, last_line, onward, place_text, marks, report_text, byte_report_text};
 
-use crate::line::{characters, first_line, line_before, line_of, place_of};
+use crate::line::{characters, first_line, line_before, line_number, line_of, place_of};
 use crate::message::Message;
 use chumsky_input::rich::Rich;
 use chumsky_input::span::SimpleSpan;
@@ -12,7 +12,7 @@ use std::fmt::{Display, Formatter};
 /// An error of a text, in three lines with no end at the last:
 ///
 /// ```text
-/// settings.conf:2:7: expected '0'..='9' or end of input, found 'x'
+/// settings.conf:2:7: expected a digit or end of input, found 'x'
 /// port=8x
 ///       ^
 /// ```
@@ -20,8 +20,9 @@ use std::fmt::{Display, Formatter};
 /// The first has the name of the text, the line and the column where the error's span begins, and what was expected and
 /// found there, or the error's own message. The second is that line of the text. The third has a caret below each
 /// character of the span on that line, and one where there is none. Below a tab stands a tab, so that carets align; a
-/// character that is wider than others shifts them. Three or more characters that were expected and follow one another
-/// print as a range.
+/// character that is wider than others shifts them. Where the span has characters of later lines too, the carets go to the
+/// end of the line, and `to line 4` follows them. Three or more characters that were expected and follow one another print
+/// as a range, `'a' to 'f'`; the ten digits print as `a digit`.
 #[derive(Clone, Copy)]
 pub struct Report<'a> {
     /// What the text is called, as the name of a file.
@@ -79,8 +80,13 @@ impl Display for Marks<'_> {
     ghost output = { λ m. Some (marks m.text.now m.span) };
 
     fn fmt<W: fmt::Write>(&self, f: &mut Formatter<W>) -> fmt::Result {
-        write!(f, "{}", Below(line_before(self.text, self.span.start)))?;
-        write!(f, "{}", Carets(marked(self.text, self.span).max(1)))
+        let below = Below(line_before(self.text, self.span.start));
+        let carets = Carets(marked(self.text, self.span).max(1));
+        let onward = Onward {
+            text: self.text,
+            span: self.span,
+        };
+        write!(f, "{below}{carets}{onward}")
     }
 }
 
@@ -124,6 +130,32 @@ impl Display for Carets {
         }
         Ok(())
     }
+}
+
+/// To which line a span goes on, where it has characters of later lines.
+#[derive(Clone, Copy)]
+struct Onward<'a> {
+    text: &'a str,
+    span: SimpleSpan,
+}
+
+impl Display for Onward<'_> {
+    ghost output = { λ o. Some (onward o.text.now o.span) };
+
+    fn fmt<W: fmt::Write>(&self, f: &mut Formatter<W>) -> fmt::Result {
+        let last = last_line(self.text, self.span);
+        if last <= line_number(self.text, self.span.start) {
+            return Ok(());
+        }
+        write!(f, " to line {last}")
+    }
+}
+
+/// The line of the last character of a span.
+fn last_line(text: &str, span: SimpleSpan) -> usize
+    ensures { result ≡ last_line text.now span }
+{
+    line_number(text, span.end.min(text.len()).saturating_sub(1))
 }
 
 /// How many characters of a span stand on its first line.

@@ -8,8 +8,8 @@ use Rattle.chumsky_report.proofs.message.PatternsDisplay.fmt.Given as goal
 abbrev pub invariant-loop-rest : goal.invariant-loop-rest
 invariant-loop-rest g l =
     IsPlainFormatter l.fn.f → (h : Formatter g.row.W.Denot)
-    → (IsPlainFormatter l.f → HasWritten g.W.Write.write_str_gives l.f (others_text (items g.T.Symbol.number g.T.Symbol.text 0 l.rest)) h)
-    → HasWritten g.W.Write.write_str_gives l.fn.f (listed (items g.T.Symbol.number g.T.Symbol.text 0 l.self.0.now)) h
+    → (IsPlainFormatter l.f → HasWritten g.W.Write.write_str_gives l.f (others_text (items g.T.Symbol.number g.T.Symbol.text g.T.Symbol.range 0 l.rest)) h)
+    → HasWritten g.W.Write.write_str_gives l.fn.f (listed (items g.T.Symbol.number g.T.Symbol.text g.T.Symbol.range 0 l.self.0.now)) h
 
 abbrev pub decreases-loop-rest : goal.decreases-loop-rest
 decreases-loop-rest g l = length l.rest
