@@ -10,11 +10,11 @@ ghost use Rattle.chumsky_memory.specs.Memory.{NeverOutOfMemory, ItemsNeverOutOfM
 
 use arrayvec::ArrayVec;
 use chumsky_choice::choice::Choice;
-use chumsky_combinator::or::Or;
 use chumsky_combinator::delimited_by::DelimitedBy;
 use chumsky_combinator::ignore_then::IgnoreThen;
 use chumsky_combinator::ignored::Ignored;
 use chumsky_combinator::map::{Map, Mapper};
+use chumsky_combinator::or::Or;
 use chumsky_combinator::or_not::OrNot;
 use chumsky_combinator::padded_by::PaddedBy;
 use chumsky_combinator::then::Then;
