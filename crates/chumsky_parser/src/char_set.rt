@@ -2,7 +2,6 @@
 ghost use Rattle.std.specs.Prelude.{◌≡◌, refl};
 ghost use Rattle.std.specs.Str.{chars};
 ghost use Rattle.chumsky_parser.specs.CharBits.{byte_bit, text_bits};
-ghost use Rattle.chumsky_parser.specs.CharSet.{set_text};
 ghost use Rattle.chumsky_parser.specs.Members.{chars_from};
 
 use crate::container::{Seq, has_char, most_chars, text_at};
@@ -11,7 +10,7 @@ use chumsky_input::util::MaybeRef;
 /// The characters of a text, with a bit for each that lies below 128. See `chars_of`.
 #[derive(Clone, Copy, Debug)]
 pub struct CharSet<'a> {
-    text: &'a str,
+    pub text: &'a str,
     bits: u128,
     ghost marked: { bits ≡ text_bits text.now },
 }
@@ -19,7 +18,7 @@ pub struct CharSet<'a> {
 /// The characters of a text as a set, whose bits are made once: `one_of(chars_of("+-*/"))` takes what `one_of("+-*/")` does,
 /// and where that looks through the text for each token, it tests a bit for one below 128.
 pub fn chars_of(text: &str) -> CharSet<'_>
-    ensures { set_text result ≡ text.now }
+    ensures { result.text.now ≡ text.now }
 {
     CharSet {
         text,
@@ -48,9 +47,9 @@ fn bit_of(byte: u8) -> u128
 
 /// The members are the characters of the text, and marks count its bytes.
 impl<'a> Seq<char> for CharSet<'a> {
-    ghost members = { λ s. chars (set_text s) };
+    ghost members = { λ s. chars s.text.now };
 
-    ghost members_from = { λ s i. chars_from (set_text s) i };
+    ghost members_from = { λ s i. chars_from s.text.now i };
 
     ghost all_from = { λ s. refl };
 
