@@ -1,6 +1,9 @@
 //! The members of ranges, arrays, vectors, slices and texts of one's own.
 use answers::asserts::assert_answers;
 use answers::extras::Own;
+use chumsky::container::{Seq, chars_of};
+use chumsky::error::RichPattern;
+use chumsky::extra::RichText;
 use chumsky::prelude::*;
 use std::alloc::Global;
 use std::process::Abort;
@@ -103,4 +106,55 @@ fn a_slice_is_a_sequence(rt: HostRuntime) {
     assert_answers(&rt, &just::<_, _, Own>(members), &rows);
     let rows: [(&[u8], &str); 2] = [(&[5], "ok 5"), (&[6], "error 0..1 expected 7, 5 found 6")];
     assert_answers(&rt, &one_of::<_, _, Own>(members), &rows);
+}
+
+#[test]
+fn a_set_of_characters_has_those_of_its_text(rt: HostRuntime) {
+    let letters = chars_of("@\u{7f}é\0@");
+    let rows = [
+        ("@", "ok '@'"),
+        ("\u{7f}", "ok '\u{7f}'"),
+        ("\0", "ok '\0'"),
+        ("é", "ok 'é'"),
+        (
+            "A",
+            "error 0..1 expected '@', '\u{7f}', 'é', '\0', '@' found 'A'",
+        ),
+        (
+            "è",
+            "error 0..2 expected '@', '\u{7f}', 'é', '\0', '@' found 'è'",
+        ),
+    ];
+    assert_answers(&rt, &one_of::<_, _, Own>(letters), &rows);
+    let rows = [
+        ("A", "ok 'A'"),
+        ("è", "ok 'è'"),
+        ("é", "error 0..2 expected something else found 'é'"),
+        ("\0", "error 0..1 expected something else found '\0'"),
+    ];
+    assert_answers(&rt, &none_of::<_, _, Own>(letters), &rows);
+}
+
+#[test]
+fn a_set_of_characters_has_a_character_where_its_text_has_it(rt: HostRuntime) {
+    let text = "ab~\t éA/:?@[";
+    let letters = chars_of(text);
+    for character in '\0'..='\u{120}' {
+        let in_text = text.chars().any(|member| member == character);
+        assert_eq!(&rt, letters.contains(&character), in_text);
+    }
+}
+
+#[test]
+fn a_rich_error_names_a_repeated_member_once(rt: HostRuntime) {
+    // `a` and `á` share a bucket, since 225 is 97 and 128, and so do `é` and `i`.
+    let members = one_of::<_, &str, RichText>("aáaéiáéi");
+    let errors = members.parse(rt.alloc(), "x").expect(&rt, "want of memory").into_errors();
+    let mut letters = String::new(rt.alloc());
+    for pattern in errors.as_slice()[0].expected() {
+        if let RichPattern::Token(letter) = pattern {
+            letters.push(*letter).expect(&rt, "want of memory");
+        }
+    }
+    assert_eq!(&rt, letters.as_str(), "aáéi");
 }

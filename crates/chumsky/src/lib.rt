@@ -53,6 +53,7 @@ pub mod report {
 /// Sequences of tokens, and what items are collected into.
 pub mod container {
     pub use chumsky_items::container::{Container, ContainerExactly};
+    pub use chumsky_parser::char_set::{CharSet, chars_of};
     pub use chumsky_parser::container::{OrderedSeq, Seq};
 }
 

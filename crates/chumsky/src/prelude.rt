@@ -14,6 +14,7 @@ pub use chumsky_input::input::Input;
 pub use chumsky_input::rich::Rich;
 pub use chumsky_input::simple::{Cheap, Simple};
 pub use chumsky_input::span::{SimpleSpan, Spanned};
+pub use chumsky_parser::char_set::chars_of;
 pub use chumsky_parser::input_ref_ext::InputRefExt;
 pub use chumsky_parser::iter::{IsIterParser, IterParser};
 pub use chumsky_parser::parser::{IsParser, Parser};

@@ -4,13 +4,13 @@ use Rattle.std.specs.List.{list_any}
 use Rattle.std.specs.Str.{chars, IsUtf8, IsCharBoundary}
 use Rattle.std.specs.Char.{encode_utf8, len_utf8}
 use Rattle.std.proofs.Common.{ap, sym, ◌∙◌, refl, arith, subst, ⊎_elim}
-use Rattle.std.proofs.lemmas.Bool.{cases_lt}
-use Rattle.std.proofs.lemmas.List.{nil_from_length, drop_more, drop_all, append-nil}
+use Rattle.std.proofs.lemmas.Bool.{cases_lt, cases_Bool}
+use Rattle.std.proofs.lemmas.List.{nil_from_length, length-drop, drop_more, drop_all, append-nil}
 use Rattle.std.proofs.lemmas.List.Folds.{list_any_none, list_any-append}
 use Rattle.std.proofs.lemmas.List.Elements.{All-from_get_or}
 use Rattle.std.proofs.Math.Utf8.{encodes}
 use Rattle.std.proofs.lemmas.Bool.Decides.{nat_tests}
-use Rattle.std.proofs.lemmas.Str.{chars-nil, chars_past_char, drop_past_char, IsUtf8-drop, IsCharBoundary-start, IsCharBoundary-past_char, IsCharBoundary-before_ascii, encode_ascii, len_utf8_ascii, encodes-chars, NoCharPasses-byte}
+use Rattle.std.proofs.lemmas.Str.{chars-nil, chars_past_char, drop_past_char, IsUtf8-drop, IsCharBoundary-start, IsCharBoundary-past_char, IsCharBoundary-before_ascii, encode_ascii, len_utf8_ascii, encodes-chars, length-le-encodes, NoCharPasses-byte}
 use Rattle.chumsky_parser.specs.Members.{at_boundary, chars_from}
 
 boundary_yes : (bs : List ℕ) (i : ℕ) → IsCharBoundary bs i → at_boundary bs i ≡ true
@@ -53,6 +53,17 @@ chars_from_ascii bs i u l small =
     let c = slice_index_or bs i 0 in
     let here : drop i bs ≡ encode_utf8 c ++ drop (i + 1) bs = drop_more bs i 0 l ∙ ap (λ t. t ++ drop (i + 1) bs) (sym (encode_ascii c small)) in
     chars_from_step bs (drop (i + 1) bs) i c u (IsCharBoundary-before_ascii bs i l small) here ∙ ap (λ n. c ∷ chars_from bs (i + n)) (len_utf8_ascii c small)
+
+-- from a byte on a text has no more characters than bytes
+pub chars_from_few : (bs : List ℕ) (i : ℕ) → IsUtf8 bs → length (chars_from bs i) ≤ length bs
+chars_from_few bs i u = ⊎_elim some (λ e. rw e (omega arith)) (cases_Bool (at_boundary bs i))
+  where
+    some : at_boundary bs i ≡ true → length (chars_from bs i) ≤ length bs
+    some e =
+        let few = length-le-encodes (chars (drop i bs)) in
+        let all = ap length (encodes-chars (drop i bs) (IsUtf8-drop bs i u (boundary_back bs i u e))) in
+        let part = length-drop i bs in
+        rw e (omega (arith, few, all, part))
 
 pub chars_from_past : (bs : List ℕ) (i : ℕ) → length bs ≤ i → chars_from bs i ≡ []
 chars_from_past bs i l = ap (λ t. cond (at_boundary bs i) t []) (ap chars (drop_all i bs l) ∙ chars-nil) ∙ nothing (at_boundary bs i)

@@ -1,5 +1,5 @@
 -- The characters of a range.
-use Rattle.std.specs.Prelude.{◌≡◌, ℕ, zero, suc, ◌+◌, ◌-◌, ◌≤◌, ◌<◌, Bool, true, false, cond, List, [], ◌∷◌, ◌++◌, ◌&&◌, ◌||◌, Option, Some, None, nat_eq, nat_lt, nat_le, SomeIff, ◌==◌}
+use Rattle.std.specs.Prelude.{◌≡◌, ℕ, zero, suc, ◌+◌, ◌-◌, ◌≤◌, ◌<◌, Bool, true, false, cond, List, [], ◌∷◌, ◌++◌, ◌&&◌, ◌||◌, length, Option, Some, None, nat_eq, nat_lt, nat_le, SomeIff, ◌==◌}
 use Rattle.std.specs.List.{list_any, filter, range_with_len}
 use Rattle.std.specs.Char.{IsScalar}
 use Rattle.std.specs.Option.{unwrap_or}
@@ -10,6 +10,8 @@ use Rattle.std.proofs.Math.Utf8.{scalar, scalar_cases}
 use Rattle.std.proofs.lemmas.Bool.{cases_lt, cases_Bool}
 use Rattle.std.proofs.lemmas.Bool.Decides.{nat_tests}
 use Rattle.std.proofs.lemmas.List.Elements.{filter-append}
+use Rattle.std.proofs.lemmas.List.Sums.{length-filter, count_by-le-length}
+use Rattle.std.proofs.lemmas.List.FromFn.{length-range_with_len}
 use Rattle.std.proofs.lemmas.Map.Views.{any-filter_same}
 use Rattle.chumsky_parser.specs.Members.{chars_between}
 
@@ -32,6 +34,19 @@ between_split a m b h l =
 
 between_none : (a b : ℕ) → b ≤ a → chars_between a b ≡ []
 between_none a b l = let e : b - a ≡ 0 = omega arith in ap (λ n. filter scalar (range_with_len a n)) e
+
+-- between two numbers there are no more characters than numbers
+between_few : (a b : ℕ) → length (chars_between a b) ≤ b - a
+between_few a b =
+    let passed = length-filter scalar (range_with_len a (b - a)) in
+    let few = count_by-le-length scalar (range_with_len a (b - a)) in
+    let all = length-range_with_len a (b - a) in
+    omega (arith, passed, few, all)
+
+-- a range has no more characters than numbers from its start to its end
+pub range_few : (a at e : ℕ) (spent : Bool) → length (chars_between (a + at) (cond spent e (e + 1))) ≤ (e + 1) - a
+range_few a at e true = let few = between_few (a + at) e in omega (arith, few)
+range_few a at e false = let few = between_few (a + at) (e + 1) in omega (arith, few)
 
 between_step : (c b : ℕ) → IsScalar c → c < b → chars_between c b ≡ c ∷ chars_between (c + 1) b
 between_step c b s l =

@@ -1,5 +1,5 @@
 //! Sequences of tokens.
-ghost use Rattle.std.specs.Prelude.{◌≡◌, ℕ, ◌+◌, ◌≤◌, List, [], ◌∷◌, drop, refl, string_bytes, MatchOption, nat_eq};
+ghost use Rattle.std.specs.Prelude.{◌≡◌, ℕ, ◌+◌, ◌≤◌, List, [], ◌∷◌, drop, length, refl, string_bytes, IfSome, MatchOption, nat_eq};
 ghost use Rattle.std.specs.List.{list_any};
 ghost use Rattle.std.specs.Char.{IsScalar};
 ghost use Rattle.std.specs.Range.{range_inclusive_start};
@@ -23,6 +23,14 @@ pub trait Seq<T: PartialEq> {
     /// The member at a mark, and the next mark. 0 marks the first.
     fn seq_at(&self, at: usize) -> Option<(MaybeRef<'_, T>, usize)>
         ensures { MatchOption result (members_from self.now at ≡ []) (λ p. members_from self.now at ≡ maybe_value p.0 ∷ members_from self.now p.1) };
+
+    /// No more members than this come from any mark on, so an error that names them makes room for so many at once. None
+    /// where it isn't known.
+    fn most_members(&self) -> Option<usize>
+        ensures { IfSome result (λ most. (at : ℕ) → length (members_from self.now at) ≤ most) }
+    {
+        None
+    }
 
     /// From the first mark on these are all the members.
     ghost all_from: { (s : Self) → members_from s 0 ≡ members s };
@@ -52,6 +60,11 @@ impl<T: PartialEq> Seq<T> for T {
             None
         }
     }
+
+    #[inline]
+    fn most_members(&self) -> Option<usize> {
+        Some(1)
+    }
 }
 
 impl<T: PartialEq> OrderedSeq<T> for T {}
@@ -74,6 +87,11 @@ impl<T: PartialEq> Seq<T> for &[T] {
     fn seq_at(&self, at: usize) -> Option<(MaybeRef<'_, T>, usize)> {
         item_at(*self, at)
     }
+
+    #[inline]
+    fn most_members(&self) -> Option<usize> {
+        Some(most_items(*self))
+    }
 }
 
 impl<T: PartialEq> OrderedSeq<T> for &[T] {}
@@ -94,6 +112,11 @@ impl<T: PartialEq, const N: usize> Seq<T> for [T; N] {
     #[inline]
     fn seq_at(&self, at: usize) -> Option<(MaybeRef<'_, T>, usize)> {
         item_at(self, at)
+    }
+
+    #[inline]
+    fn most_members(&self) -> Option<usize> {
+        Some(most_items(self))
     }
 }
 
@@ -118,6 +141,12 @@ impl<T: PartialEq, const N: usize> Seq<T> for &[T; N] {
         let members: &[T] = *self;
         item_at(members, at)
     }
+
+    #[inline]
+    fn most_members(&self) -> Option<usize> {
+        let members: &[T] = *self;
+        Some(most_items(members))
+    }
 }
 
 impl<T: PartialEq, const N: usize> OrderedSeq<T> for &[T; N] {}
@@ -138,6 +167,11 @@ impl<T: PartialEq> Seq<T> for Vec<T> {
     fn seq_at(&self, at: usize) -> Option<(MaybeRef<'_, T>, usize)> {
         item_at(self.as_slice(), at)
     }
+
+    #[inline]
+    fn most_members(&self) -> Option<usize> {
+        Some(most_items(self.as_slice()))
+    }
 }
 
 impl<T: PartialEq> OrderedSeq<T> for Vec<T> {}
@@ -152,6 +186,14 @@ fn item_at<'a, T>(items: &'a [T], at: usize) -> Option<(MaybeRef<'a, T>, usize)>
     } else {
         None
     }
+}
+
+/// How many items there are at most from any index on.
+#[inline]
+fn most_items<T>(items: &[T]) -> usize
+    ensures { (at : ℕ) → length (drop at items.now) ≤ result }
+{
+    items.len()
 }
 
 /// The members of a text are its characters, and marks count its bytes.
@@ -170,6 +212,11 @@ impl Seq<char> for &str {
     #[inline]
     fn seq_at(&self, at: usize) -> Option<(MaybeRef<'_, char>, usize)> {
         text_at(*self, at)
+    }
+
+    #[inline]
+    fn most_members(&self) -> Option<usize> {
+        Some(most_chars(*self))
     }
 }
 
@@ -192,13 +239,27 @@ impl Seq<char> for String {
     fn seq_at(&self, at: usize) -> Option<(MaybeRef<'_, char>, usize)> {
         text_at(self.as_str(), at)
     }
+
+    #[inline]
+    fn most_members(&self) -> Option<usize> {
+        Some(most_chars(self.as_str()))
+    }
 }
 
 impl OrderedSeq<char> for String {}
 
+/// How many characters there are at most from any byte on: each has a byte at least.
+#[inline]
+pub(crate) fn most_chars(text: &str) -> usize
+    ensures { (at : ℕ) → length (chars_from text.now at) ≤ result }
+{
+    let bytes = text.as_bytes();
+    bytes.len()
+}
+
 /// Whether a text has a character. One below 128 is a byte by itself, and no part of another: nothing is decoded.
 #[inline]
-fn has_char(text: &str, character: char) -> bool
+pub(crate) fn has_char(text: &str, character: char) -> bool
     ensures { result ≡ list_any (λ x. nat_eq x character) (chars text.now) }
 {
     let bytes = text.as_bytes();
@@ -211,7 +272,7 @@ fn has_char(text: &str, character: char) -> bool
 
 /// The character that begins at a byte, and the byte past it. A byte below 128 is a character by itself.
 #[inline]
-fn text_at<'a>(text: &'a str, at: usize) -> Option<(MaybeRef<'a, char>, usize)>
+pub(crate) fn text_at<'a>(text: &'a str, at: usize) -> Option<(MaybeRef<'a, char>, usize)>
     ensures { MatchOption result (chars_from text.now at ≡ []) (λ p. chars_from text.now at ≡ maybe_value p.0 ∷ chars_from text.now p.1) }
 {
     let bytes = text.as_bytes();
@@ -267,6 +328,13 @@ impl Seq<char> for RangeInclusive<char> {
         } else {
             None
         }
+    }
+
+    #[inline]
+    fn most_members(&self) -> Option<usize> {
+        let start = *self.start() as u32 as usize;
+        let end = *self.end() as u32 as usize;
+        Some((end + 1).saturating_sub(start))
     }
 }
 

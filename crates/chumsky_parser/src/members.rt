@@ -46,4 +46,9 @@ impl<'s, T: PartialEq + 's, S: Seq<T>> Iterator for Members<'s, S, T> {
             }
         }
     }
+
+    #[inline]
+    fn size_hint(&self) -> (usize, Option<usize>) {
+        (0, self.seq.most_members())
+    }
 }
