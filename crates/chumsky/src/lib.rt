@@ -264,6 +264,7 @@ pub mod context_laws {
 /// steady.
 pub mod laws {
     pub use crate::steady::{from_str_is_steady, lazy_is_steady};
+    pub use chumsky_choice::alternatives::Alternatives;
     pub use chumsky_choice::laws::{
         choice_agrees_by_one_alternative, choice_is_repeated_or,
         choice_of_a_list_agrees_by_one_alternative, one_alternative_of_a_list_stands,
