@@ -3,4 +3,4 @@ use Rattle.std.proofs.lemmas.List.{length-drop}
 use Rattle.chumsky_parser.proofs.container.most_items.Goals as goal
 
 pub returns : goal.returns
-returns g c = λ at. let part = length-drop at c.args.items.now in let all = c.len.ensures in omega (arith, part, all)
+returns g c = λ at. let part = length-drop at c.args.items.now in omega (arith, part)
