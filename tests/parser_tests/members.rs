@@ -141,7 +141,7 @@ fn a_set_of_characters_has_a_character_where_its_text_has_it(rt: HostRuntime) {
     let letters = chars_of(text);
     for character in '\0'..='\u{120}' {
         let in_text = text.chars().any(|member| member == character);
-        assert_eq!(&rt, letters.contains(&character), in_text);
+        assert_eq!(rt; letters.contains(&character), in_text);
     }
 }
 
@@ -156,5 +156,5 @@ fn a_rich_error_names_a_repeated_member_once(rt: HostRuntime) {
             letters.push(*letter).expect(&rt, "want of memory");
         }
     }
-    assert_eq!(&rt, letters.as_str(), "aáéi");
+    assert_eq!(rt; letters.as_str(), "aáéi");
 }

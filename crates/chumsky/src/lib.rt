@@ -100,12 +100,12 @@ pub mod primitive {
 /// Parsers made of parsers.
 pub mod combinator {
     pub use crate::made::{FromStr, Lazy, ReadStr};
-    pub use chumsky_combinator::or::Or;
     pub use chumsky_combinator::delimited_by::DelimitedBy;
     pub use chumsky_combinator::ignore_then::IgnoreThen;
     pub use chumsky_combinator::ignored::Ignored;
-    pub use chumsky_combinator::map_with::{MapWith, MapperWith};
     pub use chumsky_combinator::map::{Map, Mapper};
+    pub use chumsky_combinator::map_with::{MapWith, MapperWith};
+    pub use chumsky_combinator::or::Or;
     pub use chumsky_combinator::or_not::OrNot;
     pub use chumsky_combinator::padded_by::PaddedBy;
     pub use chumsky_combinator::part::{OfPart, Part, part_of, run_part};

@@ -2,12 +2,12 @@
 ghost use Rattle.std.specs.Prelude.{◌≡◌, true, false, ◌||◌, ◌&&◌};
 
 use crate::moving::Moving;
-use chumsky_combinator::or::Or;
 use chumsky_combinator::delimited_by::DelimitedBy;
 use chumsky_combinator::ignore_then::IgnoreThen;
 use chumsky_combinator::ignored::Ignored;
-use chumsky_combinator::map_with::{MapWith, MapperWith};
 use chumsky_combinator::map::{Map, Mapper};
+use chumsky_combinator::map_with::{MapWith, MapperWith};
+use chumsky_combinator::or::Or;
 use chumsky_combinator::padded_by::PaddedBy;
 use chumsky_combinator::then::Then;
 use chumsky_combinator::then_ignore::ThenIgnore;

@@ -4,8 +4,8 @@ ghost use Rattle.chumsky_moves.specs.Moves.{has_an_item};
 ghost use Rattle.chumsky_moves.specs.MovesLaws.{both-true};
 
 use crate::moving::{Moving, MovingItems};
-use chumsky_combinator::map_with::{MapWith, MapperWith};
 use chumsky_combinator::map::{Map, Mapper};
+use chumsky_combinator::map_with::{MapWith, MapperWith};
 use chumsky_combinator::then::Then;
 use chumsky_flatten::into_iter::IntoIter;
 use chumsky_folds::enumerate::Enumerate;
