@@ -5,3 +5,4 @@ pub mod Tuples
 pub mod TuplesLaws
 pub mod Lists
 pub mod ListsLaws
+pub mod Doing

@@ -2,8 +2,9 @@
 ghost use Rattle.std.specs.Prelude.{◌≡◌, ◌≤◌, true, false, Some, length, map};
 ghost use Rattle.std.specs.List.{All};
 ghost use Rattle.std.specs.Mem.{FitsInMemory};
-ghost use Rattle.chumsky_input.specs.Run.{Runs, without_value};
-ghost use Rattle.chumsky_set.specs.Lists.{each_stored, slots_row};
+ghost use Rattle.chumsky_input.specs.Run.{without_value};
+ghost use Rattle.chumsky_set.specs.Lists.{slots_row};
+ghost use Rattle.chumsky_set.specs.Doing.{stored_row, RunsLast};
 ghost use Rattle.chumsky_set.specs.Passes.{shown_by, slot_of};
 
 use crate::each::round_each;
@@ -52,7 +53,9 @@ fn last_stored<
     requires ready { All P.ready parts.now }
     requires fits { length slots.old ≡ length parts.now }
     requires room { length parts.now ≤ N }
-    ensures ran { Runs I.Input E.Error.Error E.State.Inspector ((each_stored E.State.mark E.State.back E.State.takes_no_memory (λ p. P.meaning p E.Error.Error E.State.Inspector) parts.now).last (map (slot_of (λ v. Some v)) slots.old)) true inp.old inp.new (shown_by (λ v. Some v.items) result) }
+    ensures ran { RunsLast I.Input E.Error.Error E.State.Inspector (stored_row P.meaning parts.now)
+        (map (slot_of (λ v. Some v)) slots.old) true inp.old inp.new
+        (shown_by (λ v. Some v.items) result) }
     ensures lent { inp.new.state.ghost_name ≡ inp.old.state.ghost_name }
 {
     let mut values = ArrayVec::new();
@@ -74,7 +77,8 @@ fn last_dropped<'src, I: Input<'src>, O: Drop, E: ParserExtra<I>, P: Parser<'src
 ) -> PResult<()>
     requires ready { All P.ready parts.now }
     requires fits { length slots.old ≡ length parts.now }
-    ensures ran { Runs I.Input E.Error.Error E.State.Inspector ((each_stored E.State.mark E.State.back E.State.takes_no_memory (λ p. P.meaning p E.Error.Error E.State.Inspector) parts.now).last (map (slot_of (λ v. Some v)) slots.old)) false inp.old inp.new (without_value result) }
+    ensures ran { RunsLast I.Input E.Error.Error E.State.Inspector (stored_row P.meaning parts.now)
+        (map (slot_of (λ v. Some v)) slots.old) false inp.old inp.new (without_value result) }
     ensures lent { inp.new.state.ghost_name ≡ inp.old.state.ghost_name }
 {
     for i in 0..parts.len() {
@@ -99,12 +103,13 @@ impl<
 where
     [Option<O>; N]: Slots,
 {
-    ghost use Rattle.chumsky_set.specs.Lists.{Each, SetStored};
+    ghost use Rattle.chumsky_set.specs.Doing.{DoesSetStored};
+    ghost use Rattle.chumsky_set.specs.Lists.{Each};
     ghost use Rattle.chumsky_set.specs.ListsLaws.{set_stored-ends, set_stored-agrees};
 
     ghost ready = { λ p. All P.ready p.parsers };
 
-    ghost meaning = { λ p errors states. SetStored states.mark states.back states.takes_no_memory (λ x. P.meaning x errors states) (λ v. v.items) p.parsers };
+    ghost meaning = { λ p. DoesSetStored P.meaning (λ v. v.items) p.parsers };
 
     ghost steady = { λ p. All P.steady p.parsers };
 

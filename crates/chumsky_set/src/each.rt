@@ -1,9 +1,9 @@
 //! Parts of one type, in a list.
-ghost use Rattle.std.specs.Prelude.{◌≡◌, true, false, IfOk, IsOk, List, Option, Some, None, length, map, replicate, []};
+ghost use Rattle.std.specs.Prelude.{◌≡◌, true, false, IfOk, IsOk, List, Option, Some, None, length, map, replicate};
 ghost use Rattle.std.specs.List.{All};
-ghost use Rattle.chumsky_input.specs.Run.{Runs};
-ghost use Rattle.chumsky_set.specs.AnyOrder.{all_still, each_part, Offered, Slot, Turns};
-ghost use Rattle.chumsky_set.specs.Passes.{shown_by, slot_of, taken_then, Lessens};
+ghost use Rattle.chumsky_set.specs.Doing.{each_row, LessensSlots, RunsLast, RunsPass};
+ghost use Rattle.chumsky_set.specs.AnyOrder.{Slot};
+ghost use Rattle.chumsky_set.specs.Passes.{shown_by, slot_of, taken_then};
 
 use crate::mode::{ForValue, Runs, WithoutValue};
 use crate::part::{complete, offer};
@@ -45,8 +45,10 @@ pub fn round_each<
 ) -> PResult<bool>
     requires ready { All P.ready parts.now }
     requires fits { length slots.old ≡ length parts.now }
-    ensures ran { Runs I.Input E.Error.Error E.State.Inspector (Turns (λ p. Offered E.State.mark E.State.back E.State.takes_no_memory (P.meaning p E.Error.Error E.State.Inspector)) parts.now (map (slot_of D.shown) slots.old) (Some [])) D.wanted inp.old inp.new (taken_then (map (slot_of D.shown) slots.new) result) }
-    ensures lessens { IfOk result (Lessens (all_still (map (slot_of D.shown) slots.old)) (all_still (map (slot_of D.shown) slots.new))) }
+    ensures ran { RunsPass I.Input E.Error.Error E.State.Inspector (each_row P.meaning parts.now)
+        (map (slot_of D.shown) slots.old) D.wanted inp.old inp.new
+        (taken_then (map (slot_of D.shown) slots.new) result) }
+    ensures lessens { LessensSlots D.shown slots.old slots.new result }
     ensures fits { length slots.new ≡ length parts.now }
     ensures lent { inp.new.state.ghost_name ≡ inp.old.state.ghost_name }
 {
@@ -68,7 +70,9 @@ fn last_values<'src, I: Input<'src>, O: Drop, E: ParserExtra<I>, P: Parser<'src,
 ) -> PResult<Vec<O>>
     requires ready { All P.ready parts.now }
     requires fits { length slots.old ≡ length parts.now }
-    ensures ran { Runs I.Input E.Error.Error E.State.Inspector ((each_part E.State.mark E.State.back E.State.takes_no_memory (λ p. P.meaning p E.Error.Error E.State.Inspector) parts.now).last (map (slot_of (λ v. Some v)) slots.old)) true inp.old inp.new (shown_by (λ v. Some v.items) result) }
+    ensures ran { RunsLast I.Input E.Error.Error E.State.Inspector (each_row P.meaning parts.now)
+        (map (slot_of (λ v. Some v)) slots.old) true inp.old inp.new
+        (shown_by (λ v. Some v.items) result) }
     ensures lent { inp.new.state.ghost_name ≡ inp.old.state.ghost_name }
 {
     let mut values = Vec::with_capacity(inp.alloc(), parts.len())?;
@@ -92,7 +96,9 @@ fn last_checks<'src, I: Input<'src>, O, E: ParserExtra<I>, P: Parser<'src, I, O,
 ) -> PResult<()>
     requires ready { All P.ready parts.now }
     requires fits { length slots.now ≡ length parts.now }
-    ensures ran { Runs I.Input E.Error.Error E.State.Inspector ((each_part E.State.mark E.State.back E.State.takes_no_memory (λ p. P.meaning p E.Error.Error E.State.Inspector) parts.now).last (map (slot_of (λ _. None)) slots.now)) false inp.old inp.new (shown_by (λ _. None) result) }
+    ensures ran { RunsLast I.Input E.Error.Error E.State.Inspector (each_row P.meaning parts.now)
+        (map (slot_of (λ _. None)) slots.now) false inp.old inp.new
+        (shown_by (λ _. None) result) }
     ensures lent { inp.new.state.ghost_name ≡ inp.old.state.ghost_name }
 {
     for i in 0..parts.len() {
@@ -124,7 +130,7 @@ impl<'src, 'p, I: Input<'src>, O: Drop, E: ParserExtra<I>, P: Parser<'src, I, O,
 
     ghost ready = { λ p. All P.ready p.parts.now };
 
-    ghost passes = { λ p errors states. each_part states.mark states.back states.takes_no_memory (λ x. P.meaning x errors states) p.parts.now };
+    ghost passes = { λ p. each_row P.meaning p.parts.now };
 
     ghost taken = { λ s. map (slot_of (λ v. Some v)) s.items };
 
@@ -163,7 +169,7 @@ impl<'src, 'p, I: Input<'src>, O, E: ParserExtra<I>, P: Parser<'src, I, O, E>> P
 
     ghost ready = { λ p. All P.ready p.parts.now };
 
-    ghost passes = { λ p errors states. each_part states.mark states.back states.takes_no_memory (λ x. P.meaning x errors states) p.parts.now };
+    ghost passes = { λ p. each_row P.meaning p.parts.now };
 
     ghost taken = { λ s. map (slot_of (λ _. None)) s.items };
 

@@ -1,9 +1,6 @@
 //! Laws of sets, each the contract of a function that does nothing.
-ghost use Rattle.std.specs.Prelude.{◌+◌, None, length, map, option_map};
-ghost use Rattle.chumsky_parser.specs.Chained.{Given};
-ghost use Rattle.chumsky_set.specs.AnyOrder.{no_part, part_and, WithinRounds};
-ghost use Rattle.chumsky_set.specs.Lists.{each_stored, FormedAs, WithinEach};
-ghost use Rattle.chumsky_set.specs.Tuples.{flat_one, flat_two, flat_three, flat_four};
+ghost use Rattle.std.specs.Prelude.{◌+◌, length};
+ghost use Rattle.chumsky_set.specs.Doing.{EachWithin, Set1Within, Set2Within, Set3Within, Set4Within, StoredWithin};
 
 use crate::set::Set;
 use arrayvec::ArrayVec;
@@ -25,10 +22,18 @@ pub fn a_set_takes_at_most_one_round_more<
     P2: Parser<'src, I, O2, E>,
     P3: Parser<'src, I, O3, E>,
 >(one: &Set<(P0,)>, two: &Set<(P0, P1)>, three: &Set<(P0, P1, P2)>, four: &Set<(P0, P1, P2, P3)>)
-    ensures one { let errors = E.Error.Error in let states = E.State.Inspector in WithinRounds (part_and states.mark states.back states.takes_no_memory (P0.meaning one.now.parsers.0 errors states) no_part) 2 (None, tt) (λ v. Given (option_map flat_one v)) (⟦<Set<(P0,)> as Parser<'src, I, (O0,), E>>⟧.meaning one.now errors states) }
-    ensures two { let errors = E.Error.Error in let states = E.State.Inspector in WithinRounds (part_and states.mark states.back states.takes_no_memory (P0.meaning two.now.parsers.0 errors states) (part_and states.mark states.back states.takes_no_memory (P1.meaning two.now.parsers.1 errors states) no_part)) 3 (None, (None, tt)) (λ v. Given (option_map flat_two v)) (⟦<Set<(P0, P1)> as Parser<'src, I, (O0, O1), E>>⟧.meaning two.now errors states) }
-    ensures three { let errors = E.Error.Error in let states = E.State.Inspector in WithinRounds (part_and states.mark states.back states.takes_no_memory (P0.meaning three.now.parsers.0 errors states) (part_and states.mark states.back states.takes_no_memory (P1.meaning three.now.parsers.1 errors states) (part_and states.mark states.back states.takes_no_memory (P2.meaning three.now.parsers.2 errors states) no_part))) 4 (None, (None, (None, tt))) (λ v. Given (option_map flat_three v)) (⟦<Set<(P0, P1, P2)> as Parser<'src, I, (O0, O1, O2), E>>⟧.meaning three.now errors states) }
-    ensures four { let errors = E.Error.Error in let states = E.State.Inspector in WithinRounds (part_and states.mark states.back states.takes_no_memory (P0.meaning four.now.parsers.0 errors states) (part_and states.mark states.back states.takes_no_memory (P1.meaning four.now.parsers.1 errors states) (part_and states.mark states.back states.takes_no_memory (P2.meaning four.now.parsers.2 errors states) (part_and states.mark states.back states.takes_no_memory (P3.meaning four.now.parsers.3 errors states) no_part)))) 5 (None, (None, (None, (None, tt)))) (λ v. Given (option_map flat_four v)) (⟦<Set<(P0, P1, P2, P3)> as Parser<'src, I, (O0, O1, O2, O3), E>>⟧.meaning four.now errors states) }
+    ensures one { let t = one.now.parsers in Set1Within E.Error.Error E.State.Inspector 2
+        (P0.meaning t.0)
+        (⟦<Set<(P0,)> as Parser<'src, I, (O0,), E>>⟧.meaning one.now) }
+    ensures two { let t = two.now.parsers in Set2Within E.Error.Error E.State.Inspector 3
+        (P0.meaning t.0) (P1.meaning t.1)
+        (⟦<Set<(P0, P1)> as Parser<'src, I, (O0, O1), E>>⟧.meaning two.now) }
+    ensures three { let t = three.now.parsers in Set3Within E.Error.Error E.State.Inspector 4
+        (P0.meaning t.0) (P1.meaning t.1) (P2.meaning t.2)
+        (⟦<Set<(P0, P1, P2)> as Parser<'src, I, (O0, O1, O2), E>>⟧.meaning three.now) }
+    ensures four { let t = four.now.parsers in Set4Within E.Error.Error E.State.Inspector 5
+        (P0.meaning t.0) (P1.meaning t.1) (P2.meaning t.2) (P3.meaning t.3)
+        (⟦<Set<(P0, P1, P2, P3)> as Parser<'src, I, (O0, O1, O2, O3), E>>⟧.meaning four.now) }
 {}
 
 /// A set of the parsers of a `Vec` or an array takes at most one round more than it has parsers before its last pass.
@@ -42,6 +47,10 @@ pub fn a_list_takes_at_most_one_round_more<
     Q: Parser<'src, I, U, E>,
     const N: usize,
 >(vec: &Set<Vec<P>>, array: &Set<[Q; N]>)
-    ensures vec { let errors = E.Error.Error in let states = E.State.Inspector in WithinEach states.mark states.back states.takes_no_memory (λ p. P.meaning p errors states) (λ v. v.items) vec.now.parsers.items (length vec.now.parsers.items + 1) (⟦<Set<Vec<P>> as Parser<'src, I, Vec<O>, E>>⟧.meaning vec.now errors states) }
-    ensures array { let errors = E.Error.Error in let states = E.State.Inspector in WithinRounds (each_stored states.mark states.back states.takes_no_memory (λ p. Q.meaning p errors states) array.now.parsers) (length array.now.parsers + 1) (map (λ _. None) array.now.parsers) (FormedAs (λ v. v.items)) (⟦<Set<[Q; N]> as Parser<'src, I, ArrayVec<U, N>, E>>⟧.meaning array.now errors states) }
+    ensures vec { EachWithin E.Error.Error E.State.Inspector (length vec.now.parsers.items + 1)
+        P.meaning (λ v. v.items) vec.now.parsers.items
+        (⟦<Set<Vec<P>> as Parser<'src, I, Vec<O>, E>>⟧.meaning vec.now) }
+    ensures array { StoredWithin E.Error.Error E.State.Inspector (length array.now.parsers + 1)
+        Q.meaning (λ v. v.items) array.now.parsers
+        (⟦<Set<[Q; N]> as Parser<'src, I, ArrayVec<U, N>, E>>⟧.meaning array.now) }
 {}

@@ -18,12 +18,13 @@ impl<'src, I: Input<'src>, O: Drop, E: ParserExtra<I>, P: Parser<'src, I, O, E>>
     E,
 > for Set<Vec<P>> {
     ghost use Rattle.std.specs.List.{All};
-    ghost use Rattle.chumsky_set.specs.Lists.{Each, SetEach};
+    ghost use Rattle.chumsky_set.specs.Doing.{DoesSetEach};
+    ghost use Rattle.chumsky_set.specs.Lists.{Each};
     ghost use Rattle.chumsky_set.specs.ListsLaws.{set_each-ends, set_each-agrees};
 
     ghost ready = { λ p. All P.ready p.parsers.items };
 
-    ghost meaning = { λ p errors states. SetEach states.mark states.back states.takes_no_memory (λ x. P.meaning x errors states) (λ v. v.items) p.parsers.items };
+    ghost meaning = { λ p. DoesSetEach P.meaning (λ v. v.items) p.parsers.items };
 
     ghost steady = { λ p. All P.steady p.parsers.items };
 

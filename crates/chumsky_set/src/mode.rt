@@ -1,6 +1,6 @@
 //! Whether parts run for their values.
 ghost use Rattle.std.specs.Prelude.{◌≡◌, Bool, true, false, Option, Some, None};
-ghost use Rattle.chumsky_input.specs.Run.{Runs};
+ghost use Rattle.chumsky_set.specs.Doing.{RunsDoing};
 ghost use Rattle.chumsky_set.specs.Passes.{shown_by};
 
 use chumsky_input::extra::ParserExtra;
@@ -21,7 +21,8 @@ pub trait Runs<'src, I: Input<'src>, O, E: ParserExtra<I>, P: Parser<'src, I, O,
     /// Runs one parser.
     fn go(&self, parser: &P, inp: &mut InputRef<'src, '_, I, E>) -> PResult<R>
         requires { P.ready parser.now }
-        ensures ran { Runs I.Input E.Error.Error E.State.Inspector (P.meaning parser.now E.Error.Error E.State.Inspector) Self.wanted inp.old inp.new (shown_by shown result) }
+        ensures ran { RunsDoing I.Input E.Error.Error E.State.Inspector
+            (P.meaning parser.now) Self.wanted inp.old inp.new (shown_by shown result) }
         ensures lent { inp.new.state.ghost_name ≡ inp.old.state.ghost_name };
 }
 

@@ -1,8 +1,7 @@
 //! One part of a set: offered in a round, and run at last.
 ghost use Rattle.std.specs.Prelude.{◌≡◌, IfOk, Some, None};
-ghost use Rattle.chumsky_input.specs.Run.{Runs};
-ghost use Rattle.chumsky_parser.specs.Choice.{OrElse};
-ghost use Rattle.chumsky_set.specs.AnyOrder.{Moving, Offered, Missing, still};
+ghost use Rattle.chumsky_set.specs.AnyOrder.{still};
+ghost use Rattle.chumsky_set.specs.Doing.{DoesMissing, DoesMoving, DoesOffered, RunsDoing};
 ghost use Rattle.chumsky_set.specs.Passes.{shown_by, slot_of, taken_then, Lessens};
 
 use crate::mode::Runs;
@@ -24,7 +23,8 @@ fn moving<
     D: Runs<'src, I, O, E, P, R>,
 >(mode: &D, part: &P, inp: &mut InputRef<'src, '_, I, E>) -> PResult<R>
     requires { P.ready part.now }
-    ensures ran { Runs I.Input E.Error.Error E.State.Inspector (Moving (P.meaning part.now E.Error.Error E.State.Inspector)) D.wanted inp.old inp.new (shown_by (λ r. Some (Some (D.shown r))) result) }
+    ensures ran { RunsDoing I.Input E.Error.Error E.State.Inspector (DoesMoving (P.meaning part.now))
+        D.wanted inp.old inp.new (shown_by (λ r. Some (Some (D.shown r))) result) }
     ensures lent { inp.new.state.ghost_name ≡ inp.old.state.ghost_name }
 {
     let start = I::place(&inp.cursor);
@@ -48,7 +48,8 @@ fn attempt<
     D: Runs<'src, I, O, E, P, R>,
 >(mode: &D, part: &P, inp: &mut InputRef<'src, '_, I, E>) -> PResult<Option<R>>
     requires { P.ready part.now }
-    ensures ran { Runs I.Input E.Error.Error E.State.Inspector (Offered E.State.mark E.State.back E.State.takes_no_memory (P.meaning part.now E.Error.Error E.State.Inspector) None) D.wanted inp.old inp.new (shown_by (λ r. Some (slot_of D.shown r)) result) }
+    ensures ran { RunsDoing I.Input E.Error.Error E.State.Inspector (DoesOffered (P.meaning part.now) None)
+        D.wanted inp.old inp.new (shown_by (λ r. Some (slot_of D.shown r)) result) }
     ensures lent { inp.new.state.ghost_name ≡ inp.old.state.ghost_name }
 {
     let before = inp.save()?;
@@ -74,7 +75,9 @@ pub fn offer<
     D: Runs<'src, I, O, E, P, R>,
 >(mode: &D, part: &P, slot: &mut Option<R>, inp: &mut InputRef<'src, '_, I, E>) -> PResult<bool>
     requires { P.ready part.now }
-    ensures ran { Runs I.Input E.Error.Error E.State.Inspector (Offered E.State.mark E.State.back E.State.takes_no_memory (P.meaning part.now E.Error.Error E.State.Inspector) (slot_of D.shown slot.old)) D.wanted inp.old inp.new (taken_then (slot_of D.shown slot.new) result) }
+    ensures ran { RunsDoing I.Input E.Error.Error E.State.Inspector
+        (DoesOffered (P.meaning part.now) (slot_of D.shown slot.old)) D.wanted
+        inp.old inp.new (taken_then (slot_of D.shown slot.new) result) }
     ensures lessens { IfOk result (Lessens (still (slot_of D.shown slot.old)) (still (slot_of D.shown slot.new))) }
     ensures lent { inp.new.state.ghost_name ≡ inp.old.state.ghost_name }
 {
@@ -99,7 +102,9 @@ pub fn complete<
     D: Runs<'src, I, O, E, P, R>,
 >(mode: &D, part: &P, slot: Option<R>, inp: &mut InputRef<'src, '_, I, E>) -> PResult<R>
     requires { P.ready part.now }
-    ensures ran { Runs I.Input E.Error.Error E.State.Inspector (Missing (P.meaning part.now E.Error.Error E.State.Inspector) (slot_of D.shown slot)) D.wanted inp.old inp.new (shown_by D.shown result) }
+    ensures ran { RunsDoing I.Input E.Error.Error E.State.Inspector
+        (DoesMissing (P.meaning part.now) (slot_of D.shown slot)) D.wanted
+        inp.old inp.new (shown_by D.shown result) }
     ensures lent { inp.new.state.ghost_name ≡ inp.old.state.ghost_name }
 {
     match slot {

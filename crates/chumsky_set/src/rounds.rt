@@ -1,7 +1,6 @@
 //! Rounds over a row of parts, and the last pass.
 ghost use Rattle.std.specs.Prelude.{◌≡◌};
-ghost use Rattle.chumsky_input.specs.Run.{Runs};
-ghost use Rattle.chumsky_set.specs.AnyOrder.{AnyOrder};
+ghost use Rattle.chumsky_set.specs.Doing.{RunsAnyOrder};
 ghost use Rattle.chumsky_set.specs.Passes.{shown_by};
 
 use crate::mode::Mode;
@@ -25,7 +24,8 @@ pub fn in_any_order<
 >(row: &M, slots: S, inp: &mut InputRef<'src, '_, I, E>) -> PResult<R>
     requires ready { M.ready row.now }
     requires fits { M.fits row.now slots }
-    ensures ran { Runs I.Input E.Error.Error E.State.Inspector (AnyOrder (M.passes row.now E.Error.Error E.State.Inspector) (M.taken slots)) D.wanted inp.old inp.new (shown_by M.shown result) }
+    ensures ran { RunsAnyOrder I.Input E.Error.Error E.State.Inspector
+        (M.passes row.now) (M.taken slots) D.wanted inp.old inp.new (shown_by M.shown result) }
     ensures lent { inp.new.state.ghost_name ≡ inp.old.state.ghost_name }
 {
     let mut slots = slots;

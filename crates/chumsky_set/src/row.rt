@@ -1,8 +1,8 @@
 //! Some parts in a row, which rounds and a last pass go over.
-ghost use Rattle.std.specs.Prelude.{◌≡◌, IfOk, Option, Some};
-ghost use Rattle.chumsky_input.specs.Run.{Runs};
-ghost use Rattle.chumsky_set.specs.AnyOrder.{no_part, part_and, Slot};
-ghost use Rattle.chumsky_set.specs.Passes.{both_shown, shown_by, slot_of, taken_then, Lessens, RowOf};
+ghost use Rattle.std.specs.Prelude.{◌≡◌, Option, Some};
+ghost use Rattle.chumsky_set.specs.AnyOrder.{no_part, Slot};
+ghost use Rattle.chumsky_set.specs.Doing.{row_and, LessensRow, RunsLast, RunsPass};
+ghost use Rattle.chumsky_set.specs.Passes.{both_shown, shown_by, slot_of, taken_then, RowOf};
 
 use crate::mode::{Mode, Runs};
 use crate::part::{complete, offer};
@@ -32,8 +32,10 @@ pub trait PartsRow<'src, I: Input<'src>, E: ParserExtra<I>, D: Mode, V, S, R> {
     fn round(&self, slots: &mut S, inp: &mut InputRef<'src, '_, I, E>) -> PResult<bool>
         requires ready { ready self.now }
         requires fits { fits self.now slots.old }
-        ensures ran { Runs I.Input E.Error.Error E.State.Inspector ((passes self.now E.Error.Error E.State.Inspector).pass (taken slots.old)) D.wanted inp.old inp.new (taken_then (taken slots.new) result) }
-        ensures lessens { IfOk result (Lessens ((passes self.now E.Error.Error E.State.Inspector).left (taken slots.old)) ((passes self.now E.Error.Error E.State.Inspector).left (taken slots.new))) }
+        ensures ran { RunsPass I.Input E.Error.Error E.State.Inspector (passes self.now)
+            (taken slots.old) D.wanted inp.old inp.new (taken_then (taken slots.new) result) }
+        ensures lessens { LessensRow E.Error.Error E.State.Inspector (passes self.now)
+            (taken slots.old) (taken slots.new) result }
         ensures fits { fits self.now slots.new }
         ensures lent { inp.new.state.ghost_name ≡ inp.old.state.ghost_name };
 
@@ -41,7 +43,8 @@ pub trait PartsRow<'src, I: Input<'src>, E: ParserExtra<I>, D: Mode, V, S, R> {
     fn last(&self, slots: S, inp: &mut InputRef<'src, '_, I, E>) -> PResult<R>
         requires ready { ready self.now }
         requires fits { fits self.now slots }
-        ensures ran { Runs I.Input E.Error.Error E.State.Inspector ((passes self.now E.Error.Error E.State.Inspector).last (taken slots)) D.wanted inp.old inp.new (shown_by shown result) }
+        ensures ran { RunsLast I.Input E.Error.Error E.State.Inspector (passes self.now)
+            (taken slots) D.wanted inp.old inp.new (shown_by shown result) }
         ensures lent { inp.new.state.ghost_name ≡ inp.old.state.ghost_name };
 }
 
@@ -106,7 +109,7 @@ impl<
 
     ghost ready = { λ p. P.ready p.part.now × M.ready p.others };
 
-    ghost passes = { λ p errors states. part_and states.mark states.back states.takes_no_memory (P.meaning p.part.now errors states) (M.passes p.others errors states) };
+    ghost passes = { λ p. row_and (P.meaning p.part.now) (M.passes p.others) };
 
     ghost taken = { λ s. (slot_of D.shown s.0, M.taken s.1) };
 

@@ -22,12 +22,13 @@ impl<'src, I: Input<'src>, O0: Drop, E: ParserExtra<I>, P0: Parser<'src, I, O0, 
     (O0,),
     E,
 > for Set<(P0,)> {
-    ghost use Rattle.chumsky_set.specs.Tuples.{Set1, Same1};
+    ghost use Rattle.chumsky_set.specs.Doing.{DoesSet1};
+    ghost use Rattle.chumsky_set.specs.Tuples.{Same1};
     ghost use Rattle.chumsky_set.specs.TuplesLaws.{set_1-ends, set_1-agrees};
 
     ghost ready = { λ p. P0.ready p.parsers.0 };
 
-    ghost meaning = { λ p errors states. Set1 states.mark states.back states.takes_no_memory (P0.meaning p.parsers.0 errors states) };
+    ghost meaning = { λ p. DoesSet1 (P0.meaning p.parsers.0) };
 
     ghost steady = { λ p. P0.steady p.parsers.0 };
 
@@ -74,20 +75,24 @@ impl<
     P0: Parser<'src, I, O0, E>,
     P1: Parser<'src, I, O1, E>,
 > Parser<'src, I, (O0, O1), E> for Set<(P0, P1)> {
-    ghost use Rattle.chumsky_set.specs.Tuples.{Set2, Same2};
+    ghost use Rattle.chumsky_set.specs.Doing.{DoesSet2};
+    ghost use Rattle.chumsky_set.specs.Tuples.{Same2};
     ghost use Rattle.chumsky_set.specs.TuplesLaws.{set_2-ends, set_2-agrees};
 
-    ghost ready = { λ p. P0.ready p.parsers.0 × P1.ready p.parsers.1 };
+    ghost ready = { λ p. let t = p.parsers in P0.ready t.0 × P1.ready t.1 };
 
-    ghost meaning = { λ p errors states. Set2 states.mark states.back states.takes_no_memory (P0.meaning p.parsers.0 errors states) (P1.meaning p.parsers.1 errors states) };
+    ghost meaning = { λ p. let t = p.parsers in DoesSet2 (P0.meaning t.0) (P1.meaning t.1) };
 
-    ghost steady = { λ p. P0.steady p.parsers.0 × P1.steady p.parsers.1 };
+    ghost steady = { λ p. let t = p.parsers in P0.steady t.0 × P1.steady t.1 };
 
-    ghost same = { λ p. Same2 (P0.same p.parsers.0) (P1.same p.parsers.1) };
+    ghost same = { λ p. let t = p.parsers in Same2 (P0.same t.0) (P1.same t.1) };
 
-    ghost ends_after_start = { λ p. set_2-ends _ _ _ _ _ (P0.ends_after_start p.parsers.0) (P1.ends_after_start p.parsers.1) };
+    ghost ends_after_start = { λ p. let t = p.parsers in
+        set_2-ends _ _ _ _ _ (P0.ends_after_start t.0) (P1.ends_after_start t.1) };
 
-    ghost agrees = { λ p s. set_2-agrees _ _ _ _ _ (P0.same p.parsers.0) (P1.same p.parsers.1) (P0.agrees p.parsers.0 s.0) (P1.agrees p.parsers.1 s.1) };
+    ghost agrees = { λ p s. let t = p.parsers in
+        set_2-agrees _ _ _ _ _ (P0.same t.0) (P1.same t.1) (P0.agrees t.0 s.0)
+        (P1.agrees t.1 s.1) };
 
     #[inline]
     fn go_emit(&self, inp: &mut InputRef<'src, '_, I, E>) -> PResult<(O0, O1)> {
@@ -146,20 +151,26 @@ impl<
     P1: Parser<'src, I, O1, E>,
     P2: Parser<'src, I, O2, E>,
 > Parser<'src, I, (O0, O1, O2), E> for Set<(P0, P1, P2)> {
-    ghost use Rattle.chumsky_set.specs.Tuples.{Set3, Same3};
+    ghost use Rattle.chumsky_set.specs.Doing.{DoesSet3};
+    ghost use Rattle.chumsky_set.specs.Tuples.{Same3};
     ghost use Rattle.chumsky_set.specs.TuplesLaws.{set_3-ends, set_3-agrees};
 
-    ghost ready = { λ p. P0.ready p.parsers.0 × P1.ready p.parsers.1 × P2.ready p.parsers.2 };
+    ghost ready = { λ p. let t = p.parsers in P0.ready t.0 × P1.ready t.1 × P2.ready t.2 };
 
-    ghost meaning = { λ p errors states. Set3 states.mark states.back states.takes_no_memory (P0.meaning p.parsers.0 errors states) (P1.meaning p.parsers.1 errors states) (P2.meaning p.parsers.2 errors states) };
+    ghost meaning = { λ p. let t = p.parsers in
+        DoesSet3 (P0.meaning t.0) (P1.meaning t.1) (P2.meaning t.2) };
 
-    ghost steady = { λ p. P0.steady p.parsers.0 × P1.steady p.parsers.1 × P2.steady p.parsers.2 };
+    ghost steady = { λ p. let t = p.parsers in P0.steady t.0 × P1.steady t.1 × P2.steady t.2 };
 
-    ghost same = { λ p. Same3 (P0.same p.parsers.0) (P1.same p.parsers.1) (P2.same p.parsers.2) };
+    ghost same = { λ p. let t = p.parsers in Same3 (P0.same t.0) (P1.same t.1) (P2.same t.2) };
 
-    ghost ends_after_start = { λ p. set_3-ends _ _ _ _ _ _ (P0.ends_after_start p.parsers.0) (P1.ends_after_start p.parsers.1) (P2.ends_after_start p.parsers.2) };
+    ghost ends_after_start = { λ p. let t = p.parsers in
+        set_3-ends _ _ _ _ _ _ (P0.ends_after_start t.0) (P1.ends_after_start t.1)
+        (P2.ends_after_start t.2) };
 
-    ghost agrees = { λ p s. set_3-agrees _ _ _ _ _ _ (P0.same p.parsers.0) (P1.same p.parsers.1) (P2.same p.parsers.2) (P0.agrees p.parsers.0 s.0) (P1.agrees p.parsers.1 s.1) (P2.agrees p.parsers.2 s.2) };
+    ghost agrees = { λ p s. let t = p.parsers in
+        set_3-agrees _ _ _ _ _ _ (P0.same t.0) (P1.same t.1) (P2.same t.2) (P0.agrees t.0 s.0)
+        (P1.agrees t.1 s.1) (P2.agrees t.2 s.2) };
 
     #[inline]
     fn go_emit(&self, inp: &mut InputRef<'src, '_, I, E>) -> PResult<(O0, O1, O2)> {
@@ -232,20 +243,29 @@ impl<
     P2: Parser<'src, I, O2, E>,
     P3: Parser<'src, I, O3, E>,
 > Parser<'src, I, (O0, O1, O2, O3), E> for Set<(P0, P1, P2, P3)> {
-    ghost use Rattle.chumsky_set.specs.Tuples.{Set4, Same4};
+    ghost use Rattle.chumsky_set.specs.Doing.{DoesSet4};
+    ghost use Rattle.chumsky_set.specs.Tuples.{Same4};
     ghost use Rattle.chumsky_set.specs.TuplesLaws.{set_4-ends, set_4-agrees};
 
-    ghost ready = { λ p. P0.ready p.parsers.0 × P1.ready p.parsers.1 × P2.ready p.parsers.2 × P3.ready p.parsers.3 };
+    ghost ready = { λ p. let t = p.parsers in
+        P0.ready t.0 × P1.ready t.1 × P2.ready t.2 × P3.ready t.3 };
 
-    ghost meaning = { λ p errors states. Set4 states.mark states.back states.takes_no_memory (P0.meaning p.parsers.0 errors states) (P1.meaning p.parsers.1 errors states) (P2.meaning p.parsers.2 errors states) (P3.meaning p.parsers.3 errors states) };
+    ghost meaning = { λ p. let t = p.parsers in
+        DoesSet4 (P0.meaning t.0) (P1.meaning t.1) (P2.meaning t.2) (P3.meaning t.3) };
 
-    ghost steady = { λ p. P0.steady p.parsers.0 × P1.steady p.parsers.1 × P2.steady p.parsers.2 × P3.steady p.parsers.3 };
+    ghost steady = { λ p. let t = p.parsers in
+        P0.steady t.0 × P1.steady t.1 × P2.steady t.2 × P3.steady t.3 };
 
-    ghost same = { λ p. Same4 (P0.same p.parsers.0) (P1.same p.parsers.1) (P2.same p.parsers.2) (P3.same p.parsers.3) };
+    ghost same = { λ p. let t = p.parsers in
+        Same4 (P0.same t.0) (P1.same t.1) (P2.same t.2) (P3.same t.3) };
 
-    ghost ends_after_start = { λ p. set_4-ends _ _ _ _ _ _ _ (P0.ends_after_start p.parsers.0) (P1.ends_after_start p.parsers.1) (P2.ends_after_start p.parsers.2) (P3.ends_after_start p.parsers.3) };
+    ghost ends_after_start = { λ p. let t = p.parsers in
+        set_4-ends _ _ _ _ _ _ _ (P0.ends_after_start t.0) (P1.ends_after_start t.1)
+        (P2.ends_after_start t.2) (P3.ends_after_start t.3) };
 
-    ghost agrees = { λ p s. set_4-agrees _ _ _ _ _ _ _ (P0.same p.parsers.0) (P1.same p.parsers.1) (P2.same p.parsers.2) (P3.same p.parsers.3) (P0.agrees p.parsers.0 s.0) (P1.agrees p.parsers.1 s.1) (P2.agrees p.parsers.2 s.2) (P3.agrees p.parsers.3 s.3) };
+    ghost agrees = { λ p s. let t = p.parsers in
+        set_4-agrees _ _ _ _ _ _ _ (P0.same t.0) (P1.same t.1) (P2.same t.2) (P3.same t.3)
+        (P0.agrees t.0 s.0) (P1.agrees t.1 s.1) (P2.agrees t.2 s.2) (P3.agrees t.3 s.3) };
 
     #[inline]
     fn go_emit(&self, inp: &mut InputRef<'src, '_, I, E>) -> PResult<(O0, O1, O2, O3)> {

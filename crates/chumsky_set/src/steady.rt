@@ -23,18 +23,42 @@ pub fn set_is_steady<
     P2: Parser<'src, I, O2, E>,
     P3: Parser<'src, I, O3, E>,
 >(one: &Set<(P0,)>, two: &Set<(P0, P1)>, three: &Set<(P0, P1, P2)>, four: &Set<(P0, P1, P2, P3)>)
-    ensures ready_one { P0.ready one.now.parsers.0 → ⟦<Set<(P0,)> as Parser<'src, I, (O0,), E>>⟧.ready one.now }
-    ensures ready_two { P0.ready two.now.parsers.0 → P1.ready two.now.parsers.1 → ⟦<Set<(P0, P1)> as Parser<'src, I, (O0, O1), E>>⟧.ready two.now }
-    ensures ready_three { P0.ready three.now.parsers.0 → P1.ready three.now.parsers.1 → P2.ready three.now.parsers.2 → ⟦<Set<(P0, P1, P2)> as Parser<'src, I, (O0, O1, O2), E>>⟧.ready three.now }
-    ensures ready_four { P0.ready four.now.parsers.0 → P1.ready four.now.parsers.1 → P2.ready four.now.parsers.2 → P3.ready four.now.parsers.3 → ⟦<Set<(P0, P1, P2, P3)> as Parser<'src, I, (O0, O1, O2, O3), E>>⟧.ready four.now }
-    ensures one { P0.steady one.now.parsers.0 → ⟦<Set<(P0,)> as Parser<'src, I, (O0,), E>>⟧.steady one.now }
-    ensures two { P0.steady two.now.parsers.0 → P1.steady two.now.parsers.1 → ⟦<Set<(P0, P1)> as Parser<'src, I, (O0, O1), E>>⟧.steady two.now }
-    ensures three { P0.steady three.now.parsers.0 → P1.steady three.now.parsers.1 → P2.steady three.now.parsers.2 → ⟦<Set<(P0, P1, P2)> as Parser<'src, I, (O0, O1, O2), E>>⟧.steady three.now }
-    ensures four { P0.steady four.now.parsers.0 → P1.steady four.now.parsers.1 → P2.steady four.now.parsers.2 → P3.steady four.now.parsers.3 → ⟦<Set<(P0, P1, P2, P3)> as Parser<'src, I, (O0, O1, O2, O3), E>>⟧.steady four.now }
-    ensures same_one { (x y : record { 0 : O0 }) → ⟦<Set<(P0,)> as Parser<'src, I, (O0,), E>>⟧.same one.now x y → P0.same one.now.parsers.0 x.0 y.0 }
-    ensures same_two { (x y : O0 × O1) → ⟦<Set<(P0, P1)> as Parser<'src, I, (O0, O1), E>>⟧.same two.now x y → P0.same two.now.parsers.0 x.0 y.0 × P1.same two.now.parsers.1 x.1 y.1 }
-    ensures same_three { (x y : O0 × O1 × O2) → ⟦<Set<(P0, P1, P2)> as Parser<'src, I, (O0, O1, O2), E>>⟧.same three.now x y → P0.same three.now.parsers.0 x.0 y.0 × P1.same three.now.parsers.1 x.1 y.1 × P2.same three.now.parsers.2 x.2 y.2 }
-    ensures same_four { (x y : O0 × O1 × O2 × O3) → ⟦<Set<(P0, P1, P2, P3)> as Parser<'src, I, (O0, O1, O2, O3), E>>⟧.same four.now x y → P0.same four.now.parsers.0 x.0 y.0 × P1.same four.now.parsers.1 x.1 y.1 × P2.same four.now.parsers.2 x.2 y.2 × P3.same four.now.parsers.3 x.3 y.3 }
+    ensures ready_one { let t = one.now.parsers in
+        P0.ready t.0 → ⟦<Set<(P0,)> as Parser<'src, I, (O0,), E>>⟧.ready one.now }
+    ensures ready_two { let t = two.now.parsers in
+        P0.ready t.0 → P1.ready t.1 →
+        ⟦<Set<(P0, P1)> as Parser<'src, I, (O0, O1), E>>⟧.ready two.now }
+    ensures ready_three { let t = three.now.parsers in
+        P0.ready t.0 → P1.ready t.1 → P2.ready t.2 →
+        ⟦<Set<(P0, P1, P2)> as Parser<'src, I, (O0, O1, O2), E>>⟧.ready three.now }
+    ensures ready_four { let t = four.now.parsers in
+        P0.ready t.0 → P1.ready t.1 → P2.ready t.2 → P3.ready t.3 →
+        ⟦<Set<(P0, P1, P2, P3)> as Parser<'src, I, (O0, O1, O2, O3), E>>⟧.ready four.now }
+    ensures one { let t = one.now.parsers in
+        P0.steady t.0 → ⟦<Set<(P0,)> as Parser<'src, I, (O0,), E>>⟧.steady one.now }
+    ensures two { let t = two.now.parsers in
+        P0.steady t.0 → P1.steady t.1 →
+        ⟦<Set<(P0, P1)> as Parser<'src, I, (O0, O1), E>>⟧.steady two.now }
+    ensures three { let t = three.now.parsers in
+        P0.steady t.0 → P1.steady t.1 → P2.steady t.2 →
+        ⟦<Set<(P0, P1, P2)> as Parser<'src, I, (O0, O1, O2), E>>⟧.steady three.now }
+    ensures four { let t = four.now.parsers in
+        P0.steady t.0 → P1.steady t.1 → P2.steady t.2 → P3.steady t.3 →
+        ⟦<Set<(P0, P1, P2, P3)> as Parser<'src, I, (O0, O1, O2, O3), E>>⟧.steady four.now }
+    ensures same_one { let t = one.now.parsers in
+        (x y : record { 0 : O0 }) →
+        ⟦<Set<(P0,)> as Parser<'src, I, (O0,), E>>⟧.same one.now x y → P0.same t.0 x.0 y.0 }
+    ensures same_two { let t = two.now.parsers in
+        (x y : O0 × O1) → ⟦<Set<(P0, P1)> as Parser<'src, I, (O0, O1), E>>⟧.same two.now x y →
+        P0.same t.0 x.0 y.0 × P1.same t.1 x.1 y.1 }
+    ensures same_three { let t = three.now.parsers in
+        (x y : O0 × O1 × O2) →
+        ⟦<Set<(P0, P1, P2)> as Parser<'src, I, (O0, O1, O2), E>>⟧.same three.now x y →
+        P0.same t.0 x.0 y.0 × P1.same t.1 x.1 y.1 × P2.same t.2 x.2 y.2 }
+    ensures same_four { let t = four.now.parsers in
+        (x y : O0 × O1 × O2 × O3) →
+        ⟦<Set<(P0, P1, P2, P3)> as Parser<'src, I, (O0, O1, O2, O3), E>>⟧.same four.now x y →
+        P0.same t.0 x.0 y.0 × P1.same t.1 x.1 y.1 × P2.same t.2 x.2 y.2 × P3.same t.3 x.3 y.3 }
 {}
 
 /// A set of the parsers of a `Vec` or an array.
