@@ -58,8 +58,7 @@ void __wrap_rattle_dealloc(void *block) {
 
 /* The rows. */
 
-/* A row that collects does so once: the kit's collect asks for room for all items, and where that is refused, for one at first. */
-enum { BY_PARSE = 1, BY_CHECK = 2, BY_BOTH = 3, COLLECTS = 4 };
+enum { BY_PARSE = 1, BY_CHECK = 2, BY_BOTH = 3 };
 
 /* A row: how it is run, and what it answers; by check, where that is another line than by parse, it has a row of its own. */
 struct row {
@@ -99,15 +98,15 @@ static const struct row rows[] = {
     {"closing", 0, BY_PARSE, "4"},
     {"closing", 1, BY_PARSE, "8"},
     {"closing", 4, BY_PARSE, "4"},
-    {"well_founded", 0, BY_PARSE | COLLECTS, "order 0"},
-    {"well_founded", 1, BY_PARSE | COLLECTS, "order 1 0"},
-    {"well_founded", 5, BY_PARSE | COLLECTS, "order 0 1"},
+    {"well_founded", 0, BY_PARSE, "order 0"},
+    {"well_founded", 1, BY_PARSE, "order 1 0"},
+    {"well_founded", 5, BY_PARSE, "order 0 1"},
     {"well_founded", 6, BY_PARSE, "left cycle 0"},
-    {"well_founded", 7, BY_PARSE | COLLECTS, "order 0"},
+    {"well_founded", 7, BY_PARSE, "order 0"},
     {"well_founded", 8, BY_PARSE, "left cycle 0"},
-    {"well_founded", 9, BY_PARSE | COLLECTS, "order 0"},
-    {"well_founded", 10, BY_PARSE | COLLECTS, "order 0"},
-    {"well_founded", 11, BY_PARSE | COLLECTS, "order 0"},
+    {"well_founded", 9, BY_PARSE, "order 0"},
+    {"well_founded", 10, BY_PARSE, "order 0"},
+    {"well_founded", 11, BY_PARSE, "order 0"},
     {"well_founded", 12, BY_PARSE, "left cycle 1"},
     {"well_founded", 13, BY_PARSE, "left cycle 0"},
     {"grammar", 0, BY_PARSE, "ok 4"},
@@ -130,13 +129,13 @@ static const struct row rows[] = {
     {"chk", 2, BY_PARSE, "0 ok 12 3|"},
     {"chk", 2, BY_CHECK, "0 ok|"},
     {"chk", 3, BY_BOTH, "1 error 3..4 expected " DIGITS ", ']' found ','|"},
-    {"chk", 4, BY_PARSE | COLLECTS, "0 ok 2|"},
-    {"chk", 4, BY_CHECK | COLLECTS, "0 ok|"},
-    {"chk", 5, BY_BOTH | COLLECTS, "1 error 2..2 expected '+', '[', ']' found end|"},
-    {"chk", 6, BY_PARSE | COLLECTS, "0 ok a=1 b=[1,[x]]|"},
-    {"chk", 6, BY_CHECK | COLLECTS, "0 ok|"},
-    {"chk", 7, BY_BOTH | COLLECTS, "1 error 3..3 expected " DIGITS ", U+000A found end|"},
-    {"chk", 8, BY_BOTH | COLLECTS, "1 error 2..22 number too large|"},
+    {"chk", 4, BY_PARSE, "0 ok 2|"},
+    {"chk", 4, BY_CHECK, "0 ok|"},
+    {"chk", 5, BY_BOTH, "1 error 2..2 expected '+', '[', ']' found end|"},
+    {"chk", 6, BY_PARSE, "0 ok a=1 b=[1,[x]]|"},
+    {"chk", 6, BY_CHECK, "0 ok|"},
+    {"chk", 7, BY_BOTH, "1 error 3..3 expected " DIGITS ", U+000A found end|"},
+    {"chk", 8, BY_BOTH, "1 error 2..22 number too large|"},
     {"chk", 9, BY_BOTH, "2 usage: chk parse|check NAME|"},
 };
 
@@ -217,20 +216,17 @@ static bool is_given_back(const struct row *row, size_t refuse, const struct ans
     return false;
 }
 
-/* Refuses the first request, the second, .. until a run meets no refusal. A run that met one answers want of memory, unless it is
-   the first of a collect, and the next run of the same thing, which meets none, answers the row; so does the run that met none. */
+/* Refuses the first request, the second, .. until a run meets no refusal. A run that met one answers want of memory, and the next
+   run of the same thing, which meets none, answers the row; so does the run that met none. */
 static bool sweep(const struct row *row, bool check) {
-    bool may_collect = row->by & COLLECTS;
     for (size_t refuse = 1;; refuse += 1) {
         struct answer *alone = run(row, check, false, refuse);
         if (!is_given_back(row, refuse, alone)) return false;
         if (!alone->met) return expect(row, check, 0, "a run that met no refusal", alone->line[0], row->answer);
-        const char *wanted = may_collect && !strcmp(alone->line[0], row->answer) ? row->answer : want_of_memory;
-        may_collect = may_collect && wanted == want_of_memory;
-        if (!expect(row, check, refuse, "the run that met it", alone->line[0], wanted)) return false;
+        if (!expect(row, check, refuse, "the run that met it", alone->line[0], want_of_memory)) return false;
         struct answer *twice = run(row, check, true, refuse);
         if (!is_given_back(row, refuse, twice)) return false;
-        if (!expect(row, check, refuse, "the run that met it", twice->line[0], wanted)) return false;
+        if (!expect(row, check, refuse, "the run that met it", twice->line[0], want_of_memory)) return false;
         if (!expect(row, check, refuse, "the run after it", twice->line[1], row->answer)) return false;
         swept += 1;
     }
