@@ -113,16 +113,16 @@ fn a_set_of_characters_has_those_of_its_text(rt: HostRuntime) {
     let letters = chars_of("@\u{7f}é\0@");
     let rows = [
         ("@", "ok '@'"),
-        ("\u{7f}", "ok '\u{7f}'"),
-        ("\0", "ok '\0'"),
+        ("\u{7f}", "ok '\\u{7f}'"),
+        ("\0", "ok '\\0'"),
         ("é", "ok 'é'"),
         (
             "A",
-            "error 0..1 expected '@', '\u{7f}', 'é', '\0', '@' found 'A'",
+            "error 0..1 expected '@', '\\u{7f}', 'é', '\\0' found 'A'",
         ),
         (
             "è",
-            "error 0..2 expected '@', '\u{7f}', 'é', '\0', '@' found 'è'",
+            "error 0..2 expected '@', '\\u{7f}', 'é', '\\0' found 'è'",
         ),
     ];
     assert_answers(&rt, &one_of::<_, _, Own>(letters), &rows);
@@ -130,7 +130,7 @@ fn a_set_of_characters_has_those_of_its_text(rt: HostRuntime) {
         ("A", "ok 'A'"),
         ("è", "ok 'è'"),
         ("é", "error 0..2 expected something else found 'é'"),
-        ("\0", "error 0..1 expected something else found '\0'"),
+        ("\0", "error 0..1 expected something else found '\\0'"),
     ];
     assert_answers(&rt, &none_of::<_, _, Own>(letters), &rows);
 }
