@@ -3,7 +3,7 @@
 use Rattle.chumsky_input.specs.declared.error.Error as error_trait
 use Rattle.chumsky_input.specs.declared.inspector.Inspector as inspector_trait
 use Rattle.chumsky_input.specs.Words.{Does}
-use Rattle.chumsky_combinator.specs.declared.choice.Or.{Or}
+use Rattle.chumsky_combinator.specs.declared.or.Or.{Or}
 use Rattle.chumsky_choice.specs.OrLaws.{IsWithin, IsWithinButMemory}
 
 -- `first.or(second)`

@@ -3,7 +3,7 @@
 use Rattle.chumsky_input.specs.declared.error.Error as error_trait
 use Rattle.chumsky_input.specs.declared.inspector.Inspector as inspector_trait
 use Rattle.chumsky_input.specs.Words.{Does}
-use Rattle.chumsky_combinator.specs.declared.sequence.Then.{Then}
+use Rattle.chumsky_combinator.specs.declared.then.Then.{Then}
 use Rattle.chumsky_combinator.specs.Compared.{ShownAs, SameOutcomes}
 
 -- `first.then(second)`
