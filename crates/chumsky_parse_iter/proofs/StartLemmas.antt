@@ -339,12 +339,11 @@ module _ {Tok Cx St Er S V T K : Type 0} (merged : Er → Er → Er) (safe : Typ
         → (a : Option (List V)) (items : List (Item Er St S V (List V))) (ys : List V) → Linked (gives k) (Appends quiet) a t (from (begin true (holds_at w)) r) items → Valued items ys → EndsAfter (gives k) quiet items t (from (begin true (holds_at w)) r) → Gives rs (given w) u ys
     unbegun [] w u e f c n r m t y a items ys links vals stop = (tt, λ d. (let z = ap phase c in let no : ⊥ = cc in absurd no))
     unbegun (None ∷ rs) w u e f c n r m t y a items ys links vals stop =
-        let z = walk_at w c.0 None Unbegun e f c.1 in
-        (
+        let z = walk_at w c.0 None Unbegun e f c.1 in (
           n,
           λ d. ended_by (GivesFirst (begins k) (gives k)) rs w c.0 u c.2 d (length ys) (λ q j v.
-          (let p = made (begins k) (gives k) quiet same alike agree (begin true (holds_at w)) q (Some End) v r m t y j in
-          no_item (begins k) (gives k) quiet same alike agree p.iteration p.start p.step p.meant (p.says ∙ v) t (from (begin true (holds_at w)) r) a items ys p.alike_is p.there links vals stop)) z.1.answer z.1.ran z.1.counted,
+              (let p = made (begins k) (gives k) quiet same alike agree (begin true (holds_at w)) q (Some End) v r m t y j in
+              no_item (begins k) (gives k) quiet same alike agree p.iteration p.start p.step p.meant (p.says ∙ v) t (from (begin true (holds_at w)) r) a items ys p.alike_is p.there links vals stop)) z.1.answer z.1.ran z.1.counted,
         )
     unbegun (Some x ∷ rs) w u e f c n r m t y a items ys links vals stop =
         let z = walk_at w c.0 (Some x) Unbegun e f c.1 in
