@@ -287,7 +287,8 @@ pub mod laws {
     pub use chumsky_folds::laws::{
         enumerate_numbers_from_zero, fold_is_the_fold_of_what_collect_gives,
         foldl_is_the_fold_of_what_collect_gives, foldl_with_by_a_blind_folder_is_foldl,
-        foldr_is_the_fold_of_the_reverse, try_foldl_that_never_refuses_is_foldl_with,
+        foldr_is_the_fold_of_the_reverse, foldr_with_by_a_blind_folder_is_foldr,
+        try_foldl_that_never_refuses_is_foldl_with,
     };
     pub use chumsky_folds::steady::{
         enumerate_is_steady, fold_is_steady, foldl_is_steady, foldl_with_is_steady,

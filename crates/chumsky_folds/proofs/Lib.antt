@@ -9,3 +9,4 @@ pub mod FoldingBackShownLemmas
 pub mod FoldingTriedLemmas
 pub mod BlindLemmas
 pub mod AcceptingLemmas
+pub mod BlindBackLemmas

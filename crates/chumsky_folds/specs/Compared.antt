@@ -12,10 +12,11 @@ module _ {Tok Cx St Er L C A : Type 0} where
     pub apart : (b : Beginning Tok Cx St) (o : Outcome A Er St) (z : A) → b.wanted ≡ true → whole b o → o.verdict ≡ Yes (Some z) → (l : L) × folds l z × ((c : C) → holds l c → collects b (retold (Yes (Some c)) o))
     pub together : (b : Beginning Tok Cx St) (o : Outcome C Er St) (c : C) (l : L) (z : A) → b.wanted ≡ true → collects b o → o.verdict ≡ Yes (Some c) → holds l c → folds l z → whole b (retold (Yes (Some z)) o)
 
--- a folder that takes no notice of what it is shown, and leaves the state: it answers as these steps
-pub record IsBlind {Tok Cx St V A : Type 0} (folds : GivesShown Tok Cx St (A × V) A) (steps : A → V → A → Type 0) : Type 0 where
-  pub sees : (p : A × V) (x : Shown Tok Cx St) (z : A) (s : St) → folds p x z s → steps p.0 p.1 z × (s ≡ x.state)
-  pub answers : (p : A × V) (x : Shown Tok Cx St) (z : A) → steps p.0 p.1 z → folds p x z x.state
+-- a folder, from the left or from the right, that takes no notice of what it is shown, and leaves the state: it answers as
+-- these steps
+pub record IsBlind {Tok Cx St V W A : Type 0} (folds : GivesShown Tok Cx St (V × W) A) (steps : V → W → A → Type 0) : Type 0 where
+  pub sees : (p : V × W) (x : Shown Tok Cx St) (z : A) (s : St) → folds p x z s → steps p.0 p.1 z × (s ≡ x.state)
+  pub answers : (p : V × W) (x : Shown Tok Cx St) (z : A) → steps p.0 p.1 z → folds p x z x.state
 
 -- a folder that may refuse an item and never does: it answers as this one
 pub record NeverRefuses {Tok Cx St E V A : Type 0} (tries : GivesShown Tok Cx St (A × V) (Result A E)) (folds : GivesShown Tok Cx St (A × V) A) : Type 0 where

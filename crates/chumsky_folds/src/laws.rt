@@ -1,5 +1,6 @@
 //! Laws of folds and of items with their numbers, each the contract of a function that does nothing.
 ghost use Rattle.std.specs.Prelude.{◌≡◌, List, reverse};
+ghost use Rattle.chumsky_input.specs.Outcome.{Beginning, Outcome};
 ghost use Rattle.chumsky_parser.specs.Chained.{Sequence};
 ghost use Rattle.chumsky_folds.specs.Compared.{FoldsAlike, FoldsCollected, IsBlind, NeverRefuses, NumbersFromZero};
 ghost use Rattle.chumsky_folds.specs.Folding.{FoldsLeft};
@@ -7,10 +8,11 @@ ghost use Rattle.chumsky_folds.specs.Folding.{FoldsLeft};
 use crate::enumerate::Enumerate;
 use crate::fold::Fold;
 use crate::folder::{Folder, RightFolder};
-use crate::folder_with::{FolderWith, TryFolder};
+use crate::folder_with::{FolderWith, RightFolderWith, TryFolder};
 use crate::foldl::Foldl;
 use crate::foldl_with::FoldlWith;
 use crate::foldr::Foldr;
+use crate::foldr_with::FoldrWith;
 use crate::try_foldl::TryFoldl;
 use chumsky_input::extra::ParserExtra;
 use chumsky_input::input::Input;
@@ -90,6 +92,22 @@ pub fn foldr_is_the_fold_of_the_reverse<
     F: RightFolder<O, U>,
 >(foldr: &Foldr<F, A, B, O>)
     ensures { FoldsCollected (λ (p : List O × U) c. (c.0.items ≡ p.0) × (p.1 ≡ c.1)) (λ (p : List O × U) z. FoldsLeft (λ a x w. F.gives foldr.now.folder x a w) p.1 (reverse p.0) z) (Sequence (⟦<Collect<A, O, Vec<O>> as Parser<'src, I, Vec<O>, E>>⟧.meaning foldr.now.items E.Error.Error E.State.Inspector) (B.meaning foldr.now.parser E.Error.Error E.State.Inspector)) (⟦<Foldr<F, A, B, O> as Parser<'src, I, U, E>>⟧.meaning foldr.now E.Error.Error E.State.Inspector) }
+{}
+
+/// Where its folder takes no notice of the run and leaves the state, each outcome of `foldr_with` is one of `foldr` by a folder
+/// with the same answers.
+pub fn foldr_with_by_a_blind_folder_is_foldr<
+    'src,
+    I: Input<'src>,
+    O: Drop,
+    U: Drop,
+    E: ParserExtra<I>,
+    A: IterParser<'src, I, O, E>,
+    B: Parser<'src, I, U, E>,
+    F: RightFolderWith<'src, I, O, U, E>,
+    G: RightFolder<O, U>,
+>(foldr: &FoldrWith<F, A, B, O>, folder: &G)
+    ensures { IsBlind (F.gives foldr.now.folder E.State.Inspector) (G.gives folder.now) → (b : Beginning I.Token E.Context E.State.Seen) (o : Outcome U E.Error.Seen E.State.Seen) → ⟦<FoldrWith<F, A, B, O> as Parser<'src, I, U, E>>⟧.meaning foldr.now E.Error.Error E.State.Inspector b o → ⟦<Foldr<G, A, B, O> as Parser<'src, I, U, E>>⟧.meaning (record { items = record { parser = foldr.now.items; of = record {} }; parser = foldr.now.parser; folder = folder.now }) E.Error.Error E.State.Inspector b o }
 {}
 
 /// The items of `enumerate` have the numbers 0, 1, 2 and so on, in order.

@@ -170,7 +170,8 @@ pub fn choice_is_never_out_of_memory<
     ensures eight { E.State.takes_no_memory → NeverOutOfMemory (A.meaning eight.now.parsers.0 E.Error.Error E.State.Inspector) → NeverOutOfMemory (B.meaning eight.now.parsers.1 E.Error.Error E.State.Inspector) → NeverOutOfMemory (C.meaning eight.now.parsers.2 E.Error.Error E.State.Inspector) → NeverOutOfMemory (D.meaning eight.now.parsers.3 E.Error.Error E.State.Inspector) → NeverOutOfMemory (F.meaning eight.now.parsers.4 E.Error.Error E.State.Inspector) → NeverOutOfMemory (G.meaning eight.now.parsers.5 E.Error.Error E.State.Inspector) → NeverOutOfMemory (H.meaning eight.now.parsers.6 E.Error.Error E.State.Inspector) → NeverOutOfMemory (J.meaning eight.now.parsers.7 E.Error.Error E.State.Inspector) → NeverOutOfMemory (⟦<Choice<(A, B, C, D, F, G, H, J)> as Parser<'src, I, O, E>>⟧.meaning eight.now E.Error.Error E.State.Inspector) }
 {}
 
-/// `choice` of the parsers of a slice, a `Vec` and an array: the error of a choice of none has to take no memory either.
+/// `choice` of the parsers of a slice, a `Vec` and an array, under a state whose mark and whose going back take no memory, and
+/// errors that take none: a choice of no parsers builds one.
 pub fn choice_of_a_list_is_never_out_of_memory<
     'src,
     'p,
@@ -238,7 +239,7 @@ pub fn group_of_an_array_is_never_out_of_memory<
     ensures { All (λ p. NeverOutOfMemory (P.meaning p E.Error.Error E.State.Inspector)) group.now.parsers → NeverOutOfMemory (⟦<Group<[P; N]> as Parser<'src, I, ArrayVec<O, N>, E>>⟧.meaning group.now E.Error.Error E.State.Inspector) }
 {}
 
-/// `a.filter(f)` and `a.filter_by(f)`: of a value that doesn't pass, the error that something else was expected takes no memory.
+/// `a.filter(f)` and `a.filter_by(f)`, under errors that take no memory: one is built for a value that doesn't pass.
 pub fn filter_is_never_out_of_memory<
     'src,
     I: Input<'src>,
@@ -250,7 +251,7 @@ pub fn filter_is_never_out_of_memory<
     ensures { E.Error.takes_no_memory → NeverOutOfMemory (A.meaning filter.now.parser E.Error.Error E.State.Inspector) → NeverOutOfMemory (⟦<Filter<A, F> as Parser<'src, I, O, E>>⟧.meaning filter.now E.Error.Error E.State.Inspector) }
 {}
 
-/// `a.filter_map(f)` and `a.filter_map_by(f)`: the same of a value that isn't picked.
+/// `a.filter_map(f)` and `a.filter_map_by(f)`, under errors that take no memory: one is built for a value that isn't picked.
 pub fn filter_map_is_never_out_of_memory<
     'src,
     I: Input<'src>,
@@ -263,7 +264,7 @@ pub fn filter_map_is_never_out_of_memory<
     ensures { E.Error.takes_no_memory → NeverOutOfMemory (A.meaning filter_map.now.parser E.Error.Error E.State.Inspector) → NeverOutOfMemory (⟦<FilterMap<A, O, F, U> as Parser<'src, I, U, E>>⟧.meaning filter_map.now E.Error.Error E.State.Inspector) }
 {}
 
-/// `a.try_map(f)` and `a.try_map_by(f)`, whose mapper brings its own errors.
+/// `a.try_map(f)` and `a.try_map_by(f)`, under any errors: the mapper brings its own.
 pub fn try_map_is_never_out_of_memory<
     'src,
     I: Input<'src>,
