@@ -1,3 +1,4 @@
 pub mod Answer
+pub use Rattle.chumsky_recursive.specs.Calls
 pub mod Values
 pub mod WantedMemory
