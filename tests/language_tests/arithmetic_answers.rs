@@ -1,0 +1,105 @@
+//! What sums come to.
+use crate::arithmetic::parse_arithmetic;
+use crate::printed::{assert_lines, nested, printed};
+use std::alloc::{AllocError, Global};
+use std::test::Fail;
+
+/// What is printed of a sum.
+fn shown(alloc: Global, text: &str) -> Result<String, AllocError> {
+    printed(alloc, text, parse_arithmetic(alloc, text), |number: &i64| {
+        format!(in alloc; "{number}\n")
+    })
+}
+
+#[test]
+fn products_come_before_sums_and_signs_go_from_the_left(rt: HostRuntime) {
+    let rows = [
+        ("1", "1\n"),
+        ("2 * (3 + 4) - 1", "13\n"),
+        ("2 + 3 * 4", "14\n"),
+        ("20 - 3 - 4", "13\n"),
+        ("100 / 5 / 2 * 3", "30\n"),
+        ("17 % 5 - 17 / 5", "-1\n"),
+        ("-7 / 2", "-3\n"),
+        ("-7 % 2", "-1\n"),
+        ("--5 + -(2 * -3)", "11\n"),
+        ("2 * -3", "-6\n"),
+        (" 007\n", "7\n"),
+        ("((((1))))", "1\n"),
+    ];
+    assert_lines(&rt, shown, &rows);
+}
+
+#[test]
+fn what_is_too_large_is_an_error_where_it_is_made(rt: HostRuntime) {
+    let rows = [
+        ("9223372036854775807", "9223372036854775807\n"),
+        (
+            "1 + 9223372036854775808",
+            "input:1:5: number too large\n1 + 9223372036854775808\n    ^^^^^^^^^^^^^^^^^^^\n",
+        ),
+        (
+            "9223372036854775807 - 1 + 2",
+            "input:1:25: overflow\n9223372036854775807 - 1 + 2\n                        ^\n",
+        ),
+        ("-9223372036854775807 - 1", "-9223372036854775808\n"),
+        (
+            "-(-9223372036854775807 - 1)",
+            "input:1:1: overflow\n-(-9223372036854775807 - 1)\n^\n",
+        ),
+        (
+            "(-9223372036854775807 - 1) / -1",
+            "input:1:28: overflow\n(-9223372036854775807 - 1) / -1\n                           ^\n",
+        ),
+        (
+            "3000000000 *\n4000000000",
+            "input:1:12: overflow\n3000000000 *\n           ^\n",
+        ),
+    ];
+    assert_lines(&rt, shown, &rows);
+}
+
+#[test]
+fn a_division_by_zero_is_an_error_at_its_sign(rt: HostRuntime) {
+    let rows = [
+        ("0 / 5", "0\n"),
+        (
+            "1 + 8 / (2 - 2)",
+            "input:1:7: division by zero\n1 + 8 / (2 - 2)\n      ^\n",
+        ),
+        ("7\n% 0 * 3", "input:2:1: division by zero\n% 0 * 3\n^\n"),
+    ];
+    assert_lines(&rt, shown, &rows);
+}
+
+#[test]
+fn what_is_no_sum_is_an_error(rt: HostRuntime) {
+    let rows = [
+        (
+            "",
+            "input:1:1: expected a number, '-' or '(', found end of input\n\n^\n",
+        ),
+        (
+            "1 + * 2",
+            "input:1:5: expected a number, '-' or '(', found '*'\n1 + * 2\n    ^\n",
+        ),
+        (
+            "(1 + 2",
+            "input:1:7: expected digit, '*', '/', '%', '+', '-' or ')', found end of input\n(1 + 2\n      ^\n",
+        ),
+        (
+            "1 2",
+            "input:1:3: expected '*', '/', '%', '+', '-' or end of input, found '2'\n1 2\n  ^\n",
+        ),
+    ];
+    assert_lines(&rt, shown, &rows);
+}
+
+#[test]
+fn a_thousand_brackets_within_one_another_are_worked_out(rt: HostRuntime) -> Result<(), Fail> {
+    let alloc = rt.alloc();
+    let text = nested(alloc, 1000, "(1+", "1", ")")?;
+    let lines = shown(alloc, text.as_str())?;
+    assert_eq!(rt; lines.as_str(), "1001\n");
+    Ok(())
+}
