@@ -19,7 +19,7 @@ fn each_line_that_is_wrong_has_its_own_error_and_the_rest_are_read(rt: HostRunti
             "07:30:59 INFO started\n7:31:00 INFO no\n24:00:00 WARN no\n07:32:00 FATAL no\n07:33:00 INFO\n07:34:00 ERROR stopped\n",
             1,
             "info at 07:30:59: started\nerror at 07:34:00: stopped\n\
-             input:2:2: expected '0'..='9', found ':'\n7:31:00 INFO no\n ^\n\
+             input:2:2: expected a digit, found ':'\n7:31:00 INFO no\n ^\n\
              input:3:1: expected an hour, found '2'\n24:00:00 WARN no\n^^\n\
              input:4:10: expected a level, found 'F'\n07:32:00 FATAL no\n         ^\n\
              input:5:14: expected ' ', found '\\n'\n07:33:00 INFO\n             ^\n",

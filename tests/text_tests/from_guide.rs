@@ -45,8 +45,9 @@ fn a_number_may_be_too_large_for_a_byte(rt: HostRuntime) {
 fn a_month_is_expected_by_its_label(rt: HostRuntime) {
     let rows = [
         ("Feb", "ok 2"),
-        ("Sep", "error 0..1 expected a month found 'S'"),
-        ("Jun", "error 1..2 expected 'a' found 'u'"),
+        ("Sep", "error 0..3 expected a month found 'S'"),
+        ("Jun", "error 0..3 expected a month found 'J'"),
+        ("1", "error 0..1 expected a month found '1'"),
     ];
     for (line, expected) in rows {
         assert_line(&rt, month(rt.alloc(), line), expected);
@@ -61,6 +62,6 @@ fn a_month_is_expected_by_its_label(rt: HostRuntime) {
         };
         write!(told, "{report}").expect(&rt, "want of memory");
     }
-    let expected = "log:1:1: expected a month, found 'S'\nSep\n^";
+    let expected = "log:1:1: expected a month, found 'S'\nSep\n^^^";
     assert_eq!(rt; told.as_str(), expected);
 }

@@ -36,11 +36,13 @@ pub fn byte(alloc: Global, line: &str) -> Result<ParseResult<u8, Rich<char>>, St
 
 /// The number of a month, by its name.
 pub fn month(alloc: Global, line: &str) -> Result<ParseResult<u8, Rich<char>>, Stop> {
-    let month = choice((
-        just::<_, _, RichText>("Jan").to(1u8),
-        just("Feb").to(2u8),
-        just("Mar").to(3u8),
-    ))
-    .labelled("a month");
+    let month = text::ascii::ident::<_, RichText>()
+        .filter_map(|name: &str| match name {
+            "Jan" => Some(1),
+            "Feb" => Some(2),
+            "Mar" => Some(3),
+            _ => None,
+        })
+        .labelled("a month");
     month.parse(alloc, line)
 }
