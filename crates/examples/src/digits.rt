@@ -1,29 +1,22 @@
-//! Digits, and the numbers that they make.
-ghost use Rattle.std.specs.Prelude.{◌≤◌};
+//! Numbers of two digits.
+ghost use Rattle.std.specs.Prelude.{◌≤◌, IfSome};
 
-use chumsky::extra::RichText;
-use chumsky::prelude::*;
-use chumsky::primitive::OneOf;
-use std::ops::RangeInclusive;
+use chumsky::combinator::Picker;
 
-/// Any digit.
-pub fn any_digit<'src>() -> OneOf<RangeInclusive<char>, &'src str, RichText> {
-    one_of('0'..='9')
+/// Picks the number that two digits make, where it lies between two bounds.
+#[derive(Clone, Copy)]
+pub struct TwoDigits {
+    pub least: u8,
+    pub most: u8,
 }
 
-/// The number of two digits.
-pub fn number_of(tens: char, ones: char) -> u8
-    ensures bound { result ≤ 99 }
-{
-    value_of(tens) * 10 + value_of(ones)
-}
+impl<'src> Picker<&'src str, u8> for TwoDigits {
+    ghost gives = { λ p _ picked. IfSome picked (λ n. (p.least ≤ n) × (n ≤ p.most)) };
 
-/// The number of a digit. Any other character counts as zero.
-fn value_of(character: char) -> u8
-    ensures bound { result ≤ 9 }
-{
-    match character {
-        '0'..='9' => character as u8 - b'0',
-        _ => 0,
+    fn pick(&self, digits: &'src str) -> Option<u8> {
+        match digits.parse::<u8>() {
+            Ok(n) if digits.len() == 2 && self.least <= n && n <= self.most => Some(n),
+            _ => None,
+        }
     }
 }

@@ -1,5 +1,6 @@
 //! Settings in sections, as INI files have them.
-use chumsky::combinator::{Mapper, Part, part_of, run_part};
+use crate::words::Trimmed;
+use chumsky::combinator::{Part, part_of, run_part};
 use chumsky::extra::RichText;
 use chumsky::input::InputRef;
 use chumsky::prelude::*;
@@ -34,16 +35,6 @@ impl<'src> Part<'src, &'src str, (), RichText> for Gap {
             .then(comment.then(text::whitespace()).repeated())
             .ignored();
         run_part(&gap, wanted, inp)
-    }
-}
-
-/// The same text without the spaces around it.
-#[derive(Clone, Copy)]
-struct Trimmed;
-
-impl<'src> Mapper<&'src str, &'src str> for Trimmed {
-    fn apply(&self, text: &'src str) -> &'src str {
-        text.trim()
     }
 }
 

@@ -1,5 +1,6 @@
 //! Lines of a log. A line that can't be read is an error of its own, and the lines after it are read.
-use crate::digits::{any_digit, number_of};
+use crate::digits::TwoDigits;
+use crate::words::Trimmed;
 use chumsky::combinator::{Part, Picker, part_of, run_part};
 use chumsky::extra::RichText;
 use chumsky::input::InputRef;
@@ -27,15 +28,28 @@ pub struct Line<'src> {
     pub message: &'src str,
 }
 
-/// Picks the number of two digits, where it is below a bound.
+/// Picks the level of a name.
 #[derive(Clone, Copy)]
-struct Below(u8);
+struct Named;
 
-impl Picker<(char, char), u8> for Below {
-    fn pick(&self, digits: (char, char)) -> Option<u8> {
-        let (tens, ones) = digits;
-        let number = number_of(tens, ones);
-        if number < self.0 { Some(number) } else { None }
+impl<'src> Picker<&'src str, Level> for Named {
+    fn pick(&self, name: &'src str) -> Option<Level> {
+        match name {
+            "INFO" => Some(Level::Info),
+            "WARN" => Some(Level::Warning),
+            "ERROR" => Some(Level::Error),
+            _ => None,
+        }
+    }
+}
+
+/// Picks a text that isn't empty.
+#[derive(Clone, Copy)]
+struct Said;
+
+impl<'src> Picker<&'src str, &'src str> for Said {
+    fn pick(&self, text: &'src str) -> Option<&'src str> {
+        if text.is_empty() { None } else { Some(text) }
     }
 }
 
@@ -51,9 +65,9 @@ impl<'src> Part<'src, &'src str, (u8, u8, u8), RichText> for Time {
         wanted: bool,
         inp: &mut InputRef<'src, '_, &'src str, RichText>,
     ) -> PResult<Option<(u8, u8, u8)>> {
-        let hour = any_digit().then(any_digit()).filter_map_by(Below(24));
-        let minute = any_digit().then(any_digit()).filter_map_by(Below(60));
-        let second = any_digit().then(any_digit()).filter_map_by(Below(60));
+        let hour = text::digits(10).filter_map_by(TwoDigits { least: 0, most: 23 });
+        let minute = text::digits(10).filter_map_by(TwoDigits { least: 0, most: 59 });
+        let second = text::digits(10).filter_map_by(TwoDigits { least: 0, most: 59 });
         let time = group((
             hour.labelled("an hour"),
             just(':'),
@@ -63,6 +77,25 @@ impl<'src> Part<'src, &'src str, (u8, u8, u8), RichText> for Time {
         ));
         let time = time.map(|(hour, _, minute, _, second)| (hour, minute, second));
         run_part(&time, wanted, inp)
+    }
+}
+
+/// The rest of a line after a blank, without the blanks around it.
+#[derive(Clone, Copy)]
+struct Message;
+
+impl<'src> IsParser<&'src str, &'src str, RichText> for Message {}
+
+impl<'src> Part<'src, &'src str, &'src str, RichText> for Message {
+    fn run(
+        &self,
+        wanted: bool,
+        inp: &mut InputRef<'src, '_, &'src str, RichText>,
+    ) -> PResult<Option<&'src str>> {
+        let rest = none_of("\r\n").repeated().to_slice();
+        let said = rest.map_by(Trimmed).filter_map_by(Said);
+        let message = just(' ').ignore_then(said.labelled("a message"));
+        run_part(&message.labelled("a message"), wanted, inp)
     }
 }
 
@@ -78,20 +111,14 @@ impl<'src> Part<'src, &'src str, Line<'src>, RichText> for WholeLine {
         wanted: bool,
         inp: &mut InputRef<'src, '_, &'src str, RichText>,
     ) -> PResult<Option<Line<'src>>> {
-        let level = choice((
-            just("INFO").to(Level::Info),
-            just("WARN").to(Level::Warning),
-            just("ERROR").to(Level::Error),
-        ));
-        let message = none_of("\r\n").repeated().at_least(1).to_slice();
+        let level = text::ascii::ident().filter_map_by(Named);
         let line = group((
             part_of(Time),
             just(' '),
             level.labelled("a level"),
-            just(' '),
-            message.labelled("a message"),
+            part_of(Message),
         ));
-        let line = line.map(|(time, _, level, _, message)| Line {
+        let line = line.map(|(time, _, level, message)| Line {
             time,
             level,
             message,

@@ -1,5 +1,5 @@
-//! Words that stand for values.
-use chumsky::combinator::To;
+//! Words that stand for values, and texts without what is around them.
+use chumsky::combinator::{Mapper, To};
 use chumsky::extra::RichText;
 use chumsky::prelude::*;
 use chumsky::primitive::Just;
@@ -10,4 +10,14 @@ pub type Word<'src, V> = To<Just<&'static str, &'src str, RichText>, &'static st
 /// A word that stands for a value.
 pub fn word<'src, V: Clone>(text: &'static str, value: V) -> Word<'src, V> {
     just(text).to(value)
+}
+
+/// The same text without the blanks around it.
+#[derive(Clone, Copy)]
+pub struct Trimmed;
+
+impl<'src> Mapper<&'src str, &'src str> for Trimmed {
+    fn apply(&self, text: &'src str) -> &'src str {
+        text.trim()
+    }
 }
