@@ -1,6 +1,6 @@
 //! The grammar `settings`: lines of a name, `=` and a value. A value is a number, a name, or values in brackets, with commas
 //! between them and maybe one after the last.
-ghost use Rattle.std.specs.Prelude.{◌≡◌, ◌++◌, All, IfOk, flat_map, string_bytes, ⊤};
+ghost use Rattle.std.specs.Prelude.{◌≡◌, ◌++◌, All, IfOk, flat_map, string_bytes, ⊤, IsOk};
 ghost use Rattle.std.specs.Cow.{cow_str_bytes};
 ghost use Rattle.chk_run.specs.Settings.{InBrackets, Printed, ReadsNumber};
 
@@ -70,7 +70,8 @@ impl<'src> Values<SimpleSpan, Rich<char>> for Texts<'src> {
     }
 
     fn option(&self, _alloc: Global, text: Option<CowStr<'src>>) -> Result<CowStr<'src>, AllocError>
-        ensures { IfOk result (λ _. ⊤) }
+        ensures gives { IfOk result (λ _. ⊤) }
+        ensures memory { ⊥ → IsOk result }
     {
         Ok(text.unwrap_or(CowStr::Borrowed("")))
     }
@@ -89,7 +90,8 @@ impl<'src> Values<SimpleSpan, Rich<char>> for Texts<'src> {
     }
 
     fn list(&self, alloc: Global, items: Vec<CowStr<'src>>) -> Result<CowStr<'src>, AllocError>
-        ensures { IfOk result (λ text. cow_str_bytes text ≡ flat_map cow_str_bytes items.entry.items) }
+        ensures gives { IfOk result (λ text. cow_str_bytes text ≡ flat_map cow_str_bytes items.entry.items) }
+        ensures memory { ⊥ → IsOk result }
     {
         let mut text = String::new(alloc);
         for item in items.as_slice() {
