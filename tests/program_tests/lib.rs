@@ -17,4 +17,6 @@ mod grammars;
 #[cfg(test)]
 mod input_ref;
 #[cfg(test)]
+mod json;
+#[cfg(test)]
 mod odd;
