@@ -1,13 +1,15 @@
 -- What one call of `parse` or `check` answers.
-use Rattle.std.specs.Prelude.{◌≡◌, Bool, false, Option, Some, None, List, ⊤, Result, Ok, Err, map, IfOk}
+use Rattle.std.specs.Prelude.{◌≡◌, ℕ, ◌≤◌, Bool, true, false, Option, Some, None, List, length, ⊤, Result, Ok, Err, map, IfOk, IfErr}
 use Rattle.chumsky_input.specs.declared.error.Error as error_trait
 use Rattle.chumsky_input.specs.declared.inspector.Inspector as inspector_trait
 use Rattle.chumsky_input.specs.declared.input.Input as input_trait
 use Rattle.chumsky_input.specs.declared.stop.Stop.{Stop}
-use Rattle.chumsky_input.specs.Outcome.{Meaning, Outcome, Verdict, Yes, No, Halt, Clash, IsAnswer, SameValue}
+use Rattle.chumsky_input.specs.declared.stop.Stop.TheVariants.{Memory}
+use Rattle.chumsky_input.specs.Outcome.{Meaning, Beginning, Outcome, Verdict, Yes, No, Halt, Clash, IsAnswer, SameValue}
 use Rattle.chumsky_parser.specs.Chained.{Chained, Given, Asked}
 use Rattle.chumsky_primitive.specs.End.{MeansEnd}
 use Rattle.chumsky_parse_iter.specs.Settled.{reported, RefusesBy}
+use Rattle.chumsky_parser.specs.declared.parser.Parser as parser_trait
 use Rattle.chumsky_parser.specs.declared.result.ParseResult.{ParseResult}
 
 module _ {I Tok Sp Cu Er St Mk Cx V : Type 0} (source : input_trait.Ghosts I Cu Tok Sp) (errors : error_trait.Ghosts Er I Tok Sp) (states : inspector_trait.Ghosts St I Mk Tok Sp) where
@@ -48,3 +50,24 @@ module _ {I Tok Sp Cu Er St Mk Cx V W : Type 0} (source : input_trait.Ghosts I C
     pub answered : Answers source errors (λ v w. v ≡ gives w) ts outcome result
     pub agreed : steady → (w : Bool) (other : Outcome V errors.Seen states.Seen) → meaning (record { wanted = w; tokens = ts; start = 0; context = context; state = old }) other → IsAnswer other.verdict
         → IfOk result (λ parsed. Reports source errors (λ v w. SameValue same v (gives w)) ts other parsed × (new ≡ other.state))
+
+module _ {P I V X Cu Tok Sp Er St Cx Mk : Type 0} (source : input_trait.Ghosts I Cu Tok Sp) (errors : error_trait.Ghosts Er I Tok Sp) (states : inspector_trait.Ghosts St I Mk Tok Sp) (is_default : Cx → Type 0) (parsers : parser_trait.Ghosts P I V X Cu Tok Sp Er St Cx Mk) (parser : P) where
+  -- `parse` runs the parser and then the end of input, for a value: what it answers of these tokens, from one state to another
+  abbrev pub ParseGives : List Tok → states.Seen → states.Seen → Result (ParseResult V Er) Stop → Type 0
+  ParseGives ts old new result = Parses source errors states is_default (parsers.steady parser) (parsers.same parser) Some (WholeRun source errors states (parsers.meaning parser errors states)) true ts old new result
+
+  -- `check` runs both for no value
+  abbrev pub CheckGives : List Tok → states.Seen → states.Seen → Result (ParseResult (Unit {0}) Er) Stop → Type 0
+  CheckGives ts old new result = Parses source errors states is_default (parsers.steady parser) (parsers.same parser) (λ _. None) (WholeRun source errors states (parsers.meaning parser errors states)) false ts old new result
+
+-- a run from a default state to some other
+abbrev pub FromDefault : {St Seen : Type 0} → (St → Type 0) → (St → Seen) → (Seen → Seen → Type 0) → Type 0
+FromDefault {St = St} is_default seen run = (first : St) × (last : St) × is_default first × run (seen first) (seen last)
+
+-- whatever stops a run over at most so many tokens is so on these tokens
+abbrev pub StopsOnlyAs : {Tok St R : Type 0} → ℕ → (List Tok → Stop → Type 0) → (List Tok → St → St → Result R Stop → Type 0) → Type 0
+StopsOnlyAs {Tok = Tok} {St = St} {R = R} many so gives = (ts : List Tok) (old new : St) (result : Result R Stop) → length ts ≤ many → gives ts old new result → IfErr result (so ts)
+
+-- an answer that the run was refused for memory has an outcome that failed
+abbrev pub LacksMemoryOnlyOfNo : {Tok Cx St Er V : Type 0} → Type 0 → Meaning Tok Cx St Er V → Type 0
+LacksMemoryOnlyOfNo {Tok = Tok} {Cx = Cx} {St = St} {Er = Er} {V = V} takes_no_memory meaning = (b : Beginning Tok Cx St) (o : Outcome V Er St) (s : Stop) → meaning b o → RefusesBy takes_no_memory o.verdict o s → s ≡ Memory → o.verdict ≡ No

@@ -1,6 +1,6 @@
 //! The builders and run forms of parsers, in the order of the Rust crate `chumsky`.
 ghost use Rattle.std.specs.Prelude.{◌≡◌, true, false, Some, None};
-ghost use Rattle.chumsky.specs.Answer.{WholeRun, Parses};
+ghost use Rattle.chumsky.specs.Answer.{FromDefault, ParseGives, CheckGives};
 
 use crate::combinator::{
     AndIs, Contextual, DelimitedBy, Filter, FilterMap, Folder, Foldl, FoldlWith, FromStr,
@@ -45,7 +45,7 @@ pub trait ParserExt<'src, I, O, E>: Sized {
         E::Context: Default + Drop,
         Self: Parser<'src, I, O, E>,
         requires { Self.ready self.now }
-        ensures { (first : E.State) × (last : E.State) × E.State.is_default first × Parses I.Input E.Error.Error E.State.Inspector E.Context.is_default (Self.steady self.now) (Self.same self.now) Some (WholeRun I.Input E.Error.Error E.State.Inspector (Self.meaning self.now E.Error.Error E.State.Inspector)) true (I.tokens input) (E.State.seen first) (E.State.seen last) result }
+        ensures { FromDefault E.State.is_default E.State.seen (λ old new. ParseGives I.Input E.Error.Error E.State.Inspector E.Context.is_default Self.Parser self.now (I.tokens input) old new result) }
     {
         let mut state = E::State::default();
         run::parse_with_state(self, alloc, input, &mut state)
@@ -66,7 +66,7 @@ pub trait ParserExt<'src, I, O, E>: Sized {
         E::Context: Default + Drop,
         Self: Parser<'src, I, O, E>,
         requires { Self.ready self.now }
-        ensures { Parses I.Input E.Error.Error E.State.Inspector E.Context.is_default (Self.steady self.now) (Self.same self.now) Some (WholeRun I.Input E.Error.Error E.State.Inspector (Self.meaning self.now E.Error.Error E.State.Inspector)) true (I.tokens input) (E.State.seen state.old) (E.State.seen state.new) result }
+        ensures { ParseGives I.Input E.Error.Error E.State.Inspector E.Context.is_default Self.Parser self.now (I.tokens input) (E.State.seen state.old) (E.State.seen state.new) result }
     {
         run::parse_with_state(self, alloc, input, state)
     }
@@ -82,7 +82,7 @@ pub trait ParserExt<'src, I, O, E>: Sized {
         E::Context: Default + Drop,
         Self: Parser<'src, I, O, E>,
         requires { Self.ready self.now }
-        ensures { (first : E.State) × (last : E.State) × E.State.is_default first × Parses I.Input E.Error.Error E.State.Inspector E.Context.is_default (Self.steady self.now) (Self.same self.now) (λ _. None) (WholeRun I.Input E.Error.Error E.State.Inspector (Self.meaning self.now E.Error.Error E.State.Inspector)) false (I.tokens input) (E.State.seen first) (E.State.seen last) result }
+        ensures { FromDefault E.State.is_default E.State.seen (λ old new. CheckGives I.Input E.Error.Error E.State.Inspector E.Context.is_default Self.Parser self.now (I.tokens input) old new result) }
     {
         let mut state = E::State::default();
         run::check_with_state(self, alloc, input, &mut state)
@@ -102,7 +102,7 @@ pub trait ParserExt<'src, I, O, E>: Sized {
         E::Context: Default + Drop,
         Self: Parser<'src, I, O, E>,
         requires { Self.ready self.now }
-        ensures { Parses I.Input E.Error.Error E.State.Inspector E.Context.is_default (Self.steady self.now) (Self.same self.now) (λ _. None) (WholeRun I.Input E.Error.Error E.State.Inspector (Self.meaning self.now E.Error.Error E.State.Inspector)) false (I.tokens input) (E.State.seen state.old) (E.State.seen state.new) result }
+        ensures { CheckGives I.Input E.Error.Error E.State.Inspector E.Context.is_default Self.Parser self.now (I.tokens input) (E.State.seen state.old) (E.State.seen state.new) result }
     {
         run::check_with_state(self, alloc, input, state)
     }

@@ -1,7 +1,5 @@
 //! For what `parse` and `check` of well-founded rules are refused, as the contract of a function that does nothing.
-ghost use Rattle.std.specs.Prelude.{◌≤◌, List, length, Result, Some, None, IfErr, true, false};
-ghost use Rattle.chumsky.specs.Answer.{WholeRun, Parses};
-ghost use Rattle.chumsky_parser.specs.declared.result.ParseResult.{ParseResult};
+ghost use Rattle.chumsky.specs.Answer.{StopsOnlyAs, ParseGives, CheckGives};
 ghost use Rattle.chumsky_recursive.specs.Refused.{IsRefusedAsLeaves, RefusesAsLeaves};
 
 use chumsky_input::extra::ParserExtra;
@@ -23,6 +21,6 @@ pub fn founded_runs_are_refused_as_leaves<
 where
     E::Context: Default,
     requires stands { IsRefusedAsLeaves (λ n. A.leaf_meaning grammar.now.actions.now n E.Error.Error E.State.Inspector) grammar.now.rules.rules.now tokens (⟦<Grammar<'r, A> as Parser<'src, I, A::Value, E>>⟧.meaning grammar.now E.Error.Error E.State.Inspector) }
-    ensures parse { let grammars = ⟦<Grammar<'r, A> as Parser<'src, I, A::Value, E>>⟧ in (ts : List I.Token) (old new : E.State.Seen) (result : Result (ParseResult A.Value E.Error) Stop) → length ts ≤ tokens → Parses I.Input E.Error.Error E.State.Inspector E.Context.is_default (grammars.steady grammar.now) (grammars.same grammar.now) Some (WholeRun I.Input E.Error.Error E.State.Inspector (grammars.meaning grammar.now E.Error.Error E.State.Inspector)) true ts old new result → IfErr result (RefusesAsLeaves (λ n. A.leaf_meaning grammar.now.actions.now n E.Error.Error E.State.Inspector) grammar.now.rules.rules.now ts) }
-    ensures check { let grammars = ⟦<Grammar<'r, A> as Parser<'src, I, A::Value, E>>⟧ in (ts : List I.Token) (old new : E.State.Seen) (result : Result (ParseResult (Unit {0}) E.Error) Stop) → length ts ≤ tokens → Parses I.Input E.Error.Error E.State.Inspector E.Context.is_default (grammars.steady grammar.now) (grammars.same grammar.now) (λ _. None) (WholeRun I.Input E.Error.Error E.State.Inspector (grammars.meaning grammar.now E.Error.Error E.State.Inspector)) false ts old new result → IfErr result (RefusesAsLeaves (λ n. A.leaf_meaning grammar.now.actions.now n E.Error.Error E.State.Inspector) grammar.now.rules.rules.now ts) }
+    ensures parse { StopsOnlyAs tokens (RefusesAsLeaves (λ n. A.leaf_meaning grammar.now.actions.now n E.Error.Error E.State.Inspector) grammar.now.rules.rules.now) (ParseGives I.Input E.Error.Error E.State.Inspector E.Context.is_default ⟦<Grammar<'r, A> as Parser<'src, I, A::Value, E>>⟧ grammar.now) }
+    ensures check { StopsOnlyAs tokens (RefusesAsLeaves (λ n. A.leaf_meaning grammar.now.actions.now n E.Error.Error E.State.Inspector) grammar.now.rules.rules.now) (CheckGives I.Input E.Error.Error E.State.Inspector E.Context.is_default ⟦<Grammar<'r, A> as Parser<'src, I, A::Value, E>>⟧ grammar.now) }
 {}

@@ -1,7 +1,7 @@
 //! One run of a parser over a whole input.
 ghost use Rattle.std.specs.Prelude.{◌≡◌, true, false, Some, None};
 ghost use Rattle.chumsky_input.specs.Run.{Runs, with_value, without_value};
-ghost use Rattle.chumsky.specs.Answer.{WholeRun, Parses};
+ghost use Rattle.chumsky.specs.Answer.{ParseGives, CheckGives, WholeRun};
 
 use chumsky_input::extra::ParserExtra;
 use chumsky_input::input::Input;
@@ -63,7 +63,7 @@ where
     E::Context: Default + Drop,
     I::Token: 'src,
     requires { P.ready parser.now }
-    ensures { Parses I.Input E.Error.Error E.State.Inspector E.Context.is_default (P.steady parser.now) (P.same parser.now) Some (WholeRun I.Input E.Error.Error E.State.Inspector (P.meaning parser.now E.Error.Error E.State.Inspector)) true (I.tokens input) (E.State.seen state.old) (E.State.seen state.new) result }
+    ensures { ParseGives I.Input E.Error.Error E.State.Inspector E.Context.is_default P.Parser parser.now (I.tokens input) (E.State.seen state.old) (E.State.seen state.new) result }
 {
     let context = E::Context::default();
     let mut inp: InputRef<'src, '_, I, E> = InputRef::new(alloc, input, state, &context);
@@ -101,7 +101,7 @@ where
     E::Context: Default + Drop,
     I::Token: 'src,
     requires { P.ready parser.now }
-    ensures { Parses I.Input E.Error.Error E.State.Inspector E.Context.is_default (P.steady parser.now) (P.same parser.now) (λ _. None) (WholeRun I.Input E.Error.Error E.State.Inspector (P.meaning parser.now E.Error.Error E.State.Inspector)) false (I.tokens input) (E.State.seen state.old) (E.State.seen state.new) result }
+    ensures { CheckGives I.Input E.Error.Error E.State.Inspector E.Context.is_default P.Parser parser.now (I.tokens input) (E.State.seen state.old) (E.State.seen state.new) result }
 {
     let context = E::Context::default();
     let mut inp: InputRef<'src, '_, I, E> = InputRef::new(alloc, input, state, &context);
