@@ -9,7 +9,7 @@ use Rattle.chumsky_parser.specs.Failure.{Stops, wanting}
 use Rattle.chumsky_parser.specs.Items.{Next, More, End, AfterStep, FromMade, Items}
 use Rattle.chumsky_parser.specs.Steps.{AllSteps, unlisted}
 use Rattle.chumsky_items.specs.Consumers.{Skips, CountsUp, Passes, Counts}
-use Rattle.chumsky_items.specs.Repeating.{Settled, Settles, Counted, Closes, Uncapped, Repeats, is_stuck, fits, asks, at_cap}
+use Rattle.chumsky_items.specs.Repeating.{Settled, Settles, Counted, EndsUnlessFew, Uncapped, Repeats, is_stuck, fits, asks, at_cap}
 use Rattle.chumsky_items.specs.Separating.{Bounds, Perhaps, Lead, Last, Staying, Round, Unfilled, Separates, asks_after, stays, trails}
 use Rattle.chumsky_memory.specs.Memory.{NeverOutOfMemory, ItemsNeverOutOfMemory}
 use Rattle.chumsky_memory.specs.MemoryLaws.{given-spares, no-spares, stops-spares, asked-spares, chained-spares, or_else-spares}
@@ -55,7 +55,7 @@ module _ {Tok Cx St Er V : Type 0} where
   counted-spares asked k start item h b o m =
       chained-spares item (Settles asked k start) h (λ v c p n. settled-spares (is_stuck asked start c.start) (fits k) k v c p n) b o m.run
 
-  closes-spare : (few : Bool) → NeverOutOfMemory (Closes {Tok = Tok} {Cx = Cx} {St = St} {Er = Er} {V = V} few)
+  closes-spare : (few : Bool) → NeverOutOfMemory (EndsUnlessFew {Tok = Tok} {Cx = Cx} {St = St} {Er = Er} {V = V} few)
   closes-spare true = no-spares
   closes-spare false = given-spares (Some End)
 
@@ -64,7 +64,7 @@ module _ {Tok Cx St Mk Er V : Type 0} (mark : St → Mk) (back : St → Mk → S
     uncapped-spares : (full : Bool) (k start : ℕ) → NeverOutOfMemory (Uncapped mark back safe item free least most full k start)
     uncapped-spares true k start = given-spares (Some End)
     uncapped-spares false k start =
-        or_else-spares mark back safe (Counted (asks free most) k start item) (Closes (nat_lt k least)) still (counted-spares (asks free most) k start item h) (closes-spare (nat_lt k least))
+        or_else-spares mark back safe (Counted (asks free most) k start item) (EndsUnlessFew (nat_lt k least)) still (counted-spares (asks free most) k start item h) (closes-spare (nat_lt k least))
 
     -- an item more, where items are never refused
     pub repeats-spare : (k : ℕ) → NeverOutOfMemory (Repeats mark back safe item free least most k)
@@ -86,7 +86,7 @@ module _ {Tok Cx St Mk Er U : Type 0} (mark : St → Mk) (back : St → Mk → S
 module _ {Tok Cx St Mk Er U V : Type 0} (mark : St → Mk) (back : St → Mk → St) (safe : Type 0) (separator : Meaning Tok Cx St Er U) (item : Meaning Tok Cx St Er V) (d : Bounds) where
   module _ (still : safe) (hs : NeverOutOfMemory separator) (hi : NeverOutOfMemory item) where
     staying-spares : (stay : Bool) (one : Meaning Tok Cx St Er (Next ℕ V)) → NeverOutOfMemory one → NeverOutOfMemory (Staying mark back safe stay one)
-    staying-spares true one h = or_else-spares mark back safe one (Closes false) still h (closes-spare false)
+    staying-spares true one h = or_else-spares mark back safe one (EndsUnlessFew false) still h (closes-spare false)
     staying-spares false one h = h
 
     round-spares : (k start : ℕ) → NeverOutOfMemory (Round mark back safe separator item d k start)
@@ -97,7 +97,7 @@ module _ {Tok Cx St Mk Er U V : Type 0} (mark : St → Mk) (back : St → Mk →
     unfilled-spares : (full : Bool) (k start : ℕ) → NeverOutOfMemory (Unfilled mark back safe separator item d full k start)
     unfilled-spares true k start = last-spares mark back safe separator still hs (trails d k)
     unfilled-spares false k start =
-        or_else-spares mark back safe (Round mark back safe separator item d k start) (Closes (nat_lt k d.least)) still (round-spares k start) (closes-spare (nat_lt k d.least))
+        or_else-spares mark back safe (Round mark back safe separator item d k start) (EndsUnlessFew (nat_lt k d.least)) still (round-spares k start) (closes-spare (nat_lt k d.least))
 
     -- an item more and its separator, where neither is ever refused
     pub separates-spare : (k : ℕ) → NeverOutOfMemory (Separates mark back safe separator item d k)
