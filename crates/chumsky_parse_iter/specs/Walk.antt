@@ -96,8 +96,8 @@ module _ {Tok Cx St Er S V : Type 0} (merged : Er → Er → Er) (safe : Type 0)
 
 module _ {I Tok Sp Er St Mk Cx S V : Type 0} (begins : Does I Tok Sp Er St Mk Cx S) (gives : IterParserDebug → S → Does I Tok Sp Er St Mk Cx (Next S V)) where
   -- an iteration is made, and asked for its first item
-  abbrev pub DoesFirst : Does I Tok Sp Er St Mk Cx (Next S V)
-  DoesFirst errors states = GivesFirst (begins errors states) (λ s. gives (record { nonconsumption_is_ok = false }) s errors states)
+  abbrev pub DoesFirstStep : Does I Tok Sp Er St Mk Cx (Next S V)
+  DoesFirstStep errors states = GivesFirst (begins errors states) (λ s. gives (record { nonconsumption_is_ok = false }) s errors states)
 
   -- the first step, or one of an iteration that was made
   abbrev pub DoesStep : Option S → Does I Tok Sp Er St Mk Cx (Next S V)

@@ -1,7 +1,7 @@
 //! One step of an iteration, from what a run holds between its steps.
 ghost use Rattle.std.specs.Prelude.{◌≡◌, true, false, IfOk, IfSome};
 ghost use Rattle.chumsky_input.specs.Run.{Runs};
-ghost use Rattle.chumsky_parse_iter.specs.Walk.{with_next, DoesFirst, DoesStep, RunsFrom, RunsBetween, MayStep};
+ghost use Rattle.chumsky_parse_iter.specs.Walk.{with_next, DoesFirstStep, DoesStep, RunsFrom, RunsBetween, MayStep};
 
 use crate::parse_iter::Parts;
 use chumsky_input::aside::Aside;
@@ -49,7 +49,7 @@ fn run_first<'src, I: Input<'src>, O, E: ParserExtra<I>, P: IterParser<'src, I, 
     inp: &mut InputRef<'src, '_, I, E>,
 ) -> PResult<Option<(O, P::IterState)>>
     requires { P.ready parser.now }
-    ensures ran { Runs I.Input E.Error.Error E.State.Inspector (DoesFirst (P.begins parser.now) (P.gives parser.now) E.Error.Error E.State.Inspector) true inp.old inp.new (with_next result) }
+    ensures ran { Runs I.Input E.Error.Error E.State.Inspector (DoesFirstStep (P.begins parser.now) (P.gives parser.now) E.Error.Error E.State.Inspector) true inp.old inp.new (with_next result) }
     ensures may { IfOk result (λ o. IfSome o (λ x. P.may_step parser.now x.1)) }
     ensures lent { inp.new.state.ghost_name ≡ inp.old.state.ghost_name }
 {
