@@ -11,7 +11,7 @@ use Rattle.chumsky_parser.specs.Items.{Next, More, End, AfterStep, FromMade}
 use Rattle.chumsky_parser.specs.Steps.{AllSteps, listed, unlisted}
 use Rattle.chumsky_items.specs.Consumers.{Appends, Collected, Collects}
 use Rattle.chumsky_items.specs.Lists.{IsYes}
-use Rattle.chumsky_flatten.specs.Collections.{HasItems}
+use Rattle.chumsky_flatten.specs.Collections.{CollectionHas}
 use Rattle.chumsky_flatten.specs.Compared.{HaveItems, GivesItemsOf}
 use Rattle.chumsky_flatten.specs.Flattening.{BeginsInside, FirstElse, Inside, InHandOrNext, Flattens}
 use Rattle.chumsky_flatten.specs.FlatteningSteps.{FirstSteps, first-unlisted}
@@ -120,7 +120,7 @@ module _ {Tok Cx St Er S O J A C D : Type 0} (makes : O → J → Type 0) (nexts
   On d (More None u) b q ws = ⊥
   On d End b q ws = Given (Some d) b q × (ws ≡ [])
 
-  passed_over : (s : S) (b : Beginning Tok Cx St) (p : Outcome (Next S O) Er St) → gives s b p → (q : Outcome D Er St) (ws : List A) (c : O) (t : S) → p.verdict ≡ Yes (Some (More (Some c) t)) → HasItems makes nexts c [] → Walked t (from b p) q ws → Walked s b (after p q) ws
+  passed_over : (s : S) (b : Beginning Tok Cx St) (p : Outcome (Next S O) Er St) → gives s b p → (q : Outcome D Er St) (ws : List A) (c : O) (t : S) → p.verdict ≡ Yes (Some (More (Some c) t)) → CollectionHas makes nexts c [] → Walked t (from b p) q ws → Walked s b (after p q) ws
   passed_over s b p m q ws c t e n w = record { collections = c ∷ w.collections; have = ([], ws, n, w.have, refl); goes = goes-more gives outer quiet s b p m c t e w.collections q w.goes }
 
   walked_whole : (s : S) (b : Beginning Tok Cx St) (p : Outcome (Next (S × Option J) A) Er St) (f : Outcome (Next S O) Er St) (r : Outcome (Next (S × Option J) A) Er St) (q : Outcome D Er St) (ws : List A) → p ≡ after f r → Walked s b (after f (after r q)) ws → Walked s b (after p q) ws
@@ -367,7 +367,7 @@ module _ {Tok Cx St Er O J A D : Type 0} (makes : O → J → Type 0) (nexts : J
   record Given_of (b : Beginning Tok Cx St) (o : Outcome D Er St) (d : D) : Type 0 where
     pub output : O
     pub items : List A
-    pub has : HasItems makes nexts output items
+    pub has : CollectionHas makes nexts output items
     pub held : holds items d
     pub gives : part b (retold (Yes (Some output)) o)
 

@@ -14,7 +14,7 @@ use Rattle.chumsky_parser.specs.Items.{Next, More, End, with_item}
 use Rattle.chumsky_parser.proofs.ChainedLemmas.{failed, chained, ran-weaker, ran-given}
 use Rattle.chumsky_parser.proofs.ChoiceLemmas.{ran-first, ran-second, ran-unmarked, ran-unrestored}
 use Rattle.chumsky_parser.proofs.FailureLemmas.{ran-no, ran-stops}
-use Rattle.chumsky_flatten.specs.Collections.{HasItems}
+use Rattle.chumsky_flatten.specs.Collections.{CollectionHas}
 use Rattle.chumsky_flatten.specs.Flattening.{FirstElse, Inside, FirstOfNext, InHandOrNext, Flattens, with_rest}
 use Rattle.chumsky_flatten.specs.FlatteningSteps.{FirstSteps, first-listed}
 use Rattle.chumsky_flatten.specs.IntoItems.{MakesItem}
@@ -53,7 +53,7 @@ module _ {Tok Cx St Er S O J A : Type 0} {merged : Er → Er → Er} {safe : Typ
   ran-first_item c x j k m n =
       ran-weaker merged safe (Given (Some (More (Some x) (s, Some k)))) (FirstElse makes nexts else (Some c) s) wanted now now (Ok (Some (More (Some x) (s, Some k)))) (λ q g. inl (x, j, k, m, n, g)) ran-given
 
-  ran-empty : (c : O) (new : Held Tok Cx St Er) (r : Result (Option (Next (S × Option J) A)) Fault) → HasItems makes nexts c [] → Ran merged safe else wanted now new r → Ran merged safe (FirstElse makes nexts else (Some c) s) wanted now new r
+  ran-empty : (c : O) (new : Held Tok Cx St Er) (r : Result (Option (Next (S × Option J) A)) Fault) → CollectionHas makes nexts c [] → Ran merged safe else wanted now new r → Ran merged safe (FirstElse makes nexts else (Some c) s) wanted now new r
   ran-empty c new r e h = ran-weaker merged safe else (FirstElse makes nexts else (Some c) s) wanted now new r (λ q m. inr (e, m)) h
 
 module _ {Tok Cx St Mk Er S O J A : Type 0} (merged : Er → Er → Er) (safe : Type 0) (mark : St → Mk) (back : St → Mk → St) (quiet : Type 0) (makes : O → J → Type 0) (nexts : J → Option A → J → Type 0) (gives : S → Meaning Tok Cx St Er (Next S O)) (begun : S) where
@@ -103,7 +103,7 @@ module _ {Tok Cx St Mk Er S O J A : Type 0} {merged : Er → Er → Er} {safe : 
       passed-first v k d n = so.on mid _ (first_at so.room v k (subst (λ z. nexts j z k) d n))
 
       module _ (k : J) {r : Option A} (d : r ≡ None) (n : nexts j r k) where
-        empty : HasItems makes nexts c []
+        empty : CollectionHas makes nexts c []
         empty = (j, m, (k, (j, refl, subst (λ z. nexts j z k) d n)))
 
         full_at : (room : ℕ) → room + count + 1 ≡ 2 ^ 64 → count + 1 ≡ 2 ^ 64 → Ran merged safe (FirstSteps mark back quiet makes nexts gives room s) true now mid (Err (fault.Stop CountTooLarge))

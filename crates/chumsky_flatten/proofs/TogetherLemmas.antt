@@ -11,7 +11,7 @@ use Rattle.chumsky_parser.specs.Items.{Next, More, End, AfterStep, FromMade}
 use Rattle.chumsky_parser.specs.Steps.{AllSteps, listed, unlisted}
 use Rattle.chumsky_items.specs.Consumers.{Appends, HoldsAll, Collected, Collects}
 use Rattle.chumsky_items.specs.Lists.{IsYes}
-use Rattle.chumsky_flatten.specs.Collections.{HasItems}
+use Rattle.chumsky_flatten.specs.Collections.{CollectionHas}
 use Rattle.chumsky_flatten.specs.Compared.{HaveItems, FlattensCollected}
 use Rattle.chumsky_flatten.specs.Flattening.{BeginsInside, FirstElse, Inside, InHandOrNext, Flattens}
 use Rattle.chumsky_flatten.specs.FlatteningSteps.{FirstSteps, first-listed}
@@ -131,7 +131,7 @@ module _ {Tok Cx St Mk Er S O J A : Type 0} (mark : St → Mk) (back : St → Mk
   found_first (suc room) s t b p c x j k m e i n =
       yes_both (Inside mark back safe gives s) (AfterStep (λ v u. FirstElse makes nexts (FirstSteps mark back safe makes nexts gives room u) v u) (Given (Some End))) b p (Some (More (Some c) t)) (only (Some (More (Some x) (t, Some k))) (from b p)) (stays_yes mark back safe (gives s) b p (Some (More (Some c) t)) m e) e (inl (x, j, k, i, n, refl))
 
-  passed_first : (room : ℕ) (s t : S) (b : Beginning Tok Cx St) (p : Outcome (Next S O) Er St) (c : O) (r : Outcome (Next (S × Option J) A) Er St) → gives s b p → p.verdict ≡ Yes (Some (More (Some c) t)) → HasItems makes nexts c [] → FirstSteps mark back safe makes nexts gives room t (from b p) r → FirstSteps mark back safe makes nexts gives (suc room) s b (after p r)
+  passed_first : (room : ℕ) (s t : S) (b : Beginning Tok Cx St) (p : Outcome (Next S O) Er St) (c : O) (r : Outcome (Next (S × Option J) A) Er St) → gives s b p → p.verdict ≡ Yes (Some (More (Some c) t)) → CollectionHas makes nexts c [] → FirstSteps mark back safe makes nexts gives room t (from b p) r → FirstSteps mark back safe makes nexts gives (suc room) s b (after p r)
   passed_first room s t b p c r m e h f =
       yes_both (Inside mark back safe gives s) (AfterStep (λ v u. FirstElse makes nexts (FirstSteps mark back safe makes nexts gives room u) v u) (Given (Some End))) b p (Some (More (Some c) t)) r (stays_yes mark back safe (gives s) b p (Some (More (Some c) t)) m e) e (inr (h, f))
 
@@ -146,19 +146,19 @@ module _ {Tok Cx St Mk Er S O J A : Type 0} (mark : St → Mk) (back : St → Mk
     first_none : (room most : ℕ) (s : S) (b : Beginning Tok Cx St) (o : Outcome D Er St) (p : Outcome (Next S O) Er St) → gives s b p → p.verdict ≡ Yes (Some End) → o ≡ after p (done o.verdict (from b p)) → First room most [] s b o
     first_none room most s b o p m e w = (after p (only (Some End) (from b p)), ended_first room s b p m e, refl, w ∙ sym (afters p (only {V = Next (S × Option J) A} (Some End) (from b p)) (done o.verdict (from b p))))
 
-    first_some : (room most : ℕ) (s t : S) (b : Beginning Tok Cx St) (o q : Outcome D Er St) (p : Outcome (Next S O) Er St) (c : O) (os : List O) (y : A) (ys zs xs : List A) → gives s b p → p.verdict ≡ Yes (Some (More (Some c) t)) → Chain gives os t (from b p) q → HasItems makes nexts c (y ∷ ys) → HaveItems makes nexts os zs → xs ≡ ys ++ zs → o ≡ after p q → length os ≤ most → First room most (y ∷ xs) s b o
+    first_some : (room most : ℕ) (s t : S) (b : Beginning Tok Cx St) (o q : Outcome D Er St) (p : Outcome (Next S O) Er St) (c : O) (os : List O) (y : A) (ys zs xs : List A) → gives s b p → p.verdict ≡ Yes (Some (More (Some c) t)) → Chain gives os t (from b p) q → CollectionHas makes nexts c (y ∷ ys) → HaveItems makes nexts os zs → xs ≡ ys ++ zs → o ≡ after p q → length os ≤ most → First room most (y ∷ xs) s b o
     first_some room most s t b o q p c os y ys zs xs m e f h k z w l =
         let run = h.2.1.1 in
         let r : Outcome (Next (S × Option J) A) Er St = only (Some (More (Some y) (t, Some run.0))) (from b p) in
         (after p r, t, run.0, ys, zs, os, q, found_first room s t b p c y h.0 run.0 m e h.1 run.1, refl, (h.2.0, (h.2.1.0, run.2, h.2.1.2)), f, k, z, w ∙ sym (afters p r q), l)
 
-    first_passed : (room most : ℕ) (s t : S) (b : Beginning Tok Cx St) (o q : Outcome D Er St) (p : Outcome (Next S O) Er St) (c : O) (xs : List A) → gives s b p → p.verdict ≡ Yes (Some (More (Some c) t)) → HasItems makes nexts c [] → o ≡ after p q → First room most xs t (from b p) q → First (suc room) most xs s b o
+    first_passed : (room most : ℕ) (s t : S) (b : Beginning Tok Cx St) (o q : Outcome D Er St) (p : Outcome (Next S O) Er St) (c : O) (xs : List A) → gives s b p → p.verdict ≡ Yes (Some (More (Some c) t)) → CollectionHas makes nexts c [] → o ≡ after p q → First room most xs t (from b p) q → First (suc room) most xs s b o
     first_passed room most s t b o q p c [] m e h w f =
         (after p f.0, passed_first room s t b p c f.0 m e h f.1, f.2, w ∙ ap (after p) (f.3 ∙ ap (λ v. after f.0 (done v (from (from b p) f.0))) (sym (ap (λ (x : Outcome D Er St). x.verdict) w))) ∙ sym (afters p f.0 (done o.verdict (from (from b p) f.0))))
     first_passed room most s t b o q p c (x ∷ xs) m e h w f =
         (after p f.0, f.1, f.2, f.3, f.4, f.5, f.6, passed_first room s t b p c f.0 m e h f.7, f.8, f.9, f.10, f.11, f.12, w ∙ ap (after p) f.13 ∙ sym (afters p f.0 f.6), f.14)
 
-    first_by : (c : O) (os : List O) (ys zs : List A) (room most : ℕ) (xs : List A) (s : S) (b : Beginning Tok Cx St) (o : Outcome D Er St) → Chain gives (c ∷ os) s b o → HasItems makes nexts c ys → HaveItems makes nexts os zs → xs ≡ ys ++ zs → length (c ∷ os) ≤ room → length (c ∷ os) ≤ most
+    first_by : (c : O) (os : List O) (ys zs : List A) (room most : ℕ) (xs : List A) (s : S) (b : Beginning Tok Cx St) (o : Outcome D Er St) → Chain gives (c ∷ os) s b o → CollectionHas makes nexts c ys → HaveItems makes nexts os zs → xs ≡ ys ++ zs → length (c ∷ os) ≤ room → length (c ∷ os) ≤ most
         → ((r n : ℕ) (ws : List A) (t : S) (d : Beginning Tok Cx St) (q : Outcome D Er St) → Chain gives os t d q → HaveItems makes nexts os ws → length os ≤ r → length os ≤ n → First r n ws t d q) → First room most xs s b o
     first_by c os [] zs zero most xs s b o f h k z l n ih = absurd (omega (arith, l))
     first_by c os [] zs (suc room) most xs s b o f h k z l n ih =

@@ -8,8 +8,8 @@ MayIterate {O} {J} makes can_next = (o : O) (j : J) → makes o j → can_next j
 
 module _ {O J A : Type 0} (makes : O → J → Type 0) (nexts : J → Option A → J → Type 0) where
   -- a collection has these items: an iterator that is made of it gives them, in order, and then ends
-  abbrev pub HasItems : O → List A → Type 0
-  HasItems o xs = (j : J) × makes o j × Drains nexts j xs
+  abbrev pub CollectionHas : O → List A → Type 0
+  CollectionHas o xs = (j : J) × makes o j × Drains nexts j xs
 
   -- this iterator was made of the collection, and has given these items
   abbrev pub IsPast : O → List A → J → Type 0

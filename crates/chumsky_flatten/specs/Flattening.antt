@@ -7,7 +7,7 @@ use Rattle.chumsky_parser.specs.Chained.{Chained, Given}
 use Rattle.chumsky_parser.specs.Choice.{OrElse}
 use Rattle.chumsky_parser.specs.Failure.{SaysNo, Stops}
 use Rattle.chumsky_parser.specs.Items.{Next, More, End, AfterStep, Item, next_after, room_after, after_all, past_all, Linked}
-use Rattle.chumsky_flatten.specs.Collections.{HasItems, SameRest}
+use Rattle.chumsky_flatten.specs.Collections.{CollectionHas, SameRest}
 use Rattle.chumsky_flatten.specs.IntoItems.{MakesItem}
 
 module _ {Tok Cx St Er S J : Type 0} where
@@ -23,14 +23,14 @@ module _ {Tok Cx St Mk Er S O : Type 0} (mark : St → Mk) (back : St → Mk →
 module _ {Tok Cx St Er O J A : Type 0} (makes : O → J → Type 0) (nexts : J → Option A → J → Type 0) where
   -- an empty collection is passed over
   abbrev pub PassesOver : Option (Unit {0}) → Option O → Meaning Tok Cx St Er (Unit {0})
-  PassesOver a (Some o) b q = HasItems makes nexts o [] × Given a b q
+  PassesOver a (Some o) b q = CollectionHas makes nexts o [] × Given a b q
   PassesOver a None b q = ⊥
 
 module _ {Tok Cx St Er S O J A : Type 0} (makes : O → J → Type 0) (nexts : J → Option A → J → Type 0) where
   -- the first item of a collection, the others of which are left; where it has none, something else
   abbrev pub FirstElse : Meaning Tok Cx St Er (Next (S × Option J) A) → Option O → S → Meaning Tok Cx St Er (Next (S × Option J) A)
   FirstElse else (Some o) s b q =
-      ((x : A) × (j : J) × (k : J) × makes o j × nexts j (Some x) k × Given (Some (More (Some x) (s, Some k))) b q) ⊎ (HasItems makes nexts o [] × else b q)
+      ((x : A) × (j : J) × (k : J) × makes o j × nexts j (Some x) k × Given (Some (More (Some x) (s, Some k))) b q) ⊎ (CollectionHas makes nexts o [] × else b q)
   FirstElse else None s b q = ⊥
 
 -- one more empty collection is refused where no more can be counted; else it can't be the last

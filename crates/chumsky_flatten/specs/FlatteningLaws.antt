@@ -10,7 +10,7 @@ use Rattle.chumsky_parser.specs.FailureLaws.{stops-ends, stops-agrees, no-ends}
 use Rattle.chumsky_parser.specs.Items.{Next, More, End, SameNext, ItemsEnd, ItemsAgree}
 use Rattle.chumsky_parser.specs.ItemsLaws.{after_step-ends, after_step-agrees}
 use Rattle.chumsky_parser.specs.Laws.{chained-ends, chained-agrees, given-ends, given-agrees}
-use Rattle.chumsky_flatten.specs.Collections.{HasItems, SameItem, AsMany}
+use Rattle.chumsky_flatten.specs.Collections.{CollectionHas, SameItem, AsMany}
 use Rattle.chumsky_flatten.specs.Flattening.{BeginsInside, FirstElse, Inside, FirstWithin, FirstOfNext, InHandOrNext, Flattens, SameInHand, AlikeInside}
 use Rattle.chumsky_flatten.specs.FlatteningSteps.{FirstSteps, first-unlisted}
 use Rattle.chumsky_flatten.specs.IntoItemsLaws.{fresh-same, rest-more, item-same, makes_item-ends, makes_item-agrees}
@@ -61,7 +61,7 @@ module _ {Tok Cx St Mk Er V : Type 0} (mark : St → Mk) (back : St → Mk → S
 
 module _ {O J A : Type 0} (makes : O → J → Type 0) (nexts : J → Option A → J → Type 0) where
   -- an iterator over an empty collection ends at once
-  pub ends_at_once : (o : O) (h : HasItems makes nexts o []) → nexts h.0 None h.2.0
+  pub ends_at_once : (o : O) (h : CollectionHas makes nexts o []) → nexts h.0 None h.2.0
   ends_at_once o h = subst (λ t. nexts t None h.2.0) (sym h.2.1.1) h.2.1.2
 
 module _ {Tok Cx St Mk Er S O J A : Type 0} (mark : St → Mk) (back : St → Mk → St) (safe : Type 0) (makes : O → J → Type 0) (nexts : J → Option A → J → Type 0) (begins : Meaning Tok Cx St Er S) (gives : S → Meaning Tok Cx St Er (Next S O)) where
@@ -99,10 +99,10 @@ module _ {Tok Cx St Mk Er S O J A : Type 0} (mark : St → Mk) (back : St → Mk
     Same = SameNext (SameItem makes nexts same) (AlikeInside makes nexts alike same)
 
     -- of two collections that are the same, one has an item and the other is empty
-    other_has : (x y : O) → same x y → (i k : J) (v : A) → makes x i → nexts i (Some v) k → HasItems makes nexts y [] → ⊥
+    other_has : (x y : O) → same x y → (i k : J) (v : A) → makes x i → nexts i (Some v) k → CollectionHas makes nexts y [] → ⊥
     other_has x y e i k v m n h = many i h.0 k h.2.0 (Some v) None (fresh-same makes nexts same x y i h.0 e m h.1) n (ends_at_once makes nexts y h)
 
-    one_has : (x y : O) → same x y → (j l : J) (v : A) → makes y j → nexts j (Some v) l → HasItems makes nexts x [] → ⊥
+    one_has : (x y : O) → same x y → (j l : J) (v : A) → makes y j → nexts j (Some v) l → CollectionHas makes nexts x [] → ⊥
     one_has x y e j l v m n h = many h.0 j h.2.0 l None (Some v) (fresh-same makes nexts same x y h.0 j e h.1 m) (ends_at_once makes nexts x h) n
 
     first_else-agrees : (else else' : Meaning Tok Cx St Er (Next (S × Option J) A)) → Agreeing Same else else' → (v w : Option O) (s t : S) → SameValue same v w → alike s t → Agreeing Same (FirstElse makes nexts else v s) (FirstElse makes nexts else' w t)

@@ -5,7 +5,7 @@ use Rattle.chumsky_input.specs.Outcome.{Meaning, Beginning, Outcome, Verdict, Ye
 use Rattle.chumsky_parser.specs.Chained.{Chained, Given, Follows, from, after}
 use Rattle.chumsky_parser.specs.Failure.{Stops}
 use Rattle.chumsky_parser.specs.Items.{Next, More, End, AfterStep, Item, next_after, room_after, after_all, past, past_all, Linked}
-use Rattle.chumsky_flatten.specs.Collections.{HasItems}
+use Rattle.chumsky_flatten.specs.Collections.{CollectionHas}
 use Rattle.chumsky_flatten.specs.Flattening.{PassesOver, FirstElse, Uncounted, Inside, ClosesAt, FirstWithin}
 
 module _ {Tok Cx St Mk Er S O J A : Type 0} (mark : St → Mk) (back : St → Mk → St) (safe : Type 0) (makes : O → J → Type 0) (nexts : J → Option A → J → Type 0) (gives : S → Meaning Tok Cx St Er (Next S O)) where
@@ -21,7 +21,7 @@ module _ {Tok Cx St Mk Er S O J A : Type 0} (mark : St → Mk) (back : St → Mk
   closed : (room : ℕ) (s : S) (b : Beginning Tok Cx St) (o : Outcome (Next (S × Option J) A) Er St) → ClosesAt mark back safe makes nexts gives room s b o → FirstWithin mark back safe makes nexts gives room s b o
   closed room s b o m = record { passed = []; fit = omega arith; linked = tt; last = o; closes = m; whole = refl }
 
-  joined : (room : ℕ) (s t : S) (b : Beginning Tok Cx St) (o : Outcome (Next (S × Option J) A) Er St) (c : O) (p : Outcome (Next S O) Er St) (q : Outcome (Next (S × Option J) A) Er St) → Inside mark back safe gives s b p → p.verdict ≡ Yes (Some (More (Some c) t)) → HasItems makes nexts c []
+  joined : (room : ℕ) (s t : S) (b : Beginning Tok Cx St) (o : Outcome (Next (S × Option J) A) Er St) (c : O) (p : Outcome (Next S O) Er St) (q : Outcome (Next (S × Option J) A) Er St) → Inside mark back safe gives s b p → p.verdict ≡ Yes (Some (More (Some c) t)) → CollectionHas makes nexts c []
       → FirstWithin mark back safe makes nexts gives room t (from b p) q → o ≡ after p q → FirstWithin mark back safe makes nexts gives (suc room) s b o
   joined room s t b o c p q m e h l z =
       record {

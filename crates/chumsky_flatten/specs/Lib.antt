@@ -5,3 +5,4 @@ pub mod Flattening
 pub mod FlatteningSteps
 pub mod FlatteningLaws
 pub mod Compared
+pub mod Running

@@ -4,7 +4,8 @@ ghost use Rattle.std.specs.Option.{ForSome};
 ghost use Rattle.chumsky_input.specs.Run.{Runs};
 ghost use Rattle.chumsky_parser.specs.Items.{with_item};
 ghost use Rattle.chumsky_flatten.specs.Collections.{MayIterate};
-ghost use Rattle.chumsky_flatten.specs.Flattening.{Inside, FirstOfNext, InHandOrNext, with_rest};
+ghost use Rattle.chumsky_flatten.specs.Flattening.{with_rest};
+ghost use Rattle.chumsky_flatten.specs.Running.{DoesInside, DoesFirstOfNext, DoesInHandOrNext};
 
 use chumsky_input::extra::ParserExtra;
 use chumsky_input::input::Input;
@@ -111,7 +112,7 @@ where
     requires inside { A.may_step parser.now state.old.0 }
     requires in_hand { ForSome state.old.1 O.IntoIter.can_next }
     requires collections { MayIterate O.into_iter_gives O.IntoIter.can_next }
-    ensures ran { Runs I.Input E.Error.Error E.State.Inspector (InHandOrNext E.State.mark E.State.back E.State.takes_no_memory O.into_iter_gives O.IntoIter.next_gives (λ t. A.gives parser.now (record { nonconsumption_is_ok = false }) t E.Error.Error E.State.Inspector) state.old.1 state.old.0) true inp.old inp.new (with_item state.new result) }
+    ensures ran { Runs I.Input E.Error.Error E.State.Inspector (DoesInHandOrNext (A.gives parser.now) O.into_iter_gives O.IntoIter.next_gives state.old.1 state.old.0 E.Error.Error E.State.Inspector) true inp.old inp.new (with_item state.new result) }
     ensures may { IfOk result (λ o. OnSome o (A.may_step parser.now state.new.0 × ForSome state.new.1 O.IntoIter.can_next)) }
     ensures lent { inp.new.state.ghost_name ≡ inp.old.state.ghost_name }
 {
@@ -155,7 +156,7 @@ where
     A: IterParser<'src, I, O, E>,
     requires inside { A.may_step parser.now inner.old }
     requires collections { MayIterate O.into_iter_gives O.IntoIter.can_next }
-    ensures ran { Runs I.Input E.Error.Error E.State.Inspector (FirstOfNext E.State.mark E.State.back E.State.takes_no_memory O.into_iter_gives O.IntoIter.next_gives (λ t. A.gives parser.now (record { nonconsumption_is_ok = false }) t E.Error.Error E.State.Inspector) inner.old) true inp.old inp.new (with_rest inner.new result) }
+    ensures ran { Runs I.Input E.Error.Error E.State.Inspector (DoesFirstOfNext (A.gives parser.now) O.into_iter_gives O.IntoIter.next_gives inner.old E.Error.Error E.State.Inspector) true inp.old inp.new (with_rest inner.new result) }
     ensures may { IfOk result (λ o. IfSome o (λ p. A.may_step parser.now inner.new × O.IntoIter.can_next p.1)) }
     ensures lent { inp.new.state.ghost_name ≡ inp.old.state.ghost_name }
 {
@@ -191,7 +192,7 @@ where
     E: ParserExtra<I>,
     A: IterParser<'src, I, O, E>,
     requires { A.may_step parser.now inner.old }
-    ensures ran { Runs I.Input E.Error.Error E.State.Inspector (Inside E.State.mark E.State.back E.State.takes_no_memory (λ t. A.gives parser.now (record { nonconsumption_is_ok = false }) t E.Error.Error E.State.Inspector) inner.old) true inp.old inp.new (with_item inner.new result) }
+    ensures ran { Runs I.Input E.Error.Error E.State.Inspector (DoesInside (A.gives parser.now) inner.old E.Error.Error E.State.Inspector) true inp.old inp.new (with_item inner.new result) }
     ensures may { IfOk result (λ o. OnSome o (A.may_step parser.now inner.new)) }
     ensures lent { inp.new.state.ghost_name ≡ inp.old.state.ghost_name }
 {

@@ -1,6 +1,5 @@
 //! Laws of items out of collections, each the contract of a function that does nothing.
-ghost use Rattle.std.specs.Prelude.{◌≡◌};
-ghost use Rattle.chumsky_flatten.specs.Compared.{FlattensCollected, GivesItemsOf};
+ghost use Rattle.chumsky_flatten.specs.Running.{IntoIterGives, FlattenGives};
 
 use crate::flatten::Flatten;
 use crate::into_iter::IntoIter;
@@ -21,7 +20,8 @@ where
     O::Item: Drop,
     E: ParserExtra<I>,
     A: Parser<'src, I, O, E>,
-    ensures { GivesItemsOf O.into_iter_gives O.IntoIter.next_gives (λ xs v. v.items ≡ xs) (A.meaning collect.now.parser.parser E.Error.Error E.State.Inspector) (⟦<Collect<IntoIter<A, O>, O::Item, Vec<O::Item>> as Parser<'src, I, Vec<O::Item>, E>>⟧.meaning collect.now E.Error.Error E.State.Inspector) }
+    ensures { IntoIterGives E.Error.Error E.State.Inspector O.into_iter_gives O.IntoIter.next_gives A.meaning
+        ⟦<Collect<IntoIter<A, O>, O::Item, Vec<O::Item>> as Parser<'src, I, Vec<O::Item>, E>>⟧.meaning collect.now }
 {}
 
 /// What `flatten` gives, collected into a `Vec`, are the items of each collection that its parser gives, in order. Where the
@@ -38,5 +38,6 @@ where
     O::Item: Drop,
     E: ParserExtra<I>,
     A: IterParser<'src, I, O, E>,
-    ensures { FlattensCollected O.into_iter_gives O.IntoIter.next_gives (λ os v. v.items ≡ os) (λ xs v. v.items ≡ xs) (⟦<Collect<A, O, Vec<O>> as Parser<'src, I, Vec<O>, E>>⟧.meaning (record { parser = collect.now.parser.parser; of = record {} }) E.Error.Error E.State.Inspector) (⟦<Collect<Flatten<A, O>, O::Item, Vec<O::Item>> as Parser<'src, I, Vec<O::Item>, E>>⟧.meaning collect.now E.Error.Error E.State.Inspector) }
+    ensures { FlattenGives E.Error.Error E.State.Inspector O.into_iter_gives O.IntoIter.next_gives A.begins A.gives
+        ⟦<Collect<Flatten<A, O>, O::Item, Vec<O::Item>> as Parser<'src, I, Vec<O::Item>, E>>⟧.meaning collect.now }
 {}

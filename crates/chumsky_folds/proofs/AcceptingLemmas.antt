@@ -1,6 +1,7 @@
 -- Why a folder that never refuses folds as one that can't.
 use Rattle.std.proofs.Common.{◌≡◌, ◌∙◌, ℕ, zero, suc, Bool, true, Option, Some, None, option_map, [], refl, sym, ap, subst, Result, Ok}
 use Rattle.std.proofs.lemmas.List.{append-nil}
+use Rattle.std.specs.Prelude.{⊤}
 use Rattle.chumsky_input.specs.declared.stop.Stop.TheVariants.{CountTooLarge}
 use Rattle.chumsky_input.specs.Outcome.{Meaning, Beginning, Outcome, Verdict, Yes, No, Halt, Clash}
 use Rattle.chumsky_parser.specs.Chained.{Chained, Follows, Given, Asked, both, from, after, retold}
@@ -11,7 +12,7 @@ use Rattle.chumsky_parser.specs.Showing.{GivesShown, GivenSince, shown_since}
 use Rattle.chumsky_parser.proofs.ChainedLemmas.{chained-weaker}
 use Rattle.chumsky_items.specs.Lists.{IsYes}
 use Rattle.chumsky_folds.specs.FoldingShown.{TakesAll, TakesShown, FoldsShown}
-use Rattle.chumsky_folds.specs.FoldingTried.{Rules, TriesSince, TakesTried, where_wanted, FoldsTrying, FoldsTried}
+use Rattle.chumsky_folds.specs.FoldingTried.{TakenOrRefused, TriesSince, TakesTried, where_wanted, FoldsTrying, FoldsTried}
 use Rattle.chumsky_folds.specs.Placed.{PairedWith, Placed}
 use Rattle.chumsky_folds.specs.Compared.{NeverRefuses, FoldsAlike}
 use Rattle.chumsky_folds.proofs.ComparedLemmas.{both_yes, yes_both, same_yes, is_yes}
@@ -58,7 +59,7 @@ module _ {Tok Cx St E Er S V A : Type 0} (gives : S → Meaning Tok Cx St Er (Ne
   untried : (p : ℕ) (a : Option A) (v : Option V) (b : Beginning Tok Cx St) (r : Outcome A Er St) → TriesSince seen tries place (both a (option_map (λ x. (x, p)) v)) b r → GivenSince folds place (both a v) b r
   untried p (Some a) (Some v) b r m =
       let k = never.accepts (a, v) (shown_since place b) m.0 m.1 m.2 in
-      (k.0, m.1, k.2, subst (λ y. Rules seen y p m.1 b r) k.1 m.3)
+      (k.0, m.1, k.2, subst (λ y. TakenOrRefused seen y p m.1 b r) k.1 m.3)
   untried p (Some a) None b r m = absurd m
   untried p None v b r m = absurd m
 
@@ -206,5 +207,5 @@ module _ {Tok Cx St E Er S V A : Type 0} (gives : S → Meaning Tok Cx St Er (Ne
       let asked : FoldsTrying gives begins seen tries part (record b { wanted = true }) o = subst (λ c. FoldsTrying gives begins seen tries part c o) (sym (wanted_all b w o o)) run in
       record { run = record { first = o; meant = record { run = asked }; follows = subst (λ v. Follows v (On b w o o) b o o) (sym e) (stood b w o o (Some z) e) } }
 
-  pub accepting-alike : FoldsAlike (FoldsTried gives begins seen tries part) (FoldsShown gives begins folds part)
-  accepting-alike = record { narrower = λ b o w h m. narrower b o w m; wider = λ b o z w e m. wider b o z w e m }
+  pub accepting-alike : FoldsAlike (λ _. ⊤) (FoldsTried gives begins seen tries part) (FoldsShown gives begins folds part)
+  accepting-alike = record { narrower = λ b o w h m. narrower b o w m; wider = λ b o z k w e m. wider b o z w e m }

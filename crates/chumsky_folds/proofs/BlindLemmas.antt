@@ -1,12 +1,13 @@
 -- Why a folder that takes no notice of the run folds as any other.
-use Rattle.std.proofs.Common.{◌≡◌, ◌∙◌, ℕ, zero, suc, true, Option, Some, None, List, [], ◌∷◌, ◌++◌, refl, sym, ap, subst, inr, append_assoc}
+use Rattle.std.proofs.Common.{◌≡◌, ◌≤◌, ◌∙◌, ℕ, zero, suc, true, Option, Some, None, List, [], ◌∷◌, ◌++◌, refl, sym, ap, subst, inr, arith, append_assoc}
 use Rattle.std.specs.Prelude.{⊤}
 use Rattle.std.proofs.lemmas.List.{append-nil}
 use Rattle.chumsky_input.specs.declared.stop.Stop.TheVariants.{CountTooLarge}
-use Rattle.chumsky_input.specs.Outcome.{Meaning, Beginning, Outcome, Verdict, Yes, No, Halt, Clash}
+use Rattle.chumsky_input.specs.Outcome.{Meaning, Beginning, Outcome, Verdict, Yes, No, Halt, Clash, IsAnswer, EndsAfterStart}
 use Rattle.chumsky_parser.specs.Chained.{Chained, Follows, Given, Asked, both, from}
 use Rattle.chumsky_parser.specs.Failure.{Stops, wanting}
-use Rattle.chumsky_parser.specs.Items.{Next, More, End, AfterStep, FromMade}
+use Rattle.chumsky_parser.specs.Laws.{asked-ends}
+use Rattle.chumsky_parser.specs.Items.{Next, More, End, AfterStep, FromMade, ItemsEnd}
 use Rattle.chumsky_parser.specs.Steps.{AllSteps, listed, unlisted}
 use Rattle.chumsky_parser.specs.Showing.{GivesShown, GivenSince, shown_since}
 use Rattle.chumsky_items.specs.Consumers.{Appends, Collected}
@@ -14,7 +15,7 @@ use Rattle.chumsky_items.specs.Lists.{IsYes}
 use Rattle.chumsky_folds.specs.Folding.{FoldsLeft, FoldsFrom, FoldsItems, FoldsFromPart}
 use Rattle.chumsky_folds.specs.FoldingLaws.{folds_left-more, appends-given}
 use Rattle.chumsky_folds.specs.FoldingShown.{TakesAll, TakesShown, FoldsShown}
-use Rattle.chumsky_folds.specs.Compared.{IsBlind, FoldsAlike}
+use Rattle.chumsky_folds.specs.Compared.{IsBlind, EndsWhere, StandsFrom, FoldsAlike}
 use Rattle.chumsky_folds.proofs.ComparedLemmas.{both_yes, yes_both, collected-value, is_yes}
 
 abbrev here : {Tok Cx St Er V : Type 0} → Beginning Tok Cx St → Option V → Outcome V Er St
@@ -22,12 +23,12 @@ here b v = record { verdict = Yes v; end = b.start; state = b.state; events = []
 
 module _ {Tok Cx St Er V W : Type 0} (next : Option V → Meaning Tok Cx St Er W) (b : Beginning Tok Cx St) (o : Outcome W Er St) (v : Option V) where
   -- what follows a value that was given
-  after_given : Chained (Given v) next b o → next v b o
+  pub after_given : Chained (Given v) next b o → next v b o
   after_given m =
       let f : Follows (Yes v) next b (here b v) o = subst (λ (p : Outcome V Er St). Follows p.verdict next b p o) m.meant m.follows in
       subst (next v b) (sym f.2) f.1
 
-  before_given : (part : Meaning Tok Cx St Er V) → part b (here b v) → next v b o → Chained part next b o
+  pub before_given : (part : Meaning Tok Cx St Er V) → part b (here b v) → next v b o → Chained part next b o
   before_given part k m = record { first = here b v; meant = k; follows = (o, m, refl) }
 
 module _ {Tok Cx St Er V W : Type 0} (P : Verdict W Er → Type 0) (next next' : Option V → Meaning Tok Cx St Er W) (b : Beginning Tok Cx St) (h : (x : Option V) (c : Beginning Tok Cx St) (q : Outcome W Er St) → c.wanted ≡ b.wanted → P q.verdict → next x c q → next' x c q) where
@@ -45,7 +46,7 @@ module _ {Tok Cx St Er V W : Type 0} (P : Verdict W Er → Type 0) (next next' :
 abbrev has_value : {A Er : Type 0} → Verdict A Er → Type 0
 has_value v = v ≡ Yes None → ⊥
 
-module _ {Tok Cx St Er S V A : Type 0} (gives : S → Meaning Tok Cx St Er (Next S V)) (folds : GivesShown Tok Cx St (A × V) A) (steps : A → V → A → Type 0) (blind : IsBlind folds steps) (start : Option A) (place : ℕ) where
+module _ {Tok Cx St Er S V A : Type 0} (gives : S → Meaning Tok Cx St Er (Next S V)) (folds : GivesShown Tok Cx St (A × V) A) (steps : A → V → A → Type 0) {stands : List Tok → ℕ → St → Type 0} (blind : IsBlind stands folds steps) (start : Option A) (place : ℕ) where
   abbrev plain : ℕ → Option (List V) → S → Meaning Tok Cx St Er A
   plain = AllSteps gives (Appends ⊤) (Collected (FoldsFrom steps start))
 
@@ -143,6 +144,15 @@ module _ {Tok Cx St Er S V A : Type 0} (gives : S → Meaning Tok Cx St Er (Next
       let y = both_yes (gives s) (AfterStep (λ v t. Chained (Appends ⊤ None v) (λ k. plain room k t)) (Collected (FoldsFrom steps start) None)) b o (Some z) m e in
       never-more room (never room) y.value (from b y.first) y.second z y.follows y.answers
 
+  -- the run may stand where the folding began, in this state, and further on here
+  record Stood (t : St) (b : Beginning Tok Cx St) : Type 0 where
+    pub began : stands b.tokens place t
+    pub here : stands b.tokens b.start b.state
+    pub order : place ≤ b.start
+
+  stood-on : (t : St) {P : Type 0} (part : Meaning Tok Cx St Er P) (b : Beginning Tok Cx St) (p : Outcome P Er St) (v : Option P) → EndsAfterStart part → EndsWhere stands part → Stood t b → part b p → p.verdict ≡ Yes v → Stood t (from b p)
+  stood-on t part b p v e w h m y = record { began = h.began; here = w b p h.here m (is_yes y); order = omega (arith, h.order, e b p m (subst IsAnswer (sym y) tt)) }
+
   later-ended : (xs : List V) (b : Beginning Tok Cx St) (o : Outcome A Er St) (z : A) → Collected (FoldsFrom steps start) (Some xs) b o → o.verdict ≡ Yes (Some z) → Later xs z (λ a. Given (Some a)) b o
   later-ended xs b o z m e =
       let k = collected-value (FoldsFrom steps start) (Some xs) b o z m e in
@@ -153,64 +163,82 @@ module _ {Tok Cx St Er S V A : Type 0} (gives : S → Meaning Tok Cx St Er (Next
   later-full xs (Some End) b o z m e = let l = later-ended xs b o z m e in record { rest = l.rest; folded = l.folded; on = l.on }
   later-full xs None b o z m e = absurd m
 
-  later-more : (room : ℕ) → ((xs : List V) (s : S) (b : Beginning Tok Cx St) (o : Outcome A Er St) (z : A) → plain room (Some xs) s b o → o.verdict ≡ Yes (Some z) → Later xs z (λ a. seeing room (Some a) s) b o) → (xs : List V) (x : Option (Next S V)) (b : Beginning Tok Cx St) (o : Outcome A Er St) (z : A)
-      → AfterStep (λ v t. Chained (Appends ⊤ (Some xs) v) (λ k. plain room k t)) (Collected (FoldsFrom steps start) (Some xs)) x b o → o.verdict ≡ Yes (Some z) → Later xs z (λ a. AfterStep (λ v t. Chained (TakesShown folds place (Some a) v) (λ c. seeing room c t)) (Given (Some a)) x) b o
-  later-more room ih xs (Some (More (Some v) t)) b o z m e =
+  later-more : (t : St) (room : ℕ) → ((xs : List V) (s : S) (b : Beginning Tok Cx St) (o : Outcome A Er St) (z : A) → Stood t b → plain room (Some xs) s b o → o.verdict ≡ Yes (Some z) → Later xs z (λ a. seeing room (Some a) s) b o) → (xs : List V) (x : Option (Next S V)) (b : Beginning Tok Cx St) (o : Outcome A Er St) (z : A)
+      → Stood t b → AfterStep (λ v t. Chained (Appends ⊤ (Some xs) v) (λ k. plain room k t)) (Collected (FoldsFrom steps start) (Some xs)) x b o → o.verdict ≡ Yes (Some z) → Later xs z (λ a. AfterStep (λ v t. Chained (TakesShown folds place (Some a) v) (λ c. seeing room c t)) (Given (Some a)) x) b o
+  later-more u room ih xs (Some (More (Some v) t)) b o z h m e =
       let given = appends-given (Some xs) (Some v) b m.first m.meant in
-      let l = ih (xs ++ v ∷ []) t b o z (after_given (λ k. plain room k t) b o (Some (xs ++ v ∷ [])) (record { first = m.first; meant = given; follows = m.follows })) e in
+      let l = ih (xs ++ v ∷ []) t b o z h (after_given (λ k. plain room k t) b o (Some (xs ++ v ∷ [])) (record { first = m.first; meant = given; follows = m.follows })) e in
       record {
         rest = v ∷ l.rest;
         folded = subst (λ i. FoldsFrom steps start i z) (append_assoc xs (v ∷ []) l.rest) l.folded;
-        on = λ a f. before_given (λ c. seeing room c t) b o (Some f.0) (TakesShown folds place (Some a) (Some v)) (record { by_value = (f.0, b.state, blind.answers (a, v) (shown_since place b) f.0 f.1, refl) }) (l.on f.0 f.2);
+        on = λ a f. before_given (λ c. seeing room c t) b o (Some f.0) (TakesShown folds place (Some a) (Some v)) (record { by_value = (f.0, b.state, blind.answers (a, v) (shown_since place b) u f.0 h.began h.here h.order f.1, refl) }) (l.on f.0 f.2);
       }
-  later-more room ih xs (Some (More None t)) b o z m e = absurd (never room t b o z (after_given (λ k. plain room k t) b o None m) e)
-  later-more room ih xs (Some End) b o z m e = let l = later-ended xs b o z m e in record { rest = l.rest; folded = l.folded; on = l.on }
-  later-more room ih xs None b o z m e = absurd m
+  later-more u room ih xs (Some (More None t)) b o z h m e = absurd (never room t b o z (after_given (λ k. plain room k t) b o None m) e)
+  later-more u room ih xs (Some End) b o z h m e = let l = later-ended xs b o z m e in record { rest = l.rest; folded = l.folded; on = l.on }
+  later-more u room ih xs None b o z h m e = absurd m
 
   later-chain : {P : Type 0} (part : Meaning Tok Cx St Er P) (next : Option P → Meaning Tok Cx St Er A) (next' : A → Option P → Meaning Tok Cx St Er A) (xs : List V) (b : Beginning Tok Cx St) (o : Outcome A Er St) (z : A)
-      → ((x : Option P) (c : Beginning Tok Cx St) (q : Outcome A Er St) → next x c q → q.verdict ≡ Yes (Some z) → Later xs z (λ a. next' a x) c q) → Chained part next b o → o.verdict ≡ Yes (Some z) → Later xs z (λ a. Chained part (next' a)) b o
+      → ((x : Option P) (p : Outcome P Er St) (q : Outcome A Er St) → part b p → p.verdict ≡ Yes x → next x (from b p) q → q.verdict ≡ Yes (Some z) → Later xs z (λ a. next' a x) (from b p) q) → Chained part next b o → o.verdict ≡ Yes (Some z) → Later xs z (λ a. Chained part (next' a)) b o
   later-chain part next next' xs b o z h m e =
       let y = both_yes part next b o (Some z) m e in
-      let r = h y.value (from b y.first) y.second y.follows y.answers in
+      let r = h y.value y.first y.second y.meant y.said y.follows y.answers in
       record { rest = r.rest; folded = r.folded; on = λ a f. subst (Chained part (next' a) b) (sym y.whole) (yes_both part (next' a) b y.first y.value y.second y.meant y.said (r.on a f)) }
 
-  later : (room : ℕ) (xs : List V) (s : S) (b : Beginning Tok Cx St) (o : Outcome A Er St) (z : A) → plain room (Some xs) s b o → o.verdict ≡ Yes (Some z) → Later xs z (λ a. seeing room (Some a) s) b o
-  later zero xs s b o z m e =
-      let l = later-chain (gives s) (AfterStep (λ _ _. Stops CountTooLarge) (Collected (FoldsFrom steps start) (Some xs))) (λ a. AfterStep (λ _ _. Stops CountTooLarge) (Given (Some a))) xs b o z (λ x c q n k. later-full xs x c q z n k) m e in
-      record { rest = l.rest; folded = l.folded; on = l.on }
-  later (suc room) xs s b o z m e =
-      let l =
-      later-chain (gives s) (AfterStep (λ v t. Chained (Appends ⊤ (Some xs) v) (λ k. plain room k t)) (Collected (FoldsFrom steps start) (Some xs))) (λ a. AfterStep (λ v t. Chained (TakesShown folds place (Some a) v) (λ c. seeing room c t)) (Given (Some a))) xs b o z
-      (λ x c q n k. later-more room (later room) xs x c q z n k) m e in
-      record { rest = l.rest; folded = l.folded; on = l.on }
+  module _ (t : St) (ends : (s : S) → EndsAfterStart (gives s)) (stay : (s : S) → EndsWhere stands (gives s)) where
+    later : (room : ℕ) (xs : List V) (s : S) (b : Beginning Tok Cx St) (o : Outcome A Er St) (z : A) → Stood t b → plain room (Some xs) s b o → o.verdict ≡ Yes (Some z) → Later xs z (λ a. seeing room (Some a) s) b o
+    later zero xs s b o z h m e =
+        let l =
+        later-chain (gives s) (AfterStep (λ _ _. Stops CountTooLarge) (Collected (FoldsFrom steps start) (Some xs))) (λ a. AfterStep (λ _ _. Stops CountTooLarge) (Given (Some a))) xs b o z (λ x p q n y f k. later-full xs x (from b p) q z f k) m e in
+        record { rest = l.rest; folded = l.folded; on = l.on }
+    later (suc room) xs s b o z h m e =
+        let l =
+        later-chain (gives s) (AfterStep (λ v t. Chained (Appends ⊤ (Some xs) v) (λ k. plain room k t)) (Collected (FoldsFrom steps start) (Some xs)))
+        (λ a. AfterStep (λ v t. Chained (TakesShown folds place (Some a) v) (λ c. seeing room c t)) (Given (Some a))) xs b o z
+        (λ x p q n y f k. later-more t room (later room) xs x (from b p) q z (stood-on t (gives s) b p x (ends s) (stay s) h n y) f k) m e in
+        record { rest = l.rest; folded = l.folded; on = l.on }
 
-  later-made : (room : ℕ) (x : Option S) (b : Beginning Tok Cx St) (o : Outcome A Er St) (z : A) → FromMade gives (Appends ⊤) (Collected (FoldsFrom steps start)) room (Some []) x b o → o.verdict ≡ Yes (Some z) → Later [] z (λ a. FromMade gives (TakesShown folds place) Given room (Some a) x) b o
-  later-made room (Some s) b o z m e =
-      let l = later room [] s b o z (unlisted gives (Appends ⊤) (Collected (FoldsFrom steps start)) room (Some []) s b o m) e in
-      record { rest = l.rest; folded = l.folded; on = λ a f. listed gives (TakesShown folds place) Given room (Some a) s b o (l.on a f) }
-  later-made room None b o z m e = absurd m
+    later-made : (room : ℕ) (x : Option S) (b : Beginning Tok Cx St) (o : Outcome A Er St) (z : A) → Stood t b → FromMade gives (Appends ⊤) (Collected (FoldsFrom steps start)) room (Some []) x b o → o.verdict ≡ Yes (Some z) → Later [] z (λ a. FromMade gives (TakesShown folds place) Given room (Some a) x) b o
+    later-made room (Some s) b o z h m e =
+        let l = later room [] s b o z h (unlisted gives (Appends ⊤) (Collected (FoldsFrom steps start)) room (Some []) s b o m) e in
+        record { rest = l.rest; folded = l.folded; on = λ a f. listed gives (TakesShown folds place) Given room (Some a) s b o (l.on a f) }
+    later-made room None b o z h m e = absurd m
 
-  later-all : (begins : Meaning Tok Cx St Er S) (b : Beginning Tok Cx St) (o : Outcome A Er St) (z : A) → b.wanted ≡ true → FoldsItems gives begins steps start b o → o.verdict ≡ Yes (Some z) → Later [] z (λ a. TakesAll gives begins (TakesShown folds place) (Some a)) b o
-  later-all begins b o z w m e =
-      let run = subst (λ x. Chained (Asked true begins) (FromMade gives (Appends ⊤) (Collected (FoldsFrom steps start)) m.room (wanting x [])) b o) w m.run in
-      let l = later-chain (Asked true begins) (FromMade gives (Appends ⊤) (Collected (FoldsFrom steps start)) m.room (Some [])) (λ a. FromMade gives (TakesShown folds place) Given m.room (Some a)) [] b o z (λ x c q n k. later-made m.room x c q z n k) run e in
-      record { rest = l.rest; folded = l.folded; on = λ a f. record { room = m.room; full = m.full; run = l.on a f } }
+    later-all : (begins : Meaning Tok Cx St Er S) → EndsAfterStart begins → EndsWhere stands begins → (b : Beginning Tok Cx St) (o : Outcome A Er St) (z : A) → b.wanted ≡ true → Stood t b → FoldsItems gives begins steps start b o → o.verdict ≡ Yes (Some z)
+        → Later [] z (λ a. TakesAll gives begins (TakesShown folds place) (Some a)) b o
+    later-all begins eb wb b o z w h m e =
+        let run = subst (λ x. Chained (Asked true begins) (FromMade gives (Appends ⊤) (Collected (FoldsFrom steps start)) m.room (wanting x [])) b o) w m.run in
+        let asked_ends : EndsAfterStart (Asked true begins) = asked-ends true begins eb in
+        let asked_where : EndsWhere stands (Asked true begins) = λ c p k n y. wb (record c { wanted = true }) p k n.run y in
+        let l =
+        later-chain (Asked true begins) (FromMade gives (Appends ⊤) (Collected (FoldsFrom steps start)) m.room (Some [])) (λ a. FromMade gives (TakesShown folds place) Given m.room (Some a)) [] b o z
+        (λ x p q n y f k. later-made m.room x (from b p) q z (stood-on t (Asked true begins) b p x asked_ends asked_where h n y) f k) run e in
+        record { rest = l.rest; folded = l.folded; on = λ a f. record { room = m.room; full = m.full; run = l.on a f } }
 
-module _ {Tok Cx St Er S V A : Type 0} (gives : S → Meaning Tok Cx St Er (Next S V)) (begins : Meaning Tok Cx St Er S) (folds : GivesShown Tok Cx St (A × V) A) (steps : A → V → A → Type 0) (blind : IsBlind folds steps) where
-  from_value : (start : Option A) (place : ℕ) (b : Beginning Tok Cx St) (o : Outcome A Er St) (z : A) → b.wanted ≡ true → FoldsItems gives begins steps start b o → o.verdict ≡ Yes (Some z) → TakesAll gives begins (TakesShown folds place) start b o
-  from_value (Some a) place b o z w m e = let l = later-all gives folds steps blind (Some a) place begins b o z w m e in l.on a l.folded
-  from_value None place b o z w m e = absurd (later-all gives folds steps blind None place begins b o z w m e).folded
+module _ {Tok Cx St Er S V A : Type 0} (gives : S → Meaning Tok Cx St Er (Next S V)) (begins : Meaning Tok Cx St Er S) (folds : GivesShown Tok Cx St (A × V) A) (steps : A → V → A → Type 0) {stands : List Tok → ℕ → St → Type 0} (blind : IsBlind stands folds steps) where
+  from_value : (t : St) (start : Option A) (place : ℕ) (b : Beginning Tok Cx St) (o : Outcome A Er St) (z : A) → ItemsEnd begins gives → EndsWhere stands begins → ((s : S) → EndsWhere stands (gives s)) → b.wanted ≡ true → Stood gives folds steps blind start place t b
+      → FoldsItems gives begins steps start b o → o.verdict ≡ Yes (Some z) → TakesAll gives begins (TakesShown folds place) start b o
+  from_value t (Some a) place b o z e wb ws w h m y = let l = later-all gives folds steps blind (Some a) place t e.step ws begins e.begin wb b o z w h m y in l.on a l.folded
+  from_value t None place b o z e wb ws w h m y = absurd (later-all gives folds steps blind None place t e.step ws begins e.begin wb b o z w h m y).folded
 
   begun : (start : Option A) (place : ℕ) → Tallies {Tok = Tok} {Cx = Cx} {St = St} {Er = Er} gives folds steps blind start place start (Some [])
   begun (Some a) place = refl
   begun None place = tt
 
-  pub blind-alike : (part : Meaning Tok Cx St Er A) → FoldsAlike (FoldsShown gives begins folds part) (FoldsFromPart gives begins steps part)
-  blind-alike part =
+  pub blind-alike : (part : Meaning Tok Cx St Er A) → ItemsEnd begins gives → EndsAfterStart part → FoldsAlike (StandsFrom stands begins gives part) (FoldsShown gives begins folds part) (FoldsFromPart gives begins steps part)
+  blind-alike part ends last =
       record {
         narrower = λ b o w h m. chained-when has_value _ _ b (λ a c q e t n. plain-all gives folds steps blind a b.start begins (begun a b.start) c q (e ∙ w) t n) part o h m.run;
-        wider = λ b o z w e m.
+        wider = λ b o z k w e m.
             let y = both_yes part (FoldsItems gives begins steps) b o (Some z) m e in
-            let r = from_value y.value b.start (from b y.first) y.second z w y.follows y.answers in
+            let stood : Stood gives folds steps blind y.value b.start b.state (from b y.first) =
+            record { began = k.here; here = k.part b y.first k.here y.meant (is_yes y.said); order = last b y.first y.meant (subst IsAnswer (sym y.said) tt) } in
+            let r = from_value b.state y.value b.start (from b y.first) y.second z ends k.begin k.step w stood y.follows y.answers in
             record { run = subst (Chained part (TakesAll gives begins (TakesShown folds b.start)) b) (sym y.whole) (yes_both part (TakesAll gives begins (TakesShown folds b.start)) b y.first y.value y.second y.meant y.said r) };
       }
+
+module _ {Tok Cx St Er S V A : Type 0} (gives : S → Meaning Tok Cx St Er (Next S V)) (begins : Meaning Tok Cx St Er S) (folds : GivesShown Tok Cx St (A × V) A) (steps : A → V → A → Type 0) (blind : IsBlind (λ _ _ _. ⊤) folds steps) where
+  -- by a folder that answers whatever it is shown, from wherever the run begins
+  pub blind-anywhere : (part : Meaning Tok Cx St Er A) → ItemsEnd begins gives → EndsAfterStart part → FoldsAlike (λ _. ⊤) (FoldsShown gives begins folds part) (FoldsFromPart gives begins steps part)
+  blind-anywhere part ends last =
+      let k = blind-alike gives begins folds steps blind part ends last in
+      record { narrower = k.narrower; wider = λ b o z u. k.wider b o z (record { here = tt; begin = λ _ _ _ _ _. tt; step = λ _ _ _ _ _ _. tt; part = λ _ _ _ _ _. tt }) }

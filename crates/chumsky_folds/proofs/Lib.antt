@@ -10,3 +10,4 @@ pub mod FoldingTriedLemmas
 pub mod BlindLemmas
 pub mod AcceptingLemmas
 pub mod BlindBackLemmas
+pub mod PlacingLemmas

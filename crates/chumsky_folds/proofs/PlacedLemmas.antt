@@ -5,9 +5,10 @@ use Rattle.std.proofs.lemmas.List.{append-nil, map-append}
 use Rattle.std.proofs.lemmas.List.Elements.{All-same, All-push, All-pop, All-weaker}
 use Rattle.chumsky_input.specs.declared.input.Input as input_trait
 use Rattle.chumsky_input.specs.declared.stop.Fault.{Fault}
+use Rattle.chumsky_input.specs.declared.stop.Stop.{Stop}
 use Rattle.chumsky_input.specs.declared.stop.Stop.TheVariants.{CountTooLarge}
 use Rattle.chumsky_input.specs.Held.{Held}
-use Rattle.chumsky_input.specs.Outcome.{Meaning, Beginning, Outcome, Verdict, Yes, No, Halt, Clash}
+use Rattle.chumsky_input.specs.Outcome.{Event, Meaning, Beginning, Outcome, Verdict, Yes, No, Halt, Clash}
 use Rattle.chumsky_input.specs.Run.{Ran}
 use Rattle.chumsky_parser.specs.Chained.{Chained, Asked, Given, Follows, retold, after}
 use Rattle.chumsky_parser.specs.Failure.{Stops}
@@ -71,17 +72,23 @@ module _ {Tok Cx St Er S V : Type 0} (step : Meaning Tok Cx St Er (Next S V)) (b
       let same : whole ≡ after p given = cc (append-nil p.events, append-nil p.emitted) in
       record { run = record { first = p; meant = m; follows = subst (λ y. Follows y (AfterStep (PairedWith b.start) (Given (Some End))) b p whole) (sym d) (given, refl, same) } }
 
+  pub placed_no : p.verdict ≡ No → Placed step b (retold No p)
+  placed_no d = record { run = record { first = p; meant = m; follows = subst (λ y. Follows y (AfterStep (PairedWith b.start) (Given (Some End))) b p (retold No p)) (sym d) refl } }
+
+  pub placed_halt : (s : Stop) → p.verdict ≡ Halt s → Placed step b (retold (Halt s) p)
+  placed_halt s d = record { run = record { first = p; meant = m; follows = subst (λ y. Follows y (AfterStep (PairedWith b.start) (Given (Some End))) b p (retold (Halt s) p)) (sym d) refl } }
+
+  pub placed_clash : (e : Event Er) → p.verdict ≡ Clash e → Placed step b (retold (Clash e) p)
+  placed_clash e d = record { run = record { first = p; meant = m; follows = subst (λ y. Follows y (AfterStep (PairedWith b.start) (Given (Some End))) b p (retold (Clash e) p)) (sym d) refl } }
+
   module _ {W : Type 0} (on : S → Meaning Tok Cx St Er W) (ended : Meaning Tok Cx St Er W) (o : Outcome W Er St) where
     placed_before : (v : Verdict (Next S V) Er) → p.verdict ≡ v → Follows v (AfterStep (λ _ t. on t) ended) b p o → Chained (Placed step) (AfterStep (λ _ t. on t) ended) b o
     placed_before (Yes (Some (More x t))) d f = record { first = retold (Yes (Some (More (option_map (λ y. (y, b.start)) x) t))) p; meant = placed_more x t d; follows = f }
     placed_before (Yes (Some End)) d f = record { first = retold (Yes (Some End)) p; meant = placed_end d; follows = f }
     placed_before (Yes None) d f = absurd f.1
-    placed_before No d f =
-        record { first = retold No p; meant = record { run = record { first = p; meant = m; follows = subst (λ y. Follows y (AfterStep (PairedWith b.start) (Given (Some End))) b p (retold No p)) (sym d) refl } }; follows = f }
-    placed_before (Halt s) d f =
-        record { first = retold (Halt s) p; meant = record { run = record { first = p; meant = m; follows = subst (λ y. Follows y (AfterStep (PairedWith b.start) (Given (Some End))) b p (retold (Halt s) p)) (sym d) refl } }; follows = f }
-    placed_before (Clash e) d f =
-        record { first = retold (Clash e) p; meant = record { run = record { first = p; meant = m; follows = subst (λ y. Follows y (AfterStep (PairedWith b.start) (Given (Some End))) b p (retold (Clash e) p)) (sym d) refl } }; follows = f }
+    placed_before No d f = record { first = retold No p; meant = placed_no d; follows = f }
+    placed_before (Halt s) d f = record { first = retold (Halt s) p; meant = placed_halt s d; follows = f }
+    placed_before (Clash e) d f = record { first = retold (Clash e) p; meant = placed_clash e d; follows = f }
 
 module _ {Tok Cx St Er S V W : Type 0} (gives : S → Meaning Tok Cx St Er (Next S V)) where
   placed_step : (on : S → Meaning Tok Cx St Er W) (ended : Meaning Tok Cx St Er W) (s : S) (b : Beginning Tok Cx St) (o : Outcome W Er St) → Chained (gives s) (AfterStep (λ _ t. on t) ended) b o → Chained (Placed (gives s)) (AfterStep (λ _ t. on t) ended) b o

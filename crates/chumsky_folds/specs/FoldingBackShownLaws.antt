@@ -15,10 +15,10 @@ use Rattle.chumsky_folds.specs.FoldingBackShown.{FoldsRightShown, StepsBackShown
 
 module _ {Tok Cx St V : Type 0} (run : Shown Tok Cx St) where
   -- items with what a folder is shown of them, in one state
-  abbrev pub shown_of : List (V × ℕ) → List (V × Shown Tok Cx St)
-  shown_of xs = map (λ x. (x.0, record run { from = x.1 })) xs
+  abbrev pub items_shown : List (V × ℕ) → List (V × Shown Tok Cx St)
+  items_shown xs = map (λ x. (x.0, record run { from = x.1 })) xs
 
-  shown-same : (same : V → V → Type 0) (xs ys : List (V × ℕ)) → SameItems (SamePlaced same) xs ys → SameItems (SameTaken same) (shown_of xs) (shown_of ys)
+  shown-same : (same : V → V → Type 0) (xs ys : List (V × ℕ)) → SameItems (SamePlaced same) xs ys → SameItems (SameTaken same) (items_shown xs) (items_shown ys)
   shown-same same [] [] e = tt
   shown-same same [] (y ∷ ys) e = absurd e
   shown-same same (x ∷ xs) [] e = absurd e
@@ -26,7 +26,7 @@ module _ {Tok Cx St V : Type 0} (run : Shown Tok Cx St) where
 
 module _ {Tok Cx St V A : Type 0} (folds : GivesShown Tok Cx St (V × A) A) (one : OnlyAnswers folds) where
   -- a folder that leaves the state is shown one state
-  folds_right-shown : (run : Shown Tok Cx St) (a z : A) (s : St) (xs : List (V × ℕ)) → FoldsRightShown folds run a xs z s → (s ≡ run.state) × FoldsRight (StepsBackShown folds) a (shown_of run xs) z
+  folds_right-shown : (run : Shown Tok Cx St) (a z : A) (s : St) (xs : List (V × ℕ)) → FoldsRightShown folds run a xs z s → (s ≡ run.state) × FoldsRight (StepsBackShown folds) a (items_shown run xs) z
   folds_right-shown run a z s [] f = (f.1, f.0)
   folds_right-shown run a z s (x ∷ xs) f =
       let rest = folds_right-shown run a f.0 f.1 xs f.2 in
@@ -53,7 +53,7 @@ module _ {Tok Cx St Er V C A : Type 0} (holds : List (V × ℕ) → C → Type 0
         let first = folds_right-shown folds one run a m.1 m.2 h.first (subst (λ xs. FoldsRightShown folds run a xs m.1 m.2) (one_list m.0 h.first c m.3 h.holds_first) m.4) in
         let second = folds_right-shown folds one run e n.1 n.2 h.second (subst (λ xs. FoldsRightShown folds run e xs n.1 n.2) (one_list n.0 h.second d n.3 h.holds_second) (subst (λ x. FoldsRightShown folds x e n.0 n.1 n.2) there n.4)) in
         let k : other folds same start m.1 n.1 =
-        record { first_start = a; second_start = e; starts = s; first = shown_of run h.first; second = shown_of run h.second; are = shown-same run same h.first h.second h.are; folds_first = first.1; folds_second = second.1 } in
+        record { first_start = a; second_start = e; starts = s; first = items_shown run h.first; second = items_shown run h.second; are = shown-same run same h.first h.second h.are; folds_first = first.1; folds_second = second.1 } in
         rw (m.5, n.5) (record { answer = k; end = l.start; state = first.0 ∙ sym second.0; events = refl; emitted = refl })
     back-agrees (Some c) (Some d) (Some a) None h s b f o q l m n y z =
         let run : Shown Tok Cx St = shown_since b.start b in

@@ -12,13 +12,13 @@ use Rattle.chumsky_folds.specs.Placed.{Placed}
 
 module _ {Tok Cx St E Er A : Type 0} (seen : E → Er) where
   -- what becomes of an answer, and of the state that it leaves: a value, here; or a failure here, with the error at a place
-  abbrev pub Rules : Result A E → ℕ → St → Meaning Tok Cx St Er A
-  Rules (Ok w) place s b o = o ≡ record { verdict = Yes (Some w); end = b.start; state = s; events = []; emitted = [] }
-  Rules (Err e) place s b o = FailsAt (record { place = place; error = seen e }) b.start s o
+  abbrev pub TakenOrRefused : Result A E → ℕ → St → Meaning Tok Cx St Er A
+  TakenOrRefused (Ok w) place s b o = o ≡ record { verdict = Yes (Some w); end = b.start; state = s; events = []; emitted = [] }
+  TakenOrRefused (Err e) place s b o = FailsAt (record { place = place; error = seen e }) b.start s o
 
 module _ {Tok Cx St E Er V A : Type 0} (seen : E → Er) (tries : GivesShown Tok Cx St (A × V) (Result A E)) where
   abbrev pub TriesSince : ℕ → Option (A × (V × ℕ)) → Meaning Tok Cx St Er A
-  TriesSince from (Some x) b o = (r : Result A E) × (s : St) × tries (x.0, x.1.0) (shown_since from b) r s × Rules seen r x.1.1 s b o
+  TriesSince from (Some x) b o = (r : Result A E) × (s : St) × tries (x.0, x.1.0) (shown_since from b) r s × TakenOrRefused seen r x.1.1 s b o
   TriesSince from None b o = ⊥
 
   -- an item, with the place before its step, taken by a folder that is shown what ran since a place; or refused, with the
@@ -55,5 +55,5 @@ BothRule seen (Err d) (Err e) = seen d ≡ seen e
 module _ {Tok Cx St E Er V A : Type 0} (seen : E → Er) (tries : GivesShown Tok Cx St (A × V) (Result A E)) (start : A → A → Type 0) (same : V → V → Type 0) where
   -- of accumulators, folded in the same way, and items that are the same, shown one run, both are taken, or both refused with
   -- errors that count as one; and one state is left
-  abbrev pub TriesAlike : Type 0
-  TriesAlike = (v w : A × V) (x : Shown Tok Cx St) (r r' : Result A E) (s t : St) → SamePair (SameFolded start (SameTaken same) (StepsTried tries)) same v w → tries v x r s → tries w x r' t → BothRule seen r r' × (s ≡ t)
+  abbrev pub TakesAlike : Type 0
+  TakesAlike = (v w : A × V) (x : Shown Tok Cx St) (r r' : Result A E) (s t : St) → SamePair (SameFolded start (SameTaken same) (StepsTried tries)) same v w → tries v x r s → tries w x r' t → BothRule seen r r' × (s ≡ t)

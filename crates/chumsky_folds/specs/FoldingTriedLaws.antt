@@ -15,10 +15,10 @@ use Rattle.chumsky_folds.specs.FoldingShown.{SameTaken}
 use Rattle.chumsky_folds.specs.FoldingShownLaws.{both_same, takes_all-ends, takes_all-agree}
 use Rattle.chumsky_folds.specs.Placed.{Placed, SamePlaced}
 use Rattle.chumsky_folds.specs.PlacedLaws.{placed-end, placed-agree}
-use Rattle.chumsky_folds.specs.FoldingTried.{Rules, TriesSince, TakesTried, StepsTried, where_wanted, FoldsTrying, FoldsTried, BothRule, TriesAlike}
+use Rattle.chumsky_folds.specs.FoldingTried.{TakenOrRefused, TriesSince, TakesTried, StepsTried, where_wanted, FoldsTrying, FoldsTried, BothRule, TakesAlike}
 
 module _ {Tok Cx St E Er V A : Type 0} (seen : E → Er) (tries : GivesShown Tok Cx St (A × V) (Result A E)) where
-  rules-ends : (r : Result A E) (place : ℕ) (s : St) → EndsAfterStart (Rules {Tok = Tok} {Cx = Cx} seen r place s)
+  rules-ends : (r : Result A E) (place : ℕ) (s : St) → EndsAfterStart (TakenOrRefused {Tok = Tok} {Cx = Cx} seen r place s)
   rules-ends (Ok w) place s b o m z = omega (arith, ap (λ (x : Outcome A Er St). x.end) m)
   rules-ends (Err e) place s b o m z = misses-ends (λ _ _. ⊤) {safe = ⊤} (omega arith) (inr m) z
 
@@ -47,14 +47,14 @@ module _ {Tok Cx St E Er V A : Type 0} (seen : E → Er) (tries : GivesShown Tok
           folds_second = folds_left-more (StepsTried tries) f.second f.second_start w.0 y (w.1, x) f.folds_second (t, n);
         }
 
-    rules-agree : (r r' : Result A E) (p p' : ℕ) (s s' : St) → p ≡ p' → s ≡ s' → BothRule seen r r' → ((z y : A) → r ≡ Ok z → r' ≡ Ok y → folded z y) → (b c : Beginning Tok Cx St) (o q : Outcome A Er St) → Alike b c → Rules seen r p s b o → Rules seen r' p' s' c q → IsAnswer o.verdict → IsAnswer q.verdict
+    rules-agree : (r r' : Result A E) (p p' : ℕ) (s s' : St) → p ≡ p' → s ≡ s' → BothRule seen r r' → ((z y : A) → r ≡ Ok z → r' ≡ Ok y → folded z y) → (b c : Beginning Tok Cx St) (o q : Outcome A Er St) → Alike b c → TakenOrRefused seen r p s b o → TakenOrRefused seen r' p' s' c q → IsAnswer o.verdict → IsAnswer q.verdict
         → Agree folded o q
     rules-agree (Ok z) (Ok y) p p' s s' k d e h b c o q l m n a u = rw (m, n) (record { answer = h z y refl refl; end = l.start; state = d; events = refl; emitted = refl })
     rules-agree (Ok z) (Err i) p p' s s' k d e h b c o q l m n a u = absurd e
     rules-agree (Err i) (Ok y) p p' s s' k d e h b c o q l m n a u = absurd e
     rules-agree (Err i) (Err j) p p' s s' k d e h b c o q l m n a u = misses-agree folded {safe = ⊤} (cc (k, e)) l.start d (inr m) (inr n) a u
 
-    tries-agree : TriesAlike seen tries start same → (from from' : ℕ) → from ≡ from' → (x y : Option (A × (V × ℕ))) → SameValue (SamePair folded (SamePlaced same)) x y → (b c : Beginning Tok Cx St) (o q : Outcome A Er St) → Alike b c → TriesSince seen tries from x b o → TriesSince seen tries from' y c q → IsAnswer o.verdict → IsAnswer q.verdict
+    tries-agree : TakesAlike seen tries start same → (from from' : ℕ) → from ≡ from' → (x y : Option (A × (V × ℕ))) → SameValue (SamePair folded (SamePlaced same)) x y → (b c : Beginning Tok Cx St) (o q : Outcome A Er St) → Alike b c → TriesSince seen tries from x b o → TriesSince seen tries from' y c q → IsAnswer o.verdict → IsAnswer q.verdict
         → Agree folded o q
     tries-agree alike_tries from from' d (Some x) (Some y) e b c o q l m n a z =
         let there : shown_since from' c ≡ shown_since from b = cc (d, l.tokens, l.start, l.context, l.state) in
@@ -85,7 +85,7 @@ module _ {Tok Cx St E Er S V A : Type 0} (gives : S → Meaning Tok Cx St Er (Ne
   pub folds_tried-ends : ItemsEnd begins gives → EndsAfterStart part → EndsAfterStart (FoldsTried gives begins seen tries part)
   folds_tried-ends h p b o m z = chained-ends (Asked true (FoldsTrying gives begins seen tries part)) _ (asked-ends true _ (trying-ends h p)) (λ a. given-ends (where_wanted b.wanted a)) b o m.run z
 
-  module _ (start : A → A → Type 0) (same : V → V → Type 0) (alike : S → S → Type 0) (alike_tries : TriesAlike seen tries start same) (h : ItemsAgree same alike begins gives) (p : Agreeing start part part) where
+  module _ (start : A → A → Type 0) (same : V → V → Type 0) (alike : S → S → Type 0) (alike_tries : TakesAlike seen tries start same) (h : ItemsAgree same alike begins gives) (p : Agreeing start part part) where
     trying-agree : Agreeing (folded seen tries start same) (FoldsTrying gives begins seen tries part) (FoldsTrying gives begins seen tries part)
     trying-agree b c o q l m n y z =
         let sa : A → A → Type 0 = folded seen tries start same in

@@ -14,3 +14,6 @@ pub mod FoldingBackShown
 pub mod FoldingBackShownLaws
 pub mod FoldingTried
 pub mod FoldingTriedLaws
+pub mod Running
+pub mod AsParsers
+pub mod Standing

@@ -34,14 +34,14 @@ impl<
     F: Folder<B, O>,
 > Parser<'src, I, B, E> for Fold<F, A, B, O> {
     ghost use Rattle.chumsky_parser.specs.Copied.{BothCopies};
-    ghost use Rattle.chumsky_folds.specs.Folding.{FoldsFromCopy, IsFunction, SameFolded};
+    ghost use Rattle.chumsky_folds.specs.Folding.{FoldsFromCopy, IsFunctionOfTwo, SameFolded};
     ghost use Rattle.chumsky_folds.specs.FoldingLaws.{folds_copy-ends, folds_copy-agree};
 
     ghost ready = { λ p. A.ready p.parser × F.callable p.folder };
 
     ghost meaning = { λ p errors states. FoldsFromCopy (λ s. A.gives p.parser (record { nonconsumption_is_ok = false }) s errors states) (A.begins p.parser errors states) (F.gives p.folder) (B.is_clone p.init) (B.is_infallible p.init) };
 
-    ghost steady = { λ p. A.steady p.parser × IsFunction (F.gives p.folder) };
+    ghost steady = { λ p. A.steady p.parser × IsFunctionOfTwo (F.gives p.folder) };
 
     ghost same = { λ p. SameFolded (BothCopies (B.is_clone p.init)) (A.same p.parser) (F.gives p.folder) };
 

@@ -1,8 +1,7 @@
 //! What makes one value of many, and is shown the run.
-ghost use Rattle.std.specs.Prelude.{◌≡◌, ◌≤◌};
-ghost use Rattle.chumsky_input.specs.Extra.{shown_from};
-ghost use Rattle.chumsky_input.specs.Held.{held};
+ghost use Rattle.std.specs.Prelude.{◌≡◌};
 ghost use Rattle.chumsky_folds.specs.CalledWithTwo.{KeepsStateOfTwo, AnswersTwo};
+ghost use Rattle.chumsky_folds.specs.Running.{InTokens, NotPast, OnlyState, AnswersSince};
 
 use chumsky_input::extra::ParserExtra;
 use chumsky_input::input::Input;
@@ -30,10 +29,10 @@ pub trait FolderWith<'src, I: Input<'src>, A, O, E: ParserExtra<I>> {
         inp: &mut InputRef<'src, '_, I, E>,
     ) -> A
         requires callable { callable self.now }
-        requires tokens { I.cursor_tokens since.now ≡ (held I.Input E.Error.Error E.State.Inspector inp.old).tokens }
-        requires order { I.place since.now ≤ (held I.Input E.Error.Error E.State.Inspector inp.old).place }
-        ensures gives { gives self.now E.State.Inspector (accumulator, item) (shown_from (I.place since.now) (held I.Input E.Error.Error E.State.Inspector inp.old)) result (held I.Input E.Error.Error E.State.Inspector inp.new).state }
-        ensures moves { held I.Input E.Error.Error E.State.Inspector inp.new ≡ record (held I.Input E.Error.Error E.State.Inspector inp.old) { state = (held I.Input E.Error.Error E.State.Inspector inp.new).state } }
+        requires tokens { InTokens I.Input E.Error.Error E.State.Inspector since.now inp.old }
+        requires order { NotPast I.Input E.Error.Error E.State.Inspector since.now inp.old }
+        ensures gives { AnswersSince I.Input E.Error.Error E.State.Inspector (gives self.now E.State.Inspector (accumulator, item)) since.now inp.old inp.new result }
+        ensures moves { OnlyState I.Input E.Error.Error E.State.Inspector inp.old inp.new }
         ensures lent { inp.new.state.ghost_name ≡ inp.old.state.ghost_name };
 }
 
@@ -79,10 +78,10 @@ pub trait RightFolderWith<'src, I: Input<'src>, O, A, E: ParserExtra<I>> {
         inp: &mut InputRef<'src, '_, I, E>,
     ) -> A
         requires callable { callable self.now }
-        requires tokens { I.cursor_tokens since.now ≡ (held I.Input E.Error.Error E.State.Inspector inp.old).tokens }
-        requires order { I.place since.now ≤ (held I.Input E.Error.Error E.State.Inspector inp.old).place }
-        ensures gives { gives self.now E.State.Inspector (item, accumulator) (shown_from (I.place since.now) (held I.Input E.Error.Error E.State.Inspector inp.old)) result (held I.Input E.Error.Error E.State.Inspector inp.new).state }
-        ensures moves { held I.Input E.Error.Error E.State.Inspector inp.new ≡ record (held I.Input E.Error.Error E.State.Inspector inp.old) { state = (held I.Input E.Error.Error E.State.Inspector inp.new).state } }
+        requires tokens { InTokens I.Input E.Error.Error E.State.Inspector since.now inp.old }
+        requires order { NotPast I.Input E.Error.Error E.State.Inspector since.now inp.old }
+        ensures gives { AnswersSince I.Input E.Error.Error E.State.Inspector (gives self.now E.State.Inspector (item, accumulator)) since.now inp.old inp.new result }
+        ensures moves { OnlyState I.Input E.Error.Error E.State.Inspector inp.old inp.new }
         ensures lent { inp.new.state.ghost_name ≡ inp.old.state.ghost_name };
 }
 
@@ -130,10 +129,10 @@ pub trait TryFolder<'src, I: Input<'src>, A, O, E: ParserExtra<I>> {
         inp: &mut InputRef<'src, '_, I, E>,
     ) -> Result<A, E::Error>
         requires callable { callable self.now }
-        requires tokens { I.cursor_tokens since.now ≡ (held I.Input E.Error.Error E.State.Inspector inp.old).tokens }
-        requires order { I.place since.now ≤ (held I.Input E.Error.Error E.State.Inspector inp.old).place }
-        ensures gives { gives self.now E.State.Inspector (accumulator, item) (shown_from (I.place since.now) (held I.Input E.Error.Error E.State.Inspector inp.old)) result (held I.Input E.Error.Error E.State.Inspector inp.new).state }
-        ensures moves { held I.Input E.Error.Error E.State.Inspector inp.new ≡ record (held I.Input E.Error.Error E.State.Inspector inp.old) { state = (held I.Input E.Error.Error E.State.Inspector inp.new).state } }
+        requires tokens { InTokens I.Input E.Error.Error E.State.Inspector since.now inp.old }
+        requires order { NotPast I.Input E.Error.Error E.State.Inspector since.now inp.old }
+        ensures gives { AnswersSince I.Input E.Error.Error E.State.Inspector (gives self.now E.State.Inspector (accumulator, item)) since.now inp.old inp.new result }
+        ensures moves { OnlyState I.Input E.Error.Error E.State.Inspector inp.old inp.new }
         ensures lent { inp.new.state.ghost_name ≡ inp.old.state.ghost_name };
 }
 
@@ -173,10 +172,10 @@ where
     E: ParserExtra<I>,
     F: Fn(A, V, &mut MapExtra<'src, '_, I, E>) -> R,
     requires callable { KeepsStateOfTwo I.Input E.State.Inspector F.Fn closure.now }
-    requires tokens { I.cursor_tokens since.now ≡ (held I.Input E.Error.Error E.State.Inspector inp.old).tokens }
-    requires order { I.place since.now ≤ (held I.Input E.Error.Error E.State.Inspector inp.old).place }
-    ensures answers { AnswersTwo I.Input E.State.Inspector F.Fn closure.now (first, second) (shown_from (I.place since.now) (held I.Input E.Error.Error E.State.Inspector inp.old)) result (held I.Input E.Error.Error E.State.Inspector inp.new).state }
-    ensures moves { held I.Input E.Error.Error E.State.Inspector inp.new ≡ record (held I.Input E.Error.Error E.State.Inspector inp.old) { state = (held I.Input E.Error.Error E.State.Inspector inp.new).state } }
+    requires tokens { InTokens I.Input E.Error.Error E.State.Inspector since.now inp.old }
+    requires order { NotPast I.Input E.Error.Error E.State.Inspector since.now inp.old }
+    ensures answers { AnswersSince I.Input E.Error.Error E.State.Inspector (AnswersTwo I.Input E.State.Inspector F.Fn closure.now (first, second)) since.now inp.old inp.new result }
+    ensures moves { OnlyState I.Input E.Error.Error E.State.Inspector inp.old inp.new }
     ensures lent { inp.new.state.ghost_name ≡ inp.old.state.ghost_name }
 {
     let mut extra: MapExtra<'src, '_, I, E> = MapExtra {

@@ -35,14 +35,14 @@ impl<
     B: IterParser<'src, I, U, E>,
     F: Folder<O, U>,
 > Parser<'src, I, O, E> for Foldl<F, A, B, U> {
-    ghost use Rattle.chumsky_folds.specs.Folding.{FoldsFromPart, IsFunction, SameFolded};
+    ghost use Rattle.chumsky_folds.specs.Folding.{FoldsFromPart, IsFunctionOfTwo, SameFolded};
     ghost use Rattle.chumsky_folds.specs.FoldingLaws.{folds_part-ends, folds_part-agree};
 
     ghost ready = { λ p. A.ready p.parser × B.ready p.items × F.callable p.folder };
 
     ghost meaning = { λ p errors states. FoldsFromPart (λ s. B.gives p.items (record { nonconsumption_is_ok = false }) s errors states) (B.begins p.items errors states) (F.gives p.folder) (A.meaning p.parser errors states) };
 
-    ghost steady = { λ p. A.steady p.parser × B.steady p.items × IsFunction (F.gives p.folder) };
+    ghost steady = { λ p. A.steady p.parser × B.steady p.items × IsFunctionOfTwo (F.gives p.folder) };
 
     ghost same = { λ p. SameFolded (A.same p.parser) (B.same p.items) (F.gives p.folder) };
 

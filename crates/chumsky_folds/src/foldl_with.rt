@@ -1,8 +1,7 @@
 //! A parser and then items, folded from its output by what is shown the run.
-ghost use Rattle.std.specs.Prelude.{◌≡◌, ◌≤◌, true, false, Some};
-ghost use Rattle.chumsky_input.specs.Held.{held};
+ghost use Rattle.std.specs.Prelude.{◌≡◌, true, false};
 ghost use Rattle.chumsky_input.specs.Run.{Runs, with_value};
-ghost use Rattle.chumsky_folds.specs.FoldingShown.{TakesAll, TakesShown};
+ghost use Rattle.chumsky_folds.specs.Running.{DoesFoldShown, InTokens, NotPast};
 
 use crate::folder_with::FolderWith;
 use chumsky_input::extra::ParserExtra;
@@ -90,9 +89,9 @@ fn fold_with<
 ) -> PResult<B>
     requires ready { A.ready parser.now }
     requires callable { F.callable folder.now }
-    requires tokens { I.cursor_tokens since.now ≡ (held I.Input E.Error.Error E.State.Inspector inp.old).tokens }
-    requires order { I.place since.now ≤ (held I.Input E.Error.Error E.State.Inspector inp.old).place }
-    ensures ran { Runs I.Input E.Error.Error E.State.Inspector (TakesAll (λ s. A.gives parser.now (record { nonconsumption_is_ok = false }) s E.Error.Error E.State.Inspector) (A.begins parser.now E.Error.Error E.State.Inspector) (TakesShown (F.gives folder.now E.State.Inspector) (I.place since.now)) (Some first)) true inp.old inp.new (with_value result) }
+    requires tokens { InTokens I.Input E.Error.Error E.State.Inspector since.now inp.old }
+    requires order { NotPast I.Input E.Error.Error E.State.Inspector since.now inp.old }
+    ensures ran { Runs I.Input E.Error.Error E.State.Inspector (DoesFoldShown (A.begins parser.now) (A.gives parser.now) (F.gives folder.now) (I.place since.now) first E.Error.Error E.State.Inspector) true inp.old inp.new (with_value result) }
     ensures lent { inp.new.state.ghost_name ≡ inp.old.state.ghost_name }
 {
     let mut state = parser.make_iter(inp)?;

@@ -36,7 +36,7 @@ impl<
     B: Parser<'src, I, U, E>,
     F: RightFolder<O, U>,
 > Parser<'src, I, U, E> for Foldr<F, A, B, O> {
-    ghost use Rattle.chumsky_folds.specs.Folding.{IsFunction};
+    ghost use Rattle.chumsky_folds.specs.Folding.{IsFunctionOfTwo};
     ghost use Rattle.chumsky_folds.specs.FoldingBack.{FoldsBack, SameFoldedBack};
     ghost use Rattle.chumsky_folds.specs.FoldingBackLaws.{folds_back-ends, folds_back-agree};
 
@@ -44,7 +44,7 @@ impl<
 
     ghost meaning = { λ p errors states. FoldsBack (λ s. A.gives p.items.parser (record { nonconsumption_is_ok = false }) s errors states) (A.begins p.items.parser errors states) ⟦<Vec<O> as Container<O>>⟧.holds ⟦<Vec<O> as Container<O>>⟧.takes_no_memory (B.meaning p.parser errors states) (F.gives p.folder) };
 
-    ghost steady = { λ p. A.steady p.items.parser × B.steady p.parser × IsFunction (F.gives p.folder) };
+    ghost steady = { λ p. A.steady p.items.parser × B.steady p.parser × IsFunctionOfTwo (F.gives p.folder) };
 
     ghost same = { λ p. SameFoldedBack (B.same p.parser) (A.same p.items.parser) (F.gives p.folder) };
 

@@ -1,12 +1,8 @@
 //! Items and then a parser, folded from its output back by what is shown the run.
 ghost use Rattle.std.specs.Prelude.{◌≡◌, true, false, IfOk};
-ghost use Rattle.std.specs.List.{All};
-ghost use Rattle.chumsky_input.specs.Extra.{shown_from};
-ghost use Rattle.chumsky_input.specs.Held.{held};
 ghost use Rattle.chumsky_input.specs.Run.{Runs, with_value};
-ghost use Rattle.chumsky_items.specs.Consumers.{Collects};
-ghost use Rattle.chumsky_folds.specs.Placed.{Placed, HoldsPlaced, StartsIn, places_of};
-ghost use Rattle.chumsky_folds.specs.FoldingBackShown.{FoldsRightShown};
+ghost use Rattle.chumsky_folds.specs.Placed.{HoldsPlaced};
+ghost use Rattle.chumsky_folds.specs.Running.{DoesCollectPlaced, AllNotPast, OnlyState, FoldsItemsBack};
 
 use crate::folder_with::RightFolderWith;
 use chumsky_input::extra::ParserExtra;
@@ -83,8 +79,8 @@ fn collect_placed<'src, I: Input<'src>, O: Drop, E: ParserExtra<I>, A: IterParse
     inp: &mut InputRef<'src, '_, I, E>,
 ) -> PResult<Vec<(O, I::Cursor)>>
     requires { A.ready parser.now }
-    ensures ran { Runs I.Input E.Error.Error E.State.Inspector (Collects (λ s. Placed (A.gives parser.now (record { nonconsumption_is_ok = false }) s E.Error.Error E.State.Inspector)) (A.begins parser.now E.Error.Error E.State.Inspector) (HoldsPlaced I.Input) ⊥) true inp.old inp.new (with_value result) }
-    ensures within { IfOk result (λ v. All (StartsIn I.Input (held I.Input E.Error.Error E.State.Inspector inp.new).tokens (held I.Input E.Error.Error E.State.Inspector inp.new).place) v.items) }
+    ensures ran { Runs I.Input E.Error.Error E.State.Inspector (DoesCollectPlaced (A.begins parser.now) (A.gives parser.now) I.Input E.Error.Error E.State.Inspector) true inp.old inp.new (with_value result) }
+    ensures within { IfOk result (λ v. AllNotPast I.Input E.Error.Error E.State.Inspector v.items inp.new) }
     ensures lent { inp.new.state.ghost_name ≡ inp.old.state.ghost_name }
 {
     let mut state = parser.make_iter(inp)?;
@@ -122,9 +118,9 @@ fn fold_back_with<
     F: RightFolderWith<'src, I, O, U, E>,
 >(items: Vec<(O, I::Cursor)>, last: U, folder: &F, inp: &mut InputRef<'src, '_, I, E>) -> U
     requires callable { F.callable folder.now }
-    requires within { All (StartsIn I.Input (held I.Input E.Error.Error E.State.Inspector inp.old).tokens (held I.Input E.Error.Error E.State.Inspector inp.old).place) items.items }
-    ensures folds { FoldsRightShown (F.gives folder.now E.State.Inspector) (shown_from (held I.Input E.Error.Error E.State.Inspector inp.old).place (held I.Input E.Error.Error E.State.Inspector inp.old)) last (places_of I.Input items.items) result (held I.Input E.Error.Error E.State.Inspector inp.new).state }
-    ensures moves { held I.Input E.Error.Error E.State.Inspector inp.new ≡ record (held I.Input E.Error.Error E.State.Inspector inp.old) { state = (held I.Input E.Error.Error E.State.Inspector inp.new).state } }
+    requires within { AllNotPast I.Input E.Error.Error E.State.Inspector items.items inp.old }
+    ensures folds { FoldsItemsBack I.Input E.Error.Error E.State.Inspector (F.gives folder.now E.State.Inspector) last items.items inp.old inp.new result }
+    ensures moves { OnlyState I.Input E.Error.Error E.State.Inspector inp.old inp.new }
     ensures lent { inp.new.state.ghost_name ≡ inp.old.state.ghost_name }
 {
     let mut left = items;

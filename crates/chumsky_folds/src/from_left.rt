@@ -1,7 +1,7 @@
 //! All items, folded from the left.
-ghost use Rattle.std.specs.Prelude.{◌≡◌, true, false, Some, ⊤};
+ghost use Rattle.std.specs.Prelude.{◌≡◌, true, ⊤};
 ghost use Rattle.chumsky_input.specs.Run.{Runs, with_value};
-ghost use Rattle.chumsky_folds.specs.Folding.{FoldsItems};
+ghost use Rattle.chumsky_folds.specs.Running.{DoesFold};
 
 use crate::folder::Folder;
 use chumsky_input::extra::ParserExtra;
@@ -23,7 +23,7 @@ pub(crate) fn fold_from_left<
 >(first: B, parser: &A, folder: &F, inp: &mut InputRef<'src, '_, I, E>) -> PResult<B>
     requires ready { A.ready parser.now }
     requires callable { F.callable folder.now }
-    ensures ran { Runs I.Input E.Error.Error E.State.Inspector (FoldsItems (λ s. A.gives parser.now (record { nonconsumption_is_ok = false }) s E.Error.Error E.State.Inspector) (A.begins parser.now E.Error.Error E.State.Inspector) (F.gives folder.now) (Some first)) true inp.old inp.new (with_value result) }
+    ensures ran { Runs I.Input E.Error.Error E.State.Inspector (DoesFold (A.begins parser.now) (A.gives parser.now) (F.gives folder.now) first E.Error.Error E.State.Inspector) true inp.old inp.new (with_value result) }
     ensures lent { inp.new.state.ghost_name ≡ inp.old.state.ghost_name }
 {
     let mut state = parser.make_iter(inp)?;

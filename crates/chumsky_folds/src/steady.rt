@@ -6,11 +6,11 @@ ghost use Rattle.chumsky_parser.specs.Copied.{BothCopies};
 ghost use Rattle.chumsky_parser.specs.Showing.{OnlyAnswers};
 ghost use Rattle.chumsky_folds.specs.CalledWithTwo.{KeepsStateOfTwo};
 ghost use Rattle.chumsky_folds.specs.Enumerating.{SameNumbered};
-ghost use Rattle.chumsky_folds.specs.Folding.{IsFunction, SameFolded};
+ghost use Rattle.chumsky_folds.specs.Folding.{IsFunctionOfTwo, SameFolded};
 ghost use Rattle.chumsky_folds.specs.FoldingBack.{SameFoldedBack};
 ghost use Rattle.chumsky_folds.specs.FoldingShown.{StepsShown, SameTaken};
 ghost use Rattle.chumsky_folds.specs.FoldingBackShown.{StepsBackShown};
-ghost use Rattle.chumsky_folds.specs.FoldingTried.{StepsTried, TriesAlike};
+ghost use Rattle.chumsky_folds.specs.FoldingTried.{StepsTried, TakesAlike};
 
 use crate::enumerate::Enumerate;
 use crate::fold::Fold;
@@ -39,7 +39,7 @@ pub fn fold_is_steady<
     F: Folder<B, O>,
 >(fold: &Fold<F, A, B, O>)
     ensures ready { A.ready fold.now.parser → F.callable fold.now.folder → ⟦<Fold<F, A, B, O> as Parser<'src, I, B, E>>⟧.ready fold.now }
-    ensures steady { A.steady fold.now.parser → IsFunction (F.gives fold.now.folder) → ⟦<Fold<F, A, B, O> as Parser<'src, I, B, E>>⟧.steady fold.now }
+    ensures steady { A.steady fold.now.parser → IsFunctionOfTwo (F.gives fold.now.folder) → ⟦<Fold<F, A, B, O> as Parser<'src, I, B, E>>⟧.steady fold.now }
     ensures same { (x y : B) → ⟦<Fold<F, A, B, O> as Parser<'src, I, B, E>>⟧.same fold.now x y → SameFolded (BothCopies (B.is_clone fold.now.init)) (A.same fold.now.parser) (F.gives fold.now.folder) x y }
 {}
 
@@ -56,7 +56,7 @@ pub fn foldl_is_steady<
     F: Folder<O, U>,
 >(foldl: &Foldl<F, A, B, U>)
     ensures ready { A.ready foldl.now.parser → B.ready foldl.now.items → F.callable foldl.now.folder → ⟦<Foldl<F, A, B, U> as Parser<'src, I, O, E>>⟧.ready foldl.now }
-    ensures steady { A.steady foldl.now.parser → B.steady foldl.now.items → IsFunction (F.gives foldl.now.folder) → ⟦<Foldl<F, A, B, U> as Parser<'src, I, O, E>>⟧.steady foldl.now }
+    ensures steady { A.steady foldl.now.parser → B.steady foldl.now.items → IsFunctionOfTwo (F.gives foldl.now.folder) → ⟦<Foldl<F, A, B, U> as Parser<'src, I, O, E>>⟧.steady foldl.now }
     ensures same { (x y : O) → ⟦<Foldl<F, A, B, U> as Parser<'src, I, O, E>>⟧.same foldl.now x y → SameFolded (A.same foldl.now.parser) (B.same foldl.now.items) (F.gives foldl.now.folder) x y }
 {}
 
@@ -73,7 +73,7 @@ pub fn foldr_is_steady<
     F: RightFolder<O, U>,
 >(foldr: &Foldr<F, A, B, O>)
     ensures ready { A.ready foldr.now.items.parser → B.ready foldr.now.parser → F.callable foldr.now.folder → ⟦<Foldr<F, A, B, O> as Parser<'src, I, U, E>>⟧.ready foldr.now }
-    ensures steady { A.steady foldr.now.items.parser → B.steady foldr.now.parser → IsFunction (F.gives foldr.now.folder) → ⟦<Foldr<F, A, B, O> as Parser<'src, I, U, E>>⟧.steady foldr.now }
+    ensures steady { A.steady foldr.now.items.parser → B.steady foldr.now.parser → IsFunctionOfTwo (F.gives foldr.now.folder) → ⟦<Foldr<F, A, B, O> as Parser<'src, I, U, E>>⟧.steady foldr.now }
     ensures same { (x y : U) → ⟦<Foldr<F, A, B, O> as Parser<'src, I, U, E>>⟧.same foldr.now x y → SameFoldedBack (B.same foldr.now.parser) (A.same foldr.now.items.parser) (F.gives foldr.now.folder) x y }
 {}
 
@@ -126,7 +126,7 @@ pub fn try_foldl_is_steady<
     F: TryFolder<'src, I, O, U, E>,
 >(foldl: &TryFoldl<F, A, B, U>)
     ensures ready { A.ready foldl.now.parser → B.ready foldl.now.items → F.callable foldl.now.folder → ⟦<TryFoldl<F, A, B, U> as Parser<'src, I, O, E>>⟧.ready foldl.now }
-    ensures steady { A.steady foldl.now.parser → B.steady foldl.now.items → TriesAlike E.Error.seen (F.gives foldl.now.folder E.State.Inspector) (A.same foldl.now.parser) (B.same foldl.now.items) → ⟦<TryFoldl<F, A, B, U> as Parser<'src, I, O, E>>⟧.steady foldl.now }
+    ensures steady { let p = foldl.now in A.steady p.parser → B.steady p.items → TakesAlike E.Error.seen (F.gives p.folder E.State.Inspector) (A.same p.parser) (B.same p.items) → ⟦<TryFoldl<F, A, B, U> as Parser<'src, I, O, E>>⟧.steady p }
     ensures same { (x y : O) → ⟦<TryFoldl<F, A, B, U> as Parser<'src, I, O, E>>⟧.same foldl.now x y → SameFolded (A.same foldl.now.parser) (SameTaken (B.same foldl.now.items)) (StepsTried (F.gives foldl.now.folder E.State.Inspector)) x y }
 {}
 

@@ -1,11 +1,8 @@
 //! A parser and then items, folded from its output by what may refuse.
-ghost use Rattle.std.specs.Prelude.{◌≡◌, ◌≤◌, true, false, Some, Bool};
-ghost use Rattle.chumsky_input.specs.Held.{held};
+ghost use Rattle.std.specs.Prelude.{◌≡◌, true, false, Bool};
 ghost use Rattle.chumsky_input.specs.Run.{Runs, with_value};
 ghost use Rattle.chumsky_parser.specs.Failure.{asked};
-ghost use Rattle.chumsky_folds.specs.FoldingShown.{TakesAll};
-ghost use Rattle.chumsky_folds.specs.Placed.{Placed};
-ghost use Rattle.chumsky_folds.specs.FoldingTried.{TakesTried, FoldsTried};
+ghost use Rattle.chumsky_folds.specs.Running.{DoesFoldTrying, DoesFoldTried, InTokens, NotPast};
 
 use crate::folder_with::TryFolder;
 use chumsky_input::error::Error;
@@ -44,14 +41,14 @@ impl<
 > Parser<'src, I, O, E> for TryFoldl<F, A, B, U> {
     ghost use Rattle.chumsky_folds.specs.Folding.{SameFolded};
     ghost use Rattle.chumsky_folds.specs.FoldingShown.{SameTaken};
-    ghost use Rattle.chumsky_folds.specs.FoldingTried.{StepsTried, TriesAlike};
+    ghost use Rattle.chumsky_folds.specs.FoldingTried.{FoldsTried, StepsTried, TakesAlike};
     ghost use Rattle.chumsky_folds.specs.FoldingTriedLaws.{folds_tried-ends, folds_tried-agree};
 
     ghost ready = { λ p. A.ready p.parser × B.ready p.items × F.callable p.folder };
 
     ghost meaning = { λ p errors states. FoldsTried (λ s. B.gives p.items (record { nonconsumption_is_ok = false }) s errors states) (B.begins p.items errors states) errors.seen (F.gives p.folder states) (A.meaning p.parser errors states) };
 
-    ghost steady = { λ p. A.steady p.parser × B.steady p.items × TriesAlike E.Error.seen (F.gives p.folder E.State.Inspector) (A.same p.parser) (B.same p.items) };
+    ghost steady = { λ p. A.steady p.parser × B.steady p.items × TakesAlike E.Error.seen (F.gives p.folder E.State.Inspector) (A.same p.parser) (B.same p.items) };
 
     ghost same = { λ p. SameFolded (A.same p.parser) (SameTaken (B.same p.items)) (StepsTried (F.gives p.folder E.State.Inspector)) };
 
@@ -89,7 +86,7 @@ where
     requires part { A.ready fold.now.parser }
     requires items { B.ready fold.now.items }
     requires callable { F.callable fold.now.folder }
-    ensures ran { (w : Bool) → Runs I.Input E.Error.Error E.State.Inspector (FoldsTried (λ s. B.gives fold.now.items (record { nonconsumption_is_ok = false }) s E.Error.Error E.State.Inspector) (B.begins fold.now.items E.Error.Error E.State.Inspector) E.Error.seen (F.gives fold.now.folder E.State.Inspector) (A.meaning fold.now.parser E.Error.Error E.State.Inspector)) w inp.old inp.new (asked w result) }
+    ensures ran { (w : Bool) → Runs I.Input E.Error.Error E.State.Inspector (DoesFoldTried F.gives A.meaning B.begins B.gives fold.now E.Error.Error E.State.Inspector) w inp.old inp.new (asked w result) }
     ensures lent { inp.new.state.ghost_name ≡ inp.old.state.ghost_name }
 {
     let before = inp.cursor;
@@ -116,9 +113,9 @@ fn try_fold_with<
 ) -> PResult<B>
     requires ready { A.ready parser.now }
     requires callable { F.callable folder.now }
-    requires tokens { I.cursor_tokens since.now ≡ (held I.Input E.Error.Error E.State.Inspector inp.old).tokens }
-    requires order { I.place since.now ≤ (held I.Input E.Error.Error E.State.Inspector inp.old).place }
-    ensures ran { Runs I.Input E.Error.Error E.State.Inspector (TakesAll (λ s. Placed (A.gives parser.now (record { nonconsumption_is_ok = false }) s E.Error.Error E.State.Inspector)) (A.begins parser.now E.Error.Error E.State.Inspector) (TakesTried E.Error.seen (F.gives folder.now E.State.Inspector) (I.place since.now)) (Some first)) true inp.old inp.new (with_value result) }
+    requires tokens { InTokens I.Input E.Error.Error E.State.Inspector since.now inp.old }
+    requires order { NotPast I.Input E.Error.Error E.State.Inspector since.now inp.old }
+    ensures ran { Runs I.Input E.Error.Error E.State.Inspector (DoesFoldTrying (A.begins parser.now) (A.gives parser.now) (F.gives folder.now) (I.place since.now) first E.Error.Error E.State.Inspector) true inp.old inp.new (with_value result) }
     ensures lent { inp.new.state.ghost_name ≡ inp.old.state.ghost_name }
 {
     let mut state = parser.make_iter(inp)?;

@@ -1,5 +1,7 @@
 -- The answer at the end of a run that gave its items one after another.
-use Rattle.std.specs.Prelude.{◌≡◌, ⊤, ℕ, ◌+◌, ◌^◌, nat_lt, Bool, true, false, Option, Some, None, List, [], ◌∷◌, Result, Ok, Err, map}
+use Rattle.std.specs.Prelude.{◌≡◌, ⊤, ℕ, ◌+◌, ◌^◌, nat_lt, Bool, true, false, Option, Some, None, List, [], ◌∷◌, length, Result, Ok, Err, map}
+use Rattle.std.specs.declared.alloc.Global.{Global}
+use Rattle.std.specs.declared.vec.Vec.{Vec}
 use Rattle.chumsky_input.specs.declared.error.Error as error_trait
 use Rattle.chumsky_input.specs.declared.inspector.Inspector as inspector_trait
 use Rattle.chumsky_input.specs.declared.input.Input as input_trait
@@ -7,17 +9,24 @@ use Rattle.chumsky_input.specs.declared.stop.Stop.{Stop}
 use Rattle.chumsky_input.specs.declared.stop.Stop.TheVariants.{CountTooLarge}
 use Rattle.chumsky_input.specs.declared.stop.Fault.{Fault}
 use Rattle.chumsky_input.specs.declared.stop.Fault.TheVariants as fault
+use Rattle.chumsky_input.specs.declared.aside.Aside.{Aside}
 use Rattle.chumsky_input.specs.Held.{Held}
 use Rattle.chumsky_input.specs.Outcome.{Meaning, Beginning, Outcome, Yes, IsAnswer}
 use Rattle.chumsky_input.specs.Run.{Ran, begin, without_value}
+use Rattle.chumsky_input.specs.Words.{Does}
+use Rattle.chumsky_parser.specs.declared.iter.IterParserDebug.{IterParserDebug}
+use Rattle.chumsky_items.specs.declared.collect.Collect.{Collect}
 use Rattle.chumsky_parser.specs.Chained.{Chained, Asked}
 use Rattle.chumsky_parser.specs.Failure.{SaysNo, Stops}
 use Rattle.chumsky_parser.specs.Items.{Next, AfterStep}
 use Rattle.chumsky_parser.specs.declared.result.ParseResult.{ParseResult}
 use Rattle.chumsky_primitive.specs.End.{MeansEnd}
+use Rattle.chumsky_parse_iter.specs.declared.parse_iter.ParseIter.{ParseIter}
+use Rattle.chumsky_parse_iter.specs.declared.parse_iter.Parts.{Parts}
 use Rattle.chumsky_parse_iter.specs.declared.parse_iter.Phase.{Phase}
 use Rattle.chumsky_parse_iter.specs.declared.parse_iter.Phase.TheVariants.{Unbegun, Running, Ended, Refused}
 use Rattle.chumsky_parse_iter.specs.Settled.{SettlesAs, reported, RefusesBy}
+use Rattle.chumsky_parse_iter.specs.Walk.{held_of, held_in}
 
 module _ {I Tok Sp Cu Er St Mk Cx : Type 0} (source : input_trait.Ghosts I Cu Tok Sp) (errors : error_trait.Ghosts Er I Tok Sp) (states : inspector_trait.Ghosts St I Mk Tok Sp) where
   -- a failure and a refusal stand; else the end of input is asked for where the run stands
@@ -51,6 +60,16 @@ module _ {I Tok Sp Cu Er St Mk Cx S R : Type 0} (source : input_trait.Ghosts I C
     pub closed : Result (Option (Unit {0})) Stop
     pub closes : Closes source errors states (Closing source errors states phase) old state found closed
     pub replies : Replies errors out found closed result
+
+module _ {I Tok Sp Cu Er St Mk Cx S : Type 0} (source : input_trait.Ghosts I Cu Tok Sp) (errors : error_trait.Ghosts Er I Tok Sp) (states : inspector_trait.Ghosts St I Mk Tok Sp) where
+  -- a run closes from a cursor, older errors and a state, under a context: the state and the errors that it leaves
+  abbrev pub ClosesFrom : Phase S → Cu → Aside Er → St → Cx → St → List Er → Result (Option (Unit {0})) Stop → Type 0
+  ClosesFrom phase cursor older state context left found closed =
+      Closes source errors states (Closing source errors states phase) (held_of source errors states cursor older state context) (states.seen left) (map errors.seen found) closed
+
+  -- the same of what a run holds, which is answered with this output
+  abbrev pub FinishesRun : {R : Type 0} → Phase S → Parts Cu Er St Cx → R → St → Result (ParseResult R Er) Stop → Type 0
+  FinishesRun phase parts out left result = Finishes source errors states phase (held_in source errors states parts) out (states.seen left) result
 
 -- calls of `next`, one after another, with what each gave
 abbrev pub Called : {T A : Type 0} → (T → Option A → T → Type 0) → T → List (Option A) → T → Type 0
@@ -132,3 +151,27 @@ module _ {I Tok Sp Cu Er St Mk Cx S V : Type 0} (source : input_trait.Ghosts I C
   AnswersTheWhole R start gave phase last =
       (out : R) (state : states.Seen) (result : Result (ParseResult R Er) Stop) → Finishes source errors states phase last out state result
       → AnswersWhole source errors (WholeWalk begins gives (MeansEnd source errors states) gave) start out state result
+
+module _ {P I V X Cu S Tok Sp Er St Cx Mk : Type 0} (source : input_trait.Ghosts I Cu Tok Sp) (errors : error_trait.Ghosts Er I Tok Sp) (states : inspector_trait.Ghosts St I Mk Tok Sp) where
+  -- let a run be as `parse_iter` makes it: whatever number of items it was asked for, what `finish` answers then is answered of
+  -- the whole run
+  abbrev pub FinishAnswers : (P → Does I Tok Sp Er St Mk Cx S) → (P → IterParserDebug → S → Does I Tok Sp Er St Mk Cx (Next S V)) → (ParseIter P I V X Cu S Tok Sp Er St Cx Mk → Option V → ParseIter P I V X Cu S Tok Sp Er St Cx Mk → Type 0) → (R : Type 0) → ParseIter P I V X Cu S Tok Sp Er St Cx Mk → ParseIter P I V X Cu S Tok Sp Er St Cx Mk → Type 0
+  FinishAnswers begins gives nexts R run last =
+      (gave : List (Option V)) → run.phase ≡ Unbegun → run.given ≡ 0 → (held_in source errors states run.parts).kept ≡ None → (held_in source errors states run.parts).emitted ≡ [] → Called nexts run gave last
+      → AnswersTheWhole source errors states (begins run.parser.now errors states) (λ s. gives run.parser.now (record { nonconsumption_is_ok = false }) s errors states) R (held_in source errors states run.parts) gave last.phase (held_in source errors states last.parts)
+
+  module _ (steady : P → Type 0) (nexts : ParseIter P I V X Cu S Tok Sp Er St Cx Mk → Option V → ParseIter P I V X Cu S Tok Sp Er St Cx Mk → Type 0) (collect : Collect P V (Vec V Global) → Does I Tok Sp Er St Mk Cx (Vec V Global)) (run last : ParseIter P I V X Cu S Tok Sp Er St Cx Mk) where
+    -- what is so of whatever a run of a steady parser gave that had not begun, and of each list that `collect` may give from
+    -- where it began
+    abbrev pub WithCollected : (List (Option V) → List V → Type 0) → Type 0
+    WithCollected is =
+        steady run.parser.now → (gave : List (Option V)) → run.phase ≡ Unbegun → Called nexts run gave last → (o : Outcome (Vec V Global) errors.Seen states.Seen) (v : Vec V Global)
+        → collect (record { parser = run.parser.now; of = record {} }) errors states (begin true (held_in source errors states run.parts)) o → o.verdict ≡ Yes (Some v) → is gave v.items
+
+    -- the items given are the first of those collected
+    abbrev pub GivesStartOf : (P → V → V → Type 0) → Type 0
+    GivesStartOf same = WithCollected (IsStartOf (same run.parser.now))
+
+    -- where a run that had given none has ended, it gave as many as are collected
+    abbrev pub GivesAsMany : Type 0
+    GivesAsMany = WithCollected (λ gave items. run.given ≡ 0 → last.phase ≡ Ended → last.given ≡ length items)

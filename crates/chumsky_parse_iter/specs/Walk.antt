@@ -1,5 +1,5 @@
 -- The items of a run, one step after another.
-use Rattle.std.specs.Prelude.{◌≡◌, ℕ, ◌+◌, ◌^◌, true, nat_lt, Option, Some, None, Result, Ok, Err, map, option_map, ⊤}
+use Rattle.std.specs.Prelude.{◌≡◌, ℕ, ◌+◌, ◌^◌, true, false, nat_lt, Option, Some, None, [], Result, Ok, Err, map, option_map, ⊤}
 use Rattle.std.specs.Bool.{MatchBool}
 use Rattle.chumsky_input.specs.declared.error.Error as error_trait
 use Rattle.chumsky_input.specs.declared.inspector.Inspector as inspector_trait
@@ -11,6 +11,8 @@ use Rattle.chumsky_input.specs.declared.aside.Aside.{Aside}
 use Rattle.chumsky_input.specs.Held.{Held, located}
 use Rattle.chumsky_input.specs.Outcome.{Meaning}
 use Rattle.chumsky_input.specs.Run.{Ran}
+use Rattle.chumsky_input.specs.Words.{Does}
+use Rattle.chumsky_parser.specs.declared.iter.IterParserDebug.{IterParserDebug}
 use Rattle.chumsky_parser.specs.Chained.{Chained, Asked}
 use Rattle.chumsky_parser.specs.Items.{Next, More, End}
 use Rattle.chumsky_parse_iter.specs.declared.parse_iter.Parts.{Parts}
@@ -91,3 +93,27 @@ module _ {Tok Cx St Er S V : Type 0} (merged : Er → Er → Er) (safe : Type 0)
     WalksOn (Running s) old n r p new m = Steps (gives s) old n r p new m
     WalksOn Ended old n r p new m = (r ≡ None) × (p ≡ Ended) × (new ≡ old) × (m ≡ n)
     WalksOn (Refused f) old n r p new m = (r ≡ None) × (p ≡ Refused f) × (new ≡ old) × (m ≡ n)
+
+module _ {I Tok Sp Er St Mk Cx S V : Type 0} (begins : Does I Tok Sp Er St Mk Cx S) (gives : IterParserDebug → S → Does I Tok Sp Er St Mk Cx (Next S V)) where
+  -- an iteration is made, and asked for its first item
+  abbrev pub DoesFirstStep : Does I Tok Sp Er St Mk Cx (Next S V)
+  DoesFirstStep errors states = GivesFirst (begins errors states) (λ s. gives (record { nonconsumption_is_ok = false }) s errors states)
+
+  -- the first step, or one of an iteration that was made
+  abbrev pub DoesStep : Option S → Does I Tok Sp Er St Mk Cx (Next S V)
+  DoesStep iteration errors states = StepOf (begins errors states) (λ s. gives (record { nonconsumption_is_ok = false }) s errors states) iteration
+
+module _ {I Tok Sp Cu Er St Mk Cx : Type 0} (source : input_trait.Ghosts I Cu Tok Sp) (errors : error_trait.Ghosts Er I Tok Sp) (states : inspector_trait.Ghosts St I Mk Tok Sp) where
+  -- a step run under a context, from a cursor, errors and a state to others
+  abbrev pub RunsFrom : {S V : Type 0} → Does I Tok Sp Er St Mk Cx (Next S V) → Cx → Cu → Aside Er → St → Cu → Aside Er → St → Result (Option (V × S)) Fault → Type 0
+  RunsFrom step context cursor found state cursor' found' state' answer =
+      Ran errors.merged errors.takes_no_memory (step errors states) true (held_of source errors states cursor found state context) (held_of source errors states cursor' found' state' context) (with_next answer)
+
+  -- a step run from what a run holds between its steps to what it holds then
+  abbrev pub RunsBetween : {S V : Type 0} → Does I Tok Sp Er St Mk Cx (Next S V) → Parts Cu Er St Cx → Parts Cu Er St Cx → Result (Option (V × S)) Fault → Type 0
+  RunsBetween step old new answer = Ran errors.merged errors.takes_no_memory (step errors states) true (held_in source errors states old) (held_in source errors states new) (with_next answer)
+
+  -- a run holds what it does at the start of this input: a default context, this state, and no error
+  abbrev pub BeginsWhole : (Cx → Type 0) → I → St → Parts Cu Er St Cx → Type 0
+  BeginsWhole is_default input state parts =
+      (context : Cx) × is_default context × (held_in source errors states parts ≡ record { tokens = source.tokens input; place = 0; context = context; state = states.seen state; kept = None; emitted = []; stopped = None })

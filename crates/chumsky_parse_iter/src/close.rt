@@ -1,8 +1,7 @@
 //! How a run ends: the end of input, and the last error of a failure.
-ghost use Rattle.std.specs.Prelude.{◌≡◌, false, map};
+ghost use Rattle.std.specs.Prelude.{◌≡◌, false};
 ghost use Rattle.chumsky_input.specs.Run.{Runs, without_value};
-ghost use Rattle.chumsky_parse_iter.specs.Walk.{held_of};
-ghost use Rattle.chumsky_parse_iter.specs.Finish.{Closing, Closes};
+ghost use Rattle.chumsky_parse_iter.specs.Finish.{Closing, ClosesFrom};
 
 use crate::parse_iter::Phase;
 use crate::settle::settle;
@@ -51,7 +50,7 @@ pub(crate) fn close_from<'src, I: Input<'src>, E: ParserExtra<I>, S: Drop>(
 ) -> Closed<E::Error>
 where
     I::Token: 'src,
-    ensures { Closes I.Input E.Error.Error E.State.Inspector (Closing I.Input E.Error.Error E.State.Inspector phase) (held_of I.Input E.Error.Error E.State.Inspector cursor older state.old context.now) (E.State.seen state.new) (map E.Error.seen result.errors.items) result.answer }
+    ensures { ClosesFrom I.Input E.Error.Error E.State.Inspector phase cursor older state.old context.now state.new result.errors.items result.answer }
 {
     let mut inp: InputRef<'src, '_, I, E> = InputRef::resume(alloc, cursor, state, context);
     inp.kept = older.kept;

@@ -1,12 +1,9 @@
 //! What is known of runs that give their items one after another, each the contract of a function that does nothing.
-ghost use Rattle.std.specs.Prelude.{◌≡◌, true, false, Some, None, [], List, Option, length};
-ghost use Rattle.std.specs.Global.{Vec};
-ghost use Rattle.chumsky_input.specs.Outcome.{Outcome, Yes};
-ghost use Rattle.chumsky_input.specs.Run.{begin};
-ghost use Rattle.chumsky_parse_iter.specs.Walk.{held_in, MayWalk};
-ghost use Rattle.chumsky_parse_iter.specs.Finish.{Called, StaysNone, AnswersTheWhole, IsStartOf};
+ghost use Rattle.std.specs.Prelude.{List, Option};
+ghost use Rattle.chumsky_parse_iter.specs.Walk.{MayWalk};
+ghost use Rattle.chumsky_parse_iter.specs.Finish.{Called, StaysNone, FinishAnswers, GivesStartOf, GivesAsMany};
 
-use crate::parse_iter::{ParseIter, Phase};
+use crate::parse_iter::ParseIter;
 use chumsky_input::extra::ParserExtra;
 use chumsky_input::input::Input;
 use chumsky_items::collect::Collect;
@@ -62,7 +59,8 @@ where
     E::State: Drop,
     E::Context: Drop,
     P: IterParser<'src, I, O, E>,
-    ensures { (gave : List (Option O)) → run.now.phase ≡ Phase.Unbegun → run.now.given ≡ 0 → (held_in I.Input E.Error.Error E.State.Inspector run.now.parts).kept ≡ None → (held_in I.Input E.Error.Error E.State.Inspector run.now.parts).emitted ≡ [] → Called ⟦<ParseIter<'p, 'src, P, I, O, E, C> as Iterator>⟧.next_gives run.now gave last.now → AnswersTheWhole I.Input E.Error.Error E.State.Inspector (P.begins run.now.parser.now E.Error.Error E.State.Inspector) (λ s. P.gives run.now.parser.now (record { nonconsumption_is_ok = false }) s E.Error.Error E.State.Inspector) R (held_in I.Input E.Error.Error E.State.Inspector run.now.parts) gave last.now.phase (held_in I.Input E.Error.Error E.State.Inspector last.now.parts) }
+    ensures { FinishAnswers I.Input E.Error.Error E.State.Inspector P.begins P.gives
+        ⟦<ParseIter<'p, 'src, P, I, O, E, C> as Iterator>⟧.next_gives R run.now last.now }
 {}
 
 /// The items that a run of a steady parser gave are the first of those that `collect` of the same parser gives from where the
@@ -81,6 +79,10 @@ where
     E::State: Drop,
     E::Context: Drop,
     P: IterParser<'src, I, O, E>,
-    ensures first { P.steady run.now.parser.now → (gave : List (Option O)) → run.now.phase ≡ Phase.Unbegun → Called ⟦<ParseIter<'p, 'src, P, I, O, E, C> as Iterator>⟧.next_gives run.now gave last.now → (o : Outcome (Vec O) E.Error.Seen E.State.Seen) (v : Vec O) → ⟦<Collect<P, O, Vec<O>> as Parser<'src, I, Vec<O>, E>>⟧.meaning (record { parser = run.now.parser.now; of = record {} }) E.Error.Error E.State.Inspector (begin true (held_in I.Input E.Error.Error E.State.Inspector run.now.parts)) o → o.verdict ≡ Yes (Some v) → IsStartOf (P.same run.now.parser.now) gave v.items }
-    ensures all { P.steady run.now.parser.now → (gave : List (Option O)) → run.now.phase ≡ Phase.Unbegun → Called ⟦<ParseIter<'p, 'src, P, I, O, E, C> as Iterator>⟧.next_gives run.now gave last.now → (o : Outcome (Vec O) E.Error.Seen E.State.Seen) (v : Vec O) → ⟦<Collect<P, O, Vec<O>> as Parser<'src, I, Vec<O>, E>>⟧.meaning (record { parser = run.now.parser.now; of = record {} }) E.Error.Error E.State.Inspector (begin true (held_in I.Input E.Error.Error E.State.Inspector run.now.parts)) o → o.verdict ≡ Yes (Some v) → run.now.given ≡ 0 → last.now.phase ≡ Phase.Ended → last.now.given ≡ length v.items }
+    ensures first { GivesStartOf I.Input E.Error.Error E.State.Inspector P.steady
+        ⟦<ParseIter<'p, 'src, P, I, O, E, C> as Iterator>⟧.next_gives
+        ⟦<Collect<P, O, Vec<O>> as Parser<'src, I, Vec<O>, E>>⟧.meaning run.now last.now P.same }
+    ensures all { GivesAsMany I.Input E.Error.Error E.State.Inspector P.steady
+        ⟦<ParseIter<'p, 'src, P, I, O, E, C> as Iterator>⟧.next_gives
+        ⟦<Collect<P, O, Vec<O>> as Parser<'src, I, Vec<O>, E>>⟧.meaning run.now last.now }
 {}

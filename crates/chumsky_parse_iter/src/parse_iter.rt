@@ -1,8 +1,8 @@
 //! An iterator over the items of a parser.
-ghost use Rattle.std.specs.Prelude.{◌≡◌, ◌-◌, ◌^◌, false, None, []};
+ghost use Rattle.std.specs.Prelude.{◌≡◌, ◌-◌, ◌^◌, false};
 ghost use Rattle.std.specs.Iterator.{at_most};
-ghost use Rattle.chumsky_parse_iter.specs.Walk.{held_in, MayWalk, WalksOn, Counted};
-ghost use Rattle.chumsky_parse_iter.specs.Finish.{Finishes};
+ghost use Rattle.chumsky_parse_iter.specs.Walk.{held_in, MayWalk, WalksOn, Counted, BeginsWhole};
+ghost use Rattle.chumsky_parse_iter.specs.Finish.{FinishesRun};
 
 use crate::close::{Closed, close_from};
 use crate::step::ask;
@@ -129,7 +129,7 @@ where
     pub fn finish<R: Drop>(self, out: R) -> Result<ParseResult<R, E::Error>, Stop>
     where
         E::State: Drop,
-        ensures { (left : E.State) × Finishes I.Input E.Error.Error E.State.Inspector self.entry.phase (held_in I.Input E.Error.Error E.State.Inspector self.entry.parts) out (E.State.seen left) result }
+        ensures { (left : E.State) × FinishesRun I.Input E.Error.Error E.State.Inspector self.entry.phase self.entry.parts out left result }
     {
         self.finish_with_state(out).0
     }
@@ -139,7 +139,7 @@ where
         self,
         out: R,
     ) -> (Result<ParseResult<R, E::Error>, Stop>, E::State)
-        ensures { Finishes I.Input E.Error.Error E.State.Inspector self.entry.phase (held_in I.Input E.Error.Error E.State.Inspector self.entry.parts) out (E.State.seen result.1) result.0 }
+        ensures { FinishesRun I.Input E.Error.Error E.State.Inspector self.entry.phase self.entry.parts out result.1 result.0 }
     {
         let ParseIter {
             parser: _,
@@ -185,7 +185,7 @@ where
     E: ParserExtra<I>,
     E::Context: Default,
     ensures parser { result.parser ≡ parser.entry }
-    ensures parts { (context : E.Context) × E.Context.is_default context × (held_in I.Input E.Error.Error E.State.Inspector result.parts ≡ record { tokens = I.tokens input; place = 0; context = context; state = E.State.seen state; kept = None; emitted = []; stopped = None }) }
+    ensures parts { BeginsWhole I.Input E.Error.Error E.State.Inspector E.Context.is_default input state result.parts }
     ensures phase { result.phase ≡ Phase.Unbegun }
     ensures given { result.given ≡ 0 }
 {

@@ -1,7 +1,7 @@
 //! One step of an iteration, from what a run holds between its steps.
 ghost use Rattle.std.specs.Prelude.{◌≡◌, true, false, IfOk, IfSome};
-ghost use Rattle.chumsky_input.specs.Run.{Runs, Ran};
-ghost use Rattle.chumsky_parse_iter.specs.Walk.{held_of, held_in, with_next, GivesFirst, StepOf, MayStep};
+ghost use Rattle.chumsky_input.specs.Run.{Runs};
+ghost use Rattle.chumsky_parse_iter.specs.Walk.{with_next, DoesFirstStep, DoesStep, RunsFrom, RunsBetween, MayStep};
 
 use crate::parse_iter::Parts;
 use chumsky_input::aside::Aside;
@@ -49,7 +49,7 @@ fn run_first<'src, I: Input<'src>, O, E: ParserExtra<I>, P: IterParser<'src, I, 
     inp: &mut InputRef<'src, '_, I, E>,
 ) -> PResult<Option<(O, P::IterState)>>
     requires { P.ready parser.now }
-    ensures ran { Runs I.Input E.Error.Error E.State.Inspector (GivesFirst (P.begins parser.now E.Error.Error E.State.Inspector) (λ s. P.gives parser.now (record { nonconsumption_is_ok = false }) s E.Error.Error E.State.Inspector)) true inp.old inp.new (with_next result) }
+    ensures ran { Runs I.Input E.Error.Error E.State.Inspector (DoesFirstStep (P.begins parser.now) (P.gives parser.now) E.Error.Error E.State.Inspector) true inp.old inp.new (with_next result) }
     ensures may { IfOk result (λ o. IfSome o (λ x. P.may_step parser.now x.1)) }
     ensures lent { inp.new.state.ghost_name ≡ inp.old.state.ghost_name }
 {
@@ -65,7 +65,7 @@ fn run_step<'src, I: Input<'src>, O, E: ParserExtra<I>, P: IterParser<'src, I, O
     inp: &mut InputRef<'src, '_, I, E>,
 ) -> PResult<Option<(O, P::IterState)>>
     requires { MayStep (P.ready parser.now) (P.may_step parser.now) iteration }
-    ensures ran { Runs I.Input E.Error.Error E.State.Inspector (StepOf (P.begins parser.now E.Error.Error E.State.Inspector) (λ s. P.gives parser.now (record { nonconsumption_is_ok = false }) s E.Error.Error E.State.Inspector) iteration) true inp.old inp.new (with_next result) }
+    ensures ran { Runs I.Input E.Error.Error E.State.Inspector (DoesStep (P.begins parser.now) (P.gives parser.now) iteration E.Error.Error E.State.Inspector) true inp.old inp.new (with_next result) }
     ensures may { IfOk result (λ o. IfSome o (λ x. P.may_step parser.now x.1)) }
     ensures lent { inp.new.state.ghost_name ≡ inp.old.state.ghost_name }
 {
@@ -91,7 +91,8 @@ where
     E: ParserExtra<I>,
     P: IterParser<'src, I, O, E>,
     requires { MayStep (P.ready parser.now) (P.may_step parser.now) iteration }
-    ensures ran { Ran E.Error.merged E.Error.takes_no_memory (StepOf (P.begins parser.now E.Error.Error E.State.Inspector) (λ s. P.gives parser.now (record { nonconsumption_is_ok = false }) s E.Error.Error E.State.Inspector) iteration) true (held_of I.Input E.Error.Error E.State.Inspector cursor older state.old context.now) (held_of I.Input E.Error.Error E.State.Inspector result.cursor result.errors state.new context.now) (with_next result.answer) }
+    ensures ran { RunsFrom I.Input E.Error.Error E.State.Inspector (DoesStep (P.begins parser.now) (P.gives parser.now) iteration)
+        context.now cursor older state.old result.cursor result.errors state.new result.answer }
     ensures may { IfOk result.answer (λ o. IfSome o (λ x. P.may_step parser.now x.1)) }
 {
     let mut inp: InputRef<'src, '_, I, E> = InputRef::resume(alloc, cursor, state, context);
@@ -123,7 +124,7 @@ where
     E: ParserExtra<I>,
     P: IterParser<'src, I, O, E>,
     requires { MayStep (P.ready parser.now) (P.may_step parser.now) iteration }
-    ensures ran { Ran E.Error.merged E.Error.takes_no_memory (StepOf (P.begins parser.now E.Error.Error E.State.Inspector) (λ s. P.gives parser.now (record { nonconsumption_is_ok = false }) s E.Error.Error E.State.Inspector) iteration) true (held_in I.Input E.Error.Error E.State.Inspector parts.old) (held_in I.Input E.Error.Error E.State.Inspector parts.new) (with_next result) }
+    ensures ran { RunsBetween I.Input E.Error.Error E.State.Inspector (DoesStep (P.begins parser.now) (P.gives parser.now) iteration) parts.old parts.new result }
     ensures may { IfOk result (λ o. IfSome o (λ x. P.may_step parser.now x.1)) }
 {
     let none = Aside {
