@@ -24,6 +24,7 @@ pub record RunReport (W Er St : Type 0) : Type 0 where
   pub emitted : List Er
   pub state : St
 
+-- the report that has these
 abbrev pub report_of : {W Er St : Type 0} → Result W Fault → Option Er → List Er → St → RunReport W Er St
 report_of answer error emitted state = record { answer = answer; error = error; emitted = emitted; state = state }
 
