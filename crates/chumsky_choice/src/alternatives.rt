@@ -9,15 +9,15 @@ use chumsky_parser::parser::Parser;
 pub trait Alternatives<'src, I: Input<'src>, O, E: ParserExtra<I>>: Parser<'src, I, O, E> {
     ghost use Rattle.std.specs.Prelude.{List};
     ghost use Rattle.chumsky_input.specs.Words.{Does};
-    ghost use Rattle.chumsky_choice.specs.Alternatives.{StandsByOneIn, SameByOneIn};
+    ghost use Rattle.chumsky_choice.specs.Alternatives.{TriesInOrder, SameByOneIn};
 
     /// What each alternative does.
     ghost each_does: { Self → List (Does I I.Token I.Span E.Error E.State E.State.Mark E.Context O) };
     /// Which outputs each calls the same.
     ghost each_same: { Self → List (O → O → Type 0) };
 
-    /// In each answer one alternative stands.
-    ghost stands_by_one: { (p : Self) → StandsByOneIn E.Error.Error E.State.Inspector (Self.meaning p) (each_does p) };
+    /// The choice is the first of them that doesn't say no, else the last.
+    ghost tries_in_order: { (p : Self) → TriesInOrder E.Error.Error E.State.Inspector (Self.meaning p) (each_does p) };
 
     /// In two answers of a steady choice the same one stands.
     ghost agrees_by_one: { (p : Self) → Self.steady p → SameByOneIn E.Error.Error E.State.Inspector (Self.meaning p) (each_same p) (each_does p) };
@@ -36,7 +36,7 @@ impl<'src, I: Input<'src>, O, E: ParserExtra<I>, A: Parser<'src, I, O, E>> Alter
 
     ghost each_same = { λ p. let t = p.parsers in A.same t.0 ∷ [] };
 
-    ghost stands_by_one = { λ _ _ _ m _. m };
+    ghost tries_in_order = { λ _ _ _ m. record { cases = m } };
 
     ghost agrees_by_one = { λ p s. only-both _ _ _ _ _ (A.agrees p.parsers.0 s) };
 }
@@ -52,13 +52,12 @@ impl<
     ghost use Rattle.std.specs.Prelude.{[], ◌∷◌};
     ghost use Rattle.chumsky_parser.specs.ChoiceLaws.{none-agree, and-agrees};
     ghost use Rattle.chumsky_combinator.specs.StandingLaws.{first_of-both};
-    ghost use Rattle.chumsky_choice.specs.InOrderLaws.{first_of-stands};
 
     ghost each_does = { λ p. let t = p.parsers in A.meaning t.0 ∷ B.meaning t.1 ∷ [] };
 
     ghost each_same = { λ p. let t = p.parsers in A.same t.0 ∷ B.same t.1 ∷ [] };
 
-    ghost stands_by_one = { λ _. first_of-stands _ _ _ _ _ };
+    ghost tries_in_order = { λ _ _ _ m. m };
 
     ghost agrees_by_one = { λ p s. let t = p.parsers in
         first_of-both _ _ _ (A.same t.0) (B.same t.1 ∷ []) _ _ (and-agrees (A.agrees t.0 s.0)
@@ -77,14 +76,13 @@ impl<
     ghost use Rattle.std.specs.Prelude.{[], ◌∷◌};
     ghost use Rattle.chumsky_parser.specs.ChoiceLaws.{none-agree, and-agrees};
     ghost use Rattle.chumsky_combinator.specs.StandingLaws.{first_of-both};
-    ghost use Rattle.chumsky_choice.specs.InOrderLaws.{first_of-stands};
 
     ghost each_does = { λ p. let t = p.parsers in
         A.meaning t.0 ∷ B.meaning t.1 ∷ C.meaning t.2 ∷ [] };
 
     ghost each_same = { λ p. let t = p.parsers in A.same t.0 ∷ B.same t.1 ∷ C.same t.2 ∷ [] };
 
-    ghost stands_by_one = { λ _. first_of-stands _ _ _ _ _ };
+    ghost tries_in_order = { λ _ _ _ m. m };
 
     ghost agrees_by_one = { λ p s. let t = p.parsers in
         first_of-both _ _ _ (A.same t.0) (B.same t.1 ∷ C.same t.2 ∷ []) _ _
@@ -105,7 +103,6 @@ impl<
     ghost use Rattle.std.specs.Prelude.{[], ◌∷◌};
     ghost use Rattle.chumsky_parser.specs.ChoiceLaws.{none-agree, and-agrees};
     ghost use Rattle.chumsky_combinator.specs.StandingLaws.{first_of-both};
-    ghost use Rattle.chumsky_choice.specs.InOrderLaws.{first_of-stands};
 
     ghost each_does = { λ p. let t = p.parsers in
         A.meaning t.0 ∷ B.meaning t.1 ∷ C.meaning t.2 ∷ D.meaning t.3 ∷ [] };
@@ -113,7 +110,7 @@ impl<
     ghost each_same = { λ p. let t = p.parsers in
         A.same t.0 ∷ B.same t.1 ∷ C.same t.2 ∷ D.same t.3 ∷ [] };
 
-    ghost stands_by_one = { λ _. first_of-stands _ _ _ _ _ };
+    ghost tries_in_order = { λ _ _ _ m. m };
 
     ghost agrees_by_one = { λ p s. let t = p.parsers in
         first_of-both _ _ _ (A.same t.0) (B.same t.1 ∷ C.same t.2 ∷ D.same t.3 ∷ []) _ _
@@ -135,7 +132,6 @@ impl<
     ghost use Rattle.std.specs.Prelude.{[], ◌∷◌};
     ghost use Rattle.chumsky_parser.specs.ChoiceLaws.{none-agree, and-agrees};
     ghost use Rattle.chumsky_combinator.specs.StandingLaws.{first_of-both};
-    ghost use Rattle.chumsky_choice.specs.InOrderLaws.{first_of-stands};
 
     ghost each_does = { λ p. let t = p.parsers in
         A.meaning t.0 ∷ B.meaning t.1 ∷ C.meaning t.2 ∷ D.meaning t.3 ∷ F.meaning t.4 ∷ [] };
@@ -143,7 +139,7 @@ impl<
     ghost each_same = { λ p. let t = p.parsers in
         A.same t.0 ∷ B.same t.1 ∷ C.same t.2 ∷ D.same t.3 ∷ F.same t.4 ∷ [] };
 
-    ghost stands_by_one = { λ _. first_of-stands _ _ _ _ _ };
+    ghost tries_in_order = { λ _ _ _ m. m };
 
     ghost agrees_by_one = { λ p s. let t = p.parsers in
         first_of-both _ _ _ (A.same t.0) (B.same t.1 ∷ C.same t.2 ∷ D.same t.3 ∷ F.same t.4 ∷ [])
@@ -167,7 +163,6 @@ impl<
     ghost use Rattle.std.specs.Prelude.{[], ◌∷◌};
     ghost use Rattle.chumsky_parser.specs.ChoiceLaws.{none-agree, and-agrees};
     ghost use Rattle.chumsky_combinator.specs.StandingLaws.{first_of-both};
-    ghost use Rattle.chumsky_choice.specs.InOrderLaws.{first_of-stands};
 
     ghost each_does = { λ p. let t = p.parsers in
         A.meaning t.0 ∷ B.meaning t.1 ∷ C.meaning t.2 ∷ D.meaning t.3 ∷ F.meaning t.4 ∷
@@ -176,7 +171,7 @@ impl<
     ghost each_same = { λ p. let t = p.parsers in
         A.same t.0 ∷ B.same t.1 ∷ C.same t.2 ∷ D.same t.3 ∷ F.same t.4 ∷ G.same t.5 ∷ [] };
 
-    ghost stands_by_one = { λ _. first_of-stands _ _ _ _ _ };
+    ghost tries_in_order = { λ _ _ _ m. m };
 
     ghost agrees_by_one = { λ p s. let t = p.parsers in
         first_of-both _ _ _ (A.same t.0) (B.same t.1 ∷ C.same t.2 ∷ D.same t.3 ∷ F.same t.4 ∷
@@ -201,7 +196,6 @@ impl<
     ghost use Rattle.std.specs.Prelude.{[], ◌∷◌};
     ghost use Rattle.chumsky_parser.specs.ChoiceLaws.{none-agree, and-agrees};
     ghost use Rattle.chumsky_combinator.specs.StandingLaws.{first_of-both};
-    ghost use Rattle.chumsky_choice.specs.InOrderLaws.{first_of-stands};
 
     ghost each_does = { λ p. let t = p.parsers in
         A.meaning t.0 ∷ B.meaning t.1 ∷ C.meaning t.2 ∷ D.meaning t.3 ∷ F.meaning t.4 ∷
@@ -211,7 +205,7 @@ impl<
         A.same t.0 ∷ B.same t.1 ∷ C.same t.2 ∷ D.same t.3 ∷ F.same t.4 ∷ G.same t.5 ∷
         H.same t.6 ∷ [] };
 
-    ghost stands_by_one = { λ _. first_of-stands _ _ _ _ _ };
+    ghost tries_in_order = { λ _ _ _ m. m };
 
     ghost agrees_by_one = { λ p s. let t = p.parsers in
         first_of-both _ _ _ (A.same t.0) (B.same t.1 ∷ C.same t.2 ∷ D.same t.3 ∷ F.same t.4 ∷
@@ -238,7 +232,6 @@ impl<
     ghost use Rattle.std.specs.Prelude.{[], ◌∷◌};
     ghost use Rattle.chumsky_parser.specs.ChoiceLaws.{none-agree, and-agrees};
     ghost use Rattle.chumsky_combinator.specs.StandingLaws.{first_of-both};
-    ghost use Rattle.chumsky_choice.specs.InOrderLaws.{first_of-stands};
 
     ghost each_does = { λ p. let t = p.parsers in
         A.meaning t.0 ∷ B.meaning t.1 ∷ C.meaning t.2 ∷ D.meaning t.3 ∷ F.meaning t.4 ∷
@@ -248,7 +241,7 @@ impl<
         A.same t.0 ∷ B.same t.1 ∷ C.same t.2 ∷ D.same t.3 ∷ F.same t.4 ∷ G.same t.5 ∷
         H.same t.6 ∷ J.same t.7 ∷ [] };
 
-    ghost stands_by_one = { λ _. first_of-stands _ _ _ _ _ };
+    ghost tries_in_order = { λ _ _ _ m. m };
 
     ghost agrees_by_one = { λ p s. let t = p.parsers in
         first_of-both _ _ _ (A.same t.0) (B.same t.1 ∷ C.same t.2 ∷ D.same t.3 ∷ F.same t.4 ∷

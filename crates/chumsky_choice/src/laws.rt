@@ -1,7 +1,7 @@
 //! Laws that compare choices, each the contract of a function that does nothing.
 ghost use Rattle.std.specs.List.{All};
 ghost use Rattle.chumsky_choice.specs.Alternatives.{StandsByOneIn, StandsByOneOf, SameByOneIn, SameByOneOf};
-ghost use Rattle.chumsky_choice.specs.Repeated.{or_of, DoesNoMore, DoesNoMoreButMemory};
+ghost use Rattle.chumsky_choice.specs.Repeated.{ors_of, choice_of, DoesNoMore, DoesNoMoreButMemory};
 
 use crate::alternatives::Alternatives;
 use crate::choice::Choice;
@@ -22,11 +22,11 @@ pub fn choice_is_repeated_or<
     C: Parser<'src, I, O, E>,
 >(a: &A, b: &B, c: &C)
     ensures in_or { DoesNoMore E.Error.Error E.State.Inspector
-        (⟦<Choice<(A, B, C)> as Parser<'src, I, O, E>>⟧.meaning (record { parsers = (a.now, b.now, c.now) }))
-        (⟦<Or<Or<A, B>, C> as Parser<'src, I, O, E>>⟧.meaning (or_of (or_of a.now b.now) c.now)) }
+        (⟦<Choice<(A, B, C)> as Parser<'src, I, O, E>>⟧.meaning (choice_of (a.now, b.now, c.now)))
+        (⟦<Or<Or<A, B>, C> as Parser<'src, I, O, E>>⟧.meaning (ors_of a.now b.now c.now)) }
     ensures in_choice { DoesNoMoreButMemory E.Error.Error E.State.Inspector
-        (⟦<Or<Or<A, B>, C> as Parser<'src, I, O, E>>⟧.meaning (or_of (or_of a.now b.now) c.now))
-        (⟦<Choice<(A, B, C)> as Parser<'src, I, O, E>>⟧.meaning (record { parsers = (a.now, b.now, c.now) })) }
+        (⟦<Or<Or<A, B>, C> as Parser<'src, I, O, E>>⟧.meaning (ors_of a.now b.now c.now))
+        (⟦<Choice<(A, B, C)> as Parser<'src, I, O, E>>⟧.meaning (choice_of (a.now, b.now, c.now))) }
 {}
 
 /// In each answer of a choice of one alternative, of two, and so on to eight, one alternative stands: those before it say no

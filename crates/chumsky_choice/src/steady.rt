@@ -3,8 +3,8 @@
 //! And what is known of two outputs that count as the same: that they do to one alternative.
 ghost use Rattle.std.specs.Prelude.{[], ◌∷◌, map};
 ghost use Rattle.std.specs.List.{All};
-ghost use Rattle.chumsky_parser.specs.Choice.{SameByOne};
 ghost use Rattle.chumsky_choice.specs.Among.{SameByAny};
+ghost use Rattle.chumsky_choice.specs.Alternatives.{OnlyByOne};
 
 use crate::choice::Choice;
 use chumsky_input::extra::ParserExtra;
@@ -85,30 +85,27 @@ pub fn choice_is_steady<
         ⟦<Choice<(A, B, C, D, F, G, H, J)> as Parser<'src, I, O, E>>⟧.steady eight.now }
     ensures same_one { (x y : O) →
         ⟦<Choice<(A,)> as Parser<'src, I, O, E>>⟧.same one.now x y → A.same one.now.parsers.0 x y }
-    ensures same_two { let t = two.now.parsers in (x y : O) →
-        ⟦<Choice<(A, B)> as Parser<'src, I, O, E>>⟧.same two.now x y → SameByOne (A.same t.0)
-        (B.same t.1 ∷ []) x y }
-    ensures same_three { let t = three.now.parsers in (x y : O) →
-        ⟦<Choice<(A, B, C)> as Parser<'src, I, O, E>>⟧.same three.now x y → SameByOne (A.same t.0)
-        (B.same t.1 ∷ C.same t.2 ∷ []) x y }
-    ensures same_four { let t = four.now.parsers in (x y : O) →
-        ⟦<Choice<(A, B, C, D)> as Parser<'src, I, O, E>>⟧.same four.now x y →
-        SameByOne (A.same t.0) (B.same t.1 ∷ C.same t.2 ∷ D.same t.3 ∷ []) x y }
-    ensures same_five { let t = five.now.parsers in (x y : O) →
-        ⟦<Choice<(A, B, C, D, F)> as Parser<'src, I, O, E>>⟧.same five.now x y →
-        SameByOne (A.same t.0) (B.same t.1 ∷ C.same t.2 ∷ D.same t.3 ∷ F.same t.4 ∷ []) x y }
-    ensures same_six { let t = six.now.parsers in (x y : O) →
-        ⟦<Choice<(A, B, C, D, F, G)> as Parser<'src, I, O, E>>⟧.same six.now x y →
-        SameByOne (A.same t.0) (B.same t.1 ∷ C.same t.2 ∷ D.same t.3 ∷ F.same t.4 ∷
-        G.same t.5 ∷ []) x y }
-    ensures same_seven { let t = seven.now.parsers in (x y : O) →
-        ⟦<Choice<(A, B, C, D, F, G, H)> as Parser<'src, I, O, E>>⟧.same seven.now x y →
-        SameByOne (A.same t.0) (B.same t.1 ∷ C.same t.2 ∷ D.same t.3 ∷ F.same t.4 ∷
-        G.same t.5 ∷ H.same t.6 ∷ []) x y }
-    ensures same_eight { let t = eight.now.parsers in (x y : O) →
-        ⟦<Choice<(A, B, C, D, F, G, H, J)> as Parser<'src, I, O, E>>⟧.same eight.now x y →
-        SameByOne (A.same t.0) (B.same t.1 ∷ C.same t.2 ∷ D.same t.3 ∷ F.same t.4 ∷
-        G.same t.5 ∷ H.same t.6 ∷ J.same t.7 ∷ []) x y }
+    ensures same_two { let t = two.now.parsers in OnlyByOne
+        (⟦<Choice<(A, B)> as Parser<'src, I, O, E>>⟧.same two.now)
+        (A.same t.0) (B.same t.1 ∷ []) }
+    ensures same_three { let t = three.now.parsers in OnlyByOne
+        (⟦<Choice<(A, B, C)> as Parser<'src, I, O, E>>⟧.same three.now)
+        (A.same t.0) (B.same t.1 ∷ C.same t.2 ∷ []) }
+    ensures same_four { let t = four.now.parsers in OnlyByOne
+        (⟦<Choice<(A, B, C, D)> as Parser<'src, I, O, E>>⟧.same four.now)
+        (A.same t.0) (B.same t.1 ∷ C.same t.2 ∷ D.same t.3 ∷ []) }
+    ensures same_five { let t = five.now.parsers in OnlyByOne
+        (⟦<Choice<(A, B, C, D, F)> as Parser<'src, I, O, E>>⟧.same five.now)
+        (A.same t.0) (B.same t.1 ∷ C.same t.2 ∷ D.same t.3 ∷ F.same t.4 ∷ []) }
+    ensures same_six { let t = six.now.parsers in OnlyByOne
+        (⟦<Choice<(A, B, C, D, F, G)> as Parser<'src, I, O, E>>⟧.same six.now)
+        (A.same t.0) (B.same t.1 ∷ C.same t.2 ∷ D.same t.3 ∷ F.same t.4 ∷ G.same t.5 ∷ []) }
+    ensures same_seven { let t = seven.now.parsers in OnlyByOne
+        (⟦<Choice<(A, B, C, D, F, G, H)> as Parser<'src, I, O, E>>⟧.same seven.now)
+        (A.same t.0) (B.same t.1 ∷ C.same t.2 ∷ D.same t.3 ∷ F.same t.4 ∷ G.same t.5 ∷ H.same t.6 ∷ []) }
+    ensures same_eight { let t = eight.now.parsers in OnlyByOne
+        (⟦<Choice<(A, B, C, D, F, G, H, J)> as Parser<'src, I, O, E>>⟧.same eight.now)
+        (A.same t.0) (B.same t.1 ∷ C.same t.2 ∷ D.same t.3 ∷ F.same t.4 ∷ G.same t.5 ∷ H.same t.6 ∷ J.same t.7 ∷ []) }
 {}
 
 /// A choice among the parsers of a slice, a `Vec` or an array.

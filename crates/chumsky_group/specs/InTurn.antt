@@ -7,10 +7,10 @@ use Rattle.chumsky_parser.specs.Failure.{wanting}
 
 module _ {V : Type 0} where
   -- an item before those of a vector, where all are there
-  abbrev pub with_first : Option V → Option (ArrayVec V) → Option (ArrayVec V)
-  with_first (Some v) (Some vs) = Some (record { items = v ∷ vs.items })
-  with_first (Some v) None = None
-  with_first None vs = None
+  abbrev pub item_before : Option V → Option (ArrayVec V) → Option (ArrayVec V)
+  item_before (Some v) (Some vs) = Some (record { items = v ∷ vs.items })
+  item_before (Some v) None = None
+  item_before None vs = None
 
   -- as many items, each by the sameness at its place
   abbrev pub SameEach : List (V → V → Type 0) → List V → List V → Type 0
@@ -21,8 +21,9 @@ module _ {V : Type 0} where
   SameEach (s ∷ ss) (v ∷ vs) [] = ⊥
   SameEach (s ∷ ss) (v ∷ vs) (w ∷ ws) = s v w × SameEach ss vs ws
 
-  abbrev pub SameItems : List (V → V → Type 0) → ArrayVec V → ArrayVec V → Type 0
-  SameItems ss v w = SameEach ss v.items w.items
+  -- two vectors of as many, each by the sameness at its place
+  abbrev pub SameVectors : List (V → V → Type 0) → ArrayVec V → ArrayVec V → Type 0
+  SameVectors ss v w = SameEach ss v.items w.items
 
 module _ {Tok Cx St Er V : Type 0} where
   -- yes, with no items
@@ -32,4 +33,4 @@ module _ {Tok Cx St Er V : Type 0} where
   -- the first, and then the others, each beginning where the former ended: their values in order
   abbrev pub InTurn : List (Meaning Tok Cx St Er V) → Meaning Tok Cx St Er (ArrayVec V)
   InTurn [] = NoPart
-  InTurn (m ∷ ms) = Chained m (λ v. Chained (InTurn ms) (λ vs. Given (with_first v vs)))
+  InTurn (m ∷ ms) = Chained m (λ v. Chained (InTurn ms) (λ vs. Given (item_before v vs)))

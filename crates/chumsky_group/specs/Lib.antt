@@ -4,3 +4,5 @@ pub mod Next
 pub mod InTurn
 pub mod InTurnLaws
 pub mod Paired
+pub mod Parts
+pub mod PartsLaws

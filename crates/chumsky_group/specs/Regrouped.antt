@@ -25,6 +25,9 @@ one_of_pairs a = record { 0 = a }
 abbrev pub three_of_pairs : {A B C : Type 0} → (A × B) × C → A × B × C
 three_of_pairs v = (v.0.0, v.0.1, v.1)
 
+abbrev pub pairs_of_three : {A B C : Type 0} → A × B × C → (A × B) × C
+pairs_of_three v = ((v.0, v.1), v.2)
+
 abbrev pub four_of_pairs : {A B C D : Type 0} → ((A × B) × C) × D → A × B × C × D
 four_of_pairs v = (v.0.0.0, v.0.0.1, v.0.1, v.1)
 

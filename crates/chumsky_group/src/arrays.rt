@@ -23,7 +23,7 @@ impl<
     ghost use Rattle.std.specs.Prelude.{map};
     ghost use Rattle.std.specs.List.{All};
     ghost use Rattle.chumsky_parser.specs.ChoiceLaws.{each-ends, each-agrees};
-    ghost use Rattle.chumsky_group.specs.InTurn.{InTurn, SameItems};
+    ghost use Rattle.chumsky_group.specs.InTurn.{InTurn, SameVectors};
     ghost use Rattle.chumsky_group.specs.InTurnLaws.{in_turn-ends, in_turn-agrees};
 
     ghost ready = { λ p. All P.ready p.parsers };
@@ -32,7 +32,7 @@ impl<
 
     ghost steady = { λ p. All P.steady p.parsers };
 
-    ghost same = { λ p. SameItems (map P.same p.parsers) };
+    ghost same = { λ p. SameVectors (map P.same p.parsers) };
 
     ghost ends_after_start = { λ p. in_turn-ends _ (each-ends _ P.ends_after_start p.parsers) };
 

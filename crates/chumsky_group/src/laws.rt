@@ -1,5 +1,6 @@
 //! Laws that compare groups with sequences, each the contract of a function that does nothing.
-ghost use Rattle.chumsky_group.specs.Paired.{then_of, DoesSame, DoesShown};
+ghost use Rattle.chumsky_group.specs.Regrouped.{three_of_pairs, pairs_of_three};
+ghost use Rattle.chumsky_group.specs.Paired.{then_of, group_of, DoesSame, DoesShown};
 
 use crate::group::Group;
 use chumsky_combinator::then::Then;
@@ -22,7 +23,7 @@ pub fn group_of_two_is_then<
         (⟦<Then<A, B, O, U> as Parser<'src, I, (O, U), E>>⟧.meaning (then_of a.now b.now)) }
 {}
 
-/// `group((a, b, c))` has the outcomes of `a.then(b).then(c)`, and no others, up to the grouping of the values.
+/// `group((a, b, c))` has the outcomes of `a.then(b).then(c)`, which is `t`, and no others, up to the grouping of the values.
 pub fn group_of_three_is_then_twice<
     'src,
     I: Input<'src>,
@@ -33,11 +34,11 @@ pub fn group_of_three_is_then_twice<
     A: Parser<'src, I, O, E>,
     B: Parser<'src, I, U, E>,
     C: Parser<'src, I, V, E>,
->(a: &A, b: &B, c: &C)
-    ensures grouped { DoesShown E.Error.Error E.State.Inspector (λ v. (v.0.0, v.0.1, v.1))
-        (⟦<Then<Then<A, B, O, U>, C, (O, U), V> as Parser<'src, I, ((O, U), V), E>>⟧.meaning (then_of (then_of a.now b.now) c.now))
-        (⟦<Group<(A, B, C)> as Parser<'src, I, (O, U, V), E>>⟧.meaning (record { parsers = (a.now, b.now, c.now) })) }
-    ensures paired { DoesShown E.Error.Error E.State.Inspector (λ v. ((v.0, v.1), v.2))
-        (⟦<Group<(A, B, C)> as Parser<'src, I, (O, U, V), E>>⟧.meaning (record { parsers = (a.now, b.now, c.now) }))
-        (⟦<Then<Then<A, B, O, U>, C, (O, U), V> as Parser<'src, I, ((O, U), V), E>>⟧.meaning (then_of (then_of a.now b.now) c.now)) }
+>(t: &Then<Then<A, B, O, U>, C, (O, U), V>)
+    ensures grouped { DoesShown E.Error.Error E.State.Inspector three_of_pairs
+        (⟦<Then<Then<A, B, O, U>, C, (O, U), V> as Parser<'src, I, ((O, U), V), E>>⟧.meaning t.now)
+        (⟦<Group<(A, B, C)> as Parser<'src, I, (O, U, V), E>>⟧.meaning (group_of t.now)) }
+    ensures paired { DoesShown E.Error.Error E.State.Inspector pairs_of_three
+        (⟦<Group<(A, B, C)> as Parser<'src, I, (O, U, V), E>>⟧.meaning (group_of t.now))
+        (⟦<Then<Then<A, B, O, U>, C, (O, U), V> as Parser<'src, I, ((O, U), V), E>>⟧.meaning t.now) }
 {}

@@ -6,5 +6,6 @@ pub mod group;
 pub mod laws;
 pub mod make;
 mod next;
+pub mod parts;
 pub mod steady;
 pub mod tuples;

@@ -4,3 +4,4 @@ pub mod PrimitivesSpare
 pub mod ItemsSpare
 pub mod PartsSpare
 pub mod VettedSpare
+pub mod ByParts

@@ -1,18 +1,22 @@
 -- What is made of several parts is never refused for memory where none of them is: choices and groups.
--- Main laws: first_of-spares, first_among-spares, regrouped-spares, in_turn-spares. Read first: Memory.antt, MemoryLaws.antt.
-use Rattle.std.proofs.Common.{ℕ, zero, suc, List, [], ◌∷◌, map, option_map, inl, inr, ap, arith}
+-- Main laws: first_of-spares, first_among-spares, in_order-spares, stops_only-spares, in_turn-spares. Read first: Memory.antt, MemoryLaws.antt.
+use Rattle.std.proofs.Common.{◌≡◌, ℕ, zero, suc, List, [], ◌∷◌, map, inl, inr, refl, ap, subst, arith}
 use Rattle.std.specs.Prelude.{⊤}
 use Rattle.std.specs.List.{All}
 use Rattle.chumsky_input.specs.declared.error.Error as error_trait
 use Rattle.chumsky_input.specs.declared.inspector.Inspector as inspector_trait
 use Rattle.chumsky_input.specs.declared.input.Input as input_trait
-use Rattle.chumsky_input.specs.Outcome.{Meaning, Outcome}
+use Rattle.chumsky_input.specs.declared.stop.Stop.{Stop}
+use Rattle.chumsky_input.specs.Outcome.{Meaning, Outcome, Verdict, Yes, No, Halt, Clash}
+use Rattle.chumsky_input.specs.Words.{Does}
 use Rattle.chumsky_parser.specs.Choice.{Stands, FirstOf}
 use Rattle.chumsky_parser.specs.Failure.{wanting}
 use Rattle.chumsky_choice.specs.Among.{FirstAmong}
-use Rattle.chumsky_group.specs.Regrouped.{Regrouped}
-use Rattle.chumsky_group.specs.InTurn.{InTurn, with_first}
-use Rattle.chumsky_memory.specs.Memory.{NeverOutOfMemory}
+use Rattle.chumsky_choice.specs.Alternatives.{each_meant, TriesInOrder}
+use Rattle.chumsky_group.specs.InTurn.{InTurn, item_before}
+use Rattle.chumsky_group.specs.Parts.{Part, part, AnyStops, StopsOnlyByAny}
+use Rattle.chumsky_memory.specs.Memory.{IsNotMemory, SparesMemory, NeverOutOfMemory}
+use Rattle.chumsky_memory.specs.ByParts.{NoneOut, OutOnlyBy}
 use Rattle.chumsky_memory.specs.MemoryLaws.{given-spares, misses-spares, chained-spares}
 
 module _ {Tok Cx St Er V : Type 0} where
@@ -49,13 +53,33 @@ module _ {I Tok Sp Cu Er St Mk Cx V : Type 0} (source : input_trait.Ghosts I Cu 
   first_among-spares [] h b o m = misses-spares quiet m.cases
   first_among-spares (first ∷ others) h b o m = first_of-spares states.mark states.back states.takes_no_memory still first others h.0 h.1 b o m.cases
 
-module _ {Tok Cx St Er V W : Type 0} (f : V → W) (part : Meaning Tok Cx St Er V) where
-  -- a part whose value is put together anew
-  pub regrouped-spares : NeverOutOfMemory part → NeverOutOfMemory (Regrouped f part)
-  regrouped-spares h = chained-spares part _ h (λ v. given-spares (option_map f v))
-
 module _ {Tok Cx St Er V : Type 0} where
   -- the parts of a list in turn
   pub in_turn-spares : (ms : List (Meaning Tok Cx St Er V)) → NoneOutOfMemory ms → NeverOutOfMemory (InTurn ms)
   in_turn-spares [] h = λ b o m. given-spares (wanting b.wanted (record { items = [] })) b o m
-  in_turn-spares (part ∷ parts) h = chained-spares part _ h.0 (λ v. chained-spares (InTurn parts) _ (in_turn-spares parts h.1) (λ vs. given-spares (with_first v vs)))
+  in_turn-spares (m ∷ ms) h = chained-spares m _ h.0 (λ v. chained-spares (InTurn ms) _ (in_turn-spares ms h.1) (λ vs. given-spares (item_before v vs)))
+
+module _ {I Tok Sp Er St Mk Cx V : Type 0} (errors : error_trait.Ghosts Er I Tok Sp) (states : inspector_trait.Ghosts St I Mk Tok Sp) where
+  none-meant : (alternatives : List (Does I Tok Sp Er St Mk Cx V)) → NoneOut errors states (map part alternatives) → NoneOutOfMemory (each_meant errors states alternatives)
+  none-meant [] h = tt
+  none-meant (d ∷ ds) h = (h.0, none-meant ds h.1)
+
+  -- alternatives that are tried in order, where a mark and going back take no memory
+  pub in_order-spares : states.takes_no_memory → (whole : Does I Tok Sp Er St Mk Cx V) (alternatives : List (Does I Tok Sp Er St Mk Cx V)) → TriesInOrder errors states whole alternatives → OutOnlyBy errors states (map part alternatives) whole
+  in_order-spares still whole [] m h = absurd m
+  in_order-spares still whole (first ∷ others) m h b o x = first_of-spares states.mark states.back states.takes_no_memory still (first errors states) (each_meant errors states others) h.0 (none-meant others h.1) b o (m b o x)
+
+  none_stops : (s : Stop) (parts : List (Part I Tok Sp Er St Mk Cx)) → NoneOut errors states parts → AnyStops errors states s parts → IsNotMemory s
+  none_stops s [] h x = absurd x
+  none_stops s (p ∷ ps) h (inl x) = subst SparesMemory x.stops (h.0 x.start x.outcome x.meant)
+  none_stops s (p ∷ ps) h (inr x) = none_stops s ps h.1 x
+
+  spares_by : (u : Verdict V errors.Seen) → ((s : Stop) → u ≡ Halt s → IsNotMemory s) → SparesMemory u
+  spares_by (Yes v) h = tt
+  spares_by No h = tt
+  spares_by (Halt s) h = h s refl
+  spares_by (Clash e) h = tt
+
+  -- what stops only where one of its parts does
+  pub stops_only-spares : (whole : Does I Tok Sp Er St Mk Cx V) (parts : List (Part I Tok Sp Er St Mk Cx)) → StopsOnlyByAny errors states whole parts → OutOnlyBy errors states parts whole
+  stops_only-spares whole parts m h b o x = spares_by o.verdict (λ s e. none_stops s parts h (m s (record { start = b; outcome = o; meant = x; stops = e })))

@@ -18,7 +18,7 @@ use Rattle.chumsky_combinator.specs.Mapped.{Mapped}
 use Rattle.chumsky_combinator.specs.MappedLaws.{given_by-ends}
 use Rattle.chumsky_combinator.specs.MappedWith.{MappedWith}
 use Rattle.chumsky_combinator.specs.Part.{Onward}
-use Rattle.chumsky_group.specs.InTurn.{InTurn, with_first}
+use Rattle.chumsky_group.specs.InTurn.{InTurn, item_before}
 use Rattle.chumsky_group.specs.InTurnLaws.{in_turn-ends}
 use Rattle.chumsky_group.specs.Regrouped.{Regrouped}
 use Rattle.chumsky_items.specs.Lists.{IsYes}
@@ -161,8 +161,8 @@ module _ {X Tok Cx St Er V : Type 0} (meaning : X → Meaning Tok Cx St Er V) (t
   pub in_turn-moves : (xs : List X) → list_any test xs ≡ true → Moves (InTurn (map meaning xs))
   in_turn-moves [] e = absurd (cc)
   in_turn-moves (x ∷ xs) e =
-      let rest : (v : Option V) → EndsAfterStart (Chained (InTurn (map meaning xs)) (λ vs. Given (with_first v vs))) = λ v. chained-ends (InTurn (map meaning xs)) _ (in_turn-ends (map meaning xs) (each-ends meaning ends xs)) (λ vs. given-ends (with_first v vs)) in
+      let rest : (v : Option V) → EndsAfterStart (Chained (InTurn (map meaning xs)) (λ vs. Given (item_before v vs))) = λ v. chained-ends (InTurn (map meaning xs)) _ (in_turn-ends (map meaning xs) (each-ends meaning ends xs)) (λ vs. given-ends (item_before v vs)) in
       elim (either-true (test x) (list_any test xs) e) [
         | inl t ↦ chained-first (meaning x) _ (h x t) rest
-        | inr t ↦ chained-second (meaning x) _ (ends x) (λ v. chained-first (InTurn (map meaning xs)) _ (in_turn-moves xs t) (λ vs. given-ends (with_first v vs)))
+        | inr t ↦ chained-second (meaning x) _ (ends x) (λ v. chained-first (InTurn (map meaning xs)) _ (in_turn-moves xs t) (λ vs. given-ends (item_before v vs)))
       ]

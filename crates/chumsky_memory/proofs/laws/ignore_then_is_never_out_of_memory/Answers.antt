@@ -2,4 +2,4 @@ use Rattle.chumsky_memory.specs.MemoryLaws.{ignoring_first-spares}
 use Rattle.chumsky_memory.proofs.laws.ignore_then_is_never_out_of_memory.Goals as goal
 
 pub returns : goal.returns
-returns g c a b = ignoring_first-spares _ _ a b
+returns g c h = ignoring_first-spares _ _ h.0 h.1.0

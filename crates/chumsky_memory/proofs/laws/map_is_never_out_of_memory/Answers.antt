@@ -2,4 +2,4 @@ use Rattle.chumsky_memory.specs.MemoryLaws.{mapped-spares}
 use Rattle.chumsky_memory.proofs.laws.map_is_never_out_of_memory.Goals as goal
 
 pub returns : goal.returns
-returns g c a = mapped-spares _ _ a
+returns g c h = mapped-spares _ _ h.0

@@ -2,7 +2,7 @@ use Rattle.chumsky_memory.specs.MemoryLaws.{sequence-spares, ignoring_second-spa
 use Rattle.chumsky_memory.proofs.laws.then_is_never_out_of_memory.Goals as goal
 
 pub returns-clause-then : goal.returns-clause-then
-returns-clause-then g c a b = sequence-spares _ _ a b
+returns-clause-then g c h = sequence-spares _ _ h.0 h.1.0
 
 pub returns-clause-then_ignore : goal.returns-clause-then_ignore
-returns-clause-then_ignore g c a b = ignoring_second-spares _ _ a b
+returns-clause-then_ignore g c h = ignoring_second-spares _ _ h.0 h.1.0

@@ -2,7 +2,7 @@ use Rattle.chumsky_memory.specs.MemoryLaws.{ignoring_first-spares, copy-spares, 
 use Rattle.chumsky_memory.proofs.laws.to_is_never_out_of_memory.Goals as goal
 
 pub returns-clause-to : goal.returns-clause-to
-returns-clause-to g c x a = ignoring_first-spares _ _ a (copy-spares _ _ x)
+returns-clause-to g c x h = ignoring_first-spares _ _ h.0 (copy-spares _ _ x)
 
 pub returns-clause-ignored : goal.returns-clause-ignored
-returns-clause-ignored g c a = ignoring_first-spares _ _ a (gives-spares tt)
+returns-clause-ignored g c h = ignoring_first-spares _ _ h.0 (gives-spares tt)
