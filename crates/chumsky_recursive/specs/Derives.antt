@@ -1,11 +1,13 @@
 -- Derivations: how a rule comes to an answer.
-use Rattle.std.specs.Prelude.{ℕ}
+use Rattle.std.specs.Prelude.{ℕ, zero, suc, slice_get}
 use Rattle.chumsky_input.specs.declared.error.Error as error_trait
 use Rattle.chumsky_input.specs.declared.inspector.Inspector as inspector_trait
 use Rattle.chumsky_input.specs.declared.input.Input as input_trait
-use Rattle.chumsky_input.specs.Outcome.{Beginning, Outcome, IsAnswer}
+use Rattle.chumsky_input.specs.declared.stop.Stop.TheVariants.{TooDeep}
+use Rattle.chumsky_input.specs.Outcome.{Meaning, Beginning, Outcome, IsAnswer}
+use Rattle.chumsky_parser.specs.Failure.{Stops}
 use Rattle.chumsky_rules.specs.Tables.{Tables}
-use Rattle.chumsky_recursive.specs.Means.{Acts, call_means}
+use Rattle.chumsky_recursive.specs.Means.{Acts, body_means, call_means}
 
 module _ {I Tok Sp Cu Er St Mk Cx V : Type 0} (source : input_trait.Ghosts I Cu Tok Sp) (errors : error_trait.Ghosts Er I Tok Sp) (states : inspector_trait.Ghosts St I Mk Tok Sp) (a : Acts Tok Cx states.Seen errors.Seen V) where
   -- a derivation of this outcome: under some number of open rules the rule has it, and it is an answer, so no stop. The tree is
@@ -14,3 +16,9 @@ module _ {I Tok Sp Cu Er St Mk Cx V : Type 0} (source : input_trait.Ghosts I Cu 
     pub depth : ℕ
     pub meant : call_means source errors states a g depth r b o
     pub answers : IsAnswer o.verdict
+
+  -- a call of a rule, where so many more rules may be open: each call that its body makes begins at a place that is so related to
+  -- its own, and so do, in turn, the calls that these make
+  unfoldable pub calls_along : (ℕ → ℕ → Type 0) → Tables → ℕ → ℕ → Meaning Tok Cx states.Seen errors.Seen V
+  calls_along related g zero r = Stops TooDeep
+  calls_along related g (suc more) r = λ b. body_means source errors states a (λ s c o. related b.start c.start × calls_along related g more s c o) g.nodes (slice_get g.bodies r) b

@@ -13,12 +13,12 @@ use Rattle.chumsky_recursive.specs.InPlace.{InPlace}
 use Rattle.chumsky_recursive.specs.Moving.{answers_of}
 use Rattle.chumsky_recursive.specs.Staying.{StaysOnlyIf}
 use Rattle.chumsky_recursive.specs.Reach.{Reach, Reach-refl, Reach-trans}
-use Rattle.chumsky_recursive.specs.Going.{Goes}
+use Rattle.chumsky_recursive.specs.Going.{SucceedsBy}
 use Rattle.chumsky_recursive.specs.Refused.{LeafHalts}
 
 module _ {Tok Cx St Er V : Type 0} where
   -- a leaf that ends within the tokens goes forward and stays there
-  pub in_place-goes : (m : Meaning Tok Cx St Er V) → EndsAfterStart m → Goes Reach Reach-refl Reach-trans (InPlace m)
+  pub in_place-goes : (m : Meaning Tok Cx St Er V) → EndsAfterStart m → SucceedsBy Reach Reach-refl Reach-trans (InPlace m)
   in_place-goes m h b o k v y = (h b o k.meant (subst IsAnswer (sym y) tt), λ _. k.within v y)
 
   -- a leaf that halts, halts by what it means alone

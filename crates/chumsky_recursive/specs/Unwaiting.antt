@@ -1,19 +1,21 @@
 -- Rules of which no node waits are refused for memory only as their leaves are, for an error of their own, or for a value.
--- Main words: NeverWaits, CallsAsk, Asks. Law: call-asks.
+-- Main words: NeverWaits, CallsAsk, Asks, HaltsForMemory. Law: call-asks.
 use Rattle.std.proofs.Common.{◌≡◌, ℕ, zero, suc, ◌≤◌, List, [], ◌∷◌, map, Option, Some, None, Bool, true, false, length, slice_get, refl, sym, ◌∙◌, ap, subst, ◌⊎◌, inl, inr}
 use Rattle.chumsky_input.specs.declared.error.Error as error_trait
 use Rattle.chumsky_input.specs.declared.inspector.Inspector as inspector_trait
 use Rattle.chumsky_input.specs.declared.input.Input as input_trait
 use Rattle.chumsky_input.specs.declared.stop.Stop.TheVariants.{Memory, TooDeep}
 use Rattle.chumsky_input.specs.Outcome.{Event, Meaning, Beginning, Outcome, Verdict, Yes, No, Halt, Clash}
+use Rattle.chumsky_input.specs.Words.{Does}
 use Rattle.chumsky_parser.specs.Chained.{Chained, Follows, from, both}
 use Rattle.chumsky_choice.specs.Among.{FirstAmong}
 use Rattle.chumsky_rules.specs.declared.kinds.NodeKind.{NodeKind}
 use Rattle.chumsky_rules.specs.declared.kinds.NodeKind.TheVariants.{Leaf, Rule, Then, Choice, Repeated, SeparatedBy, OrNot, Not, AndIs, Rewind, Map, TryMap}
 use Rattle.chumsky_rules.specs.Tables.{Tables}
 use Rattle.chumsky_rules.specs.Empty.{IsNode}
+use Rattle.chumsky_recursive.specs.declared.actions.Actions as actions_trait
 use Rattle.chumsky_recursive.specs.Calls.{TakesNoMemory}
-use Rattle.chumsky_recursive.specs.Going.{Goes, node-goes, call-goes}
+use Rattle.chumsky_recursive.specs.Going.{SucceedsBy, node-goes, call-goes}
 use Rattle.chumsky_recursive.specs.Means.{Acts, Made, MadeOf, has_others, waited, is_leaf, waits_for_parts, kind_means, known_means, node_means, body_means, call_means}
 use Rattle.chumsky_recursive.specs.Reach.{Reach, Reach-refl, Reach-trans}
 use Rattle.chumsky_recursive.specs.Refused.{LeafHalts}
@@ -61,7 +63,7 @@ module _ {Tok Cx St Er V W : Type 0} (gives : V → Option W → Type 0) where
   made-asks : (v : Option V) (b : Beginning Tok Cx St) (o : Outcome W Er St) → Made gives v b o → o.verdict ≡ Halt Memory → (b.wanted ≡ true) × (x : V) × gives x None
   made-asks v b o m h = made_of-asks v b o m.by_value h
 
-module _ {I Tok Sp Cu Er St Mk Cx V : Type 0} (source : input_trait.Ghosts I Cu Tok Sp) (errors : error_trait.Ghosts Er I Tok Sp) (states : inspector_trait.Ghosts St I Mk Tok Sp) (a : Acts Tok Cx states.Seen errors.Seen V) (g : Tables) (never : NeverWaits g) (quiet : TakesNoMemory) (pairs : (v : V × V) → a.pairs v None → quiet.pair → ⊥) (maps : (f : ℕ) (v : V) → a.maps f v None → quiet.map f → ⊥) (within : (n : ℕ) → Goes Reach Reach-refl Reach-trans (a.leaf n)) where
+module _ {I Tok Sp Cu Er St Mk Cx V : Type 0} (source : input_trait.Ghosts I Cu Tok Sp) (errors : error_trait.Ghosts Er I Tok Sp) (states : inspector_trait.Ghosts St I Mk Tok Sp) (a : Acts Tok Cx states.Seen errors.Seen V) (g : Tables) (never : NeverWaits g) (quiet : TakesNoMemory) (pairs : (v : V × V) → a.pairs v None → quiet.pair → ⊥) (maps : (f : ℕ) (v : V) → a.maps f v None → quiet.map f → ⊥) (within : (n : ℕ) → SucceedsBy Reach Reach-refl Reach-trans (a.leaf n)) where
   -- a leaf of these rules is refused for memory on these tokens, or an error takes memory, or a value that is wanted does
   abbrev pub Asks : List Tok → Bool → Type 0
   Asks tokens wanted = LeafHalts a.leaf g tokens Memory ⊎ (errors.takes_no_memory → ⊥) ⊎ ((wanted ≡ true) × CallsAsk g quiet)
@@ -70,8 +72,8 @@ module _ {I Tok Sp Cu Er St Mk Cx V : Type 0} (source : input_trait.Ghosts I Cu 
   abbrev OnlyIfAsked : Meaning Tok Cx states.Seen errors.Seen V → Type 0
   OnlyIfAsked m = (b : Beginning Tok Cx states.Seen) (o : Outcome V errors.Seen states.Seen) → b.start ≤ length b.tokens → m b o → o.verdict ≡ Halt Memory → Asks b.tokens b.wanted
 
-  module _ (call : ℕ → Meaning Tok Cx states.Seen errors.Seen V) (gc : (r : ℕ) → Goes Reach Reach-refl Reach-trans (call r)) (hc : (r : ℕ) → OnlyIfAsked (call r)) where
-    module _ (part : ℕ → Meaning Tok Cx states.Seen errors.Seen V) (gp : (n : ℕ) → Goes Reach Reach-refl Reach-trans (part n)) (hp : (n : ℕ) → OnlyIfAsked (part n)) where
+  module _ (call : ℕ → Meaning Tok Cx states.Seen errors.Seen V) (gc : (r : ℕ) → SucceedsBy Reach Reach-refl Reach-trans (call r)) (hc : (r : ℕ) → OnlyIfAsked (call r)) where
+    module _ (part : ℕ → Meaning Tok Cx states.Seen errors.Seen V) (gp : (n : ℕ) → SucceedsBy Reach Reach-refl Reach-trans (part n)) (hp : (n : ℕ) → OnlyIfAsked (part n)) where
       among-asks : (ns : List ℕ) → has_others ns ≡ false → OnlyIfAsked (FirstAmong source errors states (map (waited (has_others ns) part) ns))
       among-asks [] f b o w m h = elim m.cases [
         | inl r ↦ inr (inl r.0)
@@ -130,3 +132,11 @@ module _ {I Tok Sp Cu Er St Mk Cx V : Type 0} (source : input_trait.Ghosts I Cu 
   unfolding call_means
   call-asks zero r b o w m h = absurd (deep_memory o (ap (λ (z : Outcome V errors.Seen states.Seen). z.verdict) m) h)
   call-asks (suc more) r b o w m h = body-asks (call_means source errors states a g more) (call-goes Reach Reach-refl Reach-trans source errors states a within g more) (call-asks more) (slice_get g.bodies r) b o w m h
+
+module _ {A I X V Cu Tok Sp Er St Cx Mk : Type 0} (errors : error_trait.Ghosts Er I Tok Sp) (states : inspector_trait.Ghosts St I Mk Tok Sp) (actions : actions_trait.Ghosts A I X V Cu Tok Sp Er St Cx Mk) (self : A) (g : Tables) where
+  -- begun at a place of its tokens, it is refused for memory only where a leaf is, or errors take memory, or a value is wanted and its
+  -- function may take some
+  abbrev pub HaltsForMemory : Does I Tok Sp Er St Mk Cx V → Type 0
+  HaltsForMemory m =
+      (b : Beginning Tok Cx states.Seen) (o : Outcome V errors.Seen states.Seen) → b.start ≤ length b.tokens → m errors states b o → o.verdict ≡ Halt Memory
+      → LeafHalts (λ n. actions.leaf_meaning self n errors states) g b.tokens Memory ⊎ (errors.takes_no_memory → ⊥) ⊎ ((b.wanted ≡ true) × CallsAsk g (actions.takes_no_memory self))

@@ -1,6 +1,6 @@
 //! Rules closed by calls of their own.
 ghost use Rattle.std.specs.Prelude.{◌≡◌, ◌+◌, ◌*◌, length, IfOk, IfErr};
-ghost use Rattle.chumsky_rules.specs.Closed.{Refuses};
+ghost use Rattle.chumsky_rules.specs.Closed.{RefusesToClose};
 ghost use Rattle.chumsky_recursive.specs.Moving.{answers_of};
 ghost use Rattle.chumsky_recursive.specs.Refused.{IsRefusedAsLeaves};
 ghost use Rattle.chumsky_recursive.specs.Unfounded.{AreFounded, RefusesFounded};
@@ -32,7 +32,7 @@ pub trait CloseRules<'src, I: Input<'src>, E: ParserExtra<I>, A: Actions<'src, I
         ensures rules { IfOk result (λ p. (p.rules.rules.now ≡ tables self.now) × (p.rules.start ≡ start)) }
         ensures given { IfOk result (λ p. (p.actions.now ≡ actions.now) × (p.limit ≡ limit)) }
         ensures ready { IfOk result (λ p. p.rules.leaves ≡ A.leaf_count p.actions.now) }
-        ensures refused { IfErr result (Refuses (tables self.now) start (A.leaf_count actions.now)) };
+        ensures refused { IfErr result (RefusesToClose (tables self.now) start (A.leaf_count actions.now)) };
 
     /// Makes a grammar of well-founded rules with the limit for so many tokens, as the function `close_founded`:
     /// `rules.close_founded(start, &actions, text.len())`.

@@ -1,6 +1,5 @@
 //! Grammars whose rules alone never refuse a run.
-ghost use Rattle.std.specs.Prelude.{◌≡◌, ℕ, ◌+◌, ◌*◌, length, IfOk, IfErr, ◌<◌, ◌≤◌, ◌^◌, true, false};
-ghost use Rattle.chumsky_input.specs.Held.{held};
+ghost use Rattle.std.specs.Prelude.{◌≡◌, ◌+◌, ◌*◌, length, IfOk, IfErr, ◌<◌, ◌≤◌, ◌^◌, true, false};
 ghost use Rattle.chumsky_input.specs.Run.{Runs, with_value, without_value};
 ghost use Rattle.chumsky_rules.specs.Founded.{IsOrder};
 ghost use Rattle.chumsky_recursive.specs.Moving.{answers_of};
@@ -128,9 +127,9 @@ pub fn emit_founded<'r, 'src, I: Input<'src>, E: ParserExtra<I>, A: Actions<'src
 ) -> PResult<A::Value>
     requires ready { ⟦<Grammar<'r, A> as Parser<'src, I, A::Value, E>>⟧.ready grammar.now }
     requires stands { IsRefusedAsLeaves (λ n. A.leaf_meaning grammar.now.actions.now n E.Error.Error E.State.Inspector) grammar.now.rules.rules.now tokens (⟦<Grammar<'r, A> as Parser<'src, I, A::Value, E>>⟧.meaning grammar.now E.Error.Error E.State.Inspector) }
-    requires few { length (held I.Input E.Error.Error E.State.Inspector inp.old).tokens ≤ tokens }
+    requires few { length (I.cursor_tokens inp.old.cursor) ≤ tokens }
     ensures ran { Runs I.Input E.Error.Error E.State.Inspector (⟦<Grammar<'r, A> as Parser<'src, I, A::Value, E>>⟧.meaning grammar.now E.Error.Error E.State.Inspector) true inp.old inp.new (with_value result) }
-    ensures refused { IfErr result (FailsAsLeaves (λ n. A.leaf_meaning grammar.now.actions.now n E.Error.Error E.State.Inspector) grammar.now.rules.rules.now (held I.Input E.Error.Error E.State.Inspector inp.old).tokens) }
+    ensures refused { IfErr result (FailsAsLeaves (λ n. A.leaf_meaning grammar.now.actions.now n E.Error.Error E.State.Inspector) grammar.now.rules.rules.now (I.cursor_tokens inp.old.cursor)) }
     ensures lent { inp.new.state.ghost_name ≡ inp.old.state.ghost_name }
 {
     grammar.go_emit(inp)
@@ -145,9 +144,9 @@ pub fn check_founded<'r, 'src, I: Input<'src>, E: ParserExtra<I>, A: Actions<'sr
 ) -> PResult<()>
     requires ready { ⟦<Grammar<'r, A> as Parser<'src, I, A::Value, E>>⟧.ready grammar.now }
     requires stands { IsRefusedAsLeaves (λ n. A.leaf_meaning grammar.now.actions.now n E.Error.Error E.State.Inspector) grammar.now.rules.rules.now tokens (⟦<Grammar<'r, A> as Parser<'src, I, A::Value, E>>⟧.meaning grammar.now E.Error.Error E.State.Inspector) }
-    requires few { length (held I.Input E.Error.Error E.State.Inspector inp.old).tokens ≤ tokens }
+    requires few { length (I.cursor_tokens inp.old.cursor) ≤ tokens }
     ensures ran { Runs I.Input E.Error.Error E.State.Inspector (⟦<Grammar<'r, A> as Parser<'src, I, A::Value, E>>⟧.meaning grammar.now E.Error.Error E.State.Inspector) false inp.old inp.new (without_value result) }
-    ensures refused { IfErr result (FailsAsLeaves (λ n. A.leaf_meaning grammar.now.actions.now n E.Error.Error E.State.Inspector) grammar.now.rules.rules.now (held I.Input E.Error.Error E.State.Inspector inp.old).tokens) }
+    ensures refused { IfErr result (FailsAsLeaves (λ n. A.leaf_meaning grammar.now.actions.now n E.Error.Error E.State.Inspector) grammar.now.rules.rules.now (I.cursor_tokens inp.old.cursor)) }
     ensures lent { inp.new.state.ghost_name ≡ inp.old.state.ghost_name }
 {
     grammar.go_check(inp)
