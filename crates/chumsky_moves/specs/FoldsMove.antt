@@ -25,7 +25,7 @@ use Rattle.chumsky_folds.specs.FoldingBackShown.{GivenBack, FoldedBackShown, Fol
 use Rattle.chumsky_folds.specs.FoldingLaws.{folds-ends}
 use Rattle.chumsky_folds.specs.FoldingShown.{TakesAll, TakesShown, FoldsShown}
 use Rattle.chumsky_folds.specs.FoldingShownLaws.{takes_all-ends}
-use Rattle.chumsky_folds.specs.FoldingTried.{Rules, TriesSince, TakesTried, FoldsTrying, FoldsTried, where_wanted}
+use Rattle.chumsky_folds.specs.FoldingTried.{TakenOrRefused, TriesSince, TakesTried, FoldsTrying, FoldsTried, where_wanted}
 use Rattle.chumsky_folds.specs.Placed.{PairedWith, Placed}
 use Rattle.chumsky_folds.specs.PlacedLaws.{placed-end}
 use Rattle.chumsky_items.specs.ConsumersLaws.{collects-ends}
@@ -130,7 +130,7 @@ module _ {Tok Cx St Er S V C A : Type 0} (gives : S → Meaning Tok Cx St Er (Ne
       ]
 
 module _ {Tok Cx St E Er V A : Type 0} (seen : E → Er) (tries : GivesShown Tok Cx St (A × V) (Result A E)) where
-  rules-ends : (r : Result A E) (place : ℕ) (s : St) → EndsAfterStart (Rules {Tok = Tok} {Cx = Cx} seen r place s)
+  rules-ends : (r : Result A E) (place : ℕ) (s : St) → EndsAfterStart (TakenOrRefused {Tok = Tok} {Cx = Cx} seen r place s)
   rules-ends (Ok w) place s b o m z = omega (arith, ap (λ (x : Outcome A Er St). x.end) m)
   rules-ends (Err e) place s b o m z = misses-ends (λ _ _. ⊥) {safe = ⊤} (omega arith) (inr m) z
 

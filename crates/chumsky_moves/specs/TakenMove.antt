@@ -9,7 +9,7 @@ use Rattle.chumsky_parser.specs.Laws.{chained-ends, given-ends}
 use Rattle.chumsky_context.specs.Covered.{Cover, Covers, AddsSpan, WithSpan}
 use Rattle.chumsky_items.specs.Lists.{IsYes}
 use Rattle.chumsky_label.specs.Labelled.{LabelledAs, MeansLabelled}
-use Rattle.chumsky_text.specs.TextRun.{Skips, MeansPadded}
+use Rattle.chumsky_text.specs.TextRun.{SkipsRun, MeansPadded}
 use Rattle.chumsky_text.specs.TextRunLaws.{NoOrMoves}
 use Rattle.chumsky_moves.specs.Moves.{Moves}
 use Rattle.chumsky_moves.specs.MovesLaws.{yes-answers, asked-moves, chained-first, chained-second}
@@ -38,13 +38,13 @@ module _ {Tok Cx St Er V : Type 0} (merged : Er → Er → Er) (maps : Er → Er
   labelled-moves part h b o m y = shielded-moves part (λ c v p q. LabelledAs merged maps free (Yes v) c p q) (λ c p q. LabelledAs merged maps free No c p q) h labelled_yes-moves labelled_no-no b o m.run y
 
 module _ {I Tok Sp Er St Mk Cx : Type 0} (errors : error_trait.Ghosts Er I Tok Sp) (states : inspector_trait.Ghosts St I Mk Tok Sp) (test : Tok → Bool) where
-  skips-end : EndsAfterStart (Skips {Cx = Cx} errors states test)
+  skips-end : EndsAfterStart (SkipsRun {Cx = Cx} errors states test)
   skips-end b o m a = omega (arith, ap (λ (x : Outcome (Unit {0}) errors.Seen states.Seen). x.end) m.outcome)
 
   -- a part between two runs of tokens
   pub padded-moves : {V : Type 0} (part : Meaning Tok Cx states.Seen errors.Seen V) → Moves part → Moves (MeansPadded errors states test part)
   padded-moves part h b o m y =
-      chained-second (Skips errors states test) _ skips-end (λ _. chained-first part _ h (λ v. chained-ends (Skips errors states test) (λ _. Given v) skips-end (λ _. given-ends v))) b o m.run y
+      chained-second (SkipsRun errors states test) _ skips-end (λ _. chained-first part _ h (λ v. chained-ends (SkipsRun errors states test) (λ _. Given v) skips-end (λ _. given-ends v))) b o m.run y
 
 module _ {Tok Cx St Er V : Type 0} (m : Meaning Tok Cx St Er V) where
   -- each answer is no, or ends past its start
