@@ -14,7 +14,7 @@ use Rattle.chumsky_input.specs.Run.{Ran, begin, answer}
 use Rattle.chumsky_input.specs.Aside.{ClashesWith, kept_after}
 use Rattle.chumsky_parser.specs.Chained.{retold}
 use Rattle.chumsky_parser.proofs.ChainedLemmas.{ran-weaker}
-use Rattle.chumsky_shield.specs.Shielded.{Judges, Shielded}
+use Rattle.chumsky_shield.specs.Shielded.{ByVerdict, Shielded}
 use Rattle.chumsky_shield.proofs.ShieldLemmas.{Went, went_yes, went_no, shield_whole, shield_clash, shield_halts, shield_stop}
 use Rattle.chumsky_input.proofs.PrimaryLemmas.{kept-nearer}
 use Rattle.chumsky_label.specs.Labelling.{LabelsSeen}
@@ -27,7 +27,7 @@ module _ {Tok Cx St Er V : Type 0} (merged : Er → Er → Er) (safe : Type 0) (
   pub labelled_stops : {s : Stop} → Ran merged safe part w (record old { kept = None }) mid (Err (fault.Stop s)) → Ran merged safe (MeansLabelled merged maps free part) w old mid (Err (fault.Stop s))
   labelled_stops h = inside mid _ (shield_stop h)
 
-  module _ (u : Verdict V Er) (is : IsAnswer u) (went : Went merged safe part w old mid u) (judge : (o : Outcome V Er St) → LabelledAs merged maps free u (begin w old) went.first o → Judges u (λ b v p o. LabelledAs merged maps free (Yes v) b p o) (λ b p o. LabelledAs merged maps free No b p o) (begin w old) went.first o) where
+  module _ (u : Verdict V Er) (is : IsAnswer u) (went : Went merged safe part w old mid u) (judge : (o : Outcome V Er St) → LabelledAs merged maps free u (begin w old) went.first o → ByVerdict u (λ b v p o. LabelledAs merged maps free (Yes v) b p o) (λ b p o. LabelledAs merged maps free No b p o) (begin w old) went.first o) where
     kept_is : mid.kept ≡ primary merged went.first.events
     kept_is = ap (λ (z : Held Tok Cx St Er). z.kept) went.left
 

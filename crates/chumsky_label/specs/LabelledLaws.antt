@@ -5,7 +5,7 @@ use Rattle.chumsky_parser.specs.Failure.{Refuses}
 use Rattle.chumsky_input.specs.Outcome.{Event, Meaning, Beginning, Outcome, Verdict, Yes, No, Halt, Clash, IsAnswer, SameAnswer, Alike, Agree, EndsAfterStart, Agreeing}
 use Rattle.chumsky_input.specs.Primary.{primary}
 use Rattle.chumsky_parser.specs.Chained.{retold}
-use Rattle.chumsky_shield.specs.Shielded.{Judges, OrClash}
+use Rattle.chumsky_shield.specs.Shielded.{ByVerdict, OrClash}
 use Rattle.chumsky_shield.specs.ShieldedLaws.{or_clash-whole, shielded-ends, shielded-agrees}
 use Rattle.chumsky_shield.specs.MapErr.{MapsOnce}
 use Rattle.chumsky_label.specs.Labelling.{LabelsSeen}
@@ -85,7 +85,7 @@ module _ {Tok Cx St Er V : Type 0} (merged : Er → Er → Er) (maps : Er → Er
         place = ap places events ∙ relabels_place maps b.start (primary merged p.events) m.0 m.1;
       }
 
-  as_part : (u : Verdict V Er) (b : Beginning Tok Cx St) (p o : Outcome V Er St) → part b p → p.verdict ≡ u → Judges u (λ b v p o. LabelledAs merged maps free (Yes v) b p o) (λ b p o. LabelledAs merged maps free No b p o) b p o → IsAnswer o.verdict → (q : Outcome V Er St) × part b q × ButEvents merged q o
+  as_part : (u : Verdict V Er) (b : Beginning Tok Cx St) (p o : Outcome V Er St) → part b p → p.verdict ≡ u → ByVerdict u (λ b v p o. LabelledAs merged maps free (Yes v) b p o) (λ b p o. LabelledAs merged maps free No b p o) b p o → IsAnswer o.verdict → (q : Outcome V Er St) × part b q × ButEvents merged q o
   as_part (Yes v) b p o m e j a = (p, m, but_events (Yes v) b p o e j a)
   as_part No b p o m e j a = (p, m, but_events No b p o e j a)
   as_part (Halt s) b p o m e j a = absurd (subst IsAnswer (ap (λ (x : Outcome V Er St). x.verdict) j) a)
@@ -101,7 +101,7 @@ module _ {Tok Cx St Er V : Type 0} (merged : Er → Er → Er) (maps : Er → Er
   labels_it : (u : Verdict V Er) (b : Beginning Tok Cx St) (p : Outcome V Er St) (k : Option (Event Er)) → Relabels maps b.start (primary merged p.events) k → p.verdict ≡ u → LabelledAs merged maps free u b p (with_label p k)
   labels_it u b p k m e = record { says = inr (k, m, inl (sym (ap (λ (z : Outcome V Er St). record z { events = option_to_list k }) (retold-same u p e)))) }
 
-  judged : (u : Verdict V Er) (b : Beginning Tok Cx St) (p : Outcome V Er St) (k : Option (Event Er)) → Relabels maps b.start (primary merged p.events) k → p.verdict ≡ u → IsAnswer u → Judges u (λ b v p o. LabelledAs merged maps free (Yes v) b p o) (λ b p o. LabelledAs merged maps free No b p o) b p (with_label p k)
+  judged : (u : Verdict V Er) (b : Beginning Tok Cx St) (p : Outcome V Er St) (k : Option (Event Er)) → Relabels maps b.start (primary merged p.events) k → p.verdict ≡ u → IsAnswer u → ByVerdict u (λ b v p o. LabelledAs merged maps free (Yes v) b p o) (λ b p o. LabelledAs merged maps free No b p o) b p (with_label p k)
   judged (Yes v) b p k m e a = labels_it (Yes v) b p k m e
   judged No b p k m e a = labels_it No b p k m e
   judged (Halt s) b p k m e a = absurd a

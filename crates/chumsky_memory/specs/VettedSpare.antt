@@ -3,8 +3,8 @@
 use Rattle.std.proofs.Common.{◌≡◌, true, Option, Some, None, Result, Ok, Err, inl, inr, refl, ap, subst}
 use Rattle.chumsky_input.specs.Outcome.{Meaning, Beginning, Outcome, Verdict, Yes, No, Halt, Clash}
 use Rattle.chumsky_parser.specs.Chained.{Asked}
-use Rattle.chumsky_shield.specs.Shielded.{OrClash, OrLacks, OfYes, OfNo, Judges, Shielded}
-use Rattle.chumsky_shield.specs.Vetted.{Vets, Rules, Vetting, Vetted}
+use Rattle.chumsky_shield.specs.Shielded.{OrClash, OrLacks, OfYes, OfNo, ByVerdict, Shielded}
+use Rattle.chumsky_shield.specs.Vetted.{Vets, OnRuling, Vetting, Vetted}
 use Rattle.chumsky_memory.specs.Memory.{IsNotMemory, SparesMemory, NeverOutOfMemory}
 use Rattle.chumsky_memory.specs.MemoryLaws.{asked-spares}
 
@@ -20,7 +20,7 @@ module _ {V Er St : Type 0} where
 module _ {Tok Cx St Er V W : Type 0} (part : Meaning Tok Cx St Er V) (on_yes : OfYes Tok Cx St Er V W) (on_no : OfNo Tok Cx St Er V W) (h : NeverOutOfMemory part)
     (yes : (b : Beginning Tok Cx St) (v : Option V) (p : Outcome V Er St) (o : Outcome W Er St) → on_yes b v p o → SparesMemory o.verdict)
     (no : (b : Beginning Tok Cx St) (p : Outcome V Er St) (o : Outcome W Er St) → on_no b p o → SparesMemory o.verdict) where
-  judges-spare : (b : Beginning Tok Cx St) (p : Outcome V Er St) (o : Outcome W Er St) (u : Verdict V Er) → p.verdict ≡ u → part b p → Judges u on_yes on_no b p o → SparesMemory o.verdict
+  judges-spare : (b : Beginning Tok Cx St) (p : Outcome V Er St) (o : Outcome W Er St) (u : Verdict V Er) → p.verdict ≡ u → part b p → ByVerdict u on_yes on_no b p o → SparesMemory o.verdict
   judges-spare b p o (Yes v) e m j = yes b v p o j
   judges-spare b p o No e m j = no b p o j
   judges-spare b p o (Halt s) e m j =
@@ -33,7 +33,7 @@ module _ {Tok Cx St Er V W : Type 0} (part : Meaning Tok Cx St Er V) (on_yes : O
   shielded-spares b o m = judges-spare b m.first o m.first.verdict refl m.meant m.judges
 
 module _ {Tok Cx St Er V W : Type 0} (merged : Er → Er → Er) (free : Type 0) (vets : Vets Tok Cx St Er V W) (part : Meaning Tok Cx St Er V) (quiet : free) where
-  rules-spare : (r : Result W Er) (s : St) (b : Beginning Tok Cx St) (p : Outcome V Er St) (o : Outcome W Er St) → Rules merged free r s b p o → SparesMemory o.verdict
+  rules-spare : (r : Result W Er) (s : St) (b : Beginning Tok Cx St) (p : Outcome V Er St) (o : Outcome W Er St) → OnRuling merged free r s b p o → SparesMemory o.verdict
   rules-spare (Ok w) s b p o m = or_clash-spares _ o tt m
   rules-spare (Err e) s b p o m = or_lacks-spares quiet _ o tt m
 

@@ -24,9 +24,9 @@ use Rattle.chumsky_group.specs.Regrouped.{Regrouped}
 use Rattle.chumsky_items.specs.Lists.{IsYes}
 use Rattle.chumsky_shield.specs.AndIs.{GivenAt, LooksFrom, MeansAndIs}
 use Rattle.chumsky_shield.specs.MapErr.{ErrMaps, YesAsOne, MappedAs, NoMapped, MeansMapErr}
-use Rattle.chumsky_shield.specs.Shielded.{OrClash, OrLacks, OfYes, OfNo, Judges, Shielded, NoAsOne}
+use Rattle.chumsky_shield.specs.Shielded.{OrClash, OrLacks, OfYes, OfNo, ByVerdict, Shielded, NoAsOne}
 use Rattle.chumsky_shield.specs.Validated.{Emits, EmitsAll, Validated, MeansValidate}
-use Rattle.chumsky_shield.specs.Vetted.{Vets, Rules, Vetting, Vetted}
+use Rattle.chumsky_shield.specs.Vetted.{Vets, OnRuling, Vetting, Vetted}
 use Rattle.chumsky_moves.specs.Moves.{Moves, of_either}
 use Rattle.chumsky_moves.specs.MovesLaws.{either-true, no-moves, asked-moves, chained-first, chained-second, sequence-moves}
 use Rattle.chumsky_moves.specs.ChoicesMove.{or_else-moves}
@@ -58,7 +58,7 @@ module _ {V Er St : Type 0} where
 module _ {Tok Cx St Er V W : Type 0} (part : Meaning Tok Cx St Er V) (on_yes : OfYes Tok Cx St Er V W) (on_no : OfNo Tok Cx St Er V W) where
   judges_move : Moves part → ((b : Beginning Tok Cx St) (v : Option V) (p : Outcome V Er St) (o : Outcome W Er St) → b.start < p.end → on_yes b v p o → IsYes o.verdict → b.start < o.end)
       → ((b : Beginning Tok Cx St) (p : Outcome V Er St) (o : Outcome W Er St) → on_no b p o → IsYes o.verdict → ⊥)
-      → (v : Verdict V Er) (b : Beginning Tok Cx St) (p : Outcome V Er St) (o : Outcome W Er St) → p.verdict ≡ v → part b p → Judges v on_yes on_no b p o → IsYes o.verdict → b.start < o.end
+      → (v : Verdict V Er) (b : Beginning Tok Cx St) (p : Outcome V Er St) (o : Outcome W Er St) → p.verdict ≡ v → part b p → ByVerdict v on_yes on_no b p o → IsYes o.verdict → b.start < o.end
   judges_move h hy hn (Yes v) b p o e m j y = hy b v p o (h b p m (rw e tt)) j y
   judges_move h hy hn No b p o e m j y = absurd (hn b p o j y)
   judges_move h hy hn (Halt s) b p o e m j y = absurd (subst IsYes (ap (λ (x : Outcome W Er St). x.verdict) j) y)
@@ -74,7 +74,7 @@ module _ {Tok Cx St Er V W : Type 0} (merged : Er → Er → Er) where
   no_as_one-no b p o h y = subst IsYes (ap (λ (x : Outcome W Er St). x.verdict) (clash-yes h y)) y
 
   module _ (free : Type 0) where
-    rules-move : (r : Result W Er) (s : St) (b : Beginning Tok Cx St) (p : Outcome V Er St) (o : Outcome W Er St) → b.start < p.end → Rules merged free r s b p o → IsYes o.verdict → b.start < o.end
+    rules-move : (r : Result W Er) (s : St) (b : Beginning Tok Cx St) (p : Outcome V Er St) (o : Outcome W Er St) → b.start < p.end → OnRuling merged free r s b p o → IsYes o.verdict → b.start < o.end
     rules-move (Ok w) s b p o l h y = let e = ap (λ (x : Outcome W Er St). x.end) (clash-yes h y) in omega arith
     rules-move (Err d) s b p o l h y = absurd (subst IsYes (ap (λ (x : Outcome W Er St). x.verdict) (lacks-yes h y)) y)
 

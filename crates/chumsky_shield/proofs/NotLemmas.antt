@@ -18,7 +18,7 @@ use Rattle.chumsky_parser.specs.Chained.{Asked}
 use Rattle.chumsky_parser.specs.Failure.{wanting}
 use Rattle.chumsky_parser.proofs.ChainedLemmas.{ran-weaker, ran-asked}
 use Rattle.chumsky_parser.proofs.ChoiceLemmas.{ran-marked, ran-not_marked}
-use Rattle.chumsky_shield.specs.Shielded.{Judges, Shielded, something_else}
+use Rattle.chumsky_shield.specs.Shielded.{ByVerdict, Shielded, something_else}
 use Rattle.chumsky_shield.specs.Not.{Denies, Allows, MeansNot}
 use Rattle.chumsky_shield.proofs.ShieldLemmas.{Went, went_yes, went_no, shield_whole, shield_halts, shield_stop, shield_fails}
 
@@ -42,7 +42,7 @@ module _ {I Tok Sp Cu Er St Mk Cx V : Type 0} (source : input_trait.Ghosts I Cu 
     not_stops h = marked m mid _ e (shield_stop (ran-asked h))
 
     unrestored : (v : Verdict V errors.Seen) → IsAnswer v → (o : Outcome (Unit {0}) errors.Seen states.Seen) (p : Outcome V errors.Seen states.Seen) → o.verdict ≡ Halt Memory → o.state ≡ p.state → (states.takes_no_memory → ⊥)
-        → Judges v (Denies source errors states m.mark) (Allows source errors states m.mark) (begin w old) p o
+        → ByVerdict v (Denies source errors states m.mark) (Allows source errors states m.mark) (begin w old) p o
     unrestored (Yes v) a o p u s may = inl (may, u, s)
     unrestored No a o p u s may = inl (may, u, s)
     unrestored (Halt z) a o p u s may = absurd a

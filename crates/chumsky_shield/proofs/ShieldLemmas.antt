@@ -14,7 +14,7 @@ use Rattle.chumsky_input.specs.Aside.{ClashesWith, kept_after}
 use Rattle.chumsky_input.proofs.PrimaryLemmas.{has_event_at-left, has_event_at-right}
 use Rattle.chumsky_parser.specs.Chained.{retold}
 use Rattle.chumsky_parser.specs.Failure.{asked}
-use Rattle.chumsky_shield.specs.Shielded.{as_one, OrClash, OrLacks, OfYes, OfNo, Judges, Shielded, NoAsOne, FailsAsOne}
+use Rattle.chumsky_shield.specs.Shielded.{as_one, OrClash, OrLacks, OfYes, OfNo, ByVerdict, Shielded, NoAsOne, FailsAsOne}
 
 module _ {Tok Cx St Er V : Type 0} (merged : Er → Er → Er) (safe : Type 0) (part : Meaning Tok Cx St Er V) (w : Bool) (old mid : Held Tok Cx St Er) where
   -- an answer of a part that was run with nothing kept, and what it left
@@ -68,11 +68,11 @@ module _ {Tok Cx St Er W : Type 0} where
   leaves_by merged safe old new whole (Clash e) a l = absurd a
 
 module _ {Tok Cx St Er V W : Type 0} {merged : Er → Er → Er} {safe : Type 0} {part : Meaning Tok Cx St Er V} {on_yes : OfYes Tok Cx St Er V W} {on_no : OfNo Tok Cx St Er V W} {w : Bool} {old mid : Held Tok Cx St Er} where
-  judged : {v : Verdict V Er} (h : Went merged safe part w old mid v) (o : Outcome W Er St) → Judges v on_yes on_no (begin w old) h.first o → Shielded part on_yes on_no (begin w old) o
-  judged h o j = record { first = h.first; meant = h.meant; judges = subst (λ v. Judges v on_yes on_no (begin w old) h.first o) (sym h.verdict) j }
+  judged : {v : Verdict V Er} (h : Went merged safe part w old mid v) (o : Outcome W Er St) → ByVerdict v on_yes on_no (begin w old) h.first o → Shielded part on_yes on_no (begin w old) o
+  judged h o j = record { first = h.first; meant = h.meant; judges = subst (λ v. ByVerdict v on_yes on_no (begin w old) h.first o) (sym h.verdict) j }
 
   -- an outcome made of an answer of the part, whose events come after what was kept
-  pub shield_whole : {v : Verdict V Er} (h : Went merged safe part w old mid v) (whole : Outcome W Er St) (new : Held Tok Cx St Er) → IsAnswer whole.verdict → Judges v on_yes on_no (begin w old) h.first whole
+  pub shield_whole : {v : Verdict V Er} (h : Went merged safe part w old mid v) (whole : Outcome W Er St) (new : Held Tok Cx St Er) → IsAnswer whole.verdict → ByVerdict v on_yes on_no (begin w old) h.first whole
       → new ≡ record old { place = whole.end; state = whole.state; kept = primary merged (option_to_list old.kept ++ whole.events); emitted = old.emitted ++ whole.emitted } → Ran merged safe (Shielded part on_yes on_no) w old new (answer whole.verdict)
   shield_whole {v} h whole new a j n =
       record {
@@ -90,7 +90,7 @@ module _ {Tok Cx St Er V W : Type 0} {merged : Er → Er → Er} {safe : Type 0}
       }
 
   -- the merge of its one event was refused
-  pub shield_clash : {v : Verdict V Er} (h : Went merged safe part w old mid v) (whole : Outcome W Er St) (e : Event Er) (new : Held Tok Cx St Er) → whole.events ≡ e ∷ [] → ((o : Outcome W Er St) → OrClash whole o → Judges v on_yes on_no (begin w old) h.first o)
+  pub shield_clash : {v : Verdict V Er} (h : Went merged safe part w old mid v) (whole : Outcome W Er St) (e : Event Er) (new : Held Tok Cx St Er) → whole.events ≡ e ∷ [] → ((o : Outcome W Er St) → OrClash whole o → ByVerdict v on_yes on_no (begin w old) h.first o)
       → new.state ≡ whole.state → SameRun old new → new.stopped ≡ old.stopped → (safe → ⊥) → HasEventAt e.place (option_to_list old.kept) → Ran merged safe (Shielded part on_yes on_no) w old new (Err (fault.Stop Memory))
   shield_clash h whole e new only j s same stopped may there =
       let o : Outcome W Er St = record whole { verdict = Clash e; events = [] } in
@@ -104,7 +104,7 @@ module _ {Tok Cx St Er V W : Type 0} {merged : Er → Er → Er} {safe : Type 0}
       }
 
   -- a refusal of something else
-  pub shield_halts : {v : Verdict V Er} (h : Went merged safe part w old mid v) (new : Held Tok Cx St Er) → ((o : Outcome W Er St) → o.verdict ≡ Halt Memory → o.state ≡ new.state → Judges v on_yes on_no (begin w old) h.first o)
+  pub shield_halts : {v : Verdict V Er} (h : Went merged safe part w old mid v) (new : Held Tok Cx St Er) → ((o : Outcome W Er St) → o.verdict ≡ Halt Memory → o.state ≡ new.state → ByVerdict v on_yes on_no (begin w old) h.first o)
       → SameRun old new → new.stopped ≡ old.stopped → Ran merged safe (Shielded part on_yes on_no) w old new (Err (fault.Stop Memory))
   shield_halts h new j same stopped =
       let o : Outcome W Er St = record { verdict = Halt Memory; end = old.place; state = new.state; events = []; emitted = [] } in
@@ -141,13 +141,13 @@ module _ {Tok Cx St Er V W : Type 0} {merged : Er → Er → Er} {safe : Type 0}
 
   -- the events of the part count as one, after what was kept; the state may be another
   pub shield_as_one : {v : Verdict V Er} {u : Verdict W Er} (h : Went merged safe part w old mid v) (s : St) (here new : Held Tok Cx St Er) → here ≡ record mid { state = s } → IsAnswer u
-      → ((o : Outcome W Er St) → OrClash (record (retold u (as_one merged h.first)) { state = s }) o → Judges v on_yes on_no (begin w old) h.first o)
+      → ((o : Outcome W Er St) → OrClash (record (retold u (as_one merged h.first)) { state = s }) o → ByVerdict v on_yes on_no (begin w old) h.first o)
       → new ≡ kept_after merged old.kept here → Ran merged safe (Shielded part on_yes on_no) w old new (answer u)
   shield_as_one {v} {u} h s here new k a j n =
       shield_whole h (record (retold u (as_one merged h.first)) { state = s }) new a (j _ (inl refl)) (n ∙ ap (kept_after merged old.kept) (k ∙ ap (λ (z : Held Tok Cx St Er). record z { state = s }) h.left))
 
   pub shield_as_one_refused : {v : Verdict V Er} {u : Verdict W Er} (h : Went merged safe part w old mid v) (s : St) (here new : Held Tok Cx St Er) → here ≡ record mid { state = s }
-      → ((o : Outcome W Er St) → OrClash (record (retold u (as_one merged h.first)) { state = s }) o → Judges v on_yes on_no (begin w old) h.first o)
+      → ((o : Outcome W Er St) → OrClash (record (retold u (as_one merged h.first)) { state = s }) o → ByVerdict v on_yes on_no (begin w old) h.first o)
       → ClashesWith safe old.kept here.kept × (new ≡ record here { kept = None }) → Ran merged safe (Shielded part on_yes on_no) w old new (Err (fault.Stop Memory))
   shield_as_one_refused {v} {u} h s here new k j c =
       let e = c.0.0 in
@@ -163,7 +163,7 @@ module _ {Tok Cx St Er V W : Type 0} {merged : Er → Er → Er} {safe : Type 0}
   shield_no h new (fault.Stop s) j k = rw k.0 (shield_as_one_refused {u = No} h h.first.state mid new (as_left h) j (k.1, k.2))
 
   pub shield_adds : {v : Verdict V Er} (h : Went merged safe part w old mid v) (whole : Outcome W Er St) (e : Event Er) (here new : Held Tok Cx St Er) (f : Fault) → whole.verdict ≡ No → whole.events ≡ e ∷ []
-      → here ≡ record old { place = whole.end; state = whole.state; emitted = old.emitted ++ whole.emitted } → ((o : Outcome W Er St) → OrClash whole o → Judges v on_yes on_no (begin w old) h.first o)
+      → here ≡ record old { place = whole.end; state = whole.state; emitted = old.emitted ++ whole.emitted } → ((o : Outcome W Er St) → OrClash whole o → ByVerdict v on_yes on_no (begin w old) h.first o)
       → Adds merged safe e here new f → Ran merged safe (Shielded part on_yes on_no) w old new (Err f)
   shield_adds h whole e here new fault.Fail is_no only t j a =
       let left : new ≡ record old { place = whole.end; state = whole.state; kept = primary merged (option_to_list old.kept ++ whole.events); emitted = old.emitted ++ whole.emitted } =
@@ -177,7 +177,7 @@ module _ {Tok Cx St Er V W : Type 0} {merged : Er → Er → Er} {safe : Type 0}
 
   -- a failure with one event, in place of those of the part
   pub shield_fails : {v : Verdict V Er} (h : Went merged safe part w old mid v) (whole : Outcome W Er St) (e : Event Er) (here new : Held Tok Cx St Er) (f : Fault) → whole.verdict ≡ No → whole.events ≡ e ∷ []
-      → here ≡ record old { place = whole.end; state = whole.state; emitted = old.emitted ++ whole.emitted } → ((o : Outcome W Er St) → OrLacks safe whole o → Judges v on_yes on_no (begin w old) h.first o)
+      → here ≡ record old { place = whole.end; state = whole.state; emitted = old.emitted ++ whole.emitted } → ((o : Outcome W Er St) → OrLacks safe whole o → ByVerdict v on_yes on_no (begin w old) h.first o)
       → Fails merged safe e here new f → Ran merged safe (Shielded part on_yes on_no) w old new (Err f)
   shield_fails h whole e here new f is_no only t j (inl a) = shield_adds h whole e here new f is_no only t (λ o k. j o (inr k)) a
   shield_fails h whole e here new f is_no only t j (inr l) =

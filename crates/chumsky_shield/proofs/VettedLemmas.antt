@@ -15,7 +15,7 @@ use Rattle.chumsky_parser.proofs.ChainedLemmas.{ran-weaker, ran-asked}
 use Rattle.chumsky_shield.specs.Shielded.{as_one, failing, OrClash, OrLacks, Shielded, NoAsOne, FailsAsOne}
 use Rattle.chumsky_input.specs.Extra.{shown_from}
 use Rattle.chumsky_shield.specs.TriedWith.{shown_of}
-use Rattle.chumsky_shield.specs.Vetted.{Vets, Rules, Vetting, Vetted}
+use Rattle.chumsky_shield.specs.Vetted.{Vets, OnRuling, Vetting, Vetted}
 use Rattle.chumsky_shield.proofs.ShieldLemmas.{Went, went_yes, went_no, shield_stop, shield_as_one, shield_as_one_refused, shield_adds, shield_fails, shield_no}
 
 module _ {Tok Cx St Er V W : Type 0} (merged : Er → Er → Er) (safe free : Type 0) (vets : Vets Tok Cx St Er V W) (part : Meaning Tok Cx St Er V) (w : Bool) (old mid : Held Tok Cx St Er) where

@@ -5,10 +5,10 @@ use Rattle.chumsky_input.specs.declared.inspector.Inspector as inspector_trait
 use Rattle.chumsky_input.specs.declared.input.Input as input_trait
 use Rattle.chumsky_input.specs.Outcome.{Meaning, Beginning, Outcome, Verdict, Yes, No, Halt, Clash, IsAnswer}
 use Rattle.chumsky_parser.specs.Failure.{wanting}
-use Rattle.chumsky_shield.specs.Shielded.{Judges, NoAsOne}
+use Rattle.chumsky_shield.specs.Shielded.{ByVerdict, NoAsOne}
 use Rattle.chumsky_shield.specs.ShieldedLaws.{or_clash-whole, or_lacks-whole}
 use Rattle.chumsky_shield.specs.Not.{Denies, Allows, MeansNot}
-use Rattle.chumsky_shield.specs.Vetted.{Vets, Rules, Vetting, Vetted, ByTest, tested}
+use Rattle.chumsky_shield.specs.Vetted.{Vets, OnRuling, Vetting, Vetted, ByTest, tested}
 use Rattle.chumsky_shield.specs.Tried.{ByTry, ByPick, ruling_seen, picked}
 use Rattle.chumsky_parser.specs.Chained.{from, Follows}
 use Rattle.chumsky_parser.specs.Choice.{OrElse, ElseFrom}
@@ -17,7 +17,7 @@ use Rattle.chumsky_shield.specs.AndIs.{GivenAt, LooksFrom, MeansAndIs, Rewinds, 
 use Rattle.chumsky_shield.specs.Compared.{YesStays, YesEndsAs, AsPart, AnswersAsPart}
 
 module _ {I Tok Sp Cu Er St Mk Cx V : Type 0} (source : input_trait.Ghosts I Cu Tok Sp) (errors : error_trait.Ghosts Er I Tok Sp) (states : inspector_trait.Ghosts St I Mk Tok Sp) (part : Meaning Tok Cx states.Seen errors.Seen V) where
-  stays : (m : states.Marked) (v : Verdict V errors.Seen) (b : Beginning Tok Cx states.Seen) (p : Outcome V errors.Seen states.Seen) (o : Outcome (Unit {0}) errors.Seen states.Seen) (u : Option (Unit {0})) → Judges v (Denies source errors states m) (Allows source errors states m) b p o → o.verdict ≡ Yes u → o.end ≡ b.start
+  stays : (m : states.Marked) (v : Verdict V errors.Seen) (b : Beginning Tok Cx states.Seen) (p : Outcome V errors.Seen states.Seen) (o : Outcome (Unit {0}) errors.Seen states.Seen) (u : Option (Unit {0})) → ByVerdict v (Denies source errors states m) (Allows source errors states m) b p o → o.verdict ≡ Yes u → o.end ≡ b.start
   stays m (Yes v) b p o u (inl r) e = let k = r.1 in let no : ⊥ = cc in absurd no
   stays m (Yes v) b p o u (inr h) e =
       let a : IsAnswer o.verdict = rw e tt in
@@ -40,7 +40,7 @@ module _ {Tok Cx St Er V W : Type 0} (merged : Er → Er → Er) (free : Type 0)
   AcceptsAll = (b : Beginning Tok Cx St) (end : ℕ) (s t : St) (v : V) (r : Result W Er) → vets b end s v r t → (w : W) × (r ≡ Ok w) × (t ≡ s) × becomes b end v w
 
   module _ (all : AcceptsAll) (part : Meaning Tok Cx St Er V) where
-    accepted : (r : Result W Er) (t : St) (v : V) (w : W) (b : Beginning Tok Cx St) (p : Outcome V Er St) (o : Outcome W Er St) → part (record b { wanted = true }) p → p.verdict ≡ Yes (Some v) → r ≡ Ok w → t ≡ p.state → becomes b p.end v w → Rules merged free r t b p o → IsAnswer o.verdict → AsPart merged becomes part b o
+    accepted : (r : Result W Er) (t : St) (v : V) (w : W) (b : Beginning Tok Cx St) (p : Outcome V Er St) (o : Outcome W Er St) → part (record b { wanted = true }) p → p.verdict ≡ Yes (Some v) → r ≡ Ok w → t ≡ p.state → becomes b p.end v w → OnRuling merged free r t b p o → IsAnswer o.verdict → AsPart merged becomes part b o
     accepted (Ok x) t v w b p o m e k s h j a =
         let is = or_clash-whole j a in
         let x_is : x ≡ w = cc in
@@ -48,7 +48,7 @@ module _ {Tok Cx St Er V W : Type 0} (merged : Er → Er → Er) (free : Type 0)
         record { first = p; meant = m; verdict = rw e (w, h, verdict); rest = rw is (rw s refl) }
     accepted (Err d) t v w b p o m e k s h j a = let no : ⊥ = cc in absurd no
 
-    as_part : (v : Verdict V Er) (b : Beginning Tok Cx St) (p : Outcome V Er St) (o : Outcome W Er St) → part (record b { wanted = true }) p → p.verdict ≡ v → Judges v (Vetting merged free vets) (NoAsOne merged) b p o → IsAnswer o.verdict → AsPart merged becomes part b o
+    as_part : (v : Verdict V Er) (b : Beginning Tok Cx St) (p : Outcome V Er St) (o : Outcome W Er St) → part (record b { wanted = true }) p → p.verdict ≡ v → ByVerdict v (Vetting merged free vets) (NoAsOne merged) b p o → IsAnswer o.verdict → AsPart merged becomes part b o
     as_part (Yes (Some v)) b p o m e j a =
         let k = all b p.end p.state j.1 v j.0 j.2 in
         accepted j.0 j.1 v k.0 b p o m e k.1 k.2 k.3 j.3 a
@@ -81,7 +81,7 @@ module _ {I Tok Sp Cu Er St Cx V W : Type 0} (source : input_trait.Ghosts I Cu T
       (λ b end s t v r m. let k = h v m.pick m.says in (k.0, m.answer ∙ ap (λ x. picked source errors x b end) k.1, m.keeps, subst (gives v) k.1 m.says)) part
 
 module _ {Tok Cx St Er V : Type 0} (merged : Er → Er → Er) (part : Meaning Tok Cx St Er V) where
-  rewound : (v : Verdict V Er) (b : Beginning Tok Cx St) (p o : Outcome V Er St) (u : Option V) → Judges v (Rewinds merged) (NoAsOne merged) b p o → o.verdict ≡ Yes u → o.end ≡ b.start
+  rewound : (v : Verdict V Er) (b : Beginning Tok Cx St) (p o : Outcome V Er St) (u : Option V) → ByVerdict v (Rewinds merged) (NoAsOne merged) b p o → o.verdict ≡ Yes u → o.end ≡ b.start
   rewound (Yes v) b p o u (inl h) e = let a : IsAnswer o.verdict = rw e tt in ap (λ (x : Outcome V Er St). x.end) (or_clash-whole h.1 a)
   rewound (Yes v) b p o u (inr h) e = let a : IsAnswer o.verdict = rw e tt in ap (λ (x : Outcome V Er St). x.end) (or_clash-whole h.1 a)
   rewound No b p o u h e =

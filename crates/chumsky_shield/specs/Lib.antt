@@ -1,3 +1,4 @@
+pub mod Calls
 pub mod Shielded
 pub mod ShieldedLaws
 pub mod Not

@@ -1,13 +1,16 @@
 -- A part whose failures are mapped.
-use Rattle.std.specs.Prelude.{◌≡◌, Option, Some, None, ◌∷◌, []}
+use Rattle.std.specs.Prelude.{◌≡◌, Option, Some, None, ◌∷◌, [], option_map}
 use Rattle.std.specs.Borrow.{MutBor}
 use Rattle.std.specs.Fn.{Shared}
 use Rattle.chumsky_input.specs.declared.error.Error as error_trait
 use Rattle.chumsky_input.specs.declared.inspector.Inspector as inspector_trait
+use Rattle.chumsky_input.specs.declared.input.Input as input_trait
+use Rattle.chumsky_input.specs.declared.input_ref.InputRef.{InputRef}
+use Rattle.chumsky_input.specs.declared.input_ref.Located.{Located}
 use Rattle.chumsky_input.specs.declared.stop.Fault.{Fault}
 use Rattle.chumsky_input.specs.declared.stop.Fault.TheVariants as fault
 use Rattle.chumsky_input.specs.Extra.{Shown}
-use Rattle.chumsky_input.specs.Held.{Held}
+use Rattle.chumsky_input.specs.Held.{Held, held, located}
 use Rattle.chumsky_input.specs.Outcome.{Event, Meaning, Beginning, Outcome, Yes, No}
 use Rattle.chumsky_input.specs.Primary.{primary}
 use Rattle.chumsky_input.specs.Run.{Adds}
@@ -74,6 +77,12 @@ module _ {Tok Cx St Er : Type 0} (merged : Er → Er → Er) (safe : Type 0) (ma
   abbrev pub MapsKept : Option (Event Er) → Option (Event Er) → Held Tok Cx St Er → Held Tok Cx St Er → Fault → Type 0
   MapsKept None older old new f = (f ≡ fault.Fail) × (new ≡ record old { kept = older })
   MapsKept (Some e) older old new f = (r : Er) × (s : St) × maps e.error r s × Adds merged safe (record { place = e.place; error = r }) (record old { kept = older; state = s }) new f
+
+module _ {I X Tok Sp Cu Er St Cx Mk : Type 0} (source : input_trait.Ghosts I Cu Tok Sp) (errors : error_trait.Ghosts Er I Tok Sp) (states : inspector_trait.Ghosts St I Mk Tok Sp) where
+  -- the same of the error that a run kept, by a mapper that may look at what the run holds
+  abbrev pub MapsKeptOf : (Held Tok Cx states.Seen errors.Seen → errors.Seen → errors.Seen → states.Seen → Type 0) → Option (Located Er) → InputRef I X Cu Tok Sp Er St Cx Mk → InputRef I X Cu Tok Sp Er St Cx Mk → Fault → Type 0
+  MapsKeptOf maps older old new fault =
+      MapsKept errors.merged errors.takes_no_memory (maps (held source errors states old)) (held source errors states old).kept (option_map (located errors.seen) older) (held source errors states old) (held source errors states new) fault
 
 -- one result to each error
 abbrev pub MapsOnce : {S : Type 0} → (S → S → Type 0) → Type 0

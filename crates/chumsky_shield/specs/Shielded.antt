@@ -40,17 +40,17 @@ OfNo Tok Cx St Er V W = Beginning Tok Cx St → Outcome V Er St → Outcome W Er
 
 module _ {Tok Cx St Er V W : Type 0} where
   -- a stop of the part stands
-  abbrev pub Judges : Verdict V Er → OfYes Tok Cx St Er V W → OfNo Tok Cx St Er V W → Beginning Tok Cx St → Outcome V Er St → Outcome W Er St → Type 0
-  Judges (Yes v) on_yes on_no b p o = on_yes b v p o
-  Judges No on_yes on_no b p o = on_no b p o
-  Judges (Halt s) on_yes on_no b p o = o ≡ retold (Halt s) p
-  Judges (Clash e) on_yes on_no b p o = o ≡ retold (Clash e) p
+  abbrev pub ByVerdict : Verdict V Er → OfYes Tok Cx St Er V W → OfNo Tok Cx St Er V W → Beginning Tok Cx St → Outcome V Er St → Outcome W Er St → Type 0
+  ByVerdict (Yes v) on_yes on_no b p o = on_yes b v p o
+  ByVerdict No on_yes on_no b p o = on_no b p o
+  ByVerdict (Halt s) on_yes on_no b p o = o ≡ retold (Halt s) p
+  ByVerdict (Clash e) on_yes on_no b p o = o ≡ retold (Clash e) p
 
   -- one outcome of the part, and what is made of it in place of it
   pub record Shielded (part : Meaning Tok Cx St Er V) (on_yes : OfYes Tok Cx St Er V W) (on_no : OfNo Tok Cx St Er V W) (b : Beginning Tok Cx St) (o : Outcome W Er St) : Type 0 where
     pub first : Outcome V Er St
     pub meant : part b first
-    pub judges : Judges first.verdict on_yes on_no b first o
+    pub judges : ByVerdict first.verdict on_yes on_no b first o
 
   -- a no of the part is the whole's, and its events count as one
   abbrev pub NoAsOne : (Er → Er → Er) → OfNo Tok Cx St Er V W

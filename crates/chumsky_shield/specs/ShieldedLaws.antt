@@ -2,7 +2,7 @@
 use Rattle.std.proofs.Common.{◌≡◌, ℕ, ◌≤◌, Option, Some, None, List, [], ◌∷◌, refl, ap, subst, arith, inl, inr, option_to_list}
 use Rattle.chumsky_input.specs.Outcome.{Event, Meaning, Beginning, Outcome, Verdict, Yes, No, Halt, Clash, IsAnswer, SameValue, SameAnswer, Alike, Agree, EndsAfterStart, Agreeing}
 use Rattle.chumsky_parser.specs.Chained.{retold}
-use Rattle.chumsky_shield.specs.Shielded.{as_one, OrClash, OrLacks, OfYes, OfNo, Judges, Shielded, NoAsOne}
+use Rattle.chumsky_shield.specs.Shielded.{as_one, OrClash, OrLacks, OfYes, OfNo, ByVerdict, Shielded, NoAsOne}
 
 module _ {V Er St : Type 0} where
   -- an answer is no refused merge
@@ -18,7 +18,7 @@ module _ {Tok Cx St Er V W : Type 0} (part : Meaning Tok Cx St Er V) (on_yes : O
   judges_end : EndsAfterStart part
       → ((b : Beginning Tok Cx St) (v : Option V) (p : Outcome V Er St) (o : Outcome W Er St) → b.start ≤ p.end → on_yes b v p o → IsAnswer o.verdict → b.start ≤ o.end)
       → ((b : Beginning Tok Cx St) (p : Outcome V Er St) (o : Outcome W Er St) → b.start ≤ p.end → on_no b p o → IsAnswer o.verdict → b.start ≤ o.end)
-      → (v : Verdict V Er) (b : Beginning Tok Cx St) (p : Outcome V Er St) (o : Outcome W Er St) → p.verdict ≡ v → part b p → Judges v on_yes on_no b p o → IsAnswer o.verdict → b.start ≤ o.end
+      → (v : Verdict V Er) (b : Beginning Tok Cx St) (p : Outcome V Er St) (o : Outcome W Er St) → p.verdict ≡ v → part b p → ByVerdict v on_yes on_no b p o → IsAnswer o.verdict → b.start ≤ o.end
   judges_end h hy hn (Yes v) b p o e m j a = hy b v p o (h b p m (rw e tt)) j a
   judges_end h hy hn No b p o e m j a = hn b p o (h b p m (rw e tt)) j a
   judges_end h hy hn (Halt s) b p o e m j a = absurd (subst IsAnswer (ap (λ (x : Outcome W Er St). x.verdict) j) a)
@@ -34,7 +34,7 @@ module _ {Tok Cx St Er V W : Type 0} (part : Meaning Tok Cx St Er V) (on_yes : O
     judges_agree : Agreeing sv part part
         → ((b c : Beginning Tok Cx St) (v v' : Option V) (p p' : Outcome V Er St) (o q : Outcome W Er St) → Alike b c → SameValue sv v v' → Agree sv p p' → on_yes b v p o → on_yes c v' p' q → IsAnswer o.verdict → IsAnswer q.verdict → Agree sw o q)
         → ((b c : Beginning Tok Cx St) (p p' : Outcome V Er St) (o q : Outcome W Er St) → Alike b c → Agree sv p p' → on_no b p o → on_no c p' q → IsAnswer o.verdict → IsAnswer q.verdict → Agree sw o q)
-        → (b c : Beginning Tok Cx St) (p p' : Outcome V Er St) (o q : Outcome W Er St) → Alike b c → part b p → part c p' → (v w : Verdict V Er) → p.verdict ≡ v → p'.verdict ≡ w → Judges v on_yes on_no b p o → Judges w on_yes on_no c p' q → IsAnswer o.verdict → IsAnswer q.verdict → Agree sw o q
+        → (b c : Beginning Tok Cx St) (p p' : Outcome V Er St) (o q : Outcome W Er St) → Alike b c → part b p → part c p' → (v w : Verdict V Er) → p.verdict ≡ v → p'.verdict ≡ w → ByVerdict v on_yes on_no b p o → ByVerdict w on_yes on_no c p' q → IsAnswer o.verdict → IsAnswer q.verdict → Agree sw o q
     judges_agree h hy hn b c p p' o q alike m n (Yes v) (Yes w) e d j k a z =
         let g : Agree sv p p' = h b c p p' alike m n (rw e tt) (rw d tt) in
         let s : SameAnswer sv p.verdict p'.verdict = g.answer in

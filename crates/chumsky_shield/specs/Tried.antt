@@ -38,7 +38,7 @@ module _ {V W Sp Er S : Type 0} (same : V → V → Type 0) (seen : Er → S) (g
   TriesAlike = (v w : V) (span : Sp) (x y : Result W Er) → same v w → gives v span x → gives w span y → SameRuling (λ _ _. ⊤) (ruling_seen seen x) (ruling_seen seen y)
 
   -- two values that the mapper made of values that are the same, with one span
-  pub record SameTried (x y : W) : Type 0 where
+  pub record SameTryMapped (x y : W) : Type 0 where
     pub first : V
     pub second : V
     pub span : Sp
@@ -55,11 +55,11 @@ SamePick same None None = ⊤
 
 module _ {V W : Type 0} (same : V → V → Type 0) (gives : V → Option W → Type 0) where
   -- of values that are the same, both are picked or neither is
-  abbrev pub PicksAlike : Type 0
-  PicksAlike = (v w : V) (x y : Option W) → same v w → gives v x → gives w y → SamePick (λ _ _. ⊤) x y
+  abbrev pub FilterMapsAlike : Type 0
+  FilterMapsAlike = (v w : V) (x y : Option W) → same v w → gives v x → gives w y → SamePick (λ _ _. ⊤) x y
 
   -- two values that were picked of values that are the same
-  pub record SamePicked (x y : W) : Type 0 where
+  pub record SameFilterMapped (x y : W) : Type 0 where
     pub first : V
     pub second : V
     pub alike : same first second

@@ -1,13 +1,8 @@
 -- A fallible mapper that is shown the run.
 use Rattle.std.specs.Prelude.{◌≡◌, ℕ, Result, Ok, Err, ⊤}
-use Rattle.std.specs.Borrow.{MutBor}
-use Rattle.std.specs.Fn.{Shared}
-use Rattle.chumsky_input.specs.declared.error.Error as error_trait
-use Rattle.chumsky_input.specs.declared.inspector.Inspector as inspector_trait
-use Rattle.chumsky_input.specs.declared.input.Input as input_trait
-use Rattle.chumsky_input.specs.declared.map_extra.MapExtra.{MapExtra}
-use Rattle.chumsky_input.specs.Extra.{Shown, Answers}
+use Rattle.chumsky_input.specs.Extra.{Shown}
 use Rattle.chumsky_input.specs.Outcome.{Beginning}
+use Rattle.chumsky_parser.specs.Showing.{GivesShown}
 use Rattle.chumsky_shield.specs.Vetted.{SameRuling}
 use Rattle.chumsky_shield.specs.Tried.{ruling_seen}
 
@@ -15,12 +10,8 @@ use Rattle.chumsky_shield.specs.Tried.{ruling_seen}
 abbrev pub shown_of : {Tok Cx St : Type 0} → Beginning Tok Cx St → ℕ → St → Shown Tok Cx St
 shown_of b end s = record { tokens = b.tokens; from = b.start; to = end; context = b.context; state = s }
 
--- what a closure answers to a value and what it is shown, and the state that it leaves
-abbrev pub Says : (Tok Cx St Er V W : Type 0) → Type 1
-Says Tok Cx St Er V W = V → Shown Tok Cx St → Result W Er → St → Type 0
-
-module _ {Tok Cx St E Er V W : Type 0} (seen : E → Er) (says : Says Tok Cx St E V W) where
-  -- such an answer to the value of the part
+module _ {Tok Cx St E Er V W : Type 0} (seen : E → Er) (says : GivesShown Tok Cx St V (Result W E)) where
+  -- what a fallible closure answers to the value of the part, shown what the part took
   pub record ByTryWith (b : Beginning Tok Cx St) (end : ℕ) (s : St) (v : V) (r : Result W Er) (t : St) : Type 0 where
     pub ruling : Result W E
     pub answers : says v (shown_of b end s) ruling t

@@ -3,11 +3,12 @@ use Rattle.std.specs.Prelude.{⊤}
 use Rattle.std.proofs.Common.{◌≡◌, ℕ, Result, Ok, Err, refl, sym, ap, ◌∙◌, subst}
 use Rattle.chumsky_input.specs.Extra.{Shown}
 use Rattle.chumsky_input.specs.Outcome.{Beginning, Alike}
+use Rattle.chumsky_parser.specs.Showing.{GivesShown}
 use Rattle.chumsky_shield.specs.Vetted.{SameRuling, VetsAlike}
 use Rattle.chumsky_shield.specs.Tried.{ruling_seen}
-use Rattle.chumsky_shield.specs.TriedWith.{shown_of, Says, ByTryWith, TriesWithAlike, SameTriedWith}
+use Rattle.chumsky_shield.specs.TriedWith.{shown_of, ByTryWith, TriesWithAlike, SameTriedWith}
 
-module _ {Tok Cx St E Er V W : Type 0} (seen : E → Er) (says : Says Tok Cx St E V W) (same : V → V → Type 0) where
+module _ {Tok Cx St E Er V W : Type 0} (seen : E → Er) (says : GivesShown Tok Cx St V (Result W E)) (same : V → V → Type 0) where
   tried-same : (v v' : V) (z : Shown Tok Cx St) (s t : St) (x y : Result W E) → same v v' → says v z x s → says v' z y t → SameRuling (λ _ _. ⊤) (ruling_seen seen x) (ruling_seen seen y) → SameRuling (SameTriedWith seen says same) (ruling_seen seen x) (ruling_seen seen y)
   tried-same v v' z s t (Ok x) (Ok y) e m n u = record { first = v; second = v'; shown = z; state = s; other_state = t; alike = e; from_first = m; from_second = n }
   tried-same v v' z s t (Ok x) (Err d) e m n u = u

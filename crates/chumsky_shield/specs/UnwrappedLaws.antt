@@ -4,10 +4,10 @@ use Rattle.chumsky_input.specs.declared.error.Error as error_trait
 use Rattle.chumsky_input.specs.declared.input.Input as input_trait
 use Rattle.chumsky_input.specs.Outcome.{Meaning, Beginning, Outcome, Verdict, Yes, No, Halt, Clash, IsAnswer}
 use Rattle.chumsky_parser.specs.Failure.{wanting}
-use Rattle.chumsky_shield.specs.Shielded.{Judges, NoAsOne}
+use Rattle.chumsky_shield.specs.Shielded.{ByVerdict, NoAsOne}
 use Rattle.chumsky_shield.specs.ShieldedLaws.{or_clash-whole, or_lacks-whole}
 use Rattle.chumsky_shield.specs.Tried.{ByPick, picked}
-use Rattle.chumsky_shield.specs.Vetted.{Rules, Vetting, Vetted, ByTest, tested}
+use Rattle.chumsky_shield.specs.Vetted.{OnRuling, Vetting, Vetted, ByTest, tested}
 use Rattle.chumsky_shield.specs.Unwrapped.{AlwaysGives}
 
 wanted-is : {V : Type 0} (w : Bool) (v x : V) → wanting w v ≡ Some x → x ≡ v
@@ -15,7 +15,7 @@ wanted-is true v x e = cc
 wanted-is false v x e = let no : ⊥ = cc in absurd no
 
 module _ {I Tok Sp Cu Er St Cx V : Type 0} (source : input_trait.Ghosts I Cu Tok Sp) (errors : error_trait.Ghosts Er I Tok Sp) (free : Type 0) (tests : V → Bool → Type 0) (part : Meaning Tok Cx St errors.Seen V) where
-  ruled : (passes : Bool) (s : St) (v : V) (b : Beginning Tok Cx St) (p o : Outcome V errors.Seen St) (x : V) → tests v passes → Rules errors.merged free (tested source errors tests passes b p.end v) s b p o → o.verdict ≡ Yes (Some x) → tests x true
+  ruled : (passes : Bool) (s : St) (v : V) (b : Beginning Tok Cx St) (p o : Outcome V errors.Seen St) (x : V) → tests v passes → OnRuling errors.merged free (tested source errors tests passes b p.end v) s b p o → o.verdict ≡ Yes (Some x) → tests x true
   ruled true s v b p o x says h e =
       let a : IsAnswer o.verdict = rw e tt in
       let verdict = sym (ap (λ (z : Outcome V errors.Seen St). z.verdict) (or_clash-whole h a)) ∙ e in
@@ -25,10 +25,10 @@ module _ {I Tok Sp Cu Er St Cx V : Type 0} (source : input_trait.Ghosts I Cu Tok
       let a : IsAnswer o.verdict = rw e tt in
       let verdict = ap (λ (z : Outcome V errors.Seen St). z.verdict) (or_lacks-whole h a) in let no : ⊥ = cc in absurd no
 
-  passed : (u : Verdict V errors.Seen) (b : Beginning Tok Cx St) (p o : Outcome V errors.Seen St) (x : V) → Judges u (Vetting errors.merged free (ByTest source errors tests)) (NoAsOne errors.merged) b p o → o.verdict ≡ Yes (Some x) → tests x true
+  passed : (u : Verdict V errors.Seen) (b : Beginning Tok Cx St) (p o : Outcome V errors.Seen St) (x : V) → ByVerdict u (Vetting errors.merged free (ByTest source errors tests)) (NoAsOne errors.merged) b p o → o.verdict ≡ Yes (Some x) → tests x true
   passed (Yes (Some v)) b p o x j e =
       let m = j.2 in
-      ruled m.passes j.1 v b p o x m.says (subst (λ z. Rules errors.merged free z j.1 b p o) m.answer j.3) e
+      ruled m.passes j.1 v b p o x m.says (subst (λ z. OnRuling errors.merged free z j.1 b p o) m.answer j.3) e
   passed (Yes None) b p o x j e = absurd j
   passed No b p o x j e =
       let a : IsAnswer o.verdict = rw e tt in
@@ -40,7 +40,7 @@ module _ {I Tok Sp Cu Er St Cx V : Type 0} (source : input_trait.Ghosts I Cu Tok
   filter-gives b o x m e = passed m.run.first.verdict b m.run.first o x m.run.judges e
 
 module _ {I Tok Sp Cu Er St Cx V W : Type 0} (source : input_trait.Ghosts I Cu Tok Sp) (errors : error_trait.Ghosts Er I Tok Sp) (free : Type 0) (gives : V → Option W → Type 0) (part : Meaning Tok Cx St errors.Seen V) where
-  chosen : (pick : Option W) (s : St) (v : V) (b : Beginning Tok Cx St) (p : Outcome V errors.Seen St) (o : Outcome W errors.Seen St) (x : W) → gives v pick → Rules errors.merged free (picked source errors pick b p.end) s b p o → o.verdict ≡ Yes (Some x) → (u : V) × gives u (Some x)
+  chosen : (pick : Option W) (s : St) (v : V) (b : Beginning Tok Cx St) (p : Outcome V errors.Seen St) (o : Outcome W errors.Seen St) (x : W) → gives v pick → OnRuling errors.merged free (picked source errors pick b p.end) s b p o → o.verdict ≡ Yes (Some x) → (u : V) × gives u (Some x)
   chosen (Some w) s v b p o x says h e =
       let a : IsAnswer o.verdict = rw e tt in
       let verdict = sym (ap (λ (z : Outcome W errors.Seen St). z.verdict) (or_clash-whole h a)) ∙ e in
@@ -50,10 +50,10 @@ module _ {I Tok Sp Cu Er St Cx V W : Type 0} (source : input_trait.Ghosts I Cu T
       let a : IsAnswer o.verdict = rw e tt in
       let verdict = ap (λ (z : Outcome W errors.Seen St). z.verdict) (or_lacks-whole h a) in let no : ⊥ = cc in absurd no
 
-  taken : (u : Verdict V errors.Seen) (b : Beginning Tok Cx St) (p : Outcome V errors.Seen St) (o : Outcome W errors.Seen St) (x : W) → Judges u (Vetting errors.merged free (ByPick source errors gives)) (NoAsOne errors.merged) b p o → o.verdict ≡ Yes (Some x) → (v : V) × gives v (Some x)
+  taken : (u : Verdict V errors.Seen) (b : Beginning Tok Cx St) (p : Outcome V errors.Seen St) (o : Outcome W errors.Seen St) (x : W) → ByVerdict u (Vetting errors.merged free (ByPick source errors gives)) (NoAsOne errors.merged) b p o → o.verdict ≡ Yes (Some x) → (v : V) × gives v (Some x)
   taken (Yes (Some v)) b p o x j e =
       let m = j.2 in
-      chosen m.pick j.1 v b p o x m.says (subst (λ z. Rules errors.merged free z j.1 b p o) m.answer j.3) e
+      chosen m.pick j.1 v b p o x m.says (subst (λ z. OnRuling errors.merged free z j.1 b p o) m.answer j.3) e
   taken (Yes None) b p o x j e = absurd j
   taken No b p o x j e =
       let a : IsAnswer o.verdict = rw e tt in

@@ -15,14 +15,14 @@ Vets Tok Cx St Er V W = Beginning Tok Cx St → ℕ → St → V → Result W Er
 module _ {Tok Cx St Er V W : Type 0} (merged : Er → Er → Er) (free : Type 0) where
   -- an accepted value stands, and the part's events count as one; a refusal is one event at the start in their place, whose
   -- error may have to be built
-  abbrev pub Rules : Result W Er → St → Beginning Tok Cx St → Outcome V Er St → Outcome W Er St → Type 0
-  Rules (Ok w) s b p o = OrClash (record (retold (Yes (wanting b.wanted w)) (as_one merged p)) { state = s }) o
-  Rules (Err e) s b p o = OrLacks free (record (failing (record { place = b.start; error = e }) p) { state = s }) o
+  abbrev pub OnRuling : Result W Er → St → Beginning Tok Cx St → Outcome V Er St → Outcome W Er St → Type 0
+  OnRuling (Ok w) s b p o = OrClash (record (retold (Yes (wanting b.wanted w)) (as_one merged p)) { state = s }) o
+  OnRuling (Err e) s b p o = OrLacks free (record (failing (record { place = b.start; error = e }) p) { state = s }) o
 
   module _ (vets : Vets Tok Cx St Er V W) where
     -- some answer of the judge to the part's value
     abbrev pub Vetting : OfYes Tok Cx St Er V W
-    Vetting b (Some v) p o = (r : Result W Er) × (s : St) × vets b p.end p.state v r s × Rules r s b p o
+    Vetting b (Some v) p o = (r : Result W Er) × (s : St) × vets b p.end p.state v r s × OnRuling r s b p o
     Vetting b None p o = ⊥
 
     -- the part, which always runs for its value, and then the judge

@@ -9,7 +9,7 @@ use Rattle.chumsky_parser.specs.Laws.{asked-ends, asked-agrees}
 use Rattle.chumsky_parser.specs.Failure.{wanting}
 use Rattle.chumsky_shield.specs.Shielded.{NoAsOne, something_else}
 use Rattle.chumsky_shield.specs.ShieldedLaws.{or_clash-whole, or_lacks-whole, shielded-ends, shielded-agrees, no_as_one-ends, no_as_one-agrees}
-use Rattle.chumsky_shield.specs.Vetted.{Vets, Rules, Vetting, Vetted, SameRuling, VetsAlike, ByTest, TestsAlike, tested}
+use Rattle.chumsky_shield.specs.Vetted.{Vets, OnRuling, Vetting, Vetted, SameRuling, VetsAlike, ByTest, TestsAlike, tested}
 
 -- where both are wanted, the same values
 pub wanting-alike : {W : Type 0} (same : W → W → Type 0) (b c : Bool) (w x : W) → same w x → SameValue same (wanting b w) (wanting c x)
@@ -18,7 +18,7 @@ wanting-alike same true false w x s = tt
 wanting-alike same false c w x s = tt
 
 module _ {Tok Cx St Er V W : Type 0} (merged : Er → Er → Er) (free : Type 0) where
-  rules-end : (r : Result W Er) (s : St) (b : Beginning Tok Cx St) (p : Outcome V Er St) (o : Outcome W Er St) → b.start ≤ p.end → Rules merged free r s b p o → IsAnswer o.verdict → b.start ≤ o.end
+  rules-end : (r : Result W Er) (s : St) (b : Beginning Tok Cx St) (p : Outcome V Er St) (o : Outcome W Er St) → b.start ≤ p.end → OnRuling merged free r s b p o → IsAnswer o.verdict → b.start ≤ o.end
   rules-end (Ok w) s b p o l h a = let e = ap (λ (x : Outcome W Er St). x.end) (or_clash-whole h a) in omega arith
   rules-end (Err d) s b p o l h a = let e = ap (λ (x : Outcome W Er St). x.end) (or_lacks-whole h a) in omega arith
 
@@ -31,7 +31,7 @@ module _ {Tok Cx St Er V W : Type 0} (merged : Er → Er → Er) (free : Type 0)
     vetted-ends h b o m a = shielded-ends (Asked true part) _ _ (asked-ends true part h) vetting-ends (no_as_one-ends merged) b o m.run a
 
     module _ (sv : V → V → Type 0) (sw : W → W → Type 0) where
-      rules-agree : (r r' : Result W Er) (s s' : St) (b c : Beginning Tok Cx St) (p p' : Outcome V Er St) (o q : Outcome W Er St) → Alike b c → SameRuling sw r r' → s ≡ s' → Agree sv p p' → Rules merged free r s b p o → Rules merged free r' s' c p' q → IsAnswer o.verdict → IsAnswer q.verdict → Agree sw o q
+      rules-agree : (r r' : Result W Er) (s s' : St) (b c : Beginning Tok Cx St) (p p' : Outcome V Er St) (o q : Outcome W Er St) → Alike b c → SameRuling sw r r' → s ≡ s' → Agree sv p p' → OnRuling merged free r s b p o → OnRuling merged free r' s' c p' q → IsAnswer o.verdict → IsAnswer q.verdict → Agree sw o q
       rules-agree (Ok w) (Ok x) s s' b c p p' o q alike e t g h k a z =
           rw (or_clash-whole h a, or_clash-whole k z) (record { answer = wanting-alike sw b.wanted c.wanted w x e; end = g.end; state = t; events = ap (λ es. option_to_list (primary merged es)) g.events; emitted = g.emitted })
       rules-agree (Ok w) (Err d) s s' b c p p' o q alike e t g h k a z = absurd e

@@ -1,8 +1,7 @@
 //! A parser whose output has to pass a test.
 ghost use Rattle.std.specs.Prelude.{◌≡◌, Bool, ⊤};
 ghost use Rattle.std.specs.Fn.{FnReturnsAt};
-ghost use Rattle.chumsky_input.specs.Run.{Runs};
-ghost use Rattle.chumsky_parser.specs.Failure.{asked};
+ghost use Rattle.chumsky_shield.specs.Calls.{RunsAnyway};
 ghost use Rattle.chumsky_shield.specs.Vetted.{Vetted, ByTest};
 
 use crate::refuse::{fail_as_one, something_else};
@@ -111,7 +110,8 @@ where
     F: Tester<O>,
     requires part { A.ready filter.now.parser }
     requires tester { F.callable filter.now.tester }
-    ensures ran { (w : Bool) → Runs I.Input E.Error.Error E.State.Inspector (Vetted E.Error.merged E.Error.takes_no_memory (ByTest I.Input E.Error.Error (F.gives filter.now.tester)) (A.meaning filter.now.parser E.Error.Error E.State.Inspector)) w inp.old inp.new (asked w result) }
+    ensures ran { RunsAnyway I.Input E.Error.Error E.State.Inspector
+        (⟦<Filter<A, F> as Parser<'src, I, O, E>>⟧.meaning filter.now) inp.old inp.new result }
     ensures lent { inp.new.state.ghost_name ≡ inp.old.state.ghost_name }
 {
     let start = inp.cursor;

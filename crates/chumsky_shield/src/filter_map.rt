@@ -1,7 +1,6 @@
 //! A parser whose output is picked.
-ghost use Rattle.std.specs.Prelude.{◌≡◌, Bool, ⊤, Option};
-ghost use Rattle.chumsky_input.specs.Run.{Runs};
-ghost use Rattle.chumsky_parser.specs.Failure.{asked};
+ghost use Rattle.std.specs.Prelude.{◌≡◌, ⊤, Option};
+ghost use Rattle.chumsky_shield.specs.Calls.{RunsAnyway};
 ghost use Rattle.chumsky_shield.specs.Vetted.{Vetted};
 ghost use Rattle.chumsky_shield.specs.Tried.{ByPick};
 
@@ -73,7 +72,7 @@ where
     A: Parser<'src, I, O, E>,
     F: Picker<O, U>,
 {
-    ghost use Rattle.chumsky_shield.specs.Tried.{PicksAlike, SamePicked};
+    ghost use Rattle.chumsky_shield.specs.Tried.{FilterMapsAlike, SameFilterMapped};
     ghost use Rattle.chumsky_shield.specs.TriedLaws.{picks-alike};
     ghost use Rattle.chumsky_shield.specs.VettedLaws.{vetted-ends, vetted-agrees};
 
@@ -81,9 +80,9 @@ where
 
     ghost meaning = { λ p errors states. Vetted errors.merged errors.takes_no_memory (ByPick I.Input errors (F.gives p.picker)) (A.meaning p.parser errors states) };
 
-    ghost steady = { λ p. A.steady p.parser × PicksAlike (A.same p.parser) (F.gives p.picker) };
+    ghost steady = { λ p. A.steady p.parser × FilterMapsAlike (A.same p.parser) (F.gives p.picker) };
 
-    ghost same = { λ p. SamePicked (A.same p.parser) (F.gives p.picker) };
+    ghost same = { λ p. SameFilterMapped (A.same p.parser) (F.gives p.picker) };
 
     ghost ends_after_start = { λ p. vetted-ends _ _ _ _ (A.ends_after_start p.parser) };
 
@@ -116,7 +115,8 @@ where
     F: Picker<O, U>,
     requires part { A.ready filter_map.now.parser }
     requires picker { F.callable filter_map.now.picker }
-    ensures ran { (w : Bool) → Runs I.Input E.Error.Error E.State.Inspector (Vetted E.Error.merged E.Error.takes_no_memory (ByPick I.Input E.Error.Error (F.gives filter_map.now.picker)) (A.meaning filter_map.now.parser E.Error.Error E.State.Inspector)) w inp.old inp.new (asked w result) }
+    ensures ran { RunsAnyway I.Input E.Error.Error E.State.Inspector
+        (⟦<FilterMap<A, O, F, U> as Parser<'src, I, U, E>>⟧.meaning filter_map.now) inp.old inp.new result }
     ensures lent { inp.new.state.ghost_name ≡ inp.old.state.ghost_name }
 {
     let start = inp.cursor;

@@ -1,10 +1,10 @@
 //! Laws that compare parsers with their parts, each the contract of a function that does nothing.
-ghost use Rattle.std.specs.Prelude.{◌≡◌, Bool, true, List, Option, Some, [], Result, Ok};
+ghost use Rattle.std.specs.Prelude.{◌≡◌, true, Some};
 ghost use Rattle.chumsky_input.specs.Extra.{Answers};
-ghost use Rattle.chumsky_combinator.specs.Compared.{SameOutcomes};
-ghost use Rattle.chumsky_shield.specs.Compared.{TriesBlindly, YesStays, YesEndsAs, AnswersAsPart, AnswersJustAsPart, EmitsNothing, MapsToItself, AnswersAsOne, SucceedsAsPart};
+ghost use Rattle.chumsky_shield.specs.Compared.{PassesEach, PicksEach, MapsEach, maps_spanned};
+ghost use Rattle.chumsky_shield.specs.Compared.{GivesBackAlone, GivesBackFrom, GivesBack};
+ghost use Rattle.chumsky_shield.specs.Compared.{YesStays, YesEndsAs, DoesAsPart, DoesAsPartIfQuiet, DoesAsOne, SucceedsAs, SameIfBlind};
 ghost use Rattle.chumsky_shield.specs.MapErr.{MapsSeen, MapsShown, MapsWithState};
-ghost use Rattle.chumsky_shield.specs.TriedWith.{shown_of};
 ghost use Rattle.chumsky_shield.specs.Unwrapped.{AlwaysGives};
 ghost use Rattle.chumsky_shield.specs.Validated.{ByEmitter};
 
@@ -57,7 +57,8 @@ pub fn and_is_ends_where_its_first_part_ends<
     A: Parser<'src, I, O, E>,
     B: Parser<'src, I, U, E>,
 >(and_is: &AndIs<A, B, U>)
-    ensures { YesEndsAs (A.meaning and_is.now.parser E.Error.Error E.State.Inspector) (⟦<AndIs<A, B, U> as Parser<'src, I, O, E>>⟧.meaning and_is.now E.Error.Error E.State.Inspector) }
+    ensures { YesEndsAs (A.meaning and_is.now.parser E.Error.Error E.State.Inspector)
+        (⟦<AndIs<A, B, U> as Parser<'src, I, O, E>>⟧.meaning and_is.now E.Error.Error E.State.Inspector) }
 {}
 
 /// `a.filter(f)` with an `f` that is always true answers as `a` does: the same verdict, output, end, state and emitted
@@ -70,7 +71,8 @@ pub fn filter_of_all_answers_as_its_part<
     A: Parser<'src, I, O, E>,
     F: Tester<O>,
 >(filter: &Filter<A, F>)
-    ensures { ((v : O) (passes : Bool) → F.gives filter.now.tester v passes → passes ≡ true) → AnswersAsPart E.Error.merged (λ b end v w. w ≡ v) (A.meaning filter.now.parser E.Error.Error E.State.Inspector) (⟦<Filter<A, F> as Parser<'src, I, O, E>>⟧.meaning filter.now E.Error.Error E.State.Inspector) }
+    ensures { PassesEach (F.gives filter.now.tester) → DoesAsPart E.Error.Error E.State.Inspector (λ b end v w. w ≡ v)
+        (A.meaning filter.now.parser) (⟦<Filter<A, F> as Parser<'src, I, O, E>>⟧.meaning filter.now) }
 {}
 
 /// Each output of `a.filter(f)` has passed the test.
@@ -96,7 +98,9 @@ pub fn filter_map_of_all_answers_as_its_part<
     A: Parser<'src, I, O, E>,
     F: Picker<O, U>,
 >(filter_map: &FilterMap<A, O, F, U>)
-    ensures { ((v : O) (r : Option U) → F.gives filter_map.now.picker v r → (w : U) × (r ≡ Some w)) → AnswersAsPart E.Error.merged (λ b end v w. F.gives filter_map.now.picker v (Some w)) (A.meaning filter_map.now.parser E.Error.Error E.State.Inspector) (⟦<FilterMap<A, O, F, U> as Parser<'src, I, U, E>>⟧.meaning filter_map.now E.Error.Error E.State.Inspector) }
+    ensures { let p = filter_map.now in
+        PicksEach (F.gives p.picker) → DoesAsPart E.Error.Error E.State.Inspector (λ b end v w. F.gives p.picker v (Some w))
+        (A.meaning p.parser) (⟦<FilterMap<A, O, F, U> as Parser<'src, I, U, E>>⟧.meaning p) }
 {}
 
 /// Each output of `a.filter_map(f)` is one that `f` picked.
@@ -123,7 +127,9 @@ pub fn try_map_of_all_answers_as_its_part<
     A: Parser<'src, I, O, E>,
     F: TryMapper<O, I::Span, U, E::Error>,
 >(try_map: &TryMap<A, O, F, U>)
-    ensures { ((v : O) (span : I.Span) (r : Result U E.Error) → F.gives try_map.now.mapper v span r → (w : U) × (r ≡ Ok w)) → AnswersAsPart E.Error.merged (λ b end v w. F.gives try_map.now.mapper v (I.span_between b.tokens b.start end) (Ok w)) (A.meaning try_map.now.parser E.Error.Error E.State.Inspector) (⟦<TryMap<A, O, F, U> as Parser<'src, I, U, E>>⟧.meaning try_map.now E.Error.Error E.State.Inspector) }
+    ensures { let maps = F.gives try_map.now.mapper in
+        MapsEach maps → DoesAsPart E.Error.Error E.State.Inspector (maps_spanned I.Input maps)
+        (A.meaning try_map.now.parser) (⟦<TryMap<A, O, F, U> as Parser<'src, I, U, E>>⟧.meaning try_map.now) }
 {}
 
 /// Where its closure takes no notice of the run but for the span, and leaves the state, `try_map_with` has the outcomes of
@@ -138,7 +144,9 @@ pub fn try_map_with_by_a_blind_closure_is_try_map<
     F: Fn(O, &mut MapExtra<'src, '_, I, E>) -> Result<U, E::Error>,
     G: TryMapper<O, I::Span, U, E::Error>,
 >(try_map: &TryMapWith<A, O, F, U>, mapper: &G)
-    ensures { TriesBlindly I.Input (Answers I.Input E.State.Inspector F.Fn try_map.now.mapper) (G.gives mapper.now) → SameOutcomes (⟦<TryMapWith<A, O, F, U> as Parser<'src, I, U, E>>⟧.meaning try_map.now E.Error.Error E.State.Inspector) (⟦<TryMap<A, O, G, U> as Parser<'src, I, U, E>>⟧.meaning (record { parser = try_map.now.parser; mapper = mapper.now; of = record {} }) E.Error.Error E.State.Inspector) }
+    ensures { SameIfBlind I.Input E.Error.Error E.State.Inspector F.Fn G.gives
+        ⟦<TryMapWith<A, O, F, U> as Parser<'src, I, U, E>>⟧.meaning
+        ⟦<TryMap<A, O, G, U> as Parser<'src, I, U, E>>⟧.meaning try_map.now mapper.now }
 {}
 
 /// `a.map_err(f)` succeeds where `a` does, and then is as `a` is. With an `f` that gives back each error, by what counts of
@@ -151,8 +159,11 @@ pub fn map_err_succeeds_as_its_part<
     A: Parser<'src, I, O, E>,
     F: Fn(E::Error) -> E::Error,
 >(map_err: &MapErr<A, F>)
-    ensures succeeds { SucceedsAsPart E.Error.merged (A.meaning map_err.now.parser E.Error.Error E.State.Inspector) (⟦<MapErr<A, F> as Parser<'src, I, O, E>>⟧.meaning map_err.now E.Error.Error E.State.Inspector) }
-    ensures itself { ((e r : E.Error.Seen) → MapsSeen E.Error.seen (F.post map_err.now.mapper) e r → r ≡ e) → AnswersAsOne E.Error.merged (A.meaning map_err.now.parser E.Error.Error E.State.Inspector) (⟦<MapErr<A, F> as Parser<'src, I, O, E>>⟧.meaning map_err.now E.Error.Error E.State.Inspector) }
+    ensures succeeds { SucceedsAs E.Error.Error E.State.Inspector
+        (A.meaning map_err.now.parser) (⟦<MapErr<A, F> as Parser<'src, I, O, E>>⟧.meaning map_err.now) }
+    ensures itself { let m = map_err.now in
+        GivesBackAlone (MapsSeen E.Error.seen (F.post m.mapper)) → DoesAsOne E.Error.Error E.State.Inspector
+        (A.meaning m.parser) (⟦<MapErr<A, F> as Parser<'src, I, O, E>>⟧.meaning m) }
 {}
 
 /// The same of `a.map_err_with(f)`, and an `f` that leaves the state too.
@@ -164,8 +175,11 @@ pub fn map_err_with_succeeds_as_its_part<
     A: Parser<'src, I, O, E>,
     F: Fn(E::Error, &mut MapExtra<'src, '_, I, E>) -> E::Error,
 >(map_err: &MapErrWith<A, F>)
-    ensures succeeds { SucceedsAsPart E.Error.merged (A.meaning map_err.now.parser E.Error.Error E.State.Inspector) (⟦<MapErrWith<A, F> as Parser<'src, I, O, E>>⟧.meaning map_err.now E.Error.Error E.State.Inspector) }
-    ensures itself { MapsToItself (MapsShown E.Error.seen (Answers I.Input E.State.Inspector F.Fn map_err.now.mapper)) → AnswersAsOne E.Error.merged (A.meaning map_err.now.parser E.Error.Error E.State.Inspector) (⟦<MapErrWith<A, F> as Parser<'src, I, O, E>>⟧.meaning map_err.now E.Error.Error E.State.Inspector) }
+    ensures succeeds { SucceedsAs E.Error.Error E.State.Inspector
+        (A.meaning map_err.now.parser) (⟦<MapErrWith<A, F> as Parser<'src, I, O, E>>⟧.meaning map_err.now) }
+    ensures itself { let m = map_err.now in
+        GivesBack (MapsShown E.Error.seen (Answers I.Input E.State.Inspector F.Fn m.mapper)) → DoesAsOne E.Error.Error E.State.Inspector
+        (A.meaning m.parser) (⟦<MapErrWith<A, F> as Parser<'src, I, O, E>>⟧.meaning m) }
 {}
 
 /// The same of `a.map_err_with_state(f)`, and an `f` that leaves the state too.
@@ -177,8 +191,12 @@ pub fn map_err_with_state_succeeds_as_its_part<
     A: Parser<'src, I, O, E>,
     F: Fn(E::Error, I::Span, &mut E::State) -> E::Error,
 >(map_err: &MapErrWithState<A, F>)
-    ensures succeeds { SucceedsAsPart E.Error.merged (A.meaning map_err.now.parser E.Error.Error E.State.Inspector) (⟦<MapErrWithState<A, F> as Parser<'src, I, O, E>>⟧.meaning map_err.now E.Error.Error E.State.Inspector) }
-    ensures itself { ((span : I.Span) (x : E.State.Seen) (e r : E.Error.Seen) (s : E.State.Seen) → MapsWithState E.Error.Error E.State.Inspector F.Fn map_err.now.mapper span x e r s → (r ≡ e) × (s ≡ x)) → AnswersAsOne E.Error.merged (A.meaning map_err.now.parser E.Error.Error E.State.Inspector) (⟦<MapErrWithState<A, F> as Parser<'src, I, O, E>>⟧.meaning map_err.now E.Error.Error E.State.Inspector) }
+    ensures succeeds { SucceedsAs E.Error.Error E.State.Inspector
+        (A.meaning map_err.now.parser) (⟦<MapErrWithState<A, F> as Parser<'src, I, O, E>>⟧.meaning map_err.now) }
+    ensures itself { let m = map_err.now in
+        GivesBackFrom (MapsWithState E.Error.Error E.State.Inspector F.Fn m.mapper) →
+        DoesAsOne E.Error.Error E.State.Inspector
+        (A.meaning m.parser) (⟦<MapErrWithState<A, F> as Parser<'src, I, O, E>>⟧.meaning m) }
 {}
 
 /// `a.validate(f)` with an `f` that emits nothing and leaves the state answers as `a` does: the same verdict, end, state,
@@ -192,5 +210,7 @@ pub fn validate_that_emits_nothing_answers_as_its_part<
     A: Parser<'src, I, O, E>,
     F: Fn(O, &mut MapExtra<'src, '_, I, E>, &mut Emitter<E::Error>) -> U,
 >(validate: &Validate<A, O, F, U>)
-    ensures { EmitsNothing (ByEmitter I.Input E.State.Inspector F.Fn validate.now.validator E.Error.seen) → AnswersJustAsPart (λ b p v w. ByEmitter I.Input E.State.Inspector F.Fn validate.now.validator E.Error.seen v (shown_of b p.end p.state) w p.state (Some [])) (A.meaning validate.now.parser E.Error.Error E.State.Inspector) (⟦<Validate<A, O, F, U> as Parser<'src, I, U, E>>⟧.meaning validate.now E.Error.Error E.State.Inspector) }
+    ensures { DoesAsPartIfQuiet E.Error.Error E.State.Inspector
+        (ByEmitter I.Input E.State.Inspector F.Fn validate.now.validator E.Error.seen)
+        (A.meaning validate.now.parser) (⟦<Validate<A, O, F, U> as Parser<'src, I, U, E>>⟧.meaning validate.now) }
 {}

@@ -1,7 +1,6 @@
 //! A parser whose failures are mapped.
-ghost use Rattle.std.specs.Prelude.{◌≡◌, option_map};
-ghost use Rattle.chumsky_input.specs.Held.{held, located};
-ghost use Rattle.chumsky_shield.specs.MapErr.{MapsSeen, MapsKept};
+ghost use Rattle.std.specs.Prelude.{◌≡◌};
+ghost use Rattle.chumsky_shield.specs.MapErr.{MapsSeen, MapsKeptOf};
 
 use chumsky_input::error::Error;
 use chumsky_input::extra::ParserExtra;
@@ -78,7 +77,8 @@ fn map_kept<'src, I: Input<'src>, E: ParserExtra<I>, F: Fn(E::Error) -> E::Error
     inp: &mut InputRef<'src, '_, I, E>,
 ) -> Fault
     requires { F.IsAlwaysCallable mapper.now }
-    ensures maps { MapsKept E.Error.merged E.Error.takes_no_memory (λ e r s. MapsSeen E.Error.seen (F.post mapper.now) e r × (s ≡ (held I.Input E.Error.Error E.State.Inspector inp.old).state)) (held I.Input E.Error.Error E.State.Inspector inp.old).kept (option_map (located E.Error.seen) older) (held I.Input E.Error.Error E.State.Inspector inp.old) (held I.Input E.Error.Error E.State.Inspector inp.new) result }
+    ensures maps { MapsKeptOf I.Input E.Error.Error E.State.Inspector
+        (λ held e r s. MapsSeen E.Error.seen (F.post mapper.now) e r × (s ≡ held.state)) older inp.old inp.new result }
     ensures lent { inp.new.state.ghost_name ≡ inp.old.state.ghost_name }
 {
     match inp.take_kept() {

@@ -1,8 +1,7 @@
 //! A parser whose failures are mapped by a closure that is shown the run.
-ghost use Rattle.std.specs.Prelude.{◌≡◌, ◌≤◌, option_map};
+ghost use Rattle.std.specs.Prelude.{◌≡◌, ◌≤◌};
 ghost use Rattle.chumsky_input.specs.Extra.{KeepsState, Answers, shown_from};
-ghost use Rattle.chumsky_input.specs.Held.{held, located};
-ghost use Rattle.chumsky_shield.specs.MapErr.{MapsShown, MapsKept};
+ghost use Rattle.chumsky_shield.specs.MapErr.{MapsShown, MapsKeptOf};
 
 use chumsky_input::error::Error;
 use chumsky_input::extra::ParserExtra;
@@ -87,9 +86,11 @@ where
     E: ParserExtra<I>,
     F: Fn(E::Error, &mut MapExtra<'src, '_, I, E>) -> E::Error,
     requires callable { KeepsState I.Input E.State.Inspector F.Fn mapper.now }
-    requires tokens { I.cursor_tokens start.now ≡ (held I.Input E.Error.Error E.State.Inspector inp.old).tokens }
-    requires order { I.place start.now ≤ (held I.Input E.Error.Error E.State.Inspector inp.old).place }
-    ensures maps { MapsKept E.Error.merged E.Error.takes_no_memory (MapsShown E.Error.seen (Answers I.Input E.State.Inspector F.Fn mapper.now) (shown_from (I.place start.now) (held I.Input E.Error.Error E.State.Inspector inp.old))) (held I.Input E.Error.Error E.State.Inspector inp.old).kept (option_map (located E.Error.seen) older) (held I.Input E.Error.Error E.State.Inspector inp.old) (held I.Input E.Error.Error E.State.Inspector inp.new) result }
+    requires tokens { I.cursor_tokens start.now ≡ I.cursor_tokens inp.old.cursor }
+    requires order { I.place start.now ≤ I.place inp.old.cursor }
+    ensures maps { MapsKeptOf I.Input E.Error.Error E.State.Inspector
+        (λ held. MapsShown E.Error.seen (Answers I.Input E.State.Inspector F.Fn mapper.now) (shown_from (I.place start.now) held))
+        older inp.old inp.new result }
     ensures lent { inp.new.state.ghost_name ≡ inp.old.state.ghost_name }
 {
     match inp.take_kept() {

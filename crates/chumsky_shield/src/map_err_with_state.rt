@@ -1,7 +1,7 @@
 //! A parser whose failures are mapped by a closure that is handed the state.
-ghost use Rattle.std.specs.Prelude.{◌≡◌, option_map};
-ghost use Rattle.chumsky_input.specs.Held.{held, located};
-ghost use Rattle.chumsky_shield.specs.MapErr.{MapsWithState, MapsKept};
+ghost use Rattle.std.specs.Prelude.{◌≡◌};
+ghost use Rattle.chumsky_shield.specs.Calls.{Changes, SameButState};
+ghost use Rattle.chumsky_shield.specs.MapErr.{MapsWithState, MapsKeptOf};
 
 use chumsky_input::error::Error;
 use chumsky_input::extra::ParserExtra;
@@ -91,7 +91,8 @@ where
     E: ParserExtra<I>,
     F: Fn(E::Error, I::Span, &mut E::State) -> E::Error,
     requires { F.IsAlwaysCallable mapper.now }
-    ensures maps { MapsKept E.Error.merged E.Error.takes_no_memory (MapsWithState E.Error.Error E.State.Inspector F.Fn mapper.now span (held I.Input E.Error.Error E.State.Inspector inp.old).state) (held I.Input E.Error.Error E.State.Inspector inp.old).kept (option_map (located E.Error.seen) older) (held I.Input E.Error.Error E.State.Inspector inp.old) (held I.Input E.Error.Error E.State.Inspector inp.new) result }
+    ensures maps { MapsKeptOf I.Input E.Error.Error E.State.Inspector
+        (λ held. MapsWithState E.Error.Error E.State.Inspector F.Fn mapper.now span held.state) older inp.old inp.new result }
     ensures lent { inp.new.state.ghost_name ≡ inp.old.state.ghost_name }
 {
     match inp.take_kept() {
@@ -120,8 +121,9 @@ where
     E: ParserExtra<I>,
     F: Fn(E::Error, I::Span, &mut E::State) -> E::Error,
     requires { F.IsAlwaysCallable mapper.now }
-    ensures maps { MapsWithState E.Error.Error E.State.Inspector F.Fn mapper.now span (held I.Input E.Error.Error E.State.Inspector inp.old).state (E.Error.seen error) (E.Error.seen result) (held I.Input E.Error.Error E.State.Inspector inp.new).state }
-    ensures moves { held I.Input E.Error.Error E.State.Inspector inp.new ≡ record (held I.Input E.Error.Error E.State.Inspector inp.old) { state = (held I.Input E.Error.Error E.State.Inspector inp.new).state } }
+    ensures maps { MapsWithState E.Error.Error E.State.Inspector F.Fn mapper.now span
+        (E.State.seen inp.old.state.now) (E.Error.seen error) (E.Error.seen result) (E.State.seen inp.new.state.now) }
+    ensures moves { Changes I.Input E.Error.Error E.State.Inspector SameButState inp.old inp.new }
     ensures lent { inp.new.state.ghost_name ≡ inp.old.state.ghost_name }
 {
     mapper(error, span, &mut *inp.state)

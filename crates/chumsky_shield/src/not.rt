@@ -1,7 +1,6 @@
 //! A parser that must not succeed.
-ghost use Rattle.std.specs.Prelude.{◌≡◌, Bool};
-ghost use Rattle.chumsky_input.specs.Run.{Runs};
-ghost use Rattle.chumsky_parser.specs.Failure.{asked};
+ghost use Rattle.std.specs.Prelude.{◌≡◌};
+ghost use Rattle.chumsky_shield.specs.Calls.{RunsAnyway};
 ghost use Rattle.chumsky_shield.specs.Not.{MeansNot};
 
 use crate::refuse::something_else;
@@ -59,7 +58,8 @@ fn deny<'src, I: Input<'src>, O, E: ParserExtra<I>, A: Parser<'src, I, O, E>>(
     inp: &mut InputRef<'src, '_, I, E>,
 ) -> PResult<()>
     requires { A.ready part.now }
-    ensures ran { (w : Bool) → Runs I.Input E.Error.Error E.State.Inspector (MeansNot I.Input E.Error.Error E.State.Inspector (A.meaning part.now E.Error.Error E.State.Inspector)) w inp.old inp.new (asked w result) }
+    ensures ran { RunsAnyway I.Input E.Error.Error E.State.Inspector
+        (λ errors states. MeansNot I.Input errors states (A.meaning part.now errors states)) inp.old inp.new result }
     ensures lent { inp.new.state.ghost_name ≡ inp.old.state.ghost_name }
 {
     let before = inp.save()?;

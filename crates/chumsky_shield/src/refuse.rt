@@ -1,7 +1,7 @@
 //! Failures of a part that ran with nothing kept, and of what it took and is not wanted.
 ghost use Rattle.std.specs.Prelude.{◌≡◌, option_map};
-ghost use Rattle.chumsky_input.specs.Held.{held, located};
-ghost use Rattle.chumsky_input.specs.Run.{Fails};
+ghost use Rattle.chumsky_input.specs.Held.{located};
+ghost use Rattle.chumsky_shield.specs.Calls.{Changes, FailsWith};
 ghost use Rattle.chumsky_shield.specs.Shielded.{something_else, FailsAsOne};
 
 use chumsky_input::error::Error;
@@ -20,7 +20,8 @@ pub(crate) fn something_else<'src, I: Input<'src>, E: ParserExtra<I>>(
     inp: &mut InputRef<'src, '_, I, E>,
 ) -> Fault
     requires { I.cursor_tokens to.now ≡ I.cursor_tokens from.now }
-    ensures fails { Fails E.Error.merged E.Error.takes_no_memory (something_else I.Input E.Error.Error (I.cursor_tokens from.now) (I.place from.now) (I.place to.now)) (held I.Input E.Error.Error E.State.Inspector inp.old) (held I.Input E.Error.Error E.State.Inspector inp.new) result }
+    ensures fails { FailsWith I.Input E.Error.Error E.State.Inspector
+        (something_else I.Input E.Error.Error (I.cursor_tokens from.now) (I.place from.now) (I.place to.now)) inp.old inp.new result }
     ensures lent { inp.new.state.ghost_name ≡ inp.old.state.ghost_name }
 {
     let mut ahead = *from;
@@ -34,7 +35,9 @@ pub(crate) fn fail_as_one<'src, I: Input<'src>, E: ParserExtra<I>>(
     older: Option<Located<E::Error>>,
     inp: &mut InputRef<'src, '_, I, E>,
 ) -> Fault
-    ensures fails { FailsAsOne E.Error.merged E.Error.takes_no_memory (option_map (located E.Error.seen) older) (held I.Input E.Error.Error E.State.Inspector inp.old) (held I.Input E.Error.Error E.State.Inspector inp.new) result }
+    ensures fails { Changes I.Input E.Error.Error E.State.Inspector
+        (λ old new. FailsAsOne E.Error.merged E.Error.takes_no_memory (option_map (located E.Error.seen) older) old new result)
+        inp.old inp.new }
     ensures lent { inp.new.state.ghost_name ≡ inp.old.state.ghost_name }
 {
     match inp.keep_before(older) {

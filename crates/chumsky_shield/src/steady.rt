@@ -9,7 +9,7 @@ ghost use Rattle.std.specs.Option.{IsSome};
 ghost use Rattle.std.specs.Prelude.{Some, Ok, IsOk};
 ghost use Rattle.chumsky_shield.specs.Validated.{MayValidate, ByEmitter, EmitsAlike, SameValidated};
 ghost use Rattle.chumsky_shield.specs.Unwrapped.{AlwaysGives};
-ghost use Rattle.chumsky_shield.specs.Tried.{TriesAlike, SameTried, PicksAlike, SamePicked};
+ghost use Rattle.chumsky_shield.specs.Tried.{TriesAlike, SameTryMapped, FilterMapsAlike, SameFilterMapped};
 
 use crate::and_is::AndIs;
 use crate::filter::{Filter, Tester};
@@ -80,8 +80,8 @@ pub fn filter_map_is_steady<
     F: Picker<O, U>,
 >(filter_map: &FilterMap<A, O, F, U>)
     ensures ready { A.ready filter_map.now.parser → F.callable filter_map.now.picker → ⟦<FilterMap<A, O, F, U> as Parser<'src, I, U, E>>⟧.ready filter_map.now }
-    ensures steady { A.steady filter_map.now.parser → PicksAlike (A.same filter_map.now.parser) (F.gives filter_map.now.picker) → ⟦<FilterMap<A, O, F, U> as Parser<'src, I, U, E>>⟧.steady filter_map.now }
-    ensures same { (x y : U) → ⟦<FilterMap<A, O, F, U> as Parser<'src, I, U, E>>⟧.same filter_map.now x y → SamePicked (A.same filter_map.now.parser) (F.gives filter_map.now.picker) x y }
+    ensures steady { A.steady filter_map.now.parser → FilterMapsAlike (A.same filter_map.now.parser) (F.gives filter_map.now.picker) → ⟦<FilterMap<A, O, F, U> as Parser<'src, I, U, E>>⟧.steady filter_map.now }
+    ensures same { (x y : U) → ⟦<FilterMap<A, O, F, U> as Parser<'src, I, U, E>>⟧.same filter_map.now x y → SameFilterMapped (A.same filter_map.now.parser) (F.gives filter_map.now.picker) x y }
 {}
 
 /// `a.try_map(f)` and `a.try_map_by(f)`.
@@ -96,7 +96,7 @@ pub fn try_map_is_steady<
 >(try_map: &TryMap<A, O, F, U>)
     ensures ready { A.ready try_map.now.parser → F.callable try_map.now.mapper → ⟦<TryMap<A, O, F, U> as Parser<'src, I, U, E>>⟧.ready try_map.now }
     ensures steady { A.steady try_map.now.parser → TriesAlike (A.same try_map.now.parser) E.Error.seen (F.gives try_map.now.mapper) → ⟦<TryMap<A, O, F, U> as Parser<'src, I, U, E>>⟧.steady try_map.now }
-    ensures same { (x y : U) → ⟦<TryMap<A, O, F, U> as Parser<'src, I, U, E>>⟧.same try_map.now x y → SameTried (A.same try_map.now.parser) E.Error.seen (F.gives try_map.now.mapper) x y }
+    ensures same { (x y : U) → ⟦<TryMap<A, O, F, U> as Parser<'src, I, U, E>>⟧.same try_map.now x y → SameTryMapped (A.same try_map.now.parser) E.Error.seen (F.gives try_map.now.mapper) x y }
 {}
 
 /// A closure tests, picks and maps where it may be called.

@@ -1,7 +1,6 @@
 //! A mapper that may refuse.
-ghost use Rattle.std.specs.Prelude.{◌≡◌, Bool, ⊤, Result};
-ghost use Rattle.chumsky_input.specs.Run.{Runs};
-ghost use Rattle.chumsky_parser.specs.Failure.{asked};
+ghost use Rattle.std.specs.Prelude.{◌≡◌, ⊤, Result};
+ghost use Rattle.chumsky_shield.specs.Calls.{RunsAnyway};
 ghost use Rattle.chumsky_shield.specs.Vetted.{Vetted};
 ghost use Rattle.chumsky_shield.specs.Tried.{ByTry};
 
@@ -60,7 +59,7 @@ where
     A: Parser<'src, I, O, E>,
     F: TryMapper<O, I::Span, U, E::Error>,
 {
-    ghost use Rattle.chumsky_shield.specs.Tried.{TriesAlike, SameTried};
+    ghost use Rattle.chumsky_shield.specs.Tried.{TriesAlike, SameTryMapped};
     ghost use Rattle.chumsky_shield.specs.TriedLaws.{tries-alike};
     ghost use Rattle.chumsky_shield.specs.VettedLaws.{vetted-ends, vetted-agrees};
 
@@ -70,7 +69,7 @@ where
 
     ghost steady = { λ p. A.steady p.parser × TriesAlike (A.same p.parser) E.Error.seen (F.gives p.mapper) };
 
-    ghost same = { λ p. SameTried (A.same p.parser) E.Error.seen (F.gives p.mapper) };
+    ghost same = { λ p. SameTryMapped (A.same p.parser) E.Error.seen (F.gives p.mapper) };
 
     ghost ends_after_start = { λ p. vetted-ends _ _ _ _ (A.ends_after_start p.parser) };
 
@@ -103,7 +102,8 @@ where
     F: TryMapper<O, I::Span, U, E::Error>,
     requires part { A.ready try_map.now.parser }
     requires mapper { F.callable try_map.now.mapper }
-    ensures ran { (w : Bool) → Runs I.Input E.Error.Error E.State.Inspector (Vetted E.Error.merged ⊤ (ByTry I.Input E.Error.Error (F.gives try_map.now.mapper)) (A.meaning try_map.now.parser E.Error.Error E.State.Inspector)) w inp.old inp.new (asked w result) }
+    ensures ran { RunsAnyway I.Input E.Error.Error E.State.Inspector
+        (⟦<TryMap<A, O, F, U> as Parser<'src, I, U, E>>⟧.meaning try_map.now) inp.old inp.new result }
     ensures lent { inp.new.state.ghost_name ≡ inp.old.state.ghost_name }
 {
     let start = inp.cursor;

@@ -1,8 +1,7 @@
 //! A mapper that may refuse, and is shown the run.
-ghost use Rattle.std.specs.Prelude.{◌≡◌, Bool, ⊤};
+ghost use Rattle.std.specs.Prelude.{◌≡◌, ⊤};
 ghost use Rattle.chumsky_input.specs.Extra.{KeepsState, Answers};
-ghost use Rattle.chumsky_input.specs.Run.{Runs};
-ghost use Rattle.chumsky_parser.specs.Failure.{asked};
+ghost use Rattle.chumsky_shield.specs.Calls.{RunsAnyway};
 ghost use Rattle.chumsky_shield.specs.Vetted.{Vetted};
 ghost use Rattle.chumsky_shield.specs.TriedWith.{ByTryWith};
 
@@ -79,7 +78,8 @@ where
     F: Fn(O, &mut MapExtra<'src, '_, I, E>) -> Result<U, E::Error>,
     requires part { A.ready try_map.now.parser }
     requires mapper { KeepsState I.Input E.State.Inspector F.Fn try_map.now.mapper }
-    ensures ran { (w : Bool) → Runs I.Input E.Error.Error E.State.Inspector (Vetted E.Error.merged ⊤ (ByTryWith E.Error.seen (Answers I.Input E.State.Inspector F.Fn try_map.now.mapper)) (A.meaning try_map.now.parser E.Error.Error E.State.Inspector)) w inp.old inp.new (asked w result) }
+    ensures ran { RunsAnyway I.Input E.Error.Error E.State.Inspector
+        (⟦<TryMapWith<A, O, F, U> as Parser<'src, I, U, E>>⟧.meaning try_map.now) inp.old inp.new result }
     ensures lent { inp.new.state.ghost_name ≡ inp.old.state.ghost_name }
 {
     let start = inp.cursor;

@@ -1,10 +1,8 @@
 //! A closure that looks at what a parser took, and may emit errors.
-ghost use Rattle.std.specs.Prelude.{◌≡◌, ◌≤◌, Bool, Some, [], MatchResult};
+ghost use Rattle.std.specs.Prelude.{◌≡◌, ◌≤◌, Some, [], MatchResult};
 ghost use Rattle.chumsky_input.specs.Aside.{SameButErrors};
 ghost use Rattle.chumsky_input.specs.Extra.{shown_from};
-ghost use Rattle.chumsky_input.specs.Held.{held};
-ghost use Rattle.chumsky_input.specs.Run.{Runs};
-ghost use Rattle.chumsky_parser.specs.Failure.{asked};
+ghost use Rattle.chumsky_shield.specs.Calls.{Changes, RunsAnyway, SameButState};
 ghost use Rattle.chumsky_shield.specs.Validated.{MayValidate, Validates, ByEmitter, MeansValidate, EmitsAfter, emitted_by};
 
 use chumsky_input::aside::Aside;
@@ -81,7 +79,8 @@ where
     F: Fn(O, &mut MapExtra<'src, '_, I, E>, &mut Emitter<E::Error>) -> U,
     requires part { A.ready validate.now.parser }
     requires validator { MayValidate I.Input E.State.Inspector F.Fn validate.now.validator }
-    ensures ran { (w : Bool) → Runs I.Input E.Error.Error E.State.Inspector (MeansValidate (ByEmitter I.Input E.State.Inspector F.Fn validate.now.validator E.Error.seen) (A.meaning validate.now.parser E.Error.Error E.State.Inspector)) w inp.old inp.new (asked w result) }
+    ensures ran { RunsAnyway I.Input E.Error.Error E.State.Inspector
+        (⟦<Validate<A, O, F, U> as Parser<'src, I, U, E>>⟧.meaning validate.now) inp.old inp.new result }
     ensures lent { inp.new.state.ghost_name ≡ inp.old.state.ghost_name }
 {
     let start = inp.cursor;
@@ -105,10 +104,13 @@ where
     E: ParserExtra<I>,
     F: Fn(O, &mut MapExtra<'src, '_, I, E>, &mut Emitter<E::Error>) -> U,
     requires callable { MayValidate I.Input E.State.Inspector F.Fn validator.now }
-    requires tokens { I.cursor_tokens since.now ≡ (held I.Input E.Error.Error E.State.Inspector inp.old).tokens }
-    requires order { I.place since.now ≤ (held I.Input E.Error.Error E.State.Inspector inp.old).place }
-    ensures validates { Validates I.Input E.State.Inspector F.Fn validator.now value (shown_from (I.place since.now) (held I.Input E.Error.Error E.State.Inspector inp.old)) result.0 (held I.Input E.Error.Error E.State.Inspector inp.new).state result.1 }
-    ensures moves { held I.Input E.Error.Error E.State.Inspector inp.new ≡ record (held I.Input E.Error.Error E.State.Inspector inp.old) { state = (held I.Input E.Error.Error E.State.Inspector inp.new).state } }
+    requires tokens { I.cursor_tokens since.now ≡ I.cursor_tokens inp.old.cursor }
+    requires order { I.place since.now ≤ I.place inp.old.cursor }
+    ensures validates { Changes I.Input E.Error.Error E.State.Inspector
+        (λ old new. Validates I.Input E.State.Inspector F.Fn validator.now value
+        (shown_from (I.place since.now) old) result.0 new.state result.1)
+        inp.old inp.new }
+    ensures moves { Changes I.Input E.Error.Error E.State.Inspector SameButState inp.old inp.new }
     ensures lent { inp.new.state.ghost_name ≡ inp.old.state.ghost_name }
 {
     let mut extra: MapExtra<'src, '_, I, E> = MapExtra {
@@ -139,7 +141,9 @@ fn emit_all<'src, I: Input<'src>, E: ParserExtra<I>>(
     emitter: Emitter<E::Error>,
     inp: &mut InputRef<'src, '_, I, E>,
 ) -> Result<(), AllocError>
-    ensures emits { MatchResult result (λ _. EmitsAfter (emitted_by E.Error.seen emitter) (held I.Input E.Error.Error E.State.Inspector inp.old) (held I.Input E.Error.Error E.State.Inspector inp.new)) (λ _. (emitted_by E.Error.seen emitter ≡ Some [] → ⊥) × SameButErrors (held I.Input E.Error.Error E.State.Inspector inp.old) (held I.Input E.Error.Error E.State.Inspector inp.new)) }
+    ensures emits { let errors = emitted_by E.Error.seen emitter in Changes I.Input E.Error.Error E.State.Inspector
+        (λ old new. MatchResult result (λ _. EmitsAfter errors old new) (λ _. (errors ≡ Some [] → ⊥) × SameButErrors old new))
+        inp.old inp.new }
     ensures lent { inp.new.state.ghost_name ≡ inp.old.state.ghost_name }
 {
     let errors = emitter.into_errors()?;
