@@ -1,13 +1,16 @@
 -- A part that a label names.
 -- Main words: MeansLabelled, AnswersButEvents. Laws: LabelledLaws.antt. Read first: chumsky_shield's Shielded.antt.
-use Rattle.std.specs.Prelude.{◌≡◌, ℕ, Bool, true, false, eqb, Option, Some, None, List, ◌⊎◌, ⊤, option_to_list, map}
-use Rattle.chumsky_input.specs.Held.{Held}
+use Rattle.std.specs.Prelude.{◌≡◌, ℕ, Bool, true, false, eqb, Option, Some, None, List, Result, ◌⊎◌, ⊤, MatchResult, option_map, option_to_list, map}
+use Rattle.chumsky_input.specs.declared.error.Error as error_trait
+use Rattle.chumsky_input.specs.declared.input_ref.Located.{Located}
+use Rattle.chumsky_input.specs.Held.{Held, located}
 use Rattle.chumsky_input.specs.Aside.{kept_after, ClashesWith}
 use Rattle.chumsky_input.specs.Outcome.{Event, Meaning, Beginning, Outcome, Verdict, Yes, No, IsAnswer}
 use Rattle.chumsky_input.specs.Primary.{primary}
 use Rattle.chumsky_parser.specs.Chained.{retold}
 use Rattle.chumsky_parser.specs.Failure.{Refuses}
 use Rattle.chumsky_shield.specs.Shielded.{OrClash, Shielded}
+use Rattle.chumsky_label.specs.Labelling.{LabelsSeen}
 
 module _ {Er : Type 0} (maps : Er → Er → Type 0) where
   abbrev pub RelabelsAt : Bool → Event Er → Option (Event Er) → Type 0
@@ -49,6 +52,17 @@ module _ {Tok Cx St Er : Type 0} (safe : Type 0) (maps : Er → Er → Type 0) (
   -- there was no memory for the label, or to merge the event with the older one
   abbrev pub LosesLabelled : ℕ → Option (Event Er) → Held Tok Cx St Er → Held Tok Cx St Er → Type 0
   LosesLabelled start older old new = (((free → ⊥) ⊎ ((k : Option (Event Er)) × Relabels maps start old.kept k × ClashesWith safe older k))) × (new ≡ record old { kept = None })
+
+module _ {I Tok Sp Er Cx St E : Type 0} (errors : error_trait.Ghosts Er I Tok Sp) (labelled : Er → errors.Seen) (free : Type 0) where
+  -- the label is put into the event that is kept, where that stands at the start; a refusal loses the event
+  abbrev pub RelabelsOrLoses : ℕ → Result (Unit {0}) E → Held Tok Cx St errors.Seen → Held Tok Cx St errors.Seen → Type 0
+  RelabelsOrLoses start result old new = MatchResult result (λ _. Relabelled (LabelsSeen errors.seen labelled) start old new) (λ _. Unlabelled free old new)
+
+  -- and an older event is put before it
+  abbrev pub KeepsOrLoses : ℕ → Option (Located Er) → Result (Unit {0}) E → Held Tok Cx St errors.Seen → Held Tok Cx St errors.Seen → Type 0
+  KeepsOrLoses start older result old new =
+      MatchResult result (λ _. KeepsLabelled errors.merged (LabelsSeen errors.seen labelled) start (option_map (located errors.seen) older) old new)
+      (λ _. LosesLabelled errors.takes_no_memory (LabelsSeen errors.seen labelled) free start (option_map (located errors.seen) older) old new)
 
 -- the event, if there is one, is of an error
 abbrev pub IsOfError : {E S : Type 0} → (E → S) → Option (Event S) → Type 0

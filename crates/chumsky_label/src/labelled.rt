@@ -1,8 +1,8 @@
 //! A parser that a label names.
-ghost use Rattle.std.specs.Prelude.{◌≡◌, ◌<◌, IsTrue, MatchOption, MatchResult, option_map};
-ghost use Rattle.chumsky_input.specs.Held.{held, located};
+ghost use Rattle.std.specs.Prelude.{◌≡◌, ◌<◌, IsTrue, MatchOption};
+ghost use Rattle.chumsky_shield.specs.Calls.{Changes};
 ghost use Rattle.chumsky_label.specs.Labelling.{LabelsSeen};
-ghost use Rattle.chumsky_label.specs.Labelled.{Relabelled, Unlabelled, KeepsLabelled, LosesLabelled};
+ghost use Rattle.chumsky_label.specs.Labelled.{RelabelsOrLoses, KeepsOrLoses};
 
 use crate::label_error::LabelError;
 use chumsky_input::extra::ParserExtra;
@@ -91,7 +91,9 @@ fn keep_labelled<'src, I: Input<'src>, E: ParserExtra<I>, L>(
 ) -> Result<(), AllocError>
 where
     E::Error: LabelError<I, L>,
-    ensures keeps { MatchResult result (λ _. KeepsLabelled E.Error.Error.merged (LabelsSeen E.Error.Error.seen (E.Error.LabelError.labelled E.Error.Error label.now)) start (option_map (located E.Error.Error.seen) older) (held I.Input E.Error.Error E.State.Inspector inp.old) (held I.Input E.Error.Error E.State.Inspector inp.new)) (λ _. LosesLabelled E.Error.Error.takes_no_memory (LabelsSeen E.Error.Error.seen (E.Error.LabelError.labelled E.Error.Error label.now)) E.Error.LabelError.labels_freely start (option_map (located E.Error.Error.seen) older) (held I.Input E.Error.Error E.State.Inspector inp.old) (held I.Input E.Error.Error E.State.Inspector inp.new)) }
+    ensures keeps { Changes I.Input E.Error.Error E.State.Inspector
+        (KeepsOrLoses E.Error.Error (E.Error.LabelError.labelled E.Error.Error label.now) E.Error.LabelError.labels_freely start older result)
+        inp.old inp.new }
     ensures lent { inp.new.state.ghost_name ≡ inp.old.state.ghost_name }
 {
     if lies_past(start, &older) {
@@ -122,7 +124,9 @@ fn relabel<'src, I: Input<'src>, E: ParserExtra<I>, L>(
 ) -> Result<(), AllocError>
 where
     E::Error: LabelError<I, L>,
-    ensures labels { MatchResult result (λ _. Relabelled (LabelsSeen E.Error.Error.seen (E.Error.LabelError.labelled E.Error.Error label.now)) start (held I.Input E.Error.Error E.State.Inspector inp.old) (held I.Input E.Error.Error E.State.Inspector inp.new)) (λ _. Unlabelled E.Error.LabelError.labels_freely (held I.Input E.Error.Error E.State.Inspector inp.old) (held I.Input E.Error.Error E.State.Inspector inp.new)) }
+    ensures labels { Changes I.Input E.Error.Error E.State.Inspector
+        (RelabelsOrLoses E.Error.Error (E.Error.LabelError.labelled E.Error.Error label.now) E.Error.LabelError.labels_freely start result)
+        inp.old inp.new }
     ensures lent { inp.new.state.ghost_name ≡ inp.old.state.ghost_name }
 {
     match inp.take_kept() {
