@@ -18,7 +18,7 @@ use Rattle.chumsky_parser.proofs.ChainedLemmas.{ran-weaker, ran-moved, ran-chain
 use Rattle.chumsky_parser.proofs.FailureLemmas.{ran-yes, ran-misses}
 use Rattle.chumsky_primitive.specs.OneOf.{passes}
 use Rattle.chumsky_text.specs.Leading.{run_end, run_state, one_more, one_end, one_state, is_empty, ran_on, expected_at, EndsRun, Begins, StepsBy}
-use Rattle.chumsky_text.specs.TextRun.{Cut, RunsOn, TakesOne, SpelledBy, Spells, MeansRun, AfterToken, AfterFirst, MeansBegun, MeansWord, MeansNewline, MeansKeyword, Skips, MeansPadded}
+use Rattle.chumsky_text.specs.TextRun.{Cut, RunsOn, TakesOne, SpelledBy, Spells, MeansRun, AfterToken, AfterFirst, MeansBegun, MeansWord, MeansNewline, MeansKeyword, SkipsRun, MeansPadded}
 
 none_more : {Tok : Type 0} (test : Tok → Bool) (t : Option Tok) → passes test t ≡ false → one_more test t ≡ []
 none_more test None p = refl
@@ -217,14 +217,14 @@ module _ {I Tok Sp Cu Er St Mk Cx W : Type 0} (source : input_trait.Ghosts I Cu 
           begun begins _ what w old mid new b (Err f) (rw b.rest at (misspelled f wrong fails))
 
 module _ {I Tok Sp Er St Mk Cx V : Type 0} (errors : error_trait.Ghosts Er I Tok Sp) (states : inspector_trait.Ghosts St I Mk Tok Sp) (test : Tok → Bool) (part : Meaning Tok Cx states.Seen errors.Seen V) (w : Bool) (old mid : Held Tok Cx states.Seen errors.Seen) (moved : mid ≡ ran_on states.after test old) where
-  skips : (o m : Held Tok Cx states.Seen errors.Seen) → m ≡ ran_on states.after test o → Ran errors.merged errors.takes_no_memory (Skips errors states test) w o m (Ok None)
+  skips : (o m : Held Tok Cx states.Seen errors.Seen) → m ≡ ran_on states.after test o → Ran errors.merged errors.takes_no_memory (SkipsRun errors states test) w o m (Ok None)
   skips o m e = rw e (ran-yes errors.merged errors.takes_no_memory _ w o None (run_end test o.tokens o.place) (run_state states.after test o.tokens o.place o.state) (record { outcome = refl }))
 
-  pad : {new : Held Tok Cx states.Seen errors.Seen} {r : Result (Option V) Fault} → Ran errors.merged errors.takes_no_memory (Chained part (λ v. Chained (Skips errors states test) (λ _. Given v))) w mid new r
+  pad : {new : Held Tok Cx states.Seen errors.Seen} {r : Result (Option V) Fault} → Ran errors.merged errors.takes_no_memory (Chained part (λ v. Chained (SkipsRun errors states test) (λ _. Given v))) w mid new r
       → Ran errors.merged errors.takes_no_memory (MeansPadded errors states test part) w old new r
   pad {new} {r} h =
       ran-weaker errors.merged errors.takes_no_memory _ _ w old new r (λ o m. record { run = m })
-      (ran-chained errors.merged errors.takes_no_memory (Skips errors states test) (λ _. Chained part (λ v. Chained (Skips errors states test) (λ _. Given v))) w old None mid new r (skips old mid moved) h)
+      (ran-chained errors.merged errors.takes_no_memory (SkipsRun errors states test) (λ _. Chained part (λ v. Chained (SkipsRun errors states test) (λ _. Given v))) w old None mid new r (skips old mid moved) h)
 
   pub padded_failed : {new : Held Tok Cx states.Seen errors.Seen} {x y : Result (Option V) Fault} {f : Fault} → Ran errors.merged errors.takes_no_memory part w mid new x → x ≡ Err f → y ≡ Err f
       → Ran errors.merged errors.takes_no_memory (MeansPadded errors states test part) w old new y
@@ -233,5 +233,5 @@ module _ {I Tok Sp Er St Mk Cx V : Type 0} (errors : error_trait.Ghosts Er I Tok
   pub padded_given : {there new : Held Tok Cx states.Seen errors.Seen} {x : Result (Option V) Fault} {v : Option V} → Ran errors.merged errors.takes_no_memory part w mid there x → x ≡ Ok v → new ≡ ran_on states.after test there
       → Ran errors.merged errors.takes_no_memory (MeansPadded errors states test part) w old new (Ok v)
   padded_given {there} {new} {x} {v} h e n =
-      pad (ran-chained errors.merged errors.takes_no_memory part (λ u. Chained (Skips errors states test) (λ _. Given u)) w mid v there new (Ok v) (rw e at h)
-      (ran-chained errors.merged errors.takes_no_memory (Skips errors states test) (λ _. Given v) w there None new new (Ok v) (skips there new n) ran-given))
+      pad (ran-chained errors.merged errors.takes_no_memory part (λ u. Chained (SkipsRun errors states test) (λ _. Given u)) w mid v there new (Ok v) (rw e at h)
+      (ran-chained errors.merged errors.takes_no_memory (SkipsRun errors states test) (λ _. Given v) w there None new new (Ok v) (skips there new n) ran-given))

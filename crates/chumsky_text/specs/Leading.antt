@@ -1,6 +1,6 @@
 -- The longest run of tokens of a kind, and what is expected where it ends.
 -- Main words: leading, run_end, run_state, expected_at. Parsers of runs: TextRun.antt.
-use Rattle.std.specs.Prelude.{◌≡◌, ℕ, ◌+◌, Bool, true, false, cond, Option, Some, None, List, [], ◌∷◌, length, slice_get, drop}
+use Rattle.std.specs.Prelude.{◌≡◌, ℕ, ◌+◌, Bool, true, false, cond, MatchOption, Option, Some, None, List, [], ◌∷◌, length, slice_get, drop}
 use Rattle.chumsky_input.specs.declared.error.Error as error_trait
 use Rattle.chumsky_input.specs.declared.input.Input as input_trait
 use Rattle.chumsky_input.specs.declared.stop.Fault.{Fault}
@@ -73,3 +73,7 @@ pub record Begins {Tok Cx St Er R : Type 0} (after : St → Tok → St) (test : 
 abbrev pub StepsBy : {Tok Cx St Er : Type 0} → (St → Tok → St) → (Tok → Bool) → Bool → Held Tok Cx St Er → Held Tok Cx St Er → Type 0
 StepsBy {Tok} after test true old new = (t : Tok) × (slice_get old.tokens old.place ≡ Some t) × (test t ≡ true) × (new ≡ record old { place = old.place + 1; state = after old.state t })
 StepsBy after test false old new = (passes test (slice_get old.tokens old.place) ≡ false) × (new ≡ old)
+
+-- what may follow a token that passes, which was there and is taken; else nothing is done
+abbrev pub BeginsBy : {Tok Cx St Er R : Type 0} → (St → Tok → St) → (Tok → Bool) → (Tok → R) → (R → Type 0) → Option R → Held Tok Cx St Er → Held Tok Cx St Er → Type 0
+BeginsBy after test rest_after fits result old new = MatchOption result (StepsBy after test false old new) (λ r. Begins after test rest_after fits old new r)

@@ -74,9 +74,9 @@ module _ {I Tok Sp Cu Er St Mk Cx W : Type 0} (source : input_trait.Ghosts I Cu 
 
 module _ {I Tok Sp Er St Mk Cx : Type 0} (errors : error_trait.Ghosts Er I Tok Sp) (states : inspector_trait.Ghosts St I Mk Tok Sp) (test : Tok → Bool) where
   -- the run is taken, and nothing is expected after it
-  pub record Skips (b : Beginning Tok Cx states.Seen) (o : Outcome (Unit {0}) errors.Seen states.Seen) : Type 0 where
+  pub record SkipsRun (b : Beginning Tok Cx states.Seen) (o : Outcome (Unit {0}) errors.Seen states.Seen) : Type 0 where
     pub outcome : o ≡ record { verdict = Yes None; end = run_end test b.tokens b.start; state = run_state states.after test b.tokens b.start b.state; events = []; emitted = [] }
 
   -- a run, the part, and a run
   pub record MeansPadded {V : Type 0} (part : Meaning Tok Cx states.Seen errors.Seen V) (b : Beginning Tok Cx states.Seen) (o : Outcome V errors.Seen states.Seen) : Type 0 where
-    pub run : Chained Skips (λ _. Chained part (λ v. Chained Skips (λ _. Given v))) b o
+    pub run : Chained SkipsRun (λ _. Chained part (λ v. Chained SkipsRun (λ _. Given v))) b o

@@ -12,7 +12,7 @@ use Rattle.chumsky_parser.specs.FailureLaws.{misses-agree, misses-ends, wanted-s
 use Rattle.chumsky_parser.specs.Laws.{chained-ends, chained-agrees, given-ends, given-agrees}
 use Rattle.chumsky_shield.specs.ShieldedLaws.{or_lacks-whole}
 use Rattle.chumsky_text.specs.Leading.{run_end, run_state, one_end, one_state, expected_at}
-use Rattle.chumsky_text.specs.TextRun.{EndsBy, Cut, RunsOn, TakesOne, SpelledBy, Spells, MeansRun, AfterToken, AfterFirst, MeansBegun, MeansWord, MeansNewline, MeansKeyword, Skips, MeansPadded}
+use Rattle.chumsky_text.specs.TextRun.{EndsBy, Cut, RunsOn, TakesOne, SpelledBy, Spells, MeansRun, AfterToken, AfterFirst, MeansBegun, MeansWord, MeansNewline, MeansKeyword, SkipsRun, MeansPadded}
 
 -- each answer is no, or ends past its start
 abbrev pub NoOrMoves : {Tok Cx St Er V : Type 0} → Meaning Tok Cx St Er V → Type 0
@@ -147,10 +147,10 @@ module _ {I Tok Sp Cu Er St Mk Cx W : Type 0} (source : input_trait.Ghosts I Cu 
         spelled-agree (spells (slice_range b.tokens from (run_end (goes_on t) b.tokens b.start))) from from' (goes_on t) what s b c o q alike m (rw e n) a z)
 
 module _ {I Tok Sp Er St Mk Cx V : Type 0} (errors : error_trait.Ghosts Er I Tok Sp) (states : inspector_trait.Ghosts St I Mk Tok Sp) (test : Tok → Bool) (part : Meaning Tok Cx states.Seen errors.Seen V) where
-  pub skips-ends : EndsAfterStart (Skips {Cx = Cx} errors states test)
+  pub skips-ends : EndsAfterStart (SkipsRun {Cx = Cx} errors states test)
   skips-ends b o m a = omega (arith, ap (λ (x : Outcome (Unit {0}) errors.Seen states.Seen). x.end) m.outcome)
 
-  skips-agree : Agreeing SameUnit (Skips {Cx = Cx} errors states test) (Skips {Cx = Cx} errors states test)
+  skips-agree : Agreeing SameUnit (SkipsRun {Cx = Cx} errors states test) (SkipsRun {Cx = Cx} errors states test)
   skips-agree b c o q alike m n a z =
       let e : Outcome (Unit {0}) errors.Seen states.Seen = record { verdict = Yes None; end = run_end test b.tokens b.start; state = run_state states.after test b.tokens b.start b.state; events = []; emitted = [] } in
       let f : Outcome (Unit {0}) errors.Seen states.Seen = record { verdict = Yes None; end = run_end test c.tokens c.start; state = run_state states.after test c.tokens c.start c.state; events = []; emitted = [] } in
@@ -159,11 +159,11 @@ module _ {I Tok Sp Er St Mk Cx V : Type 0} (errors : error_trait.Ghosts Er I Tok
 
   pub padded-ends : EndsAfterStart part → EndsAfterStart (MeansPadded errors states test part)
   padded-ends h b o m a =
-      chained-ends (Skips errors states test) (λ _. Chained part (λ v. Chained (Skips errors states test) (λ _. Given v))) skips-ends
-      (λ _. chained-ends part (λ v. Chained (Skips errors states test) (λ _. Given v)) h (λ v. chained-ends (Skips errors states test) (λ _. Given v) skips-ends (λ _. given-ends v))) b o m.run a
+      chained-ends (SkipsRun errors states test) (λ _. Chained part (λ v. Chained (SkipsRun errors states test) (λ _. Given v))) skips-ends
+      (λ _. chained-ends part (λ v. Chained (SkipsRun errors states test) (λ _. Given v)) h (λ v. chained-ends (SkipsRun errors states test) (λ _. Given v) skips-ends (λ _. given-ends v))) b o m.run a
 
   pub padded-agrees : (same : V → V → Type 0) → Agreeing same part part → Agreeing same (MeansPadded errors states test part) (MeansPadded errors states test part)
   padded-agrees same h b c o q alike m n a z =
-      chained-agrees (Skips errors states test) (Skips errors states test) (λ _. Chained part (λ v. Chained (Skips errors states test) (λ _. Given v))) (λ _. Chained part (λ v. Chained (Skips errors states test) (λ _. Given v))) SameUnit same skips-agree
-      (λ _ _ _. chained-agrees part part (λ v. Chained (Skips errors states test) (λ _. Given v)) (λ v. Chained (Skips errors states test) (λ _. Given v)) same same h
-      (λ v w s. chained-agrees (Skips errors states test) (Skips errors states test) (λ _. Given v) (λ _. Given w) SameUnit same skips-agree (λ _ _ _. given-agrees same v w s))) b c o q alike m.run n.run a z
+      chained-agrees (SkipsRun errors states test) (SkipsRun errors states test) (λ _. Chained part (λ v. Chained (SkipsRun errors states test) (λ _. Given v))) (λ _. Chained part (λ v. Chained (SkipsRun errors states test) (λ _. Given v))) SameUnit same skips-agree
+      (λ _ _ _. chained-agrees part part (λ v. Chained (SkipsRun errors states test) (λ _. Given v)) (λ v. Chained (SkipsRun errors states test) (λ _. Given v)) same same h
+      (λ v w s. chained-agrees (SkipsRun errors states test) (SkipsRun errors states test) (λ _. Given v) (λ _. Given w) SameUnit same skips-agree (λ _ _ _. given-agrees same v w s))) b c o q alike m.run n.run a z

@@ -1,15 +1,11 @@
 //! The loops that texts are read by.
-ghost use Rattle.std.specs.Prelude.{◌≡◌, MatchOption, MatchResult, None, false, option_map, slice_get};
+ghost use Rattle.std.specs.Prelude.{◌≡◌, MatchResult, None};
 ghost use Rattle.chumsky_input.specs.declared.stop.Fault.TheVariants.{Fail, Stop};
 ghost use Rattle.chumsky_input.specs.declared.stop.Stop.TheVariants.{Memory};
-ghost use Rattle.chumsky_input.specs.Held.{held};
-ghost use Rattle.chumsky_input.specs.Maybe.{maybe_value};
-ghost use Rattle.chumsky_input.specs.Run.{Fails};
 ghost use Rattle.chumsky_input.specs.Wanted.{plain_wanted};
 ghost use Rattle.chumsky_parser.specs.Failure.{expects};
-ghost use Rattle.chumsky_primitive.specs.Just.{past};
-ghost use Rattle.chumsky_primitive.specs.OneOf.{passes};
-ghost use Rattle.chumsky_text.specs.Leading.{ran_on, expected_at, StepsBy, Begins, EndsRun, is_empty};
+ghost use Rattle.chumsky_shield.specs.Calls.{Changes, FailsWith};
+ghost use Rattle.chumsky_text.specs.Leading.{ran_on, expected_at, StepsBy, BeginsBy, EndsRun, is_empty};
 
 use crate::kind::{Kind, Lexeme};
 use chumsky_input::extra::ParserExtra;
@@ -27,7 +23,8 @@ pub(crate) fn skip_run<'src, K: Kind<I::Token>, I: Input<'src>, E: ParserExtra<I
     inp: &mut InputRef<'src, '_, I, E>,
 )
     requires { K.fits kind.now }
-    ensures moves { held I.Input E.Error.Error E.State.Inspector inp.new ≡ ran_on E.State.after (K.holds kind.now) (held I.Input E.Error.Error E.State.Inspector inp.old) }
+    ensures moves { Changes I.Input E.Error.Error E.State.Inspector
+        (λ old new. new ≡ ran_on E.State.after (K.holds kind.now) old) inp.old inp.new }
     ensures lent { inp.new.state.ghost_name ≡ inp.old.state.ghost_name }
 {
     while take_one(kind, inp) {}
@@ -40,7 +37,8 @@ pub(crate) fn take_one<'src, K: Kind<I::Token>, I: Input<'src>, E: ParserExtra<I
     inp: &mut InputRef<'src, '_, I, E>,
 ) -> bool
     requires { K.fits kind.now }
-    ensures takes { StepsBy E.State.after (K.holds kind.now) result (held I.Input E.Error.Error E.State.Inspector inp.old) (held I.Input E.Error.Error E.State.Inspector inp.new) }
+    ensures takes { Changes I.Input E.Error.Error E.State.Inspector
+        (StepsBy E.State.after (K.holds kind.now) result) inp.old inp.new }
     ensures lent { inp.new.state.ghost_name ≡ inp.old.state.ghost_name }
 {
     let mut past = inp.cursor;
@@ -64,7 +62,8 @@ pub(crate) fn take_first<'src, K: Lexeme<I::Token>, I: Input<'src>, E: ParserExt
     inp: &mut InputRef<'src, '_, I, E>,
 ) -> Option<K::Rest>
     requires { K.fits kind.now }
-    ensures takes { MatchOption result ((passes (K.holds kind.now) (slice_get (held I.Input E.Error.Error E.State.Inspector inp.old).tokens (held I.Input E.Error.Error E.State.Inspector inp.old).place) ≡ false) × (held I.Input E.Error.Error E.State.Inspector inp.new ≡ held I.Input E.Error.Error E.State.Inspector inp.old)) (λ r. Begins E.State.after (K.holds kind.now) (λ t. K.rest_after kind.now t) K.Rest.fits (held I.Input E.Error.Error E.State.Inspector inp.old) (held I.Input E.Error.Error E.State.Inspector inp.new) r) }
+    ensures takes { Changes I.Input E.Error.Error E.State.Inspector
+        (BeginsBy E.State.after (K.holds kind.now) (λ t. K.rest_after kind.now t) K.Rest.fits result) inp.old inp.new }
     ensures lent { inp.new.state.ghost_name ≡ inp.old.state.ghost_name }
 {
     let mut past = inp.cursor;
@@ -84,7 +83,9 @@ fn take<'src, I: Input<'src>, E: ParserExtra<I>>(
     past: I::Cursor,
     inp: &mut InputRef<'src, '_, I, E>,
 )
-    ensures moves { held I.Input E.Error.Error E.State.Inspector inp.new ≡ record (held I.Input E.Error.Error E.State.Inspector inp.old) { tokens = I.cursor_tokens past; place = I.place past; state = E.State.after (held I.Input E.Error.Error E.State.Inspector inp.old).state token.now } }
+    ensures moves { Changes I.Input E.Error.Error E.State.Inspector
+        (λ old new. new ≡ record old { tokens = I.cursor_tokens past; place = I.place past; state = E.State.after old.state token.now })
+        inp.old inp.new }
     ensures lent { inp.new.state.ghost_name ≡ inp.old.state.ghost_name }
 {
     inp.cursor = past;
@@ -97,7 +98,9 @@ pub(crate) fn expect_here<'src, I: Input<'src>, E: ParserExtra<I>>(
     what: Plain<'_>,
     inp: &mut InputRef<'src, '_, I, E>,
 ) -> Fault
-    ensures fails { Fails E.Error.merged E.Error.takes_no_memory (expected_at I.Input E.Error.Error (plain_wanted what.entry) (held I.Input E.Error.Error E.State.Inspector inp.old).tokens (held I.Input E.Error.Error E.State.Inspector inp.old).place) (held I.Input E.Error.Error E.State.Inspector inp.old) (held I.Input E.Error.Error E.State.Inspector inp.new) result }
+    ensures fails { FailsWith I.Input E.Error.Error E.State.Inspector
+        (expected_at I.Input E.Error.Error (plain_wanted what.entry) (I.cursor_tokens inp.old.cursor) (I.place inp.old.cursor))
+        inp.old inp.new result }
     ensures lent { inp.new.state.ghost_name ≡ inp.old.state.ghost_name }
 {
     let here = inp.cursor;
@@ -114,7 +117,9 @@ pub(crate) fn expect_since<'src, I: Input<'src>, E: ParserExtra<I>>(
     inp: &mut InputRef<'src, '_, I, E>,
 ) -> Fault
     requires { I.cursor_tokens inp.now.cursor ≡ I.cursor_tokens from.now }
-    ensures fails { Fails E.Error.merged E.Error.takes_no_memory (expects I.Input E.Error.Error (I.cursor_tokens from.now) (plain_wanted what.entry) None (I.place from.now) (I.place inp.old.cursor)) (held I.Input E.Error.Error E.State.Inspector inp.old) (held I.Input E.Error.Error E.State.Inspector inp.new) result }
+    ensures fails { FailsWith I.Input E.Error.Error E.State.Inspector
+        (expects I.Input E.Error.Error (I.cursor_tokens from.now) (plain_wanted what.entry) None (I.place from.now) (I.place inp.old.cursor))
+        inp.old inp.new result }
     ensures lent { inp.new.state.ghost_name ≡ inp.old.state.ghost_name }
 {
     let end = inp.cursor;
@@ -127,7 +132,8 @@ pub(crate) fn end_run<'src, K: Kind<I::Token>, I: Input<'src>, E: ParserExtra<I>
     kind: &K,
     inp: &mut InputRef<'src, '_, I, E>,
 ) -> Result<(), AllocError>
-    ensures ends { MatchResult result (λ _. EndsRun I.Input E.Error.Error (K.wants kind.now) (held I.Input E.Error.Error E.State.Inspector inp.old) (held I.Input E.Error.Error E.State.Inspector inp.new) Fail) (λ _. EndsRun I.Input E.Error.Error (K.wants kind.now) (held I.Input E.Error.Error E.State.Inspector inp.old) (held I.Input E.Error.Error E.State.Inspector inp.new) (Stop Memory)) }
+    ensures ends { let ends = EndsRun I.Input E.Error.Error (K.wants kind.now) in Changes I.Input E.Error.Error E.State.Inspector
+        (λ old new. MatchResult result (λ _. ends old new Fail) (λ _. ends old new (Stop Memory))) inp.old inp.new }
     ensures lent { inp.new.state.ghost_name ≡ inp.old.state.ghost_name }
 {
     let what = kind.expected();
