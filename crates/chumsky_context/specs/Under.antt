@@ -1,12 +1,16 @@
 -- Runs under another context.
--- Main words: UnderValue, UnderMade, IgnoringUnder, SequenceUnder; BeginsUnder, GivesUnder. Laws: UnderLaws.antt.
-use Rattle.std.specs.Prelude.{◌≡◌, true, Option, Some, None, map, option_map}
+-- Main words: UnderValue, UnderMade, IgnoringUnder, SequenceUnder; BeginsUnder, GivesUnder; RunsUnderContext. Laws: UnderLaws.antt.
+use Rattle.std.specs.Prelude.{◌≡◌, Bool, true, Option, Some, None, Result, map, option_map}
 use Rattle.chumsky_input.specs.declared.error.Error as error_trait
 use Rattle.chumsky_input.specs.declared.inspector.Inspector as inspector_trait
 use Rattle.chumsky_input.specs.declared.input.Input as input_trait
 use Rattle.chumsky_input.specs.declared.aside.Aside.{Aside}
+use Rattle.chumsky_input.specs.declared.input_ref.InputRef.{InputRef}
+use Rattle.chumsky_input.specs.declared.stop.Fault.{Fault}
 use Rattle.chumsky_input.specs.Held.{Held, located}
 use Rattle.chumsky_input.specs.Outcome.{Meaning, Beginning, Outcome}
+use Rattle.chumsky_input.specs.Run.{Ran, Runs}
+use Rattle.chumsky_input.specs.Words.{Does}
 use Rattle.chumsky_parser.specs.Chained.{Chained, Given, Asked, both}
 use Rattle.chumsky_parser.specs.Items.{Next}
 use Rattle.chumsky_context.specs.Carried.{Carried}
@@ -24,6 +28,11 @@ module _ {I Tok Sp Cu Er St Mk Cx : Type 0} (source : input_trait.Ghosts I Cu To
         emitted = map errors.seen found.emitted.items;
         stopped = None;
       }
+
+  -- a run under a context that is made of a cursor, errors and a state, and comes to others of them, shows one outcome of what is done
+  abbrev pub RunsFromParts : {V : Type 0} → Does I Tok Sp Er St Mk Cx V → Bool → Cx → Cu × Aside Er × St → Cu × Aside Er × St → Result (Option V) Fault → Type 0
+  RunsFromParts does wanted context old new result =
+      Ran errors.merged errors.takes_no_memory (does errors states) wanted (held_from_parts old.0 old.1 old.2 context) (held_from_parts new.0 new.1 new.2 context) result
 
 module _ {Tok Cx V St : Type 0} where
   -- the same beginning, under a context
@@ -74,3 +83,8 @@ AlikeUnder alike s t = (s.0 ≡ t.0) × alike s.1 t.1
 -- outputs that are the same are equal
 abbrev pub SameAreEqual : {V : Type 0} → (V → V → Type 0) → Type 0
 SameAreEqual {V} same = (v w : V) → same v w → v ≡ w
+
+module _ {I X Tok Sp Cu Er St Cx Mk V W : Type 0} (source : input_trait.Ghosts I Cu Tok Sp) (errors : error_trait.Ghosts Er I Tok Sp) (states : inspector_trait.Ghosts St I Mk Tok Sp) where
+  -- a run shows one outcome of what is done with v as its context
+  abbrev pub RunsUnderContext : V → Does I Tok Sp Er St Mk V W → Bool → InputRef I X Cu Tok Sp Er St Cx Mk → InputRef I X Cu Tok Sp Er St Cx Mk → Result (Option W) Fault → Type 0
+  RunsUnderContext v does wanted old new result = Runs source errors states (UnderValue (does errors states) (Some v)) wanted old new result

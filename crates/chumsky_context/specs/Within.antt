@@ -6,10 +6,12 @@ use Rattle.chumsky_input.specs.declared.inspector.Inspector as inspector_trait
 use Rattle.chumsky_input.specs.declared.input.Input as input_trait
 use Rattle.chumsky_input.specs.declared.stop.Fault.{Fault}
 use Rattle.chumsky_input.specs.declared.stop.Fault.TheVariants as fault
-use Rattle.chumsky_input.specs.Held.{Held}
+use Rattle.chumsky_input.specs.declared.input_ref.InputRef.{InputRef}
+use Rattle.chumsky_input.specs.Held.{Held, held}
 use Rattle.chumsky_input.specs.Outcome.{Event, Meaning, Beginning, Outcome, Verdict, Yes, No, Halt, Clash}
-use Rattle.chumsky_input.specs.Run.{Ran}
+use Rattle.chumsky_input.specs.Run.{Ran, Runs}
 use Rattle.chumsky_input.specs.Aside.{brought_back, ClashesWith, SameButErrors}
+use Rattle.chumsky_input.specs.Words.{Does}
 use Rattle.chumsky_parser.specs.Chained.{Chained, Asked}
 use Rattle.chumsky_parser.specs.Failure.{Refuses}
 use Rattle.chumsky_parser.specs.Ignoring.{IgnoringSecond}
@@ -21,6 +23,10 @@ pub record RunReport (W Er St : Type 0) : Type 0 where
   pub error : Option Er
   pub emitted : List Er
   pub state : St
+
+-- the report that has these
+abbrev pub report_of : {W Er St : Type 0} → Result W Fault → Option Er → List Er → St → RunReport W Er St
+report_of answer error emitted state = record { answer = answer; error = error; emitted = emitted; state = state }
 
 -- the verdict of an answer
 abbrev pub verdict_of : {V Er : Type 0} → Result (Option V) Fault → Verdict V Er
@@ -55,6 +61,10 @@ module _ {J Tok Sp Cu Er St Mk : Type 0} (source : input_trait.Ghosts J Cu Tok S
     pub reported : ReportsRun answer last report
     pub left : states.seen report.state ≡ last.state
 
+  -- what is done over the whole of an input, on a state and under a context, is reported
+  abbrev pub ReportsWhole : {Cx V : Type 0} → Does J Tok Sp Er St Mk Cx V → Bool → J → Cx → St → RunReport (Option V) Er St → Type 0
+  ReportsWhole does wanted input context state report = RunsWhole (ToEnd (does errors states)) wanted input context state report
+
 -- an error, as an event at a place
 abbrev pub event_at : {Er S : Type 0} → (Er → S) → ℕ → Er → Event S
 event_at seen place e = record { place = place; error = seen e }
@@ -74,6 +84,12 @@ module _ {Tok Cx St Er : Type 0} (merged : Er → Er → Er) (safe : Type 0) whe
   abbrev pub AddsReported : {E : Type 0} → Option (Event Er) → List Er → Held Tok Cx St Er → Held Tok Cx St Er → Result (Unit {0}) E → Type 0
   AddsReported e es old new (Ok _) = new ≡ with_errors merged e es old
   AddsReported e es old new (Err _) = (ClashesWith safe old.kept e ⊎ (es ≡ [] → ⊥)) × SameButErrors old new
+
+module _ {I X Tok Sp Cu Er St Cx Mk : Type 0} (source : input_trait.Ghosts I Cu Tok Sp) (errors : error_trait.Ghosts Er I Tok Sp) (states : inspector_trait.Ghosts St I Mk Tok Sp) where
+  -- the error that another run ended with is added as an event at a place, if there is one, and those that it emitted after the run's
+  abbrev pub AddsErrors : {E : Type 0} → ℕ → Option Er → List Er → InputRef I X Cu Tok Sp Er St Cx Mk → InputRef I X Cu Tok Sp Er St Cx Mk → Result (Unit {0}) E → Type 0
+  AddsErrors place error emitted old new result =
+      AddsReported errors.merged errors.takes_no_memory (option_map (event_at errors.seen place) error) (map errors.seen emitted) (held source errors states old) (held source errors states new) result
 
 module _ {V Er St : Type 0} where
   -- there was no memory to merge the only event of an outcome with an earlier one
@@ -112,3 +128,8 @@ module _ {J Tok Sp Cu Mk Er St I Tok' Sp' Mk' : Type 0} (source : input_trait.Gh
     pub same_states : (x y : St) → states.seen x ≡ states.seen y → states'.seen x ≡ states'.seen y
     pub same_states_within : (x y : St) → states'.seen x ≡ states'.seen y → states.seen x ≡ states.seen y
     pub same_tokens : (x y : J) → same x y → source.tokens x ≡ source.tokens y
+
+module _ {J Tok Sp Cu Mk Er St I X Tok' Sp' Cu' Mk' Cx V : Type 0} (source : input_trait.Ghosts J Cu Tok Sp) (errors : error_trait.Ghosts Er J Tok Sp) (states : inspector_trait.Ghosts St J Mk Tok Sp) (source' : input_trait.Ghosts I Cu' Tok' Sp') (errors' : error_trait.Ghosts Er I Tok' Sp') (states' : inspector_trait.Ghosts St I Mk' Tok' Sp') where
+  -- a run shows one outcome of what is done over the whole of another input, which is told at a place
+  abbrev pub RunsWithin : Does J Tok Sp Er St Mk Cx V → ℕ → J → Bool → InputRef I X Cu' Tok' Sp' Er St Cx Mk' → InputRef I X Cu' Tok' Sp' Er St Cx Mk' → Result (Option V) Fault → Type 0
+  RunsWithin does place input wanted old new result = Runs source' errors' states' (Within source errors states errors' states' (ToEnd source errors states (does errors states)) place (Some input)) wanted old new result

@@ -1,9 +1,9 @@
 //! `make_iter_under`, `next_emit_under`, `next_check_under`: running a parser of items under another context than that of the
 //! run.
-ghost use Rattle.std.specs.Prelude.{◌≡◌, true, false, Some, IfOk, OnSome};
-ghost use Rattle.chumsky_input.specs.Run.{Runs, Ran, with_value};
+ghost use Rattle.std.specs.Prelude.{◌≡◌, true, false, IfOk, OnSome};
+ghost use Rattle.chumsky_input.specs.Run.{with_value};
 ghost use Rattle.chumsky_parser.specs.Items.{with_item, without_item};
-ghost use Rattle.chumsky_context.specs.Under.{held_from_parts, UnderValue};
+ghost use Rattle.chumsky_context.specs.Under.{RunsFromParts, RunsUnderContext};
 
 use crate::under::Returned;
 use chumsky_input::aside::Aside;
@@ -26,7 +26,8 @@ fn make_iter_parts<'src, I: Input<'src>, O, E: ParserExtra<I>, P: IterParser<'sr
 where
     I::Token: 'src,
     requires { P.ready parser.now }
-    ensures ran { Ran E.Error.merged E.Error.takes_no_memory (P.begins parser.now E.Error.Error E.State.Inspector) true (held_from_parts I.Input E.Error.Error E.State.Inspector cursor errors state.old context.now) (held_from_parts I.Input E.Error.Error E.State.Inspector result.cursor result.errors state.new context.now) (with_value result.answer) }
+    ensures ran { RunsFromParts I.Input E.Error.Error E.State.Inspector (P.begins parser.now) true context.now
+        (cursor, errors, state.old) (result.cursor, result.errors, state.new) (with_value result.answer) }
     ensures may { IfOk result.answer (P.may_step parser.now) }
 {
     let mut inp: InputRef<'src, '_, I, E> = InputRef::resume(alloc, cursor, state, context);
@@ -60,7 +61,8 @@ fn next_emit_parts<'src, I: Input<'src>, O, E: ParserExtra<I>, P: IterParser<'sr
 where
     I::Token: 'src,
     requires { P.may_step parser.now items.old }
-    ensures ran { Ran E.Error.merged E.Error.takes_no_memory (P.gives parser.now debug items.old E.Error.Error E.State.Inspector) true (held_from_parts I.Input E.Error.Error E.State.Inspector cursor errors state.old context.now) (held_from_parts I.Input E.Error.Error E.State.Inspector result.cursor result.errors state.new context.now) (with_item items.new result.answer) }
+    ensures ran { RunsFromParts I.Input E.Error.Error E.State.Inspector (P.gives parser.now debug items.old) true context.now
+        (cursor, errors, state.old) (result.cursor, result.errors, state.new) (with_item items.new result.answer) }
     ensures may { IfOk result.answer (λ o. OnSome o (P.may_step parser.now items.new)) }
 {
     let mut inp: InputRef<'src, '_, I, E> = InputRef::resume(alloc, cursor, state, context);
@@ -94,7 +96,8 @@ fn next_check_parts<'src, I: Input<'src>, O, E: ParserExtra<I>, P: IterParser<'s
 where
     I::Token: 'src,
     requires { P.may_step parser.now items.old }
-    ensures ran { Ran E.Error.merged E.Error.takes_no_memory (P.gives parser.now debug items.old E.Error.Error E.State.Inspector) false (held_from_parts I.Input E.Error.Error E.State.Inspector cursor errors state.old context.now) (held_from_parts I.Input E.Error.Error E.State.Inspector result.cursor result.errors state.new context.now) (without_item items.new result.answer) }
+    ensures ran { RunsFromParts I.Input E.Error.Error E.State.Inspector (P.gives parser.now debug items.old) false context.now
+        (cursor, errors, state.old) (result.cursor, result.errors, state.new) (without_item items.new result.answer) }
     ensures may { IfOk result.answer (λ o. OnSome o (P.may_step parser.now items.new)) }
 {
     let mut inp: InputRef<'src, '_, I, E> = InputRef::resume(alloc, cursor, state, context);
@@ -127,7 +130,8 @@ where
     X: ParserExtra<I, Error = E::Error, State = E::State>,
     P: IterParser<'src, I, O, X>,
     requires { P.ready parser.now }
-    ensures ran { Runs I.Input E.Error.Error E.State.Inspector (UnderValue (P.begins parser.now E.Error.Error E.State.Inspector) (Some context.now)) true inp.old inp.new (with_value result) }
+    ensures ran { RunsUnderContext I.Input E.Error.Error E.State.Inspector context.now (P.begins parser.now) true
+        inp.old inp.new (with_value result) }
     ensures may { IfOk result (P.may_step parser.now) }
     ensures lent { inp.new.state.ghost_name ≡ inp.old.state.ghost_name }
 {
@@ -165,7 +169,8 @@ where
     X: ParserExtra<I, Error = E::Error, State = E::State>,
     P: IterParser<'src, I, O, X>,
     requires { P.may_step parser.now items.old }
-    ensures ran { Runs I.Input E.Error.Error E.State.Inspector (UnderValue (P.gives parser.now debug items.old E.Error.Error E.State.Inspector) (Some context.now)) true inp.old inp.new (with_item items.new result) }
+    ensures ran { RunsUnderContext I.Input E.Error.Error E.State.Inspector context.now (P.gives parser.now debug items.old) true
+        inp.old inp.new (with_item items.new result) }
     ensures may { IfOk result (λ o. OnSome o (P.may_step parser.now items.new)) }
     ensures lent { inp.new.state.ghost_name ≡ inp.old.state.ghost_name }
 {
@@ -205,7 +210,8 @@ where
     X: ParserExtra<I, Error = E::Error, State = E::State>,
     P: IterParser<'src, I, O, X>,
     requires { P.may_step parser.now items.old }
-    ensures ran { Runs I.Input E.Error.Error E.State.Inspector (UnderValue (P.gives parser.now debug items.old E.Error.Error E.State.Inspector) (Some context.now)) false inp.old inp.new (without_item items.new result) }
+    ensures ran { RunsUnderContext I.Input E.Error.Error E.State.Inspector context.now (P.gives parser.now debug items.old) false
+        inp.old inp.new (without_item items.new result) }
     ensures may { IfOk result (λ o. OnSome o (P.may_step parser.now items.new)) }
     ensures lent { inp.new.state.ghost_name ≡ inp.old.state.ghost_name }
 {

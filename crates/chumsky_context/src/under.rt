@@ -1,7 +1,7 @@
 //! `emit_under`, `check_under`: running a parser under another context than that of the run.
-ghost use Rattle.std.specs.Prelude.{◌≡◌, true, false, Some};
-ghost use Rattle.chumsky_input.specs.Run.{Runs, Ran, with_value, without_value};
-ghost use Rattle.chumsky_context.specs.Under.{held_from_parts, UnderValue};
+ghost use Rattle.std.specs.Prelude.{◌≡◌, true, false};
+ghost use Rattle.chumsky_input.specs.Run.{with_value, without_value};
+ghost use Rattle.chumsky_context.specs.Under.{RunsFromParts, RunsUnderContext};
 
 use chumsky_input::aside::Aside;
 use chumsky_input::extra::ParserExtra;
@@ -30,7 +30,8 @@ pub(crate) fn emit_parts<'src, I: Input<'src>, O, E: ParserExtra<I>, P: Parser<'
 where
     I::Token: 'src,
     requires { P.ready parser.now }
-    ensures { Ran E.Error.merged E.Error.takes_no_memory (P.meaning parser.now E.Error.Error E.State.Inspector) true (held_from_parts I.Input E.Error.Error E.State.Inspector cursor errors state.old context.now) (held_from_parts I.Input E.Error.Error E.State.Inspector result.cursor result.errors state.new context.now) (with_value result.answer) }
+    ensures { RunsFromParts I.Input E.Error.Error E.State.Inspector (P.meaning parser.now) true context.now
+        (cursor, errors, state.old) (result.cursor, result.errors, state.new) (with_value result.answer) }
 {
     let mut inp: InputRef<'src, '_, I, E> = InputRef::resume(alloc, cursor, state, context);
     inp.kept = errors.kept;
@@ -61,7 +62,8 @@ pub(crate) fn check_parts<'src, I: Input<'src>, O, E: ParserExtra<I>, P: Parser<
 where
     I::Token: 'src,
     requires { P.ready parser.now }
-    ensures { Ran E.Error.merged E.Error.takes_no_memory (P.meaning parser.now E.Error.Error E.State.Inspector) false (held_from_parts I.Input E.Error.Error E.State.Inspector cursor errors state.old context.now) (held_from_parts I.Input E.Error.Error E.State.Inspector result.cursor result.errors state.new context.now) (without_value result.answer) }
+    ensures { RunsFromParts I.Input E.Error.Error E.State.Inspector (P.meaning parser.now) false context.now
+        (cursor, errors, state.old) (result.cursor, result.errors, state.new) (without_value result.answer) }
 {
     let mut inp: InputRef<'src, '_, I, E> = InputRef::resume(alloc, cursor, state, context);
     inp.kept = errors.kept;
@@ -96,7 +98,8 @@ where
     X: ParserExtra<I, Error = E::Error, State = E::State>,
     P: Parser<'src, I, O, X>,
     requires { P.ready parser.now }
-    ensures ran { Runs I.Input E.Error.Error E.State.Inspector (UnderValue (P.meaning parser.now E.Error.Error E.State.Inspector) (Some context.now)) true inp.old inp.new (with_value result) }
+    ensures ran { RunsUnderContext I.Input E.Error.Error E.State.Inspector context.now (P.meaning parser.now) true
+        inp.old inp.new (with_value result) }
     ensures lent { inp.new.state.ghost_name ≡ inp.old.state.ghost_name }
 {
     let errors = inp.set_aside();
@@ -132,7 +135,8 @@ where
     X: ParserExtra<I, Error = E::Error, State = E::State>,
     P: Parser<'src, I, O, X>,
     requires { P.ready parser.now }
-    ensures ran { Runs I.Input E.Error.Error E.State.Inspector (UnderValue (P.meaning parser.now E.Error.Error E.State.Inspector) (Some context.now)) false inp.old inp.new (without_value result) }
+    ensures ran { RunsUnderContext I.Input E.Error.Error E.State.Inspector context.now (P.meaning parser.now) false
+        inp.old inp.new (without_value result) }
     ensures lent { inp.new.state.ghost_name ≡ inp.old.state.ghost_name }
 {
     let errors = inp.set_aside();

@@ -1,9 +1,9 @@
 //! `emit_within`, `check_within`: running a parser over the whole of another input, in the state and under the context of a run.
-ghost use Rattle.std.specs.Prelude.{◌≡◌, true, false, Some, None, Err, [], map, option_map};
+ghost use Rattle.std.specs.Prelude.{◌≡◌, true, false, None, Err, [], map, option_map};
 ghost use Rattle.chumsky_input.specs.declared.stop.Fault.TheVariants as fault;
 ghost use Rattle.chumsky_input.specs.Held.{held};
-ghost use Rattle.chumsky_input.specs.Run.{Ran, with_value, without_value};
-ghost use Rattle.chumsky_context.specs.Within.{Within, ToEnd, ReportsRun, RunsWhole, AddsReported, event_at};
+ghost use Rattle.chumsky_input.specs.Run.{Runs, with_value, without_value};
+ghost use Rattle.chumsky_context.specs.Within.{RunsWithin, ToEnd, ReportsRun, ReportsWhole, AddsErrors, report_of};
 
 use chumsky_input::aside::Aside;
 use chumsky_input::error::Error;
@@ -33,7 +33,8 @@ where
     J: Input<'src>,
     J::Token: 'src,
     X: ParserExtra<J>,
-    ensures reports { ReportsRun J.Input X.Error.Error X.State.Inspector answer (held J.Input X.Error.Error X.State.Inspector inp.old) (record { answer = result.answer; error = result.error; emitted = result.emitted.items; state = inp.new.state.now }) }
+    ensures reports { ReportsRun J.Input X.Error.Error X.State.Inspector answer (held J.Input X.Error.Error X.State.Inspector inp.old)
+        (report_of result.answer result.error result.emitted.items inp.new.state.now) }
     ensures state { X.State.seen inp.new.state.now ≡ X.State.seen inp.old.state.now }
     ensures lent { inp.new.state.ghost_name ≡ inp.old.state.ghost_name }
 {
@@ -90,7 +91,9 @@ fn emit_to_end<'src, J: Input<'src>, U: Drop, X: ParserExtra<J>, P: Parser<'src,
     inp: &mut InputRef<'src, '_, J, X>,
 ) -> PResult<U>
     requires { P.ready parser.now }
-    ensures ran { Ran X.Error.merged X.Error.takes_no_memory (ToEnd J.Input X.Error.Error X.State.Inspector (P.meaning parser.now X.Error.Error X.State.Inspector)) true (held J.Input X.Error.Error X.State.Inspector inp.old) (held J.Input X.Error.Error X.State.Inspector inp.new) (with_value result) }
+    ensures ran { Runs J.Input X.Error.Error X.State.Inspector
+        (ToEnd J.Input X.Error.Error X.State.Inspector (P.meaning parser.now X.Error.Error X.State.Inspector)) true
+        inp.old inp.new (with_value result) }
     ensures lent { inp.new.state.ghost_name ≡ inp.old.state.ghost_name }
 {
     let value = parser.go_emit(inp)?;
@@ -105,7 +108,9 @@ fn check_to_end<'src, J: Input<'src>, U, X: ParserExtra<J>, P: Parser<'src, J, U
     inp: &mut InputRef<'src, '_, J, X>,
 ) -> PResult<()>
     requires { P.ready parser.now }
-    ensures ran { Ran X.Error.merged X.Error.takes_no_memory (ToEnd J.Input X.Error.Error X.State.Inspector (P.meaning parser.now X.Error.Error X.State.Inspector)) false (held J.Input X.Error.Error X.State.Inspector inp.old) (held J.Input X.Error.Error X.State.Inspector inp.new) (without_value result) }
+    ensures ran { Runs J.Input X.Error.Error X.State.Inspector
+        (ToEnd J.Input X.Error.Error X.State.Inspector (P.meaning parser.now X.Error.Error X.State.Inspector)) false
+        inp.old inp.new (without_value result) }
     ensures lent { inp.new.state.ghost_name ≡ inp.old.state.ghost_name }
 {
     parser.go_check(inp)?;
@@ -124,7 +129,8 @@ fn emit_whole<'src, J: Input<'src>, U: Drop, X: ParserExtra<J>, P: Parser<'src, 
 where
     J::Token: 'src,
     requires { P.ready parser.now }
-    ensures { RunsWhole J.Input X.Error.Error X.State.Inspector (ToEnd J.Input X.Error.Error X.State.Inspector (P.meaning parser.now X.Error.Error X.State.Inspector)) true input context.now state.old (record { answer = with_value result.answer; error = result.error; emitted = result.emitted.items; state = state.new }) }
+    ensures { ReportsWhole J.Input X.Error.Error X.State.Inspector (P.meaning parser.now) true input context.now state.old
+        (report_of (with_value result.answer) result.error result.emitted.items state.new) }
 {
     let mut inp: InputRef<'src, '_, J, X> = InputRef::new(alloc, input, state, context);
     let answer = emit_to_end(parser, &mut inp);
@@ -149,7 +155,8 @@ fn check_whole<'src, J: Input<'src>, U, X: ParserExtra<J>, P: Parser<'src, J, U,
 where
     J::Token: 'src,
     requires { P.ready parser.now }
-    ensures { RunsWhole J.Input X.Error.Error X.State.Inspector (ToEnd J.Input X.Error.Error X.State.Inspector (P.meaning parser.now X.Error.Error X.State.Inspector)) false input context.now state.old (record { answer = without_value result.answer; error = result.error; emitted = result.emitted.items; state = state.new }) }
+    ensures { ReportsWhole J.Input X.Error.Error X.State.Inspector (P.meaning parser.now) false input context.now state.old
+        (report_of (without_value result.answer) result.error result.emitted.items state.new) }
 {
     let mut inp: InputRef<'src, '_, J, X> = InputRef::new(alloc, input, state, context);
     let answer = check_to_end(parser, &mut inp);
@@ -175,7 +182,8 @@ where
     I: Input<'src>,
     I::Token: 'src,
     E: ParserExtra<I>,
-    ensures adds { AddsReported E.Error.merged E.Error.takes_no_memory (option_map (event_at E.Error.seen place) error) (map E.Error.seen emitted.items) (held I.Input E.Error.Error E.State.Inspector inp.old) (held I.Input E.Error.Error E.State.Inspector inp.new) result }
+    ensures adds { AddsErrors I.Input E.Error.Error E.State.Inspector
+        place error emitted.items inp.old inp.new result }
     ensures lent { inp.new.state.ghost_name ≡ inp.old.state.ghost_name }
 {
     let kept = match error {
@@ -208,7 +216,8 @@ where
     E::State: Inspector<J>,
     P: Parser<'src, J, U, Full<E::Error, E::State, E::Context>>,
     requires { P.ready parser.now }
-    ensures ran { Ran ⟦<E::Error as Error<I>>⟧.merged ⟦<E::Error as Error<I>>⟧.takes_no_memory (Within J.Input ⟦<E::Error as Error<J>>⟧ ⟦<E::State as Inspector<J>>⟧ ⟦<E::Error as Error<I>>⟧ ⟦<E::State as Inspector<I>>⟧ (ToEnd J.Input ⟦<E::Error as Error<J>>⟧ ⟦<E::State as Inspector<J>>⟧ (P.meaning parser.now ⟦<E::Error as Error<J>>⟧ ⟦<E::State as Inspector<J>>⟧)) place (Some input)) true (held I.Input ⟦<E::Error as Error<I>>⟧ ⟦<E::State as Inspector<I>>⟧ inp.old) (held I.Input ⟦<E::Error as Error<I>>⟧ ⟦<E::State as Inspector<I>>⟧ inp.new) (with_value result) }
+    ensures ran { RunsWithin J.Input ⟦<E::Error as Error<J>>⟧ ⟦<E::State as Inspector<J>>⟧ I.Input ⟦<E::Error as Error<I>>⟧ ⟦<E::State as Inspector<I>>⟧
+        (P.meaning parser.now) place input true inp.old inp.new (with_value result) }
     ensures lent { inp.new.state.ghost_name ≡ inp.old.state.ghost_name }
 {
     let RunReport {
@@ -244,7 +253,8 @@ where
     E::State: Inspector<J>,
     P: Parser<'src, J, U, Full<E::Error, E::State, E::Context>>,
     requires { P.ready parser.now }
-    ensures ran { Ran ⟦<E::Error as Error<I>>⟧.merged ⟦<E::Error as Error<I>>⟧.takes_no_memory (Within J.Input ⟦<E::Error as Error<J>>⟧ ⟦<E::State as Inspector<J>>⟧ ⟦<E::Error as Error<I>>⟧ ⟦<E::State as Inspector<I>>⟧ (ToEnd J.Input ⟦<E::Error as Error<J>>⟧ ⟦<E::State as Inspector<J>>⟧ (P.meaning parser.now ⟦<E::Error as Error<J>>⟧ ⟦<E::State as Inspector<J>>⟧)) place (Some input)) false (held I.Input ⟦<E::Error as Error<I>>⟧ ⟦<E::State as Inspector<I>>⟧ inp.old) (held I.Input ⟦<E::Error as Error<I>>⟧ ⟦<E::State as Inspector<I>>⟧ inp.new) (without_value result) }
+    ensures ran { RunsWithin J.Input ⟦<E::Error as Error<J>>⟧ ⟦<E::State as Inspector<J>>⟧ I.Input ⟦<E::Error as Error<I>>⟧ ⟦<E::State as Inspector<I>>⟧
+        (P.meaning parser.now) place input false inp.old inp.new (without_value result) }
     ensures lent { inp.new.state.ghost_name ≡ inp.old.state.ghost_name }
 {
     let RunReport {
