@@ -76,4 +76,4 @@ StepsBy after test false old new = (passes test (slice_get old.tokens old.place)
 
 -- what may follow a token that passes, which was there and is taken; else nothing is done
 abbrev pub BeginsBy : {Tok Cx St Er R : Type 0} → (St → Tok → St) → (Tok → Bool) → (Tok → R) → (R → Type 0) → Option R → Held Tok Cx St Er → Held Tok Cx St Er → Type 0
-BeginsBy after test rest_after fits result old new = MatchOption result (StepsBy after test false old new) (Begins after test rest_after fits old new)
+BeginsBy after test rest_after fits result old new = MatchOption result (StepsBy after test false old new) (λ r. Begins after test rest_after fits old new r)

@@ -63,7 +63,7 @@ pub(crate) fn take_first<'src, K: Lexeme<I::Token>, I: Input<'src>, E: ParserExt
 ) -> Option<K::Rest>
     requires { K.fits kind.now }
     ensures takes { Changes I.Input E.Error.Error E.State.Inspector
-        (BeginsBy E.State.after (K.holds kind.now) (K.rest_after kind.now) K.Rest.fits result) inp.old inp.new }
+        (BeginsBy E.State.after (K.holds kind.now) (λ t. K.rest_after kind.now t) K.Rest.fits result) inp.old inp.new }
     ensures lent { inp.new.state.ghost_name ≡ inp.old.state.ghost_name }
 {
     let mut past = inp.cursor;

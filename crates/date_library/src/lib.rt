@@ -1,5 +1,6 @@
 //! A static library for programs in Rust and C: it reads a date. The program in `cargo/` is linked with it.
 #![tactic(auto)]
+
 ghost use Rattle.std.specs.Prelude.{◌≤◌, pos};
 
 use examples::date::parse_date;
@@ -34,10 +35,16 @@ pub extern "C" fn read_date(alloc: Global, bytes: &[u8]) -> ReadDate
     ensures day { result.status ≡ 0 → (1 ≤ result.day) × (result.day ≤ 31) }
 {
     let Ok(text) = std::str::from_utf8(bytes) else {
-        return ReadDate { status: 2, ..NOTHING };
+        return ReadDate {
+            status: 2,
+            ..NOTHING
+        };
     };
     let Ok(parsed) = parse_date(alloc, text) else {
-        return ReadDate { status: 3, ..NOTHING };
+        return ReadDate {
+            status: 3,
+            ..NOTHING
+        };
     };
     match (parsed.output, parsed.errors.first()) {
         (Some(date), _) => ReadDate {
@@ -52,7 +59,10 @@ pub extern "C" fn read_date(alloc: Global, bytes: &[u8]) -> ReadDate
             error_end: error.span().end,
             ..NOTHING
         },
-        (None, None) => ReadDate { status: 1, ..NOTHING },
+        (None, None) => ReadDate {
+            status: 1,
+            ..NOTHING
+        },
     }
 }
 
@@ -63,7 +73,10 @@ mod tests {
     #[test]
     fn a_date_has_status_0(rt: HostRuntime) {
         let read = read_date(rt.alloc(), b"2026-11-23");
-        assert_eq!(rt; (read.status, read.year, read.month, read.day), (0, 2026, 11, 23));
+        assert_eq!(rt;
+            (read.status, read.year, read.month, read.day),
+            (0, 2026, 11, 23)
+        );
     }
 
     #[test]
