@@ -1,0 +1,218 @@
+//! What JSON's values are made of: strings, numbers, words and marks, with the space around them.
+ghost use Rattle.std.specs.Prelude.{[], ◌∷◌, ◌||◌, ◌==◌, ⊤, codes};
+ghost use Rattle.chumsky_input.specs.Wanted.{Label};
+
+use crate::tree::Json;
+use chumsky::PResult;
+use chumsky::combinator::{Part, part_of, run_part};
+use chumsky::extra::RichText;
+use chumsky::input::InputRef;
+use chumsky::prelude::*;
+use chumsky::primitive::Select;
+use chumsky::recursive::MayStay;
+use chumsky::text::Kind;
+use chumsky::util::Plain;
+use std::char;
+
+/// What a node of the grammar gives.
+#[derive(Drop)]
+pub enum Value {
+    /// A comma, a colon or a bracket.
+    Mark,
+    Json(Json),
+    Member(String, Json),
+    Items(Vec<Value>),
+}
+
+/// Spaces, tabs and ends of lines.
+#[derive(Clone, Copy)]
+struct Space;
+
+impl Kind<char> for Space {
+    ghost fits = { λ _. ⊤ };
+
+    ghost holds = { λ _ c. (c == 32) || (c == 9) || (c == 13) || (c == 10) };
+
+    ghost wants = { λ _. Label (codes "whitespace") ∷ [] };
+
+    fn test(&self, token: &char) -> bool {
+        *token == ' ' || *token == '\t' || *token == '\r' || *token == '\n'
+    }
+
+    fn expected(&self) -> Plain<'_> {
+        Plain::Label("whitespace")
+    }
+}
+
+/// Four hexadecimal digits: the number that they make.
+#[derive(Clone, Copy)]
+struct Unit;
+
+impl<'src> IsParser<&'src str, u32, RichText> for Unit {}
+
+impl<'src> Part<'src, &'src str, u32, RichText> for Unit {
+    fn run(
+        &self,
+        wanted: bool,
+        inp: &mut InputRef<'src, '_, &'src str, RichText>,
+    ) -> PResult<Option<u32>> {
+        let digit = any()
+            .filter_map(|digit: char| digit.to_digit(16))
+            .labelled("a hexadecimal digit");
+        let unit = digit.repeated().exactly(4).fold(
+            0,
+            |unit: u32, digit: u32| unit.wrapping_mul(16).wrapping_add(digit),
+        );
+        run_part(&unit, wanted, inp)
+    }
+}
+
+/// The character that two units name together.
+fn joined(high: u32, low: u32) -> Option<char> {
+    char::from_u32(0x1_0000 + (high & 0x3FF) * 0x400 + (low & 0x3FF))
+}
+
+/// Past a `\u`, four digits that name a character; or eight, with another `\u` between them, of a character past the first
+/// 65,536. Half of such a pair is no character.
+#[derive(Clone, Copy)]
+struct Numbered;
+
+impl<'src> IsParser<&'src str, char, RichText> for Numbered {}
+
+impl<'src> Part<'src, &'src str, char, RichText> for Numbered {
+    fn run(
+        &self,
+        wanted: bool,
+        inp: &mut InputRef<'src, '_, &'src str, RichText>,
+    ) -> PResult<Option<char>> {
+        let high = part_of(Unit).filter(|unit: &u32| matches!(*unit, 0xD800..=0xDBFF));
+        let low = part_of(Unit).filter(|unit: &u32| matches!(*unit, 0xDC00..=0xDFFF));
+        let pair = high
+            .then_ignore(just("\\u"))
+            .then(low)
+            .filter_map(|(high, low): (u32, u32)| joined(high, low));
+        let single = part_of(Unit).filter_map(|unit: u32| char::from_u32(unit));
+        run_part(&pair.or(single), wanted, inp)
+    }
+}
+
+/// The character that stands for another after a `\`.
+#[derive(Clone, Copy)]
+struct Escaped;
+
+impl<'src> IsParser<&'src str, char, RichText> for Escaped {}
+
+impl<'src> Part<'src, &'src str, char, RichText> for Escaped {
+    fn run(
+        &self,
+        wanted: bool,
+        inp: &mut InputRef<'src, '_, &'src str, RichText>,
+    ) -> PResult<Option<char>> {
+        let named: Select<_, &'src str, char, RichText> = select! {
+            '"' => '"',
+            '\\' => '\\',
+            '/' => '/',
+            'b' => '\u{8}',
+            'f' => '\u{c}',
+            'n' => '\n',
+            'r' => '\r',
+            't' => '\t',
+        };
+        let numbered = just('u').ignore_then(part_of(Numbered));
+        run_part(&named.or(numbered).labelled("an escape"), wanted, inp)
+    }
+}
+
+/// A string between quotes, as the text that it stands for.
+#[derive(Clone, Copy)]
+pub struct Quoted;
+
+impl<'src> IsParser<&'src str, String, RichText> for Quoted {}
+
+impl<'src> Part<'src, &'src str, String, RichText> for Quoted {
+    fn run(
+        &self,
+        wanted: bool,
+        inp: &mut InputRef<'src, '_, &'src str, RichText>,
+    ) -> PResult<Option<String>> {
+        let plain = any()
+            .filter(|c: &char| *c >= ' ' && *c != '"' && *c != '\\')
+            .labelled("a character");
+        let text = plain
+            .or(just('\\').ignore_then(part_of(Escaped)))
+            .repeated()
+            .collect::<String>()
+            .delimited_by(just('"'), just('"'));
+        run_part(&text, wanted, inp)
+    }
+}
+
+/// A number, as its text.
+#[derive(Clone, Copy)]
+struct Number;
+
+impl<'src> IsParser<&'src str, String, RichText> for Number {}
+
+impl<'src> Part<'src, &'src str, String, RichText> for Number {
+    fn run(
+        &self,
+        wanted: bool,
+        inp: &mut InputRef<'src, '_, &'src str, RichText>,
+    ) -> PResult<Option<String>> {
+        let fraction = just('.').ignore_then(text::digits(10));
+        let sign = one_of("+-").or_not();
+        let exponent = one_of("eE").then(sign).ignore_then(text::digits(10));
+        let number = group((
+            just('-').or_not(),
+            text::int(10),
+            fraction.or_not(),
+            exponent.or_not(),
+        ));
+        let all = any().repeated().collect::<String>();
+        run_part(&all.nested_in(number.to_slice()), wanted, inp)
+    }
+}
+
+/// A leaf of the grammar, with the space around it.
+#[derive(Clone, Copy)]
+pub enum Leaf {
+    Text,
+    Number,
+    Word,
+    Mark(char),
+}
+
+impl<'src> IsParser<&'src str, Value, RichText> for Leaf {}
+
+impl<'src> Part<'src, &'src str, Value, RichText> for Leaf {
+    fn run(
+        &self,
+        wanted: bool,
+        inp: &mut InputRef<'src, '_, &'src str, RichText>,
+    ) -> PResult<Option<Value>> {
+        match *self {
+            Leaf::Text => {
+                let text = part_of(Quoted).map(|text| Value::Json(Json::Text(text)));
+                run_part(&text.labelled("a string").padded_with(Space), wanted, inp)
+            }
+            Leaf::Number => {
+                let number = part_of(Number).map(|number| Value::Json(Json::Number(number)));
+                run_part(&number.labelled("a number").padded_with(Space), wanted, inp)
+            }
+            Leaf::Word => {
+                let word = choice((
+                    just("null").map(|_| Value::Json(Json::Null)),
+                    just("true").map(|_| Value::Json(Json::Bool(true))),
+                    just("false").map(|_| Value::Json(Json::Bool(false))),
+                ));
+                run_part(&word.padded_with(Space), wanted, inp)
+            }
+            Leaf::Mark(mark) => {
+                let mark = just(mark).map(|_| Value::Mark);
+                run_part(&mark.padded_with(Space), wanted, inp)
+            }
+        }
+    }
+}
+
+impl MayStay for Leaf {}
