@@ -60,7 +60,9 @@ impl<'src> Part<'src, &'src str, Value, RichText> for Leaf {
     ) -> PResult<Option<Value>> {
         match *self {
             Leaf::Number => {
-                let number = text::digits(10).spanned().map(number_of);
+                let number = text::digits(10)
+                    .spanned()
+                    .map(|digits: Spanned<&str, SimpleSpan>| number_of(digits));
                 run_part(&number.labelled("a number").padded(), wanted, inp)
             }
             Leaf::Sign(signs) => {
@@ -149,7 +151,7 @@ impl Values<SimpleSpan, Rich<char>> for Arithmetic {
             Value::Step(step) => prefixed(step),
             Value::Chain(first, steps) => total(first, steps.as_slice()),
             Value::Number(number) => Ok(number),
-            Value::Sign(..) | Value::Steps(_) => Ok(0),
+            other => return Ok(Ok(other)),
         };
         match worked_out {
             Ok(number) => Ok(Ok(Value::Number(number))),
@@ -263,6 +265,14 @@ fn leaves() -> [OfPart<Leaf>; 6] {
 /// How many rules may be open at once: two for each pair of brackets, and one for each minus before a number.
 const DEPTH: usize = 1_000_000;
 
+/// What the whole comes to.
+fn whole(value: Value) -> i64 {
+    match value {
+        Value::Number(number) => number,
+        _other => 0,
+    }
+}
+
 /// What a sum comes to: of `2 * (3 + 4) - 1` it is 13. There are `+`, `-`, `*`, `/` and `%`, from the left, a minus before a
 /// number, and brackets.
 ///
@@ -283,13 +293,7 @@ pub fn parse_arithmetic(
         values: Arithmetic,
     };
     match rules.close(start, &actions, DEPTH) {
-        Ok(grammar) => grammar
-            .map(|value: Value| match value {
-                Value::Number(number) => number,
-                _ => 0,
-            })
-            .parse(alloc, text)
-            .map_err(Refused::Running),
+        Ok(grammar) => grammar.map(whole).parse(alloc, text).map_err(Refused::Running),
         Err(error) => Err(Refused::Closing(error)),
     }
 }

@@ -194,7 +194,7 @@ const DEPTH: usize = 1_001;
 fn whole(value: Value) -> Json {
     match value {
         Value::Json(json) => json,
-        _ => Json::Null,
+        _other => Json::Null,
     }
 }
 

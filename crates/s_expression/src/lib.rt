@@ -254,7 +254,7 @@ impl Mapper<Value, Vec<Expression>> for Whole {
     fn apply(&self, value: Value) -> Vec<Expression> {
         match value {
             Some(Expression::List(expressions)) => expressions,
-            _ => Vec::new(self.alloc),
+            _other => Vec::new(self.alloc),
         }
     }
 }
