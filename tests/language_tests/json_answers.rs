@@ -86,6 +86,7 @@ fn a_number_keeps_its_text(rt: HostRuntime) {
             "123456789012345678901234567890\n",
         ),
         ("2.5e0", "2.5e0\n"),
+        ("1e400", "1e400\n"),
     ];
     assert_lines(&rt, in_line, &rows);
 }

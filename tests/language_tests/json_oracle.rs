@@ -103,13 +103,17 @@ fn is_same(alloc: Global, ours: &Json, theirs: &Value) -> bool {
 }
 
 /// Asserts that a text is JSON where `serde_json` takes it, and that it is the same value, also when it is written and read again.
-/// Says whether it is.
+/// A number that an `f64` doesn't hold is an error of `serde_json` alone, so of a text with one nothing is asserted. Says whether
+/// both take the text.
 fn assert_same<R: Abort + AllocGlobal>(rt: &R, text: &str) -> bool {
     let parsed = read_json(rt.alloc(), text).expect(rt, "refused");
     let theirs = match Value::from_str(rt.alloc(), text) {
         Ok(theirs) => theirs,
-        Err(_) => {
-            assert!(rt; !parsed.has_output() && parsed.has_errors(), "of {text}");
+        Err(error) => {
+            let error = format!(in rt.alloc(); "{error}").expect(rt, "want of memory");
+            let is_out_of_range = error.as_str().starts_with("number out of range");
+            let is_none = !parsed.has_output() && parsed.has_errors();
+            assert!(rt; is_none || is_out_of_range, "of {text}: {error}");
             return false;
         }
     };

@@ -1,15 +1,15 @@
 //! What a sum comes to, as `2 * (3 + 4) - 1`: sums of products as rules, and numbers that are worked out as they are read.
 #![tactic(auto)]
 
-ghost use Rattle.std.specs.Prelude.{IfOk, ⊤};
+ghost use Rattle.std.specs.Prelude.{◌≡◌, ◌+ℤ◌, ◌-ℤ◌, ◌*ℤ◌, neg_ℤ, int_div, int_rem, FitsSigned, [], IfErr, IfOk, IsTrue, OkIff, is_some, ⊤};
+ghost use Rattle.std.specs.Int.{CanDivide, w64};
+ghost use Rattle.std.specs.Result.{result_ok};
 
 use chumsky::combinator::{OfPart, Part, part_of, run_part};
 use chumsky::extra::RichText;
 use chumsky::input::InputRef;
 use chumsky::prelude::*;
-use chumsky::recursive::{
-    BuildError, CloseError, Leaves, MayStay, Node, RecursiveError, Values,
-};
+use chumsky::recursive::{BuildError, CloseError, Leaves, MayStay, Node, RecursiveError, Values};
 use chumsky::span::Spanned;
 use chumsky::{PResult, Stop};
 use std::alloc::{AllocError, Global};
@@ -66,9 +66,7 @@ impl<'src> Part<'src, &'src str, Value, RichText> for Leaf {
                 run_part(&number.labelled("a number").padded(), wanted, inp)
             }
             Leaf::Sign(signs) => {
-                let sign = one_of(signs)
-                    .spanned()
-                    .map(|sign: Spanned<char, SimpleSpan>| Value::Sign(sign.inner, sign.span));
+                let sign = one_of(signs).spanned().map(sign_of);
                 run_part(&sign.padded(), wanted, inp)
             }
         }
@@ -83,6 +81,11 @@ fn number_of(digits: Spanned<&str, SimpleSpan>) -> Value {
         Ok(number) => Value::Number(number),
         Err(_) => Value::TooLarge(digits.span),
     }
+}
+
+/// A sign, and where it stands.
+fn sign_of(sign: Spanned<char, SimpleSpan>) -> Value {
+    Value::Sign(sign.inner, sign.span)
 }
 
 /// The leaves, by number.
@@ -147,10 +150,12 @@ impl Values<SimpleSpan, Rich<char>> for Arithmetic {
         _span: SimpleSpan,
     ) -> Result<Result<Value, Rich<char>>, AllocError> {
         let worked_out = match value {
-            Value::TooLarge(span) => Err(Wrong { message: "number too large", span }),
+            Value::TooLarge(span) => Err(Wrong {
+                message: "number too large",
+                span,
+            }),
             Value::Step(step) => prefixed(step),
             Value::Chain(first, steps) => total(first, steps.as_slice()),
-            Value::Number(number) => Ok(number),
             other => return Ok(Ok(other)),
         };
         match worked_out {
@@ -167,32 +172,51 @@ struct Wrong {
     span: SimpleSpan,
 }
 
-/// A number after a minus, or between brackets.
-fn prefixed(step: Step) -> Result<i64, Wrong> {
+/// A number after a minus (45), or between brackets.
+fn prefixed(step: Step) -> Result<i64, Wrong>
+    ensures minus { step.sign ≡ 45 → OkIff result (FitsSigned w64 (neg_ℤ step.number)) (neg_ℤ step.number) }
+    ensures at_its_sign { IfErr result (λ wrong. wrong.span ≡ step.span) }
+{
     match step.sign {
         '-' => after_sign(step, step.number.checked_neg()),
         _ => Ok(step.number),
     }
 }
 
-/// What a sign makes of the numbers before and after it.
-fn applied(total: i64, step: Step) -> Result<i64, Wrong> {
+/// What a sign makes of the numbers before and after it: `+` (43), `-` (45), `*` (42), `/` (47) and `%` (37).
+fn applied(total: i64, step: Step) -> Result<i64, Wrong>
+    ensures plus { step.sign ≡ 43 → OkIff result (FitsSigned w64 (total +ℤ step.number)) (total +ℤ step.number) }
+    ensures minus { step.sign ≡ 45 → OkIff result (FitsSigned w64 (total -ℤ step.number)) (total -ℤ step.number) }
+    ensures times { step.sign ≡ 42 → OkIff result (FitsSigned w64 (total *ℤ step.number)) (total *ℤ step.number) }
+    ensures over { step.sign ≡ 47 → OkIff result (CanDivide w64 total step.number) (int_div total step.number) }
+    ensures rest { step.sign ≡ 37 → OkIff result (CanDivide w64 total step.number) (int_rem total step.number) }
+    ensures at_its_sign { IfErr result (λ wrong. wrong.span ≡ step.span) }
+{
     let number = step.number;
     match step.sign {
         '+' => after_sign(step, total.checked_add(number)),
         '-' => after_sign(step, total.checked_sub(number)),
         '*' => after_sign(step, total.checked_mul(number)),
-        _ if number == 0 => Err(Wrong { message: "division by zero", span: step.span }),
+        _ if number == 0 => Err(Wrong {
+            message: "division by zero",
+            span: step.span,
+        }),
         '/' => after_sign(step, total.checked_div(number)),
         _ => after_sign(step, total.checked_rem(number)),
     }
 }
 
 /// A number, or an overflow at the sign that made it.
-fn after_sign(step: Step, number: Option<i64>) -> Result<i64, Wrong> {
+fn after_sign(step: Step, number: Option<i64>) -> Result<i64, Wrong>
+    ensures number { result_ok result ≡ number }
+    ensures at_its_sign { IfErr result (λ wrong. wrong.span ≡ step.span) }
+{
     match number {
         Some(number) => Ok(number),
-        None => Err(Wrong { message: "overflow", span: step.span }),
+        None => Err(Wrong {
+            message: "overflow",
+            span: step.span,
+        }),
     }
 }
 
@@ -208,11 +232,7 @@ fn total(first: i64, steps: &[Value]) -> Result<i64, Wrong> {
 }
 
 /// A number; a minus, and such a part; or a sum in brackets.
-fn part_rules(
-    rules: &mut Rules,
-    part: Recursive,
-    sum: Recursive,
-) -> Result<Node, BuildError> {
+fn part_rules(rules: &mut Rules, part: Recursive, sum: Recursive) -> Result<Node, BuildError> {
     let digits = rules.leaf(NUMBER)?;
     let number = rules.try_map(digits, WORKED_OUT)?;
 
@@ -278,10 +298,9 @@ fn whole(value: Value) -> i64 {
 ///
 /// What an `i64` doesn't hold is an error at the digits or at the sign that makes it, and so is a division by zero. A sum that is
 /// nested more deeply than half a million brackets is refused with `Stop::TooDeep`.
-pub fn parse_arithmetic(
-    alloc: Global,
-    text: &str,
-) -> Result<ParseResult<i64, Rich<char>>, Refused> {
+pub fn parse_arithmetic(alloc: Global, text: &str) -> Result<ParseResult<i64, Rich<char>>, Refused>
+    ensures { IfOk result (λ parsed. parsed.errors.items ≡ [] → IsTrue (is_some parsed.output)) }
+{
     let mut rules = Rules::new(alloc);
     let start = match sum_rules(&mut rules) {
         Ok(start) => start,
@@ -293,7 +312,10 @@ pub fn parse_arithmetic(
         values: Arithmetic,
     };
     match rules.close(start, &actions, DEPTH) {
-        Ok(grammar) => grammar.map(whole).parse(alloc, text).map_err(Refused::Running),
+        Ok(grammar) => grammar
+            .map(whole)
+            .parse(alloc, text)
+            .map_err(Refused::Running),
         Err(error) => Err(Refused::Closing(error)),
     }
 }

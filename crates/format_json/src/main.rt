@@ -5,9 +5,9 @@
 use chumsky::report::Report;
 use json_tree::{JsonText, Refused, read_json};
 use std::alloc::Global;
+use std::io::Read;
 use std::process::ExitCode;
 use std::{env, io};
-use std::io::Read;
 
 /// Whether the words after the program's name ask for lines that are indented. Other words ask for nothing that is known.
 fn asked_for(rt: &HostRuntime, alloc: Global) -> io::Result<Option<bool>> {

@@ -1,20 +1,17 @@
 //! JSON to a tree, by rules over nine leaves of one type, and the tree as text again.
 #![tactic(auto)]
 
-ghost use Rattle.std.specs.Prelude.{IfOk, ⊤};
+ghost use Rattle.std.specs.Prelude.{◌≡◌, [], IfOk, IsTrue, is_some, ⊤};
 
 pub mod leaves;
 pub mod tree;
 
-pub use crate::tree::{Json, JsonText};
-
 use crate::leaves::{Leaf, Value};
+pub use crate::tree::{Json, JsonText};
 use chumsky::Stop;
 use chumsky::combinator::{OfPart, part_of};
 use chumsky::prelude::*;
-use chumsky::recursive::{
-    BuildError, CloseError, Leaves, Node, RecursiveError, SepCfg, Values,
-};
+use chumsky::recursive::{BuildError, CloseError, Leaves, Node, RecursiveError, SepCfg, Values};
 use std::alloc::{AllocError, Global};
 
 /// Why there is no answer.
@@ -199,7 +196,9 @@ fn whole(value: Value) -> Json {
 }
 
 /// Reads a value. One that is nested more deeply is refused with `Stop::TooDeep`.
-pub fn read_json(alloc: Global, text: &str) -> Result<ParseResult<Json, Rich<char>>, Refused> {
+pub fn read_json(alloc: Global, text: &str) -> Result<ParseResult<Json, Rich<char>>, Refused>
+    ensures { IfOk result (λ parsed. parsed.errors.items ≡ [] → IsTrue (is_some parsed.output)) }
+{
     let mut rules = Rules::new(alloc);
     let start = match json_rules(&mut rules) {
         Ok(start) => start,
@@ -211,13 +210,18 @@ pub fn read_json(alloc: Global, text: &str) -> Result<ParseResult<Json, Rich<cha
         values: Trees,
     };
     match rules.close(start, &actions, DEPTH) {
-        Ok(grammar) => grammar.map(whole).parse(alloc, text).map_err(Refused::Running),
+        Ok(grammar) => grammar
+            .map(whole)
+            .parse(alloc, text)
+            .map_err(Refused::Running),
         Err(error) => Err(Refused::Closing(error)),
     }
 }
 
 /// The errors of a text, without its value.
-pub fn check_json(alloc: Global, text: &str) -> Result<ParseResult<(), Rich<char>>, Refused> {
+pub fn check_json(alloc: Global, text: &str) -> Result<ParseResult<(), Rich<char>>, Refused>
+    ensures { IfOk result (λ parsed. parsed.errors.items ≡ [] → IsTrue (is_some parsed.output)) }
+{
     let mut rules = Rules::new(alloc);
     let start = match json_rules(&mut rules) {
         Ok(start) => start,

@@ -1,7 +1,7 @@
 //! S-expressions, as Lisp has them: symbols, numbers, strings, lists and quotes, to trees and to text again.
 #![tactic(auto)]
 
-ghost use Rattle.std.specs.Prelude.{IfOk, ⊤};
+ghost use Rattle.std.specs.Prelude.{◌≡◌, [], IfOk, IsTrue, is_some, ⊤};
 
 use chumsky::combinator::{Mapper, OfPart, Part, part_of, run_part};
 use chumsky::extra::RichText;
@@ -13,13 +13,13 @@ use chumsky::{PResult, Stop};
 use std::alloc::{AllocError, Global};
 use std::fmt;
 use std::fmt::{Display, Formatter};
-use std::num::IntErrorKind;
 
 /// An expression.
 #[derive(Debug, Drop)]
 pub enum Expression {
     Symbol(String),
-    Number(i64),
+    /// An integer, as its text.
+    Number(String),
     Text(String),
     List(Vec<Expression>),
     /// What stands after a `'`.
@@ -107,7 +107,7 @@ impl<'src> Part<'src, &'src str, Value, RichText> for Leaf {
                     .repeated()
                     .at_least(1)
                     .collect::<String>()
-                    .filter_map(|word: String| atom_of(word));
+                    .map(|word: String| Some(atom_of(word)));
                 let text = part_of(Quotation).map(|text| Some(Expression::Text(text)));
                 let atom = word.or(text).labelled("an atom");
                 run_part(&atom.then_ignore(part_of(Gap)), wanted, inp)
@@ -122,14 +122,13 @@ impl<'src> Part<'src, &'src str, Value, RichText> for Leaf {
 
 impl MayStay for Leaf {}
 
-/// The number or the symbol that a word is. A number that an `i64` doesn't hold is neither.
-fn atom_of(word: String) -> Option<Value> {
-    match word.as_str().parse::<i64>() {
-        Ok(number) => Some(Some(Expression::Number(number))),
-        Err(error) => match error.kind() {
-            IntErrorKind::PosOverflow | IntErrorKind::NegOverflow => None,
-            _ => Some(Some(Expression::Symbol(word))),
-        },
+/// The number or the symbol that a word is: digits, perhaps after a minus, are a number.
+fn atom_of(word: String) -> Expression {
+    let digits = word.as_str().strip_prefix('-').unwrap_or(word.as_str());
+    if !digits.is_empty() && digits.bytes().all(|byte| byte.is_ascii_digit()) {
+        Expression::Number(word)
+    } else {
+        Expression::Symbol(word)
     }
 }
 
@@ -263,7 +262,9 @@ impl Mapper<Value, Vec<Expression>> for Whole {
 pub fn read_expressions(
     alloc: Global,
     text: &str,
-) -> Result<ParseResult<Vec<Expression>, Rich<char>>, Refused> {
+) -> Result<ParseResult<Vec<Expression>, Rich<char>>, Refused>
+    ensures { IfOk result (λ parsed. parsed.errors.items ≡ [] → IsTrue (is_some parsed.output)) }
+{
     let mut rules = Rules::new(alloc);
     let start = match all_rules(&mut rules) {
         Ok(start) => start,
