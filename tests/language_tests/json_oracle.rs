@@ -4,7 +4,7 @@ use serde_json::Value;
 use std::alloc::{AllocError, AllocGlobal, Global};
 use std::process::Abort;
 
-/// Texts that are JSON. All that is one character away from one of them is tried too.
+/// Texts that are JSON. Each is tried too with a character that is left out, or another, and with its end cut off.
 const TAKEN: [&str; 26] = [
     "null",
     " true ",
@@ -155,31 +155,30 @@ fn texts_are_json_where_serde_json_takes_them(rt: HostRuntime) {
     }
 }
 
-/// Each character is left out, is the last, and has others in its place and before it.
 #[test]
-fn a_text_one_character_away_is_json_where_serde_json_takes_it(rt: HostRuntime) {
-    let others = ["\"", "\\", "0", "e", "-", ",", "]", "}", "u", " ", "\u{1}"];
-    let mut tried = 0u32;
-    let mut taken = 0u32;
+fn a_text_without_its_end_or_a_character_is_json_where_serde_json_takes_it(rt: HostRuntime) {
     for text in TAKEN {
         for (start, character) in text.char_indices() {
             let end = start.saturating_add(character.len_utf8());
-            let cut = changed(rt.alloc(), text, start, text.len(), "").expect(&rt, "memory");
-            let left = changed(rt.alloc(), text, start, end, "").expect(&rt, "memory");
-            for one in [&cut, &left] {
-                tried = tried.saturating_add(1);
-                taken = taken.saturating_add(u32::from(assert_same(&rt, one.as_str())));
-            }
-            for other in others {
-                for end in [start, end] {
-                    let one = changed(rt.alloc(), text, start, end, other).expect(&rt, "memory");
-                    tried = tried.saturating_add(1);
-                    taken = taken.saturating_add(u32::from(assert_same(&rt, one.as_str())));
-                }
+            let begun = changed(rt.alloc(), text, start, text.len(), "").expect(&rt, "memory");
+            assert_same(&rt, begun.as_str());
+            let without = changed(rt.alloc(), text, start, end, "").expect(&rt, "memory");
+            assert_same(&rt, without.as_str());
+        }
+    }
+}
+
+#[test]
+fn a_text_with_another_character_is_json_where_serde_json_takes_it(rt: HostRuntime) {
+    for text in TAKEN {
+        for (start, character) in text.char_indices() {
+            let end = start.saturating_add(character.len_utf8());
+            for other in ["\"", "\\", "0", ","] {
+                let with = changed(rt.alloc(), text, start, end, other).expect(&rt, "memory");
+                assert_same(&rt, with.as_str());
             }
         }
     }
-    assert!(rt; tried > 7_000 && taken > 500, "{taken} of {tried}");
 }
 
 /// Written in one line and indented, a value without fractions whose names are in order is as `serde_json` writes it.
