@@ -84,8 +84,9 @@ fn number_of(digits: Spanned<&str, SimpleSpan>) -> Value {
 }
 
 /// A sign, and where it stands.
-fn sign_of(sign: Spanned<char, SimpleSpan>) -> Value {
-    Value::Sign(sign.inner, sign.span)
+fn sign_of(marked: Spanned<char, SimpleSpan>) -> Value {
+    let sign = marked.inner;
+    Value::Sign(sign, marked.span)
 }
 
 /// The leaves, by number.
