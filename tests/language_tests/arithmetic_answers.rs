@@ -1,12 +1,17 @@
 //! What sums come to.
-use crate::arithmetic::parse_arithmetic;
 use crate::printed::{assert_lines, nested, printed};
+use arithmetic::{Refused, parse_arithmetic};
+use examples::refusal::Refusal;
 use std::alloc::{AllocError, Global};
 use std::test::Fail;
 
 /// What is printed of a sum.
 fn shown(alloc: Global, text: &str) -> Result<String, AllocError> {
-    printed(alloc, text, parse_arithmetic(alloc, text), |number: &i64| {
+    let parsed = parse_arithmetic(alloc, text).map_err(|refused| match refused {
+        Refused::Running(stop) => Refusal::Run(stop),
+        _ => Refusal::Rules,
+    });
+    printed(alloc, text, parsed, |number: &i64| {
         format!(in alloc; "{number}\n")
     })
 }

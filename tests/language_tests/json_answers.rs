@@ -1,7 +1,7 @@
 //! What JSON is, on texts whose answers are known from outside.
-use crate::json::{Json, parse_json};
-use crate::json_text::JsonText;
 use crate::printed::{assert_lines, nested, printed};
+use examples::refusal::Refusal;
+use json_tree::{Json, JsonText, Refused, read_json};
 use std::alloc::{AllocError, Global};
 use std::test::Fail;
 
@@ -17,7 +17,11 @@ fn indented(alloc: Global, text: &str) -> Result<String, AllocError> {
 
 /// What is printed of a text.
 fn shown(alloc: Global, text: &str, indented: bool) -> Result<String, AllocError> {
-    printed(alloc, text, parse_json(alloc, text), |json: &Json| {
+    let parsed = read_json(alloc, text).map_err(|refused| match refused {
+        Refused::Running(stop) => Refusal::Run(stop),
+        _ => Refusal::Rules,
+    });
+    printed(alloc, text, parsed, |json: &Json| {
         let json = JsonText { json, indented };
         format!(in alloc; "{json}\n")
     })
@@ -82,6 +86,7 @@ fn a_number_keeps_its_text(rt: HostRuntime) {
             "123456789012345678901234567890\n",
         ),
         ("2.5e0", "2.5e0\n"),
+        ("1e400", "1e400\n"),
     ];
     assert_lines(&rt, in_line, &rows);
 }

@@ -1,18 +1,14 @@
-//! Languages of real size, run on texts and not proved: sums with their overflows, JSON, and s-expressions. Each has a grammar of
-//! `Rules`, values of its own, and tests beside it.
+//! Languages of real size, run on texts: sums with their overflows, JSON, which is held against the toolchain's `serde_json`, and
+//! s-expressions. A second language of s-expressions has its grammar here, and isn't proved.
 
-#[cfg(test)]
-mod arithmetic;
 #[cfg(test)]
 mod arithmetic_answers;
 #[cfg(test)]
-mod json;
+mod expressions;
 #[cfg(test)]
 mod json_answers;
 #[cfg(test)]
-mod json_leaves;
-#[cfg(test)]
-mod json_text;
+mod json_oracle;
 #[cfg(test)]
 mod printed;
 #[cfg(test)]

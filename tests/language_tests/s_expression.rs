@@ -1,6 +1,4 @@
-//! S-expressions, as Lisp has them.
-use crate::json_leaves::Quoted;
-use crate::json_text::QuotedText;
+//! S-expressions with texts as JSON has them, and texts of a length that stands before them.
 use chumsky::PResult;
 use chumsky::combinator::{Part, part_of, run_part};
 use chumsky::extra::RichText;
@@ -8,6 +6,8 @@ use chumsky::input::InputRef;
 use chumsky::prelude::*;
 use chumsky::recursive::{Leaves, MayStay, RecursiveError, Values};
 use examples::refusal::Refusal;
+use json_tree::leaves::Quoted;
+use json_tree::tree::QuotedText;
 use std::alloc::{AllocError, Global};
 use std::fmt;
 use std::fmt::{Display, Formatter};

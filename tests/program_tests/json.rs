@@ -15,14 +15,10 @@ fn write_all(alloc: Global, values: &[Json], out: &mut String) -> Result<(), All
 /// Writes a value, with what is in a list or a map in brackets.
 fn write_value(alloc: Global, value: &Json, out: &mut String) -> Result<(), AllocError> {
     match value {
-        Json::Mark => out.push('?'),
         Json::Null => out.push_str("null"),
         Json::Bool(true) => out.push_str("yes"),
         Json::Bool(false) => out.push_str("no"),
-        Json::Number(number) => {
-            let digits = format!(in alloc; "{number}")?;
-            out.push_str(digits.as_str())
-        }
+        Json::Number(number) => out.push_str(number.as_str()),
         Json::Text(text) => {
             out.push('"')?;
             out.push_str(text.as_str())?;
@@ -33,14 +29,14 @@ fn write_value(alloc: Global, value: &Json, out: &mut String) -> Result<(), Allo
             write_all(alloc, values.as_slice(), out)?;
             out.push(')')
         }
-        Json::Member(name, value) => {
-            out.push_str(name.as_str())?;
-            out.push('=')?;
-            write_value(alloc, value, out)
-        }
-        Json::Map(members) => {
+        Json::Object(members) => {
             out.push_str("(map")?;
-            write_all(alloc, members.as_slice(), out)?;
+            for (name, value) in members {
+                out.push(' ')?;
+                out.push_str(name.as_str())?;
+                out.push('=')?;
+                write_value(alloc, value, out)?;
+            }
             out.push(')')
         }
     }
@@ -98,7 +94,7 @@ fn a_value_is_read_to_a_tree(rt: HostRuntime) {
         ("null", "null"),
         (" true ", "yes"),
         ("false", "no"),
-        ("-10.50", "-10.5"),
+        ("-10.50", "-10.50"),
         ("0", "0"),
         ("\"a b\"", "\"a b\""),
         ("[]", "(list)"),

@@ -1,4 +1,6 @@
 //! Settings in sections, as INI files have them.
+ghost use Rattle.std.specs.Prelude.{◌≡◌, [], IfOk, IsTrue, is_some};
+
 use crate::words::Trimmed;
 use chumsky::combinator::{Part, part_of, run_part};
 use chumsky::extra::RichText;
@@ -105,7 +107,9 @@ impl<'src> Part<'src, &'src str, (&'src str, Section<'src>), RichText> for Heade
 pub fn parse_ini<'src>(
     alloc: Global,
     text: &'src str,
-) -> Result<ParseResult<Ini<'src>, Rich<char>>, Stop> {
+) -> Result<ParseResult<Ini<'src>, Rich<char>>, Stop>
+    ensures { IfOk result (λ parsed. parsed.errors.items ≡ [] → IsTrue (is_some parsed.output)) }
+{
     part_of(Gap)
         .ignore_then(part_of(Headed).repeated().collect::<Ini<'src>>())
         .parse(alloc, text)

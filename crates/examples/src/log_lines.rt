@@ -1,4 +1,6 @@
 //! Lines of a log. A line that can't be read is an error of its own, and the lines after it are read.
+ghost use Rattle.std.specs.Prelude.{◌≡◌, [], IfOk, IsTrue, is_some};
+
 use crate::digits::TwoDigits;
 use crate::words::Trimmed;
 use chumsky::combinator::{Part, Picker, part_of, run_part};
@@ -152,7 +154,9 @@ impl<'src> Reader<'src, &'src str, Option<Line<'src>>, RichText> for AnyLine {
 pub fn parse_log<'src>(
     alloc: Global,
     text: &'src str,
-) -> Result<ParseResult<Vec<Line<'src>>, Rich<char>>, Stop> {
+) -> Result<ParseResult<Vec<Line<'src>>, Rich<char>>, Stop>
+    ensures { IfOk result (λ parsed. parsed.errors.items ≡ [] → IsTrue (is_some parsed.output)) }
+{
     let line = none_of("\r\n")
         .rewind()
         .ignore_then(custom_by(AnyLine))

@@ -1,4 +1,6 @@
 //! A query to the domain name system (DNS), in bytes.
+ghost use Rattle.std.specs.Prelude.{◌≡◌, [], IfOk, IsTrue, is_some};
+
 use chumsky::combinator::{Part, part_of, run_part};
 use chumsky::extra::RichBytes;
 use chumsky::input::InputRef;
@@ -137,7 +139,9 @@ impl<'src> Part<'src, &'src [u8], Question, UnderHead> for Asked {
 }
 
 /// A query, whole.
-pub fn parse_query(alloc: Global, bytes: &[u8]) -> Result<ParseResult<Query, Rich<u8>>, Stop> {
+pub fn parse_query(alloc: Global, bytes: &[u8]) -> Result<ParseResult<Query, Rich<u8>>, Stop>
+    ensures { IfOk result (λ parsed. parsed.errors.items ≡ [] → IsTrue (is_some parsed.output)) }
+{
     let questions = part_of(Asked)
         .repeated()
         .configure(|config, head: &Head| config.exactly(head.questions as usize))

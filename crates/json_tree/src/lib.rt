@@ -1,32 +1,18 @@
-//! JSON without escapes and exponents, by rules over eleven leaves of one type, with trees as values.
+//! JSON to a tree, by rules over nine leaves of one type, and the tree as text again.
 #![tactic(auto)]
 
-ghost use Rattle.std.specs.Prelude.{IfOk, ⊤};
+ghost use Rattle.std.specs.Prelude.{◌≡◌, [], IfOk, IsTrue, is_some, ⊤};
 
-use chumsky::combinator::{OfPart, Part, part_of, run_part};
-use chumsky::extra::RichText;
-use chumsky::input::InputRef;
+pub mod leaves;
+pub mod tree;
+
+use crate::leaves::{Leaf, Value};
+pub use crate::tree::{Json, JsonText};
+use chumsky::Stop;
+use chumsky::combinator::{OfPart, part_of};
 use chumsky::prelude::*;
-use chumsky::recursive::{
-    BuildError, CloseError, Leaves, MayStay, Node, RecursiveError, SepCfg, Values,
-};
-use chumsky::{PResult, Stop};
+use chumsky::recursive::{BuildError, CloseError, Leaves, Node, RecursiveError, SepCfg, Values};
 use std::alloc::{AllocError, Global};
-
-/// A value.
-#[derive(Drop)]
-pub enum Json {
-    /// What a comma, a colon or a bracket gives.
-    Mark,
-    Null,
-    Bool(bool),
-    Number(f64),
-    Text(String),
-    List(Vec<Json>),
-    /// A name and its value, in a map.
-    Member(String, Box<Json>),
-    Map(Vec<Json>),
-}
 
 /// Why there is no answer.
 #[derive(Debug, PartialEq, Drop)]
@@ -36,131 +22,103 @@ pub enum Refused {
     Running(Stop),
 }
 
-/// The leaves, each with the blanks around it: a word or a mark, a number, and a text.
-#[derive(Clone, Copy)]
-enum Leaf {
-    Mark(&'static str),
-    Number,
-    Text,
-}
-
-/// The number that digits make.
-fn number_of(digits: &str) -> Option<Json> {
-    match digits.parse::<f64>() {
-        Ok(number) => Some(Json::Number(number)),
-        Err(_) => None,
-    }
-}
-
-impl<'src> IsParser<&'src str, Json, RichText> for Leaf {}
-
-impl<'src> Part<'src, &'src str, Json, RichText> for Leaf {
-    fn run(
-        &self,
-        wanted: bool,
-        inp: &mut InputRef<'src, '_, &'src str, RichText>,
-    ) -> PResult<Option<Json>> {
-        match *self {
-            Leaf::Mark(mark) => run_part(&just(mark).map(|_| Json::Mark).padded(), wanted, inp),
-            Leaf::Number => {
-                let fraction = just('.').then(text::digits(10));
-                let number = group((just('-').or_not(), text::int(10), fraction.or_not()));
-                let number = number
-                    .to_slice()
-                    .filter_map(|digits: &str| number_of(digits));
-                run_part(&number.padded(), wanted, inp)
-            }
-            Leaf::Text => {
-                let inside = none_of('"').repeated().collect::<String>();
-                let text = inside.delimited_by(just('"'), just('"'));
-                run_part(&text.map(|text| Json::Text(text)).padded(), wanted, inp)
-            }
-        }
-    }
-}
-
-impl MayStay for Leaf {}
-
 /// The leaves, by number.
-const NULL: usize = 0;
+const TEXT: usize = 0;
 
-const TRUE: usize = 1;
+const NUMBER: usize = 1;
 
-const FALSE: usize = 2;
+const WORD: usize = 2;
 
-const NUMBER: usize = 3;
+const COMMA: usize = 3;
 
-const TEXT: usize = 4;
+const COLON: usize = 4;
 
 const LIST_OPENS: usize = 5;
 
 const LIST_ENDS: usize = 6;
 
-const MAP_OPENS: usize = 7;
+const OBJECT_OPENS: usize = 7;
 
-const MAP_ENDS: usize = 8;
+const OBJECT_ENDS: usize = 8;
 
-const COMMA: usize = 9;
+/// The mappers, by number: what items in brackets are, and members in braces.
+const LIST: usize = 0;
 
-const COLON: usize = 10;
-
-/// The mappers, by number: that of a word is the number of its leaf.
-const MAP_OF_MEMBERS: usize = 3;
+const OBJECT: usize = 1;
 
 /// How values are made of values.
 #[derive(Drop)]
 struct Trees;
 
 impl Values<SimpleSpan, Rich<char>> for Trees {
-    type Value = Json;
+    type Value = Value;
 
     /// Of a mark and a value the value, and of a name and a value the member.
-    fn pair(&self, alloc: Global, first: Json, second: Json) -> Result<Json, AllocError> {
-        match first {
-            Json::Mark => Ok(second),
-            Json::Text(name) => Ok(Json::Member(name, Box::new(alloc, second)?)),
-            first => Ok(first),
+    fn pair(&self, _alloc: Global, first: Value, second: Value) -> Result<Value, AllocError> {
+        match (first, second) {
+            (Value::Mark, inside) => Ok(inside),
+            (Value::Json(Json::Text(name)), Value::Json(value)) => Ok(Value::Member(name, value)),
+            (inside, _closing) => Ok(inside),
         }
     }
 
-    fn list(&self, _alloc: Global, items: Vec<Json>) -> Result<Json, AllocError>
+    fn list(&self, _alloc: Global, items: Vec<Value>) -> Result<Value, AllocError>
         ensures { IfOk result (λ _. ⊤) }
     {
-        Ok(Json::List(items))
+        Ok(Value::Items(items))
     }
 
-    /// The value of a word, and a list of members as a map.
-    fn map(&self, _alloc: Global, mapper: usize, value: Json) -> Result<Json, AllocError> {
-        match mapper {
-            NULL => Ok(Json::Null),
-            TRUE => Ok(Json::Bool(true)),
-            FALSE => Ok(Json::Bool(false)),
-            _ => match value {
-                Json::List(members) => Ok(Json::Map(members)),
-                value => Ok(value),
-            },
+    fn map(&self, alloc: Global, mapper: usize, value: Value) -> Result<Value, AllocError> {
+        match value {
+            Value::Items(items) if mapper == LIST => list_of(alloc, items),
+            Value::Items(items) => object_of(alloc, items),
+            other => Ok(other),
         }
     }
 
-    fn option(&self, _alloc: Global, value: Option<Json>) -> Result<Json, AllocError>
+    fn option(&self, _alloc: Global, value: Option<Value>) -> Result<Value, AllocError>
         ensures { IfOk result (λ _. ⊤) }
     {
-        Ok(value.unwrap_or(Json::Mark))
+        Ok(value.unwrap_or(Value::Mark))
     }
 
-    fn unit(&self, _alloc: Global) -> Result<Json, AllocError> {
-        Ok(Json::Mark)
+    fn unit(&self, _alloc: Global) -> Result<Value, AllocError> {
+        Ok(Value::Mark)
     }
 
     fn try_map(
         &self,
         _alloc: Global,
         _mapper: usize,
-        value: Json,
+        value: Value,
         _span: SimpleSpan,
-    ) -> Result<Result<Json, Rich<char>>, AllocError> {
+    ) -> Result<Result<Value, Rich<char>>, AllocError> {
         Ok(Ok(value))
     }
+}
+
+/// The list of these items.
+fn list_of(alloc: Global, items: Vec<Value>) -> Result<Value, AllocError> {
+    let mut list = Vec::new(alloc);
+    for item in items {
+        match item {
+            Value::Json(json) => list.push(json)?,
+            other => drop(other),
+        }
+    }
+    Ok(Value::Json(Json::List(list)))
+}
+
+/// The object of these members.
+fn object_of(alloc: Global, items: Vec<Value>) -> Result<Value, AllocError> {
+    let mut members = Vec::new(alloc);
+    for item in items {
+        match item {
+            Value::Member(name, value) => members.push((name, value))?,
+            other => drop(other),
+        }
+    }
+    Ok(Value::Json(Json::Object(members)))
 }
 
 /// Any number of items, with commas between them.
@@ -172,7 +130,7 @@ const ANY_NUMBER: SepCfg = SepCfg {
 };
 
 /// Items with commas between them, from one mark to another.
-fn items(
+fn items_rules(
     rules: &mut Rules,
     opening: usize,
     item: Node,
@@ -186,52 +144,42 @@ fn items(
     rules.then(opening, closed)
 }
 
-/// A map: members, each a name, a colon and a value.
-fn map(rules: &mut Rules, value: Node) -> Result<Node, BuildError> {
+/// An object: members, each a name, a colon and a value.
+fn object_rules(rules: &mut Rules, value: Node) -> Result<Node, BuildError> {
     let name = rules.leaf(TEXT)?;
     let colon = rules.leaf(COLON)?;
     let given = rules.then(colon, value)?;
     let member = rules.then(name, given)?;
-    let members = items(rules, MAP_OPENS, member, MAP_ENDS)?;
-    rules.map(members, MAP_OF_MEMBERS)
-}
-
-/// A word, which is a value.
-fn word(rules: &mut Rules, leaf: usize) -> Result<Node, BuildError> {
-    let word = rules.leaf(leaf)?;
-    rules.map(word, leaf)
+    let members = items_rules(rules, OBJECT_OPENS, member, OBJECT_ENDS)?;
+    rules.map(members, OBJECT)
 }
 
 /// A value.
 fn json_rules(rules: &mut Rules) -> Result<Recursive, RecursiveError> {
     rules.recursive(|rules, json| {
         let value = rules.rule(json)?;
-        let null = word(rules, NULL)?;
-        let yes = word(rules, TRUE)?;
-        let no = word(rules, FALSE)?;
-        let number = rules.leaf(NUMBER)?;
         let text = rules.leaf(TEXT)?;
-        let list = items(rules, LIST_OPENS, value, LIST_ENDS)?;
-        let map = map(rules, value)?;
-        rules.choice(&[null, yes, no, number, text, list, map])
+        let number = rules.leaf(NUMBER)?;
+        let word = rules.leaf(WORD)?;
+        let values = items_rules(rules, LIST_OPENS, value, LIST_ENDS)?;
+        let list = rules.map(values, LIST)?;
+        let object = object_rules(rules, value)?;
+        rules.choice(&[text, number, word, list, object])
     })
 }
 
 /// The leaves, in the order of their numbers.
-fn leaves() -> [OfPart<Leaf>; 11] {
-    let mark = |text| part_of(Leaf::Mark(text));
+fn all_leaves() -> [OfPart<Leaf>; 9] {
     [
-        mark("null"),
-        mark("true"),
-        mark("false"),
-        part_of(Leaf::Number),
         part_of(Leaf::Text),
-        mark("["),
-        mark("]"),
-        mark("{"),
-        mark("}"),
-        mark(","),
-        mark(":"),
+        part_of(Leaf::Number),
+        part_of(Leaf::Word),
+        part_of(Leaf::Mark(',')),
+        part_of(Leaf::Mark(':')),
+        part_of(Leaf::Mark('[')),
+        part_of(Leaf::Mark(']')),
+        part_of(Leaf::Mark('{')),
+        part_of(Leaf::Mark('}')),
     ]
 }
 
@@ -239,32 +187,47 @@ fn leaves() -> [OfPart<Leaf>; 11] {
 /// go of by calls that go as deep as it is.
 const DEPTH: usize = 1_001;
 
+/// The value of a whole text.
+fn whole(value: Value) -> Json {
+    match value {
+        Value::Json(json) => json,
+        _other => Json::Null,
+    }
+}
+
 /// Reads a value. One that is nested more deeply is refused with `Stop::TooDeep`.
-pub fn read_json(alloc: Global, text: &str) -> Result<ParseResult<Json, Rich<char>>, Refused> {
+pub fn read_json(alloc: Global, text: &str) -> Result<ParseResult<Json, Rich<char>>, Refused>
+    ensures { IfOk result (λ parsed. parsed.errors.items ≡ [] → IsTrue (is_some parsed.output)) }
+{
     let mut rules = Rules::new(alloc);
     let start = match json_rules(&mut rules) {
         Ok(start) => start,
         Err(error) => return Err(Refused::Building(error)),
     };
-    let leaves = leaves();
+    let leaves = all_leaves();
     let actions = Leaves {
         leaves: &leaves,
         values: Trees,
     };
     match rules.close(start, &actions, DEPTH) {
-        Ok(grammar) => grammar.parse(alloc, text).map_err(Refused::Running),
+        Ok(grammar) => grammar
+            .map(whole)
+            .parse(alloc, text)
+            .map_err(Refused::Running),
         Err(error) => Err(Refused::Closing(error)),
     }
 }
 
 /// The errors of a text, without its value.
-pub fn check_json(alloc: Global, text: &str) -> Result<ParseResult<(), Rich<char>>, Refused> {
+pub fn check_json(alloc: Global, text: &str) -> Result<ParseResult<(), Rich<char>>, Refused>
+    ensures { IfOk result (λ parsed. parsed.errors.items ≡ [] → IsTrue (is_some parsed.output)) }
+{
     let mut rules = Rules::new(alloc);
     let start = match json_rules(&mut rules) {
         Ok(start) => start,
         Err(error) => return Err(Refused::Building(error)),
     };
-    let leaves = leaves();
+    let leaves = all_leaves();
     let actions = Leaves {
         leaves: &leaves,
         values: Trees,

@@ -1,20 +1,32 @@
-//! The leaves of JSON: strings, numbers, and the space around them.
+//! What JSON's values are made of: strings, numbers, words and marks, with the space around them.
 ghost use Rattle.std.specs.Prelude.{[], ◌∷◌, ◌||◌, ◌==◌, ⊤, codes};
 ghost use Rattle.chumsky_input.specs.Wanted.{Label};
 
+use crate::tree::Json;
 use chumsky::PResult;
 use chumsky::combinator::{Part, part_of, run_part};
 use chumsky::extra::RichText;
 use chumsky::input::InputRef;
 use chumsky::prelude::*;
 use chumsky::primitive::Select;
+use chumsky::recursive::MayStay;
 use chumsky::text::Kind;
 use chumsky::util::Plain;
 use std::char;
 
+/// What a node of the grammar gives.
+#[derive(Drop)]
+pub enum Value {
+    /// A comma, a colon or a bracket.
+    Mark,
+    Json(Json),
+    Member(String, Json),
+    Items(Vec<Value>),
+}
+
 /// Spaces, tabs and ends of lines.
 #[derive(Clone, Copy)]
-pub struct Space;
+struct Space;
 
 impl Kind<char> for Space {
     ghost fits = { λ _. ⊤ };
@@ -55,6 +67,11 @@ impl<'src> Part<'src, &'src str, u32, RichText> for Unit {
     }
 }
 
+/// The character that two units name together.
+fn joined(high: u32, low: u32) -> Option<char> {
+    char::from_u32(0x1_0000 + (high & 0x3FF) * 0x400 + (low & 0x3FF))
+}
+
 /// Past a `\u`, four digits that name a character; or eight, with another `\u` between them, of a character past the first
 /// 65,536. Half of such a pair is no character.
 #[derive(Clone, Copy)]
@@ -79,12 +96,7 @@ impl<'src> Part<'src, &'src str, char, RichText> for Numbered {
     }
 }
 
-/// The character of two halves.
-fn joined(high: u32, low: u32) -> Option<char> {
-    char::from_u32(0x1_0000 + (high & 0x3FF) * 0x400 + (low & 0x3FF))
-}
-
-/// A character that stands after a `\`.
+/// The character that stands for another after a `\`.
 #[derive(Clone, Copy)]
 struct Escaped;
 
@@ -111,7 +123,7 @@ impl<'src> Part<'src, &'src str, char, RichText> for Escaped {
     }
 }
 
-/// A string between quotes.
+/// A string between quotes, as the text that it stands for.
 #[derive(Clone, Copy)]
 pub struct Quoted;
 
@@ -137,7 +149,7 @@ impl<'src> Part<'src, &'src str, String, RichText> for Quoted {
 
 /// A number, as its text.
 #[derive(Clone, Copy)]
-pub struct Number;
+struct Number;
 
 impl<'src> IsParser<&'src str, String, RichText> for Number {}
 
@@ -160,3 +172,47 @@ impl<'src> Part<'src, &'src str, String, RichText> for Number {
         run_part(&all.nested_in(number.to_slice()), wanted, inp)
     }
 }
+
+/// A leaf of the grammar, with the space around it.
+#[derive(Clone, Copy)]
+pub enum Leaf {
+    Text,
+    Number,
+    Word,
+    Mark(char),
+}
+
+impl<'src> IsParser<&'src str, Value, RichText> for Leaf {}
+
+impl<'src> Part<'src, &'src str, Value, RichText> for Leaf {
+    fn run(
+        &self,
+        wanted: bool,
+        inp: &mut InputRef<'src, '_, &'src str, RichText>,
+    ) -> PResult<Option<Value>> {
+        match *self {
+            Leaf::Text => {
+                let text = part_of(Quoted).map(|text| Value::Json(Json::Text(text)));
+                run_part(&text.labelled("a string").padded_with(Space), wanted, inp)
+            }
+            Leaf::Number => {
+                let number = part_of(Number).map(|number| Value::Json(Json::Number(number)));
+                run_part(&number.labelled("a number").padded_with(Space), wanted, inp)
+            }
+            Leaf::Word => {
+                let word = choice((
+                    just("null").map(|_| Value::Json(Json::Null)),
+                    just("true").map(|_| Value::Json(Json::Bool(true))),
+                    just("false").map(|_| Value::Json(Json::Bool(false))),
+                ));
+                run_part(&word.padded_with(Space), wanted, inp)
+            }
+            Leaf::Mark(mark) => {
+                let mark = just(mark).map(|_| Value::Mark);
+                run_part(&mark.padded_with(Space), wanted, inp)
+            }
+        }
+    }
+}
+
+impl MayStay for Leaf {}

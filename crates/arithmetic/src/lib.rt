@@ -1,0 +1,322 @@
+//! What a sum comes to, as `2 * (3 + 4) - 1`: sums of products as rules, and numbers that are worked out as they are read.
+#![tactic(auto)]
+
+ghost use Rattle.std.specs.Prelude.{◌≡◌, ◌+ℤ◌, ◌-ℤ◌, ◌*ℤ◌, neg_ℤ, int_div, int_rem, FitsSigned, [], IfErr, IfOk, IsTrue, OkIff, is_some, ⊤};
+ghost use Rattle.std.specs.Int.{CanDivide, w64};
+ghost use Rattle.std.specs.Result.{result_ok};
+
+use chumsky::combinator::{OfPart, Part, part_of, run_part};
+use chumsky::extra::RichText;
+use chumsky::input::InputRef;
+use chumsky::prelude::*;
+use chumsky::recursive::{BuildError, CloseError, Leaves, MayStay, Node, RecursiveError, Values};
+use chumsky::span::Spanned;
+use chumsky::{PResult, Stop};
+use std::alloc::{AllocError, Global};
+
+/// Why there is no answer.
+#[derive(Debug, PartialEq, Drop)]
+pub enum Refused {
+    Building(RecursiveError),
+    Closing(CloseError),
+    Running(Stop),
+}
+
+/// A sign, where it stands, and the number after it.
+#[derive(Clone, Copy)]
+struct Step {
+    sign: char,
+    span: SimpleSpan,
+    number: i64,
+}
+
+/// What a node of the grammar gives.
+#[derive(Drop)]
+enum Value {
+    /// Where digits stand that an `i64` doesn't hold.
+    TooLarge(SimpleSpan),
+    Sign(char, SimpleSpan),
+    Number(i64),
+    Step(Step),
+    Steps(Vec<Value>),
+    /// A number, and the steps that go on from it.
+    Chain(i64, Vec<Value>),
+}
+
+/// The leaves, each with the blanks around it: a number, and one of some signs.
+#[derive(Clone, Copy)]
+enum Leaf {
+    Number,
+    Sign(&'static str),
+}
+
+impl<'src> IsParser<&'src str, Value, RichText> for Leaf {}
+
+impl<'src> Part<'src, &'src str, Value, RichText> for Leaf {
+    fn run(
+        &self,
+        wanted: bool,
+        inp: &mut InputRef<'src, '_, &'src str, RichText>,
+    ) -> PResult<Option<Value>> {
+        match *self {
+            Leaf::Number => {
+                let number = text::digits(10)
+                    .spanned()
+                    .map(|digits: Spanned<&str, SimpleSpan>| number_of(digits));
+                run_part(&number.labelled("a number").padded(), wanted, inp)
+            }
+            Leaf::Sign(signs) => {
+                let sign = one_of(signs).spanned().map(sign_of);
+                run_part(&sign.padded(), wanted, inp)
+            }
+        }
+    }
+}
+
+impl MayStay for Leaf {}
+
+/// The number that digits make.
+fn number_of(digits: Spanned<&str, SimpleSpan>) -> Value {
+    match digits.inner.parse::<i64>() {
+        Ok(number) => Value::Number(number),
+        Err(_) => Value::TooLarge(digits.span),
+    }
+}
+
+/// A sign, and where it stands.
+fn sign_of(marked: Spanned<char, SimpleSpan>) -> Value {
+    let sign = marked.inner;
+    Value::Sign(sign, marked.span)
+}
+
+/// The leaves, by number.
+const NUMBER: usize = 0;
+
+const ADDING: usize = 1;
+
+const MULTIPLYING: usize = 2;
+
+const MINUS: usize = 3;
+
+const OPENING: usize = 4;
+
+const CLOSING: usize = 5;
+
+/// The one mapper.
+const WORKED_OUT: usize = 0;
+
+/// How values are made of values.
+#[derive(Drop)]
+struct Arithmetic;
+
+impl Values<SimpleSpan, Rich<char>> for Arithmetic {
+    type Value = Value;
+
+    fn pair(&self, _alloc: Global, first: Value, second: Value) -> Result<Value, AllocError> {
+        match (first, second) {
+            (Value::Sign(sign, span), Value::Number(number)) => {
+                Ok(Value::Step(Step { sign, span, number }))
+            }
+            (Value::Number(number), Value::Steps(steps)) => Ok(Value::Chain(number, steps)),
+            (inside, _closing) => Ok(inside),
+        }
+    }
+
+    fn list(&self, _alloc: Global, steps: Vec<Value>) -> Result<Value, AllocError>
+        ensures { IfOk result (λ _. ⊤) }
+    {
+        Ok(Value::Steps(steps))
+    }
+
+    fn option(&self, _alloc: Global, value: Option<Value>) -> Result<Value, AllocError>
+        ensures { IfOk result (λ _. ⊤) }
+    {
+        Ok(value.unwrap_or(Value::Number(0)))
+    }
+
+    fn unit(&self, _alloc: Global) -> Result<Value, AllocError> {
+        Ok(Value::Number(0))
+    }
+
+    fn map(&self, _alloc: Global, _mapper: usize, value: Value) -> Result<Value, AllocError> {
+        Ok(value)
+    }
+
+    /// The number that a value comes to, or an error where it can't be worked out.
+    fn try_map(
+        &self,
+        alloc: Global,
+        _mapper: usize,
+        value: Value,
+        _span: SimpleSpan,
+    ) -> Result<Result<Value, Rich<char>>, AllocError> {
+        let worked_out = match value {
+            Value::TooLarge(span) => Err(Wrong {
+                message: "number too large",
+                span,
+            }),
+            Value::Step(step) => prefixed(step),
+            Value::Chain(first, steps) => total(first, steps.as_slice()),
+            other => return Ok(Ok(other)),
+        };
+        match worked_out {
+            Ok(number) => Ok(Ok(Value::Number(number))),
+            Err(wrong) => Ok(Err(Rich::custom_in(alloc, wrong.span, wrong.message)?)),
+        }
+    }
+}
+
+/// What can't be worked out, and where.
+#[derive(Clone, Copy)]
+struct Wrong {
+    message: &'static str,
+    span: SimpleSpan,
+}
+
+/// A number after a minus (45), or between brackets.
+fn prefixed(step: Step) -> Result<i64, Wrong>
+    ensures minus { step.sign ≡ 45 → OkIff result (FitsSigned w64 (neg_ℤ step.number)) (neg_ℤ step.number) }
+    ensures at_its_sign { IfErr result (λ wrong. wrong.span ≡ step.span) }
+{
+    match step.sign {
+        '-' => after_sign(step, step.number.checked_neg()),
+        _ => Ok(step.number),
+    }
+}
+
+/// What a sign makes of the numbers before and after it: `+` (43), `-` (45), `*` (42), `/` (47) and `%` (37).
+fn applied(total: i64, step: Step) -> Result<i64, Wrong>
+    ensures plus { step.sign ≡ 43 → OkIff result (FitsSigned w64 (total +ℤ step.number)) (total +ℤ step.number) }
+    ensures minus { step.sign ≡ 45 → OkIff result (FitsSigned w64 (total -ℤ step.number)) (total -ℤ step.number) }
+    ensures times { step.sign ≡ 42 → OkIff result (FitsSigned w64 (total *ℤ step.number)) (total *ℤ step.number) }
+    ensures over { step.sign ≡ 47 → OkIff result (CanDivide w64 total step.number) (int_div total step.number) }
+    ensures rest { step.sign ≡ 37 → OkIff result (CanDivide w64 total step.number) (int_rem total step.number) }
+    ensures at_its_sign { IfErr result (λ wrong. wrong.span ≡ step.span) }
+{
+    let number = step.number;
+    match step.sign {
+        '+' => after_sign(step, total.checked_add(number)),
+        '-' => after_sign(step, total.checked_sub(number)),
+        '*' => after_sign(step, total.checked_mul(number)),
+        _ if number == 0 => Err(Wrong {
+            message: "division by zero",
+            span: step.span,
+        }),
+        '/' => after_sign(step, total.checked_div(number)),
+        _ => after_sign(step, total.checked_rem(number)),
+    }
+}
+
+/// A number, or an overflow at the sign that made it.
+fn after_sign(step: Step, number: Option<i64>) -> Result<i64, Wrong>
+    ensures number { result_ok result ≡ number }
+    ensures at_its_sign { IfErr result (λ wrong. wrong.span ≡ step.span) }
+{
+    match number {
+        Some(number) => Ok(number),
+        None => Err(Wrong {
+            message: "overflow",
+            span: step.span,
+        }),
+    }
+}
+
+/// What steps make of a number, from the left.
+fn total(first: i64, steps: &[Value]) -> Result<i64, Wrong> {
+    let mut total = first;
+    for step in steps {
+        if let Value::Step(step) = step {
+            total = applied(total, *step)?;
+        }
+    }
+    Ok(total)
+}
+
+/// A number; a minus, and such a part; or a sum in brackets.
+fn part_rules(rules: &mut Rules, part: Recursive, sum: Recursive) -> Result<Node, BuildError> {
+    let digits = rules.leaf(NUMBER)?;
+    let number = rules.try_map(digits, WORKED_OUT)?;
+
+    let minus = rules.leaf(MINUS)?;
+    let positive = rules.rule(part)?;
+    let signed = rules.then(minus, positive)?;
+    let negative = rules.try_map(signed, WORKED_OUT)?;
+
+    let opening = rules.leaf(OPENING)?;
+    let inside = rules.rule(sum)?;
+    let closing = rules.leaf(CLOSING)?;
+    let closed = rules.then(inside, closing)?;
+    let opened = rules.then(opening, closed)?;
+    let bracketed = rules.try_map(opened, WORKED_OUT)?;
+    rules.choice(&[number, negative, bracketed])
+}
+
+/// Parts with a sign of one leaf between them.
+fn chain_rules(rules: &mut Rules, part: Node, signs: usize) -> Result<Node, BuildError> {
+    let sign = rules.leaf(signs)?;
+    let step = rules.then(sign, part)?;
+    let steps = rules.repeated(step, 0, None)?;
+    let chain = rules.then(part, steps)?;
+    rules.try_map(chain, WORKED_OUT)
+}
+
+/// Sums of products of parts.
+fn sum_rules(rules: &mut Rules) -> Result<Recursive, RecursiveError> {
+    let sum = rules.declare()?;
+    let any_part = rules.recursive(|rules, any_part| part_rules(rules, any_part, sum))?;
+    let factor = rules.rule(any_part)?;
+    let product = chain_rules(rules, factor, MULTIPLYING)?;
+    let terms = chain_rules(rules, product, ADDING)?;
+    rules.define(sum, terms)?;
+    Ok(sum)
+}
+
+/// The leaves, in the order of their numbers.
+fn leaves() -> [OfPart<Leaf>; 6] {
+    [
+        part_of(Leaf::Number),
+        part_of(Leaf::Sign("+-")),
+        part_of(Leaf::Sign("*/%")),
+        part_of(Leaf::Sign("-")),
+        part_of(Leaf::Sign("(")),
+        part_of(Leaf::Sign(")")),
+    ]
+}
+
+/// How many rules may be open at once: two for each pair of brackets, and one for each minus before a number.
+const DEPTH: usize = 1_000_000;
+
+/// What the whole comes to.
+fn whole(value: Value) -> i64 {
+    match value {
+        Value::Number(number) => number,
+        _other => 0,
+    }
+}
+
+/// What a sum comes to: of `2 * (3 + 4) - 1` it is 13. There are `+`, `-`, `*`, `/` and `%`, from the left, a minus before a
+/// number, and brackets.
+///
+/// What an `i64` doesn't hold is an error at the digits or at the sign that makes it, and so is a division by zero. A sum that is
+/// nested more deeply than half a million brackets is refused with `Stop::TooDeep`.
+pub fn parse_arithmetic(alloc: Global, text: &str) -> Result<ParseResult<i64, Rich<char>>, Refused>
+    ensures { IfOk result (λ parsed. parsed.errors.items ≡ [] → IsTrue (is_some parsed.output)) }
+{
+    let mut rules = Rules::new(alloc);
+    let start = match sum_rules(&mut rules) {
+        Ok(start) => start,
+        Err(error) => return Err(Refused::Building(error)),
+    };
+    let leaves = leaves();
+    let actions = Leaves {
+        leaves: &leaves,
+        values: Arithmetic,
+    };
+    match rules.close(start, &actions, DEPTH) {
+        Ok(grammar) => grammar
+            .map(whole)
+            .parse(alloc, text)
+            .map_err(Refused::Running),
+        Err(error) => Err(Refused::Closing(error)),
+    }
+}
