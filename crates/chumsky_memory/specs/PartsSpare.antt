@@ -59,6 +59,19 @@ module _ {Tok Cx St Er V : Type 0} where
   in_turn-spares [] h = λ b o m. given-spares (wanting b.wanted (record { items = [] })) b o m
   in_turn-spares (m ∷ ms) h = chained-spares m _ h.0 (λ v. chained-spares (InTurn ms) _ (in_turn-spares ms h.1) (λ vs. given-spares (item_before v vs)))
 
+module _ {V Er : Type 0} where
+  spares_by : (u : Verdict V Er) → ((s : Stop) → u ≡ Halt s → IsNotMemory s) → SparesMemory u
+  spares_by (Yes v) h = tt
+  spares_by No h = tt
+  spares_by (Halt s) h = h s refl
+  spares_by (Clash e) h = tt
+
+module _ {I Tok Sp Er St Mk Cx : Type 0} (errors : error_trait.Ghosts Er I Tok Sp) (states : inspector_trait.Ghosts St I Mk Tok Sp) where
+  none_stops : (s : Stop) (parts : List (Part I Tok Sp Er St Mk Cx)) → NoneOut errors states parts → AnyStops errors states s parts → IsNotMemory s
+  none_stops s [] h x = absurd x
+  none_stops s (p ∷ ps) h (inl x) = subst SparesMemory x.stops (h.0 x.start x.outcome x.meant)
+  none_stops s (p ∷ ps) h (inr x) = none_stops s ps h.1 x
+
 module _ {I Tok Sp Er St Mk Cx V : Type 0} (errors : error_trait.Ghosts Er I Tok Sp) (states : inspector_trait.Ghosts St I Mk Tok Sp) where
   none-meant : (alternatives : List (Does I Tok Sp Er St Mk Cx V)) → NoneOut errors states (map part alternatives) → NoneOutOfMemory (each_meant errors states alternatives)
   none-meant [] h = tt
@@ -67,19 +80,8 @@ module _ {I Tok Sp Er St Mk Cx V : Type 0} (errors : error_trait.Ghosts Er I Tok
   -- alternatives that are tried in order, where a mark and going back take no memory
   pub in_order-spares : states.takes_no_memory → (whole : Does I Tok Sp Er St Mk Cx V) (alternatives : List (Does I Tok Sp Er St Mk Cx V)) → TriesInOrder errors states whole alternatives → OutOnlyBy errors states (map part alternatives) whole
   in_order-spares still whole [] m h = absurd m
-  in_order-spares still whole (first ∷ others) m h b o x = first_of-spares states.mark states.back states.takes_no_memory still (first errors states) (each_meant errors states others) h.0 (none-meant others h.1) b o (m b o x)
-
-  none_stops : (s : Stop) (parts : List (Part I Tok Sp Er St Mk Cx)) → NoneOut errors states parts → AnyStops errors states s parts → IsNotMemory s
-  none_stops s [] h x = absurd x
-  none_stops s (p ∷ ps) h (inl x) = subst SparesMemory x.stops (h.0 x.start x.outcome x.meant)
-  none_stops s (p ∷ ps) h (inr x) = none_stops s ps h.1 x
-
-  spares_by : (u : Verdict V errors.Seen) → ((s : Stop) → u ≡ Halt s → IsNotMemory s) → SparesMemory u
-  spares_by (Yes v) h = tt
-  spares_by No h = tt
-  spares_by (Halt s) h = h s refl
-  spares_by (Clash e) h = tt
+  in_order-spares still whole (first ∷ others) m h = λ b o x. first_of-spares states.mark states.back states.takes_no_memory still (first errors states) (each_meant errors states others) h.0 (none-meant others h.1) b o (m b o x)
 
   -- what stops only where one of its parts does
   pub stops_only-spares : (whole : Does I Tok Sp Er St Mk Cx V) (parts : List (Part I Tok Sp Er St Mk Cx)) → StopsOnlyByAny errors states whole parts → OutOnlyBy errors states parts whole
-  stops_only-spares whole parts m h b o x = spares_by o.verdict (λ s e. none_stops s parts h (m s (record { start = b; outcome = o; meant = x; stops = e })))
+  stops_only-spares whole parts m h b o x = spares_by o.verdict (λ s e. none_stops errors states s parts h (m s (record { start = b; outcome = o; meant = x; stops = e })))
