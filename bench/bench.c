@@ -13,15 +13,16 @@ typedef uint64_t job_function(const uint8_t *bytes, size_t length);
 job_function bench_dates_parse, bench_dates_check, bench_words_parse, bench_words_check, bench_headers_parse,
     bench_headers_check, bench_digits_parse, bench_digits_check, bench_lists_parse, bench_lists_check,
     bench_settings_parse, bench_settings_check, bench_keys_parse, bench_keys_check, bench_sums_parse,
-    bench_sums_check, bench_messages_parse, bench_messages_check,
-    bench_brackets_parse, bench_brackets_check, bench_json_parse,
-    bench_json_check, bench_fail_empty, bench_fail_rich;
+    bench_sums_check, bench_messages_parse, bench_messages_check, bench_spaces_parse, bench_spaces_check,
+    bench_ints_parse, bench_ints_check, bench_idents_parse, bench_idents_check, bench_brackets_parse, bench_brackets_check,
+    bench_json_parse, bench_json_check, bench_fail_empty, bench_fail_rich;
 
 #ifdef WITH_RUST
 job_function rust_dates_parse, rust_dates_check, rust_words_parse, rust_words_check, rust_headers_parse,
     rust_headers_check, rust_digits_parse, rust_digits_check, rust_lists_parse, rust_lists_check,
     rust_settings_parse, rust_settings_check, rust_sums_parse, rust_sums_check,
-    rust_messages_parse, rust_messages_check, rust_brackets_parse, rust_brackets_check, rust_json_parse,
+    rust_messages_parse, rust_messages_check, rust_spaces_parse, rust_spaces_check, rust_ints_parse,
+    rust_ints_check, rust_idents_parse, rust_idents_check, rust_brackets_parse, rust_brackets_check, rust_json_parse,
     rust_json_check, rust_fail;
 #define RUST(name) rust_##name
 #else
@@ -301,6 +302,101 @@ static uint64_t messages_check(const uint8_t *bytes, size_t length) {
     return times;
 }
 
+static inline int is_space(uint8_t byte) { return byte == ' ' || (uint8_t)(byte - '\t') < 5; }
+
+/* How much white space, be it none, stands at a place. */
+static inline size_t space(const uint8_t *at, const uint8_t *end) {
+    const uint8_t *from = at;
+    while (at != end && is_space(*at)) at += 1;
+    return (size_t)(at - from);
+}
+
+static uint64_t spaces_parse(const uint8_t *bytes, size_t length) {
+    const uint8_t *at = bytes, *end = bytes + length;
+    uint64_t total = 0;
+    for (;;) {
+        size_t count = space(at, end);
+        at += count;
+        if (at == end || *at != '.') return total;
+        at += 1;
+        total += count;
+    }
+}
+
+static uint64_t spaces_check(const uint8_t *bytes, size_t length) {
+    const uint8_t *at = bytes, *end = bytes + length;
+    uint64_t times = 0;
+    for (;;) {
+        at += space(at, end);
+        if (at == end || *at != '.') return times;
+        at += 1;
+        times += 1;
+    }
+}
+
+/* How many digits a number has: one where it begins with a zero, and 0 where there is none. */
+static inline size_t int_at(const uint8_t *at, const uint8_t *end) {
+    return at != end && *at == '0' ? 1 : digits_at(at, end);
+}
+
+static uint64_t ints_parse(const uint8_t *bytes, size_t length) {
+    const uint8_t *at = bytes, *end = bytes + length;
+    uint64_t total = 0;
+    for (;;) {
+        size_t count = int_at(at, end);
+        at += count;
+        if (!count || at == end || *at != '\n') return total;
+        at += 1;
+        total += count;
+    }
+}
+
+static uint64_t ints_check(const uint8_t *bytes, size_t length) {
+    const uint8_t *at = bytes, *end = bytes + length;
+    uint64_t times = 0;
+    for (;;) {
+        size_t count = int_at(at, end);
+        at += count;
+        if (!count || at == end || *at != '\n') return times;
+        at += 1;
+        times += 1;
+    }
+}
+
+static inline int begins_ident(uint8_t byte) { return (uint8_t)((byte | 32) - 'a') < 26 || byte == '_'; }
+
+/* How many bytes an identifier has, or 0 where there is none. */
+static inline size_t ident(const uint8_t *at, const uint8_t *end) {
+    if (at == end || !begins_ident(*at)) return 0;
+    const uint8_t *from = at;
+    while (at != end && (begins_ident(*at) || is_digit(*at))) at += 1;
+    return (size_t)(at - from);
+}
+
+static uint64_t idents_parse(const uint8_t *bytes, size_t length) {
+    const uint8_t *at = bytes, *end = bytes + length;
+    uint64_t total = 0;
+    for (;;) {
+        size_t count = ident(at, end);
+        at += count;
+        if (!count || at == end || *at != '\n') return total;
+        at += 1;
+        total += count;
+    }
+}
+
+static uint64_t idents_check(const uint8_t *bytes, size_t length) {
+    const uint8_t *at = bytes, *end = bytes + length;
+    uint64_t times = 0;
+    for (;;) {
+        size_t count = ident(at, end);
+        at += count;
+        if (!count || at == end || *at != '\n') return times;
+        at += 1;
+        times += 1;
+    }
+}
+
 static const char *const keywords[] = {"host", "port", "user", "group", "root", "index",
                                        "log", "level", "cache", "timeout", "retries", "verbose"};
 enum { KEYWORDS = sizeof keywords / sizeof *keywords };
@@ -545,6 +641,47 @@ static struct input make_messages(unsigned count) {
     return made;
 }
 
+/* Up to so many characters of white space before each full stop. */
+static struct input make_spaces(unsigned count) {
+    struct input made = room((size_t)count * 17);
+    uint8_t *at = made.bytes;
+    for (unsigned each = 0; each < count; each++) {
+        for (unsigned left = below(17); left; left--) *at++ = (uint8_t)"    \t\r\n"[below(7)];
+        *at++ = '.';
+    }
+    made.length = (size_t)(at - made.bytes);
+    return made;
+}
+
+/* A number on each line, and one in sixteen of them zero. */
+static struct input make_ints(unsigned count) {
+    struct input made = room((size_t)count * 11);
+    uint8_t *at = made.bytes;
+    for (unsigned line = 0; line < count; line++) {
+        size_t digits = write_digits(at, 10);
+        if (*at == '0') *at = '1';
+        if (!below(16)) *at = '0', digits = 1;
+        at += digits;
+        *at++ = '\n';
+    }
+    made.length = (size_t)(at - made.bytes);
+    return made;
+}
+
+/* An identifier on each line. */
+static struct input make_idents(unsigned count) {
+    static const char all[] = "abcdefghijklmnopqrstuvwxyzABCDEFGHIJKLMNOPQRSTUVWXYZ_0123456789";
+    struct input made = room((size_t)count * 13);
+    uint8_t *at = made.bytes;
+    for (unsigned line = 0; line < count; line++) {
+        *at++ = (uint8_t)all[below(53)];
+        for (unsigned left = below(12); left; left--) *at++ = (uint8_t)all[below(63)];
+        *at++ = '\n';
+    }
+    made.length = (size_t)(at - made.bytes);
+    return made;
+}
+
 static struct input make_settings(unsigned count) {
     struct input made = room((size_t)count * 16);
     uint8_t *at = made.bytes;
@@ -748,6 +885,7 @@ int main(int count, char **arguments) {
     struct input digits = make_digits(5000), lists = make_lists(2000), settings = make_settings(5000);
     struct input shallow = make_brackets(2, 25000), deep = make_brackets(100000, 1), json = make_json(300);
     struct input failing = make_failing(2000), sums = make_sums(3000), messages = make_messages(2000);
+    struct input spaces = make_spaces(8000), ints = make_ints(8000), idents = make_idents(8000);
     struct job jobs[] = {
         {"dates parse", {bench_dates_parse, dates_parse, RUST(dates_parse)}, dates, {0}},
         {"dates check", {bench_dates_check, dates_check, RUST(dates_check)}, dates, {0}},
@@ -767,6 +905,12 @@ int main(int count, char **arguments) {
         {"sums check", {bench_sums_check, sums_check, RUST(sums_check)}, sums, {0}},
         {"messages parse", {bench_messages_parse, messages_parse, RUST(messages_parse)}, messages, {0}},
         {"messages check", {bench_messages_check, messages_check, RUST(messages_check)}, messages, {0}},
+        {"spaces parse", {bench_spaces_parse, spaces_parse, RUST(spaces_parse)}, spaces, {0}},
+        {"spaces check", {bench_spaces_check, spaces_check, RUST(spaces_check)}, spaces, {0}},
+        {"ints parse", {bench_ints_parse, ints_parse, RUST(ints_parse)}, ints, {0}},
+        {"ints check", {bench_ints_check, ints_check, RUST(ints_check)}, ints, {0}},
+        {"idents parse", {bench_idents_parse, idents_parse, RUST(idents_parse)}, idents, {0}},
+        {"idents check", {bench_idents_check, idents_check, RUST(idents_check)}, idents, {0}},
         {"shallow parse", {bench_brackets_parse, brackets_parse, RUST(brackets_parse)}, shallow, {0}},
         {"shallow check", {bench_brackets_check, brackets_check, RUST(brackets_check)}, shallow, {0}},
         {"deep parse", {bench_brackets_parse, brackets_parse, RUST(brackets_parse)}, deep, {0}},

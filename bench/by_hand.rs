@@ -36,6 +36,12 @@ jobs! {
     rust_sums_check = sums_check;
     rust_messages_parse = messages_parse;
     rust_messages_check = messages_check;
+    rust_spaces_parse = spaces_parse;
+    rust_spaces_check = spaces_check;
+    rust_ints_parse = ints_parse;
+    rust_ints_check = ints_check;
+    rust_idents_parse = idents_parse;
+    rust_idents_check = idents_check;
     rust_brackets_parse = brackets_parse;
     rust_brackets_check = brackets_check;
     rust_json_parse = json_parse;
@@ -252,6 +258,89 @@ fn messages_parse(mut bytes: &[u8]) -> u64 {
 fn messages_check(mut bytes: &[u8]) -> u64 {
     let mut times = 0;
     while let Some((_, rest)) = message(bytes) {
+        times += 1;
+        bytes = rest;
+    }
+    times
+}
+
+fn is_space(byte: &u8) -> bool {
+    matches!(byte, b' ' | b'\t'..=b'\r')
+}
+
+/// How much white space there is, and what follows it and the full stop after it.
+fn space(bytes: &[u8]) -> Option<(u64, &[u8])> {
+    let count = bytes.iter().take_while(|byte| is_space(byte)).count();
+    Some((count as u64, bytes[count..].strip_prefix(b".")?))
+}
+
+fn spaces_parse(mut bytes: &[u8]) -> u64 {
+    let mut total = 0;
+    while let Some((count, rest)) = space(bytes) {
+        total += count;
+        bytes = rest;
+    }
+    total
+}
+
+fn spaces_check(mut bytes: &[u8]) -> u64 {
+    let mut times = 0;
+    while let Some((_, rest)) = space(bytes) {
+        times += 1;
+        bytes = rest;
+    }
+    times
+}
+
+/// How many digits a number has, of which only a zero by itself begins with a zero, and what follows it and its line.
+fn int(bytes: &[u8]) -> Option<(u64, &[u8])> {
+    let (digits, rest) = match bytes {
+        [b'0', rest @ ..] => (&bytes[..1], rest),
+        _ => split_digits(bytes)?,
+    };
+    Some((digits.len() as u64, rest.strip_prefix(b"\n")?))
+}
+
+fn ints_parse(mut bytes: &[u8]) -> u64 {
+    let mut total = 0;
+    while let Some((count, rest)) = int(bytes) {
+        total += count;
+        bytes = rest;
+    }
+    total
+}
+
+fn ints_check(mut bytes: &[u8]) -> u64 {
+    let mut times = 0;
+    while let Some((_, rest)) = int(bytes) {
+        times += 1;
+        bytes = rest;
+    }
+    times
+}
+
+/// How many bytes an identifier has, and what follows it and its line.
+fn ident(bytes: &[u8]) -> Option<(u64, &[u8])> {
+    let goes_on = |byte: &u8| byte.is_ascii_alphanumeric() || *byte == b'_';
+    let count = bytes.iter().take_while(|byte| goes_on(byte)).count();
+    if bytes.first()?.is_ascii_digit() || count == 0 {
+        return None;
+    }
+    Some((count as u64, bytes[count..].strip_prefix(b"\n")?))
+}
+
+fn idents_parse(mut bytes: &[u8]) -> u64 {
+    let mut total = 0;
+    while let Some((count, rest)) = ident(bytes) {
+        total += count;
+        bytes = rest;
+    }
+    total
+}
+
+fn idents_check(mut bytes: &[u8]) -> u64 {
+    let mut times = 0;
+    while let Some((_, rest)) = ident(bytes) {
         times += 1;
         bytes = rest;
     }

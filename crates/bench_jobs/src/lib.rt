@@ -10,4 +10,5 @@ mod messages;
 mod run;
 mod settings;
 mod sums;
+mod texts;
 mod words;
