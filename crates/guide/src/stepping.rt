@@ -22,7 +22,7 @@ pub fn run_watched<'src, I: Input<'src>, E: ParserExtra<I>, A: Actions<'src, I, 
     requires ready { A.ready actions.now }
     requires node { node < length rules.now.nodes }
     requires limit { 0 < limit }
-    ensures ran { Runs I.Input E.Error.Error E.State.Inspector (part_means I.Input E.Error.Error E.State.Inspector (acts_of I.Input E.Error.Error E.State.Inspector (A.leaf_meaning actions.now) (A.pair_gives actions.now) (A.option_gives actions.now) (A.unit_gives actions.now) (A.map_gives actions.now) (A.try_gives actions.now) (A.list_gives actions.now) (A.takes_no_memory actions.now)) rules.now (limit - 1) node) true inp.old inp.new result.0 }
+    ensures ran { Runs I.Input E.Error.Error E.State.Inspector (part_means I.Input E.Error.Error E.State.Inspector (acts_of A.Actions actions.now I.Input E.Error.Error E.State.Inspector) rules.now (limit - 1) node) true inp.old inp.new result.0 }
     ensures few { result.1 ≤ 1 + limit * length rules.now.nodes }
     ensures lent { inp.new.state.ghost_name ≡ inp.old.state.ghost_name }
 {

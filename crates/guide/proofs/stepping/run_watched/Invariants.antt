@@ -10,7 +10,7 @@ use Rattle.guide.proofs.stepping.run_watched.Given as goal
 -- what is left to do is what the node does, there is room for it, and what `step` asks of a run that goes on
 abbrev pub invariant-steps : goal.invariant-steps
 invariant-steps g l = record {
-  left : Left g.I.Input g.E.Error.Error g.E.State.Inspector (acts_of g.I.Input g.E.Error.Error g.E.State.Inspector (g.A.Actions.leaf_meaning l.actions) (g.A.Actions.pair_gives l.actions) (g.A.Actions.option_gives l.actions) (g.A.Actions.unit_gives l.actions) (g.A.Actions.map_gives l.actions) (g.A.Actions.try_gives l.actions) (g.A.Actions.list_gives l.actions) (g.A.Actions.takes_no_memory l.actions)) l.rules l.stack.frames (record { more = l.fn.limit - 1; node = l.fn.node; wanted = true; held = held g.I.Input g.E.Error.Error g.E.State.Inspector l.fn.inp }) (held g.I.Input g.E.Error.Error g.E.State.Inspector l.inp) l.todo;
+  left : Left g.I.Input g.E.Error.Error g.E.State.Inspector (acts_of g.A.Actions l.actions g.I.Input g.E.Error.Error g.E.State.Inspector) l.rules l.stack.frames (record { more = l.fn.limit - 1; node = l.fn.node; wanted = true; held = held g.I.Input g.E.Error.Error g.E.State.Inspector l.fn.inp }) (held g.I.Input g.E.Error.Error g.E.State.Inspector l.inp) l.todo;
   known : All (IsKnownFrame g.I.Input g.E.State.Inspector l.rules.nodes (held g.I.Input g.E.Error.Error g.E.State.Inspector l.inp).tokens) l.stack.frames;
   there : IsThere (length l.rules.nodes) l.todo;
   flat : IsFlat l.stack;
