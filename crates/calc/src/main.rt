@@ -2,19 +2,23 @@
 //! The exit status is 0 where there is a number, 1 where there is none, and 2 where there is no answer.
 #![tactic(auto)]
 
-use arithmetic::parse_arithmetic;
+use arithmetic::{Refused, parse_arithmetic};
 use chumsky::report::Report;
 use std::io;
 use std::io::Read;
 use std::process::ExitCode;
 
-/// Reads a sum, and prints what it comes to. Says whether it comes to a number.
-fn answer(rt: &HostRuntime) -> io::Result<bool> {
+/// Reads a sum, and prints what it comes to or what is wrong with it.
+fn answer(rt: &HostRuntime) -> io::Result<ExitCode> {
     let mut text = String::new(rt.alloc());
     rt.reader().read_to_string(&mut text)?;
     let parsed = match parse_arithmetic(rt.alloc(), text.as_str()) {
         Ok(parsed) => parsed,
-        Err(_) => return Err(io::Error::from(io::ErrorKind::Other)),
+        Err(Refused::Running(stop)) => {
+            println!(rt; "refused: {stop:?}")?;
+            return Ok(ExitCode::from(2));
+        }
+        Err(_) => return Ok(ExitCode::from(2)),
     };
     for error in parsed.errors() {
         let report = Report {
@@ -24,16 +28,15 @@ fn answer(rt: &HostRuntime) -> io::Result<bool> {
         };
         println!(rt; "{report}")?;
     }
-    if let Some(number) = parsed.output() {
-        println!(rt; "{number}")?;
+    match parsed.output() {
+        Some(number) => {
+            println!(rt; "{number}")?;
+            Ok(ExitCode::SUCCESS)
+        }
+        None => Ok(ExitCode::from(1)),
     }
-    Ok(parsed.has_output())
 }
 
 fn main(rt: HostRuntime) -> ExitCode {
-    match answer(&rt) {
-        Ok(true) => ExitCode::SUCCESS,
-        Ok(false) => ExitCode::from(1),
-        Err(_) => ExitCode::from(2),
-    }
+    answer(&rt).unwrap_or(ExitCode::from(2))
 }

@@ -50,12 +50,17 @@ fn answer(rt: &HostRuntime, indented: bool) -> io::Result<ExitCode> {
     }
 }
 
-fn main(rt: HostRuntime) -> io::Result<ExitCode> {
-    match asked_for(&rt, rt.alloc())? {
-        Some(indented) => answer(&rt, indented),
+/// Does what the words after the program's name ask for.
+fn run(rt: &HostRuntime) -> io::Result<ExitCode> {
+    match asked_for(rt, rt.alloc())? {
+        Some(indented) => answer(rt, indented),
         None => {
             println!(rt; "usage: format_json [--indented]")?;
             Ok(ExitCode::from(2))
         }
     }
+}
+
+fn main(rt: HostRuntime) -> ExitCode {
+    run(&rt).unwrap_or(ExitCode::from(2))
 }

@@ -8,7 +8,8 @@ use std::io;
 use std::io::Read;
 use std::process::ExitCode;
 
-fn main(rt: HostRuntime) -> io::Result<ExitCode> {
+/// Reads a text, and prints its expressions or what is wrong with it.
+fn answer(rt: &HostRuntime) -> io::Result<ExitCode> {
     let mut text = String::new(rt.alloc());
     rt.reader().read_to_string(&mut text)?;
     let parsed = match read_expressions(rt.alloc(), text.as_str()) {
@@ -36,4 +37,8 @@ fn main(rt: HostRuntime) -> io::Result<ExitCode> {
         }
         None => Ok(ExitCode::from(1)),
     }
+}
+
+fn main(rt: HostRuntime) -> ExitCode {
+    answer(&rt).unwrap_or(ExitCode::from(2))
 }
