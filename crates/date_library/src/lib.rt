@@ -1,7 +1,7 @@
 //! A static library for programs in Rust and C: it reads a date. The program in `cargo/` is linked with it.
 #![tactic(auto)]
 
-ghost use Rattle.std.specs.Prelude.{◌≤◌, pos};
+ghost use Rattle.std.specs.Prelude.{◌≡◌, ◌≤◌};
 
 use examples::date::parse_date;
 use std::alloc::Global;
