@@ -1,5 +1,5 @@
 -- What counts of what a run holds.
-use Rattle.std.specs.Prelude.{◌≡◌, ℕ, Option, Some, None, List, map, option_map}
+use Rattle.std.specs.Prelude.{◌≡◌, ℕ, Option, Some, None, List, [], map, option_map}
 use Rattle.chumsky_input.specs.declared.error.Error as error_trait
 use Rattle.chumsky_input.specs.declared.inspector.Inspector as inspector_trait
 use Rattle.chumsky_input.specs.declared.input.Input as input_trait
@@ -25,6 +25,10 @@ first_stop (Some t) s = t
 first_stop None s = s
 
 module _ {Tok Cx St Er : Type 0} where
+  -- a run that begins at this place, with no error and no stop
+  abbrev pub begun_at : List Tok → ℕ → Cx → St → Held Tok Cx St Er
+  begun_at tokens place context state = record { tokens = tokens; place = place; context = context; state = state; kept = None; emitted = []; stopped = None }
+
   -- a stop is noted, where none was
   abbrev pub with_stop : Stop → Held Tok Cx St Er → Held Tok Cx St Er
   with_stop s h = record h { stopped = Some (first_stop h.stopped s) }

@@ -32,6 +32,10 @@ module _ {Tok Cx St Er : Type 0} where
   abbrev pub begin : Bool → Held Tok Cx St Er → Beginning Tok Cx St
   begin wanted h = record { wanted = wanted; tokens = h.tokens; start = h.place; context = h.context; state = h.state }
 
+  -- the token that comes next; none at the end of input
+  abbrev pub next_token : Held Tok Cx St Er → Option Tok
+  next_token h = slice_get h.tokens h.place
+
   -- a token is taken, where there is one
   abbrev pub took : (St → Tok → St) → Held Tok Cx St Er → Option Tok → Held Tok Cx St Er
   took after h None = h

@@ -1,8 +1,8 @@
 //! What a run sets aside while something runs by itself, and brings back after it.
-ghost use Rattle.std.specs.Prelude.{◌≡◌, ◌++◌, [], None, MatchResult, option_map, map, ◌⊎◌};
+ghost use Rattle.std.specs.Prelude.{◌≡◌, None, option_map, map};
 ghost use Rattle.chumsky_input.specs.Held.{held, located};
-ghost use Rattle.chumsky_input.specs.Run.{final_error};
-ghost use Rattle.chumsky_input.specs.Aside.{kept_after, brought_back, without_errors, failure_seen, ClashesWith, SameButErrors, HandsOut};
+ghost use Rattle.chumsky_input.specs.Aside.{without_errors};
+ghost use Rattle.chumsky_input.specs.OneCall.{BringsBack, EmitsBefore, KeepsBefore, HandsOutLast};
 
 use crate::error::Error;
 use crate::extra::ParserExtra;
@@ -34,7 +34,7 @@ impl<'src, 'p, I: Input<'src>, E: ParserExtra<I>> InputRef<'src, 'p, I, E> {
     /// neither.
     #[inline]
     pub fn keep_before(&mut self, older: Option<Located<E::Error>>) -> Result<(), AllocError>
-        ensures keeps { MatchResult result (λ _. held I.Input E.Error.Error E.State.Inspector self.new ≡ kept_after E.Error.merged (option_map (located E.Error.seen) older) (held I.Input E.Error.Error E.State.Inspector self.old)) (λ _. ClashesWith E.Error.takes_no_memory (option_map (located E.Error.seen) older) (held I.Input E.Error.Error E.State.Inspector self.old).kept × (held I.Input E.Error.Error E.State.Inspector self.new ≡ record (held I.Input E.Error.Error E.State.Inspector self.old) { kept = None })) }
+        ensures keeps { KeepsBefore I.Input E.Error.Error E.State.Inspector older self.old self.new result }
         ensures lent { self.new.state.ghost_name ≡ self.old.state.ghost_name }
     {
         match self.kept.take() {
@@ -56,7 +56,7 @@ impl<'src, 'p, I: Input<'src>, E: ParserExtra<I>> InputRef<'src, 'p, I, E> {
     /// An older one is kept in its place. A refusal is a stop of the run, and the older one is lost.
     #[inline]
     pub fn hand_out(&mut self, older: Option<Located<E::Error>>) -> Failure<E::Error>
-        ensures hands { HandsOut E.Error.takes_no_memory (final_error E.Error.expectation I.span_between) (option_map (located E.Error.seen) older) (held I.Input E.Error.Error E.State.Inspector self.old) (held I.Input E.Error.Error E.State.Inspector self.new) (failure_seen E.Error.seen result) }
+        ensures hands { HandsOutLast I.Input E.Error.Error E.State.Inspector older self.old self.new result }
         ensures lent { self.new.state.ghost_name ≡ self.old.state.ghost_name }
     {
         match self.last_error() {
@@ -70,7 +70,7 @@ impl<'src, 'p, I: Input<'src>, E: ParserExtra<I>> InputRef<'src, 'p, I, E> {
 
     /// Puts older errors before those that are emitted. A refusal changes nothing but what is emitted.
     fn emit_before(&mut self, older: Vec<E::Error>) -> Result<(), AllocError>
-        ensures emits { MatchResult result (λ _. held I.Input E.Error.Error E.State.Inspector self.new ≡ record (held I.Input E.Error.Error E.State.Inspector self.old) { emitted = map E.Error.seen older.items ++ (held I.Input E.Error.Error E.State.Inspector self.old).emitted }) (λ _. (¬ ((held I.Input E.Error.Error E.State.Inspector self.old).emitted ≡ [])) × (held I.Input E.Error.Error E.State.Inspector self.new ≡ record (held I.Input E.Error.Error E.State.Inspector self.old) { emitted = map E.Error.seen older.items })) }
+        ensures emits { EmitsBefore I.Input E.Error.Error E.State.Inspector older self.old self.new result }
         ensures lent { self.new.state.ghost_name ≡ self.old.state.ghost_name }
     {
         if older.is_empty() {
@@ -99,7 +99,7 @@ impl<'src, 'p, I: Input<'src>, E: ParserExtra<I>> InputRef<'src, 'p, I, E> {
     /// Brings back what was set aside, before what is held now. A refusal changes nothing but what is kept and emitted.
     #[inline]
     pub fn bring_back(&mut self, older: Aside<E::Error>) -> Result<(), AllocError>
-        ensures back { MatchResult result (λ _. held I.Input E.Error.Error E.State.Inspector self.new ≡ brought_back E.Error.merged (option_map (located E.Error.seen) older.kept) (map E.Error.seen older.emitted.items) (held I.Input E.Error.Error E.State.Inspector self.old)) (λ _. (ClashesWith E.Error.takes_no_memory (option_map (located E.Error.seen) older.kept) (held I.Input E.Error.Error E.State.Inspector self.old).kept ⊎ (¬ ((held I.Input E.Error.Error E.State.Inspector self.old).emitted ≡ []))) × SameButErrors (held I.Input E.Error.Error E.State.Inspector self.old) (held I.Input E.Error.Error E.State.Inspector self.new)) }
+        ensures back { BringsBack I.Input E.Error.Error E.State.Inspector older self.old self.new result }
         ensures lent { self.new.state.ghost_name ≡ self.old.state.ghost_name }
     {
         self.emit_before(older.emitted)?;

@@ -1,13 +1,14 @@
 //! What a parser is lent: where its run stands, and what it holds.
-ghost use Rattle.std.specs.Prelude.{◌≡◌, ◌∷◌, [], option_map, option_to_list, slice_get, slice_range, MatchResult, Option, Some, None, ℕ, ◌≤◌, IsTrue, is_some, IfOk, List, OnErr, true, false};
+ghost use Rattle.std.specs.Prelude.{◌≡◌, ◌∷◌, [], option_map, option_to_list, slice_range, MatchResult, None, ◌≤◌, IsTrue, is_some, IfOk, List, OnErr};
 ghost use Rattle.chumsky_input.specs.declared.stop.Failure.TheVariants as failure;
 ghost use Rattle.std.specs.Borrow.{sem};
 ghost use Rattle.std.specs.Iterator.{YieldsFirstBy, item_count, IsFinite};
-ghost use Rattle.chumsky_input.specs.Held.{Held, held, marks, located, with_stop};
+ghost use Rattle.chumsky_input.specs.Held.{held, begun_at, marks, with_stop};
 ghost use Rattle.chumsky_input.specs.Lending.{LendsState};
 ghost use Rattle.chumsky_input.specs.Maybe.{maybe_value, ref_value};
 ghost use Rattle.chumsky_input.specs.Wanted.{maybe_wanted, plain_wanted, Token, Wanted, Shows};
-ghost use Rattle.chumsky_input.specs.Run.{took, TookValue, LacksToken, TokenMayLack, marked_here, gone_back, Adds, Fails, KeepsPast, final_error, with_last, with_emitted};
+ghost use Rattle.chumsky_input.specs.Run.{took, next_token, marked_here, KeepsPast};
+ghost use Rattle.chumsky_input.specs.OneCall.{Advances, TakesNext, PeeksNext, GoesBack, FailsExpecting, AddsEvent, EmitsError, EmitsLast, last_seen};
 
 use crate::aside::Aside;
 use crate::error::Error;
@@ -77,7 +78,7 @@ impl<'src, 'p, I: Input<'src>, E: ParserExtra<I>> InputRef<'src, 'p, I, E> {
     /// The next token where it lies, which is taken and told to the state; none at the end of input.
     #[inline(always)]
     pub fn next_maybe(&mut self) -> Option<MaybeRef<'src, I::Token>>
-        ensures taken { option_map maybe_value result ≡ slice_get (held I.Input E.Error.Error E.State.Inspector self.old).tokens (held I.Input E.Error.Error E.State.Inspector self.old).place }
+        ensures taken { option_map maybe_value result ≡ next_token (held I.Input E.Error.Error E.State.Inspector self.old) }
         ensures moves { held I.Input E.Error.Error E.State.Inspector self.new ≡ took E.State.after (held I.Input E.Error.Error E.State.Inspector self.old) (option_map maybe_value result) }
         ensures lent { self.new.state.ghost_name ≡ self.old.state.ghost_name }
     {
@@ -93,8 +94,8 @@ impl<'src, 'p, I: Input<'src>, E: ParserExtra<I>> InputRef<'src, 'p, I, E> {
     /// Takes the next token, if there is one, and says whether there was.
     #[inline]
     pub fn advance(&mut self) -> bool
-        ensures moves { held I.Input E.Error.Error E.State.Inspector self.new ≡ took E.State.after (held I.Input E.Error.Error E.State.Inspector self.old) (slice_get (held I.Input E.Error.Error E.State.Inspector self.old).tokens (held I.Input E.Error.Error E.State.Inspector self.old).place) }
-        ensures tells { result ≡ is_some (slice_get (held I.Input E.Error.Error E.State.Inspector self.old).tokens (held I.Input E.Error.Error E.State.Inspector self.old).place) }
+        ensures moves { Advances I.Input E.Error.Error E.State.Inspector self.old self.new }
+        ensures tells { result ≡ is_some (next_token (held I.Input E.Error.Error E.State.Inspector self.old)) }
         ensures lent { self.new.state.ghost_name ≡ self.old.state.ghost_name }
     {
         let token = self.next_maybe();
@@ -104,7 +105,7 @@ impl<'src, 'p, I: Input<'src>, E: ParserExtra<I>> InputRef<'src, 'p, I, E> {
     /// Takes the next token, if there is one.
     #[inline]
     pub fn skip(&mut self)
-        ensures moves { held I.Input E.Error.Error E.State.Inspector self.new ≡ took E.State.after (held I.Input E.Error.Error E.State.Inspector self.old) (slice_get (held I.Input E.Error.Error E.State.Inspector self.old).tokens (held I.Input E.Error.Error E.State.Inspector self.old).place) }
+        ensures moves { Advances I.Input E.Error.Error E.State.Inspector self.old self.new }
         ensures lent { self.new.state.ghost_name ≡ self.old.state.ghost_name }
     {
         let _there = self.advance();
@@ -133,7 +134,7 @@ impl<'src, 'p, I: Input<'src>, E: ParserExtra<I>> InputRef<'src, 'p, I, E> {
         to: &Checkpoint<I::Cursor, <E::State as Inspector<I>>::Mark>,
     ) -> Result<(), AllocError>
         requires { (marks I.Input E.State.Inspector to.now).tokens ≡ (held I.Input E.Error.Error E.State.Inspector self.old).tokens }
-        ensures back { MatchResult result (λ _. held I.Input E.Error.Error E.State.Inspector self.new ≡ gone_back E.State.back (held I.Input E.Error.Error E.State.Inspector self.old) (marks I.Input E.State.Inspector to.now)) (λ _. (held I.Input E.Error.Error E.State.Inspector self.new ≡ held I.Input E.Error.Error E.State.Inspector self.old) × ¬ E.State.takes_no_memory) }
+        ensures back { GoesBack I.Input E.Error.Error E.State.Inspector to.now self.old self.new result }
         ensures lent { self.new.state.ghost_name ≡ self.old.state.ghost_name }
     {
         self.state.on_rewind(&to.mark)?;
@@ -163,7 +164,7 @@ impl<'src, 'p, I: Input<'src>, E: ParserExtra<I>> InputRef<'src, 'p, I, E> {
     /// Emits an error, which stands whatever the parser answers, unless the run goes back past it.
     #[inline]
     pub fn emit(&mut self, error: E::Error) -> Result<(), AllocError>
-        ensures emits { MatchResult result (λ _. held I.Input E.Error.Error E.State.Inspector self.new ≡ with_emitted (held I.Input E.Error.Error E.State.Inspector self.old) (E.Error.seen error)) (λ _. held I.Input E.Error.Error E.State.Inspector self.new ≡ held I.Input E.Error.Error E.State.Inspector self.old) }
+        ensures emits { EmitsError I.Input E.Error.Error E.State.Inspector error self.old self.new result }
         ensures lent { self.new.state.ghost_name ≡ self.old.state.ghost_name }
     {
         self.emitted.push(error)?;
@@ -172,7 +173,7 @@ impl<'src, 'p, I: Input<'src>, E: ParserExtra<I>> InputRef<'src, 'p, I, E> {
 
     /// A failure with an error at a place.
     pub fn add_event(&mut self, place: usize, error: E::Error) -> Fault
-        ensures adds { Adds E.Error.merged E.Error.takes_no_memory (record { place = place; error = E.Error.seen error }) (held I.Input E.Error.Error E.State.Inspector self.old) (held I.Input E.Error.Error E.State.Inspector self.new) result }
+        ensures adds { AddsEvent I.Input E.Error.Error E.State.Inspector place error self.old self.new result }
         ensures lent { self.new.state.ghost_name ≡ self.old.state.ghost_name }
     {
         match self.kept.take() {
@@ -210,7 +211,7 @@ impl<'src, 'p, I: Input<'src>, E: ParserExtra<I>> InputRef<'src, 'p, I, E> {
         found: Option<MaybeRef<'src, I::Token>>,
     ) -> Fault
         requires { I.cursor_tokens to.now ≡ I.cursor_tokens from.now }
-        ensures fails { Fails E.Error.merged E.Error.takes_no_memory (record { place = I.place from.now; error = E.Error.expectation (plain_wanted what.entry) (option_map maybe_value found.entry) (I.span_between (I.cursor_tokens from.now) (I.place from.now) (I.place to.now)) }) (held I.Input E.Error.Error E.State.Inspector self.old) (held I.Input E.Error.Error E.State.Inspector self.new) result }
+        ensures fails { FailsExpecting I.Input E.Error.Error E.State.Inspector (plain_wanted what.entry) found.entry from.now to.now self.old self.new result }
         ensures lent { self.new.state.ghost_name ≡ self.old.state.ghost_name }
     {
         let place = I::place(from);
@@ -234,7 +235,7 @@ impl<'src, 'p, I: Input<'src>, E: ParserExtra<I>> InputRef<'src, 'p, I, E> {
         found: Option<MaybeRef<'src, I::Token>>,
     ) -> Fault
         requires { I.cursor_tokens to.now ≡ I.cursor_tokens from.now }
-        ensures fails { Fails E.Error.merged E.Error.takes_no_memory (record { place = I.place from.now; error = E.Error.expectation (Token token.now ∷ []) (option_map maybe_value found.entry) (I.span_between (I.cursor_tokens from.now) (I.place from.now) (I.place to.now)) }) (held I.Input E.Error.Error E.State.Inspector self.old) (held I.Input E.Error.Error E.State.Inspector self.new) result }
+        ensures fails { FailsExpecting I.Input E.Error.Error E.State.Inspector (Token token.now ∷ []) found.entry from.now to.now self.old self.new result }
         ensures lent { self.new.state.ghost_name ≡ self.old.state.ghost_name }
     {
         let place = I::place(from);
@@ -270,7 +271,7 @@ impl<'src, 'p, I: Input<'src>, E: ParserExtra<I>> InputRef<'src, 'p, I, E> {
         requires can { X.can_next expected }
         requires ends { IsFinite (X.remaining expected) }
         requires tokens { I.cursor_tokens to.now ≡ I.cursor_tokens from.now }
-        ensures fails { (es : List (Wanted I.Token)) → Shows X.next_gives X.Item.expectation expected es → Fails E.Error.merged E.Error.takes_no_memory (record { place = I.place from.now; error = E.Error.expectation es (option_map maybe_value found.entry) (I.span_between (I.cursor_tokens from.now) (I.place from.now) (I.place to.now)) }) (held I.Input E.Error.Error E.State.Inspector self.old) (held I.Input E.Error.Error E.State.Inspector self.new) result }
+        ensures fails { (es : List (Wanted I.Token)) → Shows X.next_gives X.Item.expectation expected es → FailsExpecting I.Input E.Error.Error E.State.Inspector es found.entry from.now to.now self.old self.new result }
         ensures lent { self.new.state.ghost_name ≡ self.old.state.ghost_name }
     {
         let place = I::place(from);
@@ -287,7 +288,7 @@ impl<'src, 'p, I: Input<'src>, E: ParserExtra<I>> InputRef<'src, 'p, I, E> {
     /// The last error of a failure: the one that is kept, or where there is none that of an empty expectation.
     #[inline]
     pub fn last_error(&mut self) -> Result<E::Error, AllocError>
-        ensures error { IfOk result (λ e. E.Error.seen e ≡ final_error E.Error.expectation I.span_between (held I.Input E.Error.Error E.State.Inspector self.old).kept (held I.Input E.Error.Error E.State.Inspector self.old).tokens (held I.Input E.Error.Error E.State.Inspector self.old).place) }
+        ensures error { IfOk result (λ e. E.Error.seen e ≡ last_seen I.Input E.Error.Error E.State.Inspector self.old) }
         ensures memory { OnErr result ((E.Error.takes_no_memory → ⊥) × ((held I.Input E.Error.Error E.State.Inspector self.old).kept ≡ None)) }
         ensures leaves { held I.Input E.Error.Error E.State.Inspector self.new ≡ record (held I.Input E.Error.Error E.State.Inspector self.old) { kept = None } }
         ensures lent { self.new.state.ghost_name ≡ self.old.state.ghost_name }
@@ -304,7 +305,7 @@ impl<'src, 'p, I: Input<'src>, E: ParserExtra<I>> InputRef<'src, 'p, I, E> {
     /// Emits the last error of a failure. A refusal loses the error that is kept, and changes nothing else.
     #[inline]
     pub fn add_last(&mut self) -> Result<(), AllocError>
-        ensures last { MatchResult result (λ _. held I.Input E.Error.Error E.State.Inspector self.new ≡ with_last E.Error.expectation I.span_between (held I.Input E.Error.Error E.State.Inspector self.old)) (λ _. held I.Input E.Error.Error E.State.Inspector self.new ≡ record (held I.Input E.Error.Error E.State.Inspector self.old) { kept = None }) }
+        ensures last { EmitsLast I.Input E.Error.Error E.State.Inspector self.old self.new result }
         ensures lent { self.new.state.ghost_name ≡ self.old.state.ghost_name }
     {
         let error = self.last_error()?;
@@ -345,7 +346,7 @@ impl<'src, 'p, I: Input<'src>, E: ParserExtra<I>> InputRef<'src, 'p, I, E> {
         state: &'p mut E::State,
         context: &'p E::Context,
     ) -> InputRef<'src, 'p, I, E>
-        ensures begins { held I.Input E.Error.Error E.State.Inspector result ≡ record { tokens = I.cursor_tokens from; place = I.place from; context = context.now; state = E.State.seen state.entry.now; kept = None; emitted = []; stopped = None } }
+        ensures begins { held I.Input E.Error.Error E.State.Inspector result ≡ begun_at (I.cursor_tokens from) (I.place from) context.now (E.State.seen state.entry.now) }
         ensures lent { result.state.ghost_name ≡ state.entry.ghost_name }
     {
         InputRef {
@@ -368,7 +369,7 @@ impl<'src, 'p, I: Input<'src>, E: ParserExtra<I>> InputRef<'src, 'p, I, E> {
         state: &'p mut E::State,
         context: &'p E::Context,
     ) -> InputRef<'src, 'p, I, E>
-        ensures begins { held I.Input E.Error.Error E.State.Inspector result ≡ record { tokens = I.tokens input; place = 0; context = context.now; state = E.State.seen state.entry.now; kept = None; emitted = []; stopped = None } }
+        ensures begins { held I.Input E.Error.Error E.State.Inspector result ≡ begun_at (I.tokens input) 0 context.now (E.State.seen state.entry.now) }
         ensures lent { result.state.ghost_name ≡ state.entry.ghost_name }
     {
         InputRef {
@@ -439,7 +440,7 @@ impl<'src, 'p, I: ValueInput<'src>, E: ParserExtra<I>> InputRef<'src, 'p, I, E> 
     /// nothing.
     #[inline]
     pub fn next(&mut self) -> Result<Option<I::Token>, AllocError>
-        ensures takes { MatchResult result (λ o. TookValue I.seen E.State.after (held I.Input E.Error.Error E.State.Inspector self.old) (held I.Input E.Error.Error E.State.Inspector self.new) o) (λ _. LacksToken I.takes_no_memory (held I.Input E.Error.Error E.State.Inspector self.old) (held I.Input E.Error.Error E.State.Inspector self.new)) }
+        ensures takes { TakesNext I.Input E.Error.Error E.State.Inspector I.seen I.takes_no_memory self.old self.new result }
         ensures lent { self.new.state.ghost_name ≡ self.old.state.ghost_name }
     {
         let mut ahead = self.cursor;
@@ -457,7 +458,7 @@ impl<'src, 'p, I: ValueInput<'src>, E: ParserExtra<I>> InputRef<'src, 'p, I, E> 
     /// The next token by value, which is neither taken nor told to the state; none at the end of input.
     #[inline]
     pub fn peek(&self) -> Result<Option<I::Token>, AllocError>
-        ensures { MatchResult result (λ o. option_map I.seen o ≡ option_map I.seen (slice_get (held I.Input E.Error.Error E.State.Inspector self.now).tokens (held I.Input E.Error.Error E.State.Inspector self.now).place)) (λ _. TokenMayLack I.takes_no_memory (held I.Input E.Error.Error E.State.Inspector self.now)) }
+        ensures { PeeksNext I.Input E.Error.Error E.State.Inspector I.seen I.takes_no_memory self.now result }
     {
         let mut cursor = self.cursor;
         match I::next_maybe(&mut cursor) {
@@ -474,7 +475,7 @@ impl<'src, 'p, I: BorrowInput<'src>, E: ParserExtra<I>> InputRef<'src, 'p, I, E>
     /// The next token where it lies in the input, which is taken and told to the state; none at the end of input.
     #[inline]
     pub fn next_ref(&mut self) -> Option<&'src I::Token>
-        ensures taken { option_map ref_value result ≡ slice_get (held I.Input E.Error.Error E.State.Inspector self.old).tokens (held I.Input E.Error.Error E.State.Inspector self.old).place }
+        ensures taken { option_map ref_value result ≡ next_token (held I.Input E.Error.Error E.State.Inspector self.old) }
         ensures moves { held I.Input E.Error.Error E.State.Inspector self.new ≡ took E.State.after (held I.Input E.Error.Error E.State.Inspector self.old) (option_map ref_value result) }
         ensures lent { self.new.state.ghost_name ≡ self.old.state.ghost_name }
     {
@@ -491,7 +492,7 @@ impl<'src, 'p, I: BorrowInput<'src>, E: ParserExtra<I>> InputRef<'src, 'p, I, E>
     /// input.
     #[inline]
     pub fn peek_ref(&self) -> Option<&'src I::Token>
-        ensures { option_map ref_value result ≡ slice_get (held I.Input E.Error.Error E.State.Inspector self.now).tokens (held I.Input E.Error.Error E.State.Inspector self.now).place }
+        ensures { option_map ref_value result ≡ next_token (held I.Input E.Error.Error E.State.Inspector self.now) }
     {
         let mut cursor = self.cursor;
         I::next_ref(&mut cursor)
