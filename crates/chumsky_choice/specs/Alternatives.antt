@@ -1,5 +1,5 @@
 -- The alternatives of a choice, each in the words of its errors and of its states.
--- Main words: DoesFirst, DoesAmong, TriesInOrder, StandsByOneIn, SameByOneIn. Laws: AlternativesLaws.antt. Read first: Among.antt, InOrder.antt.
+-- Main words: DoesFirst, DoesAmong, TriesInOrder, StandsByOneIn. Laws: AlternativesLaws.antt. Read first: Among.antt, InOrder.antt, and Standing.antt of chumsky_combinator.
 use Rattle.std.specs.Prelude.{List, [], ◌∷◌, map}
 use Rattle.chumsky_input.specs.declared.error.Error as error_trait
 use Rattle.chumsky_input.specs.declared.inspector.Inspector as inspector_trait
@@ -7,7 +7,7 @@ use Rattle.chumsky_input.specs.declared.input.Input as input_trait
 use Rattle.chumsky_input.specs.Outcome.{Meaning, Beginning, Outcome}
 use Rattle.chumsky_input.specs.Words.{Does}
 use Rattle.chumsky_parser.specs.Choice.{FirstOf, SameByOne}
-use Rattle.chumsky_combinator.specs.Standing.{SameByStandingIfAny}
+use Rattle.chumsky_combinator.specs.Standing.{SameByStandingIfAny, each_meant}
 use Rattle.chumsky_choice.specs.Among.{FirstAmong}
 use Rattle.chumsky_choice.specs.InOrder.{StandsByOneIfAny}
 
@@ -16,24 +16,15 @@ abbrev pub OnlyByOne : {V : Type 0} → (V → V → Type 0) → (V → V → Ty
 OnlyByOne {V} same first others = (x y : V) → same x y → SameByOne first others x y
 
 module _ {I Tok Sp Er St Mk Cx V : Type 0} (errors : error_trait.Ghosts Er I Tok Sp) (states : inspector_trait.Ghosts St I Mk Tok Sp) where
-  -- what each of some parsers may do
-  abbrev pub each_meant : List (Does I Tok Sp Er St Mk Cx V) → List (Meaning Tok Cx states.Seen errors.Seen V)
-  each_meant [] = []
-  each_meant (does ∷ others) = does errors states ∷ each_meant others
-
   -- each outcome of the whole is that of the first of its alternatives that does not say no, else of the last; and it has one
   abbrev pub TriesInOrder : Does I Tok Sp Er St Mk Cx V → List (Does I Tok Sp Er St Mk Cx V) → Type 0
   TriesInOrder whole [] = ⊥
   TriesInOrder whole (first ∷ others) =
-      (b : Beginning Tok Cx states.Seen) (o : Outcome V errors.Seen states.Seen) → whole errors states b o → FirstOf states.mark states.back states.takes_no_memory (first errors states) (each_meant others) b o
+      (b : Beginning Tok Cx states.Seen) (o : Outcome V errors.Seen states.Seen) → whole errors states b o → FirstOf states.mark states.back states.takes_no_memory (first errors states) (each_meant errors states others) b o
 
   -- in each answer of the whole one of its alternatives stands; where it has none, the answer is no
   abbrev pub StandsByOneIn : Does I Tok Sp Er St Mk Cx V → List (Does I Tok Sp Er St Mk Cx V) → Type 0
-  StandsByOneIn whole alternatives = StandsByOneIfAny states.mark states.back (whole errors states) (each_meant alternatives)
-
-  -- in any two answers of the whole, from alike beginnings, one and the same alternative stands, which calls their values the same
-  abbrev pub SameByOneIn : Does I Tok Sp Er St Mk Cx V → List (V → V → Type 0) → List (Does I Tok Sp Er St Mk Cx V) → Type 0
-  SameByOneIn whole sames alternatives = SameByStandingIfAny states.mark states.back states.takes_no_memory (whole errors states) sames (each_meant alternatives)
+  StandsByOneIn whole alternatives = StandsByOneIfAny states.mark states.back (whole errors states) (each_meant errors states alternatives)
 
 module _ {I Tok Sp Er St Mk Cx V : Type 0} where
   -- the first of several parsers that does not say no, else the last

@@ -4,9 +4,9 @@ use Rattle.chumsky_input.specs.declared.error.Error as error_trait
 use Rattle.chumsky_input.specs.declared.inspector.Inspector as inspector_trait
 use Rattle.chumsky_input.specs.Words.{Does}
 use Rattle.chumsky_input.specs.Outcome.{Meaning, Agreeing}
-use Rattle.chumsky_combinator.specs.Standing.{SameByStanding}
+use Rattle.chumsky_combinator.specs.Standing.{SameByStanding, each_meant}
 use Rattle.chumsky_choice.specs.InOrderLaws.{first_of-stands}
-use Rattle.chumsky_choice.specs.Alternatives.{each_meant, TriesInOrder, StandsByOneIn}
+use Rattle.chumsky_choice.specs.Alternatives.{TriesInOrder, StandsByOneIn}
 
 module _ {Tok Cx St Mk Er V : Type 0} (mark : St → Mk) (back : St → Mk → St) (safe : Type 0) where
   -- one alternative by itself stands in both

@@ -4,15 +4,12 @@ use Rattle.chumsky_input.specs.declared.stop.Stop.TheVariants.{Memory}
 use Rattle.chumsky_input.specs.Outcome.{Meaning, Beginning, Outcome, Verdict, Yes, No, Halt, Clash}
 use Rattle.chumsky_parser.specs.Choice.{GoneOn, ElseFrom, AttemptFrom, FirstFrom, FirstOf, OrElse}
 use Rattle.chumsky_parser.specs.ChoiceLaws.{first_from-attempts, first_from-only, attempts-first_from}
+use Rattle.chumsky_combinator.specs.Compared.{MeansNoMore}
 
 module _ {Tok Cx St Er V : Type 0} where
-  -- each outcome of the one is one of the other
-  abbrev pub IsWithin : Meaning Tok Cx St Er V → Meaning Tok Cx St Er V → Type 0
-  IsWithin m n = (b : Beginning Tok Cx St) (o : Outcome V Er St) → m b o → n b o
-
-  -- the same, want of memory aside
-  abbrev pub IsWithinButMemory : Meaning Tok Cx St Er V → Meaning Tok Cx St Er V → Type 0
-  IsWithinButMemory m n = (b : Beginning Tok Cx St) (o : Outcome V Er St) → (o.verdict ≡ Halt Memory → ⊥) → m b o → n b o
+  -- each outcome of the one is one of the other, want of memory aside
+  abbrev pub MeansNoMoreButMemory : Meaning Tok Cx St Er V → Meaning Tok Cx St Er V → Type 0
+  MeansNoMoreButMemory m n = (b : Beginning Tok Cx St) (o : Outcome V Er St) → (o.verdict ≡ Halt Memory → ⊥) → m b o → n b o
 
 module _ {V Er : Type 0} where
   is_no : (v : Verdict V Er) → (v ≡ No) ⊎ (v ≡ No → ⊥)
@@ -46,7 +43,7 @@ module _ {Tok Cx St Mk Er V : Type 0} (back : St → Mk → St) (safe : Type 0) 
     left e h = subst (λ v. ElseFrom back safe mark v second b p o) (sym e) h
 
   -- another second, with the outcomes of the one
-  attempt_weaker : (first m n : Meaning Tok Cx St Er V) → IsWithin m n → IsWithin (AttemptFrom back safe mark first m) (AttemptFrom back safe mark first n)
+  attempt_weaker : (first m n : Meaning Tok Cx St Er V) → MeansNoMore m n → MeansNoMore (AttemptFrom back safe mark first m) (AttemptFrom back safe mark first n)
   attempt_weaker first m n w b o h =
       elim (is_no h.attempt.verdict) [
         | inl e ↦ record { attempt = h.attempt; meant = h.meant; then_else = left n b h.attempt o e (elim (gone m b h.attempt o e h.then_else) [ inl r ↦ inl r | inr t ↦ inr (t.0, w _ t.0 t.1, t.2) ]) }
@@ -143,13 +140,13 @@ module _ {Tok Cx St Mk Er V : Type 0} (back : St → Mk → St) (safe : Type 0) 
         ]
 
   module _ (first second third : Meaning Tok Cx St Er V) where
-    from-attempts : IsWithin (FirstFrom back safe mark first (second ∷ third ∷ [])) (AttemptFrom back safe mark first (AttemptFrom back safe mark second third))
+    from-attempts : MeansNoMore (FirstFrom back safe mark first (second ∷ third ∷ [])) (AttemptFrom back safe mark first (AttemptFrom back safe mark second third))
     from-attempts b o h =
         attempt_weaker first (FirstFrom back safe mark second (third ∷ [])) (AttemptFrom back safe mark second third)
         (λ c q k. attempt_weaker second (FirstFrom back safe mark third []) third (first_from-only back safe mark third) c q (first_from-attempts back safe mark second third [] c q k))
         b o (first_from-attempts back safe mark first second (third ∷ []) b o h)
 
-    attempts-from : IsWithin (AttemptFrom back safe mark first (AttemptFrom back safe mark second third)) (FirstFrom back safe mark first (second ∷ third ∷ []))
+    attempts-from : MeansNoMore (AttemptFrom back safe mark first (AttemptFrom back safe mark second third)) (FirstFrom back safe mark first (second ∷ third ∷ []))
     attempts-from b o h =
         attempts-first_from back safe mark first second (third ∷ []) b o
         (attempt_weaker first (AttemptFrom back safe mark second third) (FirstFrom back safe mark second (third ∷ []))
@@ -157,7 +154,7 @@ module _ {Tok Cx St Mk Er V : Type 0} (back : St → Mk → St) (safe : Type 0) 
         b o h)
 
 module _ {Tok Cx St Mk Er V : Type 0} (mark : St → Mk) (back : St → Mk → St) (safe : Type 0) (first second third : Meaning Tok Cx St Er V) where
-  pub choice-in-or : IsWithin (FirstOf mark back safe first (second ∷ third ∷ [])) (OrElse mark back safe (OrElse mark back safe first second) third)
+  pub choice-in-or : MeansNoMore (FirstOf mark back safe first (second ∷ third ∷ [])) (OrElse mark back safe (OrElse mark back safe first second) third)
   choice-in-or b o m =
       elim m.cases [
         | inl r ↦ record { cases = inl r }
@@ -169,7 +166,7 @@ module _ {Tok Cx St Mk Er V : Type 0} (mark : St → Mk) (back : St → Mk → S
   refused : (v : Verdict V Er) (b : Beginning Tok Cx St) (p o : Outcome V Er St) → v ≡ Halt Memory → ElseFrom back safe (mark b.state) v third b p o → o ≡ p
   refused v b p o e h = over back safe (mark b.state) third b p o v (λ z. (let no : ⊥ = cc (e, z) in absurd no)) h
 
-  pub or-in-choice : IsWithinButMemory (OrElse mark back safe (OrElse mark back safe first second) third) (FirstOf mark back safe first (second ∷ third ∷ []))
+  pub or-in-choice : MeansNoMoreButMemory (OrElse mark back safe (OrElse mark back safe first second) third) (FirstOf mark back safe first (second ∷ third ∷ []))
   or-in-choice b o n m =
       elim m.cases [
         | inl r ↦ absurd (n r.1)

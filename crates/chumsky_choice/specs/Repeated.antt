@@ -1,15 +1,12 @@
 -- One parser beside another that does no more, in the words of their errors and of their states.
--- Main words: DoesNoMore, DoesNoMoreButMemory. Read first: OrLaws.antt.
+-- Main word: DoesNoMoreButMemory. Read first: OrLaws.antt, and Compared.antt of chumsky_combinator.
 use Rattle.chumsky_input.specs.declared.error.Error as error_trait
 use Rattle.chumsky_input.specs.declared.inspector.Inspector as inspector_trait
 use Rattle.chumsky_input.specs.Words.{Does}
 use Rattle.chumsky_combinator.specs.declared.or.Or.{Or}
+use Rattle.chumsky_combinator.specs.Built.{or_of}
 use Rattle.chumsky_choice.specs.declared.choice.Choice.{Choice}
-use Rattle.chumsky_choice.specs.OrLaws.{IsWithin, IsWithinButMemory}
-
--- `first.or(second)`
-abbrev pub or_of : {A B : Type 0} → A → B → Or A B
-or_of first second = record { first = first; second = second }
+use Rattle.chumsky_choice.specs.OrLaws.{MeansNoMoreButMemory}
 
 -- `first.or(second).or(third)`
 abbrev pub ors_of : {A B C : Type 0} → A → B → C → Or (Or A B) C
@@ -20,10 +17,6 @@ abbrev pub choice_of : {T : Type 0} → T → Choice T
 choice_of parsers = record { parsers = parsers }
 
 module _ {I Tok Sp Er St Mk Cx V : Type 0} (errors : error_trait.Ghosts Er I Tok Sp) (states : inspector_trait.Ghosts St I Mk Tok Sp) where
-  -- each outcome of the one is one of the other
-  abbrev pub DoesNoMore : Does I Tok Sp Er St Mk Cx V → Does I Tok Sp Er St Mk Cx V → Type 0
-  DoesNoMore one other = IsWithin (one errors states) (other errors states)
-
-  -- the same, want of memory aside
+  -- each outcome of the one parser is one of the other, want of memory aside
   abbrev pub DoesNoMoreButMemory : Does I Tok Sp Er St Mk Cx V → Does I Tok Sp Er St Mk Cx V → Type 0
-  DoesNoMoreButMemory one other = IsWithinButMemory (one errors states) (other errors states)
+  DoesNoMoreButMemory one other = MeansNoMoreButMemory (one errors states) (other errors states)

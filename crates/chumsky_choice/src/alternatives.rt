@@ -9,7 +9,8 @@ use chumsky_parser::parser::Parser;
 pub trait Alternatives<'src, I: Input<'src>, O, E: ParserExtra<I>>: Parser<'src, I, O, E> {
     ghost use Rattle.std.specs.Prelude.{List};
     ghost use Rattle.chumsky_input.specs.Words.{Does};
-    ghost use Rattle.chumsky_choice.specs.Alternatives.{TriesInOrder, SameByOneIn};
+    ghost use Rattle.chumsky_combinator.specs.Standing.{SameByOneIn};
+    ghost use Rattle.chumsky_choice.specs.Alternatives.{TriesInOrder};
 
     /// What each alternative does.
     ghost each_does: { Self → List (Does I I.Token I.Span E.Error E.State E.State.Mark E.Context O) };

@@ -1,7 +1,9 @@
 //! Laws that compare choices, each the contract of a function that does nothing.
 ghost use Rattle.std.specs.List.{All};
-ghost use Rattle.chumsky_choice.specs.Alternatives.{StandsByOneIn, StandsByOneOf, SameByOneIn, SameByOneOf};
-ghost use Rattle.chumsky_choice.specs.Repeated.{ors_of, choice_of, DoesNoMore, DoesNoMoreButMemory};
+ghost use Rattle.chumsky_combinator.specs.Compared.{DoesNoMore};
+ghost use Rattle.chumsky_combinator.specs.Standing.{SameByOneIn};
+ghost use Rattle.chumsky_choice.specs.Alternatives.{StandsByOneIn, StandsByOneOf, SameByOneOf};
+ghost use Rattle.chumsky_choice.specs.Repeated.{ors_of, choice_of, DoesNoMoreButMemory};
 
 use crate::alternatives::Alternatives;
 use crate::choice::Choice;

@@ -1,7 +1,8 @@
 -- The laws of parts.
 use Rattle.chumsky_input.specs.Outcome.{Meaning, EndsAfterStart, Agreeing}
 use Rattle.chumsky_parser.specs.ChoiceLaws.{agree-weaker}
-use Rattle.chumsky_combinator.specs.Part.{Onward, MeansNoMore}
+use Rattle.chumsky_combinator.specs.Compared.{MeansNoMore}
+use Rattle.chumsky_combinator.specs.Part.{Onward}
 
 module _ {Tok Cx St Er V : Type 0} (meaning : Meaning Tok Cx St Er V) where
   pub onward-ends : EndsAfterStart (Onward meaning)

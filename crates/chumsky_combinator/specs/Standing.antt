@@ -1,6 +1,10 @@
 -- By which alternative of an ordered choice two answers are the same.
+-- Main words: SameByStanding, SameByOneIn.
 use Rattle.std.specs.Prelude.{ℕ, zero, suc, List, [], ◌∷◌, ⊤}
+use Rattle.chumsky_input.specs.declared.error.Error as error_trait
+use Rattle.chumsky_input.specs.declared.inspector.Inspector as inspector_trait
 use Rattle.chumsky_input.specs.Outcome.{Meaning, Beginning, Outcome, IsAnswer, SameAnswer, Alike}
+use Rattle.chumsky_input.specs.Words.{Does}
 use Rattle.chumsky_parser.specs.Choice.{Stands}
 
 module _ {V : Type 0} where
@@ -27,3 +31,13 @@ module _ {Tok Cx St Mk Er V : Type 0} (mark : St → Mk) (back : St → Mk → S
   SameByStandingIfAny whole ss [] = ⊤
   SameByStandingIfAny whole [] (first ∷ others) = ⊥
   SameByStandingIfAny whole (s ∷ ss) (first ∷ others) = SameByStanding whole s ss first others
+
+module _ {I Tok Sp Er St Mk Cx V : Type 0} (errors : error_trait.Ghosts Er I Tok Sp) (states : inspector_trait.Ghosts St I Mk Tok Sp) where
+  -- what each of some parsers may do
+  abbrev pub each_meant : List (Does I Tok Sp Er St Mk Cx V) → List (Meaning Tok Cx states.Seen errors.Seen V)
+  each_meant [] = []
+  each_meant (does ∷ others) = does errors states ∷ each_meant others
+
+  -- in any two answers of the whole, from alike beginnings, one and the same alternative stands, which calls their values the same
+  abbrev pub SameByOneIn : Does I Tok Sp Er St Mk Cx V → List (V → V → Type 0) → List (Does I Tok Sp Er St Mk Cx V) → Type 0
+  SameByOneIn whole sames alternatives = SameByStandingIfAny states.mark states.back states.takes_no_memory (whole errors states) sames (each_meant alternatives)

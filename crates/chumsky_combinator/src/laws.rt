@@ -1,8 +1,6 @@
 //! Laws that compare parsers, each the contract of a function that does nothing.
-ghost use Rattle.std.specs.Prelude.{[], ◌∷◌};
-ghost use Rattle.chumsky_combinator.specs.Compared.{AgreesAs, MapsBlindly, SameOutcomes, ShownAs, regroup, ungroup};
+ghost use Rattle.chumsky_combinator.specs.AsParsers.{AgreesOnSecond, OrAgreesByOne, MapsSameIfBlind, Regroups, Ungroups};
 ghost use Rattle.chumsky_combinator.specs.Optional.{NeverSaysNo};
-ghost use Rattle.chumsky_combinator.specs.Standing.{SameByStanding};
 
 use crate::ignore_then::IgnoreThen;
 use crate::map::{Map, Mapper};
@@ -25,14 +23,17 @@ pub fn ignore_then_agrees_with_then<
     A: Parser<'src, I, O, E>,
     B: Parser<'src, I, U, E>,
 >(a: &A, b: &B)
-    ensures { A.steady a.now → B.steady b.now → AgreesAs (λ p. p.1) (B.same b.now) (⟦<Then<A, B, O, U> as Parser<'src, I, (O, U), E>>⟧.meaning (record { first = a.now; second = b.now; of = record {} }) E.Error.Error E.State.Inspector) (⟦<IgnoreThen<A, B, O> as Parser<'src, I, U, E>>⟧.meaning (record { first = a.now; second = b.now; of = record {} }) E.Error.Error E.State.Inspector) }
+    ensures { A.steady a.now → B.steady b.now → AgreesOnSecond E.Error.Error E.State.Inspector (B.same b.now)
+        ⟦<Then<A, B, O, U> as Parser<'src, I, (O, U), E>>⟧.meaning
+        ⟦<IgnoreThen<A, B, O> as Parser<'src, I, U, E>>⟧.meaning a.now b.now }
 {}
 
 /// `a.or_not()` never fails.
 pub fn or_not_never_says_no<'src, I: Input<'src>, O, E: ParserExtra<I>, A: Parser<'src, I, O, E>>(
     a: &A,
 )
-    ensures { NeverSaysNo (⟦<OrNot<A> as Parser<'src, I, Option<O>, E>>⟧.meaning (record { parser = a.now }) E.Error.Error E.State.Inspector) }
+    ensures { NeverSaysNo
+        (⟦<OrNot<A> as Parser<'src, I, Option<O>, E>>⟧.meaning (record { parser = a.now }) E.Error.Error E.State.Inspector) }
 {}
 
 /// Of two answers of a steady `a.or(b)`, from beginnings that differ at most in whether a value is wanted, one and the same
@@ -45,7 +46,8 @@ pub fn or_agrees_by_one_alternative<
     A: Parser<'src, I, O, E>,
     B: Parser<'src, I, O, E>,
 >(first: &A, second: &B)
-    ensures { A.steady first.now → B.steady second.now → SameByStanding E.State.mark E.State.back E.State.takes_no_memory (⟦<Or<A, B> as Parser<'src, I, O, E>>⟧.meaning (record { first = first.now; second = second.now }) E.Error.Error E.State.Inspector) (A.same first.now) (B.same second.now ∷ []) (A.meaning first.now E.Error.Error E.State.Inspector) (B.meaning second.now E.Error.Error E.State.Inspector ∷ []) }
+    ensures { A.steady first.now → B.steady second.now → OrAgreesByOne E.Error.Error E.State.Inspector
+        A.same B.same A.meaning B.meaning ⟦<Or<A, B> as Parser<'src, I, O, E>>⟧.meaning first.now second.now }
 {}
 
 /// Where its mapper takes no notice of the run and leaves the state, `map_with` has the outcomes of `map` by a mapper with the
@@ -60,7 +62,9 @@ pub fn map_with_by_a_blind_mapper_is_map<
     F: MapperWith<'src, I, O, U, E>,
     G: Mapper<O, U>,
 >(map_with: &MapWith<A, O, F, U>, mapper: &G)
-    ensures { MapsBlindly (F.gives map_with.now.mapper E.State.Inspector) (G.gives mapper.now) → SameOutcomes (⟦<MapWith<A, O, F, U> as Parser<'src, I, U, E>>⟧.meaning map_with.now E.Error.Error E.State.Inspector) (⟦<Map<A, O, G, U> as Parser<'src, I, U, E>>⟧.meaning (record { parser = map_with.now.parser; mapper = mapper.now; of = record {} }) E.Error.Error E.State.Inspector) }
+    ensures { MapsSameIfBlind E.Error.Error E.State.Inspector F.gives G.gives
+        ⟦<MapWith<A, O, F, U> as Parser<'src, I, U, E>>⟧.meaning
+        ⟦<Map<A, O, G, U> as Parser<'src, I, U, E>>⟧.meaning map_with.now mapper.now }
 {}
 
 /// `a.then(b).then(c)` has the outcomes of `a.then(b.then(c))`, up to the grouping of the pairs.
@@ -75,6 +79,10 @@ pub fn then_is_associative<
     B: Parser<'src, I, U, E>,
     C: Parser<'src, I, V, E>,
 >(a: &A, b: &B, c: &C)
-    ensures right { ShownAs regroup (⟦<Then<Then<A, B, O, U>, C, (O, U), V> as Parser<'src, I, ((O, U), V), E>>⟧.meaning (record { first = record { first = a.now; second = b.now; of = record {} }; second = c.now; of = record {} }) E.Error.Error E.State.Inspector) (⟦<Then<A, Then<B, C, U, V>, O, (U, V)> as Parser<'src, I, (O, (U, V)), E>>⟧.meaning (record { first = a.now; second = record { first = b.now; second = c.now; of = record {} }; of = record {} }) E.Error.Error E.State.Inspector) }
-    ensures left { ShownAs ungroup (⟦<Then<A, Then<B, C, U, V>, O, (U, V)> as Parser<'src, I, (O, (U, V)), E>>⟧.meaning (record { first = a.now; second = record { first = b.now; second = c.now; of = record {} }; of = record {} }) E.Error.Error E.State.Inspector) (⟦<Then<Then<A, B, O, U>, C, (O, U), V> as Parser<'src, I, ((O, U), V), E>>⟧.meaning (record { first = record { first = a.now; second = b.now; of = record {} }; second = c.now; of = record {} }) E.Error.Error E.State.Inspector) }
+    ensures right { Regroups E.Error.Error E.State.Inspector
+        ⟦<Then<Then<A, B, O, U>, C, (O, U), V> as Parser<'src, I, ((O, U), V), E>>⟧.meaning
+        ⟦<Then<A, Then<B, C, U, V>, O, (U, V)> as Parser<'src, I, (O, (U, V)), E>>⟧.meaning a.now b.now c.now }
+    ensures left { Ungroups E.Error.Error E.State.Inspector
+        ⟦<Then<A, Then<B, C, U, V>, O, (U, V)> as Parser<'src, I, (O, (U, V)), E>>⟧.meaning
+        ⟦<Then<Then<A, B, O, U>, C, (O, U), V> as Parser<'src, I, ((O, U), V), E>>⟧.meaning a.now b.now c.now }
 {}

@@ -26,8 +26,11 @@ pub trait MapperWith<'src, I: Input<'src>, O, U, E: ParserExtra<I>> {
         requires callable { callable self.now }
         requires tokens { I.cursor_tokens since.now ≡ (held I.Input E.Error.Error E.State.Inspector inp.old).tokens }
         requires order { I.place since.now ≤ (held I.Input E.Error.Error E.State.Inspector inp.old).place }
-        ensures gives { gives self.now E.State.Inspector value (shown_from (I.place since.now) (held I.Input E.Error.Error E.State.Inspector inp.old)) result (held I.Input E.Error.Error E.State.Inspector inp.new).state }
-        ensures moves { held I.Input E.Error.Error E.State.Inspector inp.new ≡ record (held I.Input E.Error.Error E.State.Inspector inp.old) { state = (held I.Input E.Error.Error E.State.Inspector inp.new).state } }
+        ensures gives { let new = held I.Input E.Error.Error E.State.Inspector inp.new in
+            let old = held I.Input E.Error.Error E.State.Inspector inp.old in
+            gives self.now E.State.Inspector value (shown_from (I.place since.now) old) result new.state }
+        ensures moves { let new = held I.Input E.Error.Error E.State.Inspector inp.new in
+            new ≡ record (held I.Input E.Error.Error E.State.Inspector inp.old) { state = new.state } }
         ensures lent { inp.new.state.ghost_name ≡ inp.old.state.ghost_name };
 }
 

@@ -24,7 +24,8 @@ pub trait Part<'src, I: Input<'src>, O, E: ParserExtra<I>> {
 
     /// Runs the parser, for its output where one is wanted.
     fn run(&self, wanted: bool, inp: &mut InputRef<'src, '_, I, E>) -> PResult<Option<O>>
-        ensures ran { Runs I.Input E.Error.Error E.State.Inspector (Onward (means self.now E.Error.Error E.State.Inspector)) wanted inp.old inp.new result }
+        ensures ran { Runs I.Input E.Error.Error E.State.Inspector
+            (Onward (means self.now E.Error.Error E.State.Inspector)) wanted inp.old inp.new result }
         ensures as_wanted { IfOk result (λ value. is_some value ≡ wanted) }
         ensures lent { inp.new.state.ghost_name ≡ inp.old.state.ghost_name };
 }
@@ -38,7 +39,8 @@ pub fn run_part<'src, I: Input<'src>, O, E: ParserExtra<I>, P: Parser<'src, I, O
     inp: &mut InputRef<'src, '_, I, E>,
 ) -> PResult<Option<O>>
     requires { P.ready parser.now }
-    ensures ran { Runs I.Input E.Error.Error E.State.Inspector (Onward (P.meaning parser.now E.Error.Error E.State.Inspector)) wanted inp.old inp.new result }
+    ensures ran { Runs I.Input E.Error.Error E.State.Inspector
+        (Onward (P.meaning parser.now E.Error.Error E.State.Inspector)) wanted inp.old inp.new result }
     ensures as_wanted { IfOk result (λ value. is_some value ≡ wanted) }
     ensures lent { inp.new.state.ghost_name ≡ inp.old.state.ghost_name }
 {

@@ -3,10 +3,10 @@
 //! known of two outputs that count as the same: mostly that those of the parts do.
 ghost use Rattle.std.specs.Prelude.{Option, ◌⊎◌};
 ghost use Rattle.chumsky_input.specs.Extra.{KeepsState};
+ghost use Rattle.chumsky_combinator.specs.Compared.{DoesNoMore};
 ghost use Rattle.chumsky_combinator.specs.Mapped.{IsFunction, SameMapped};
 ghost use Rattle.chumsky_parser.specs.Showing.{OnlyAnswers, SameShown};
 ghost use Rattle.chumsky_combinator.specs.Optional.{SameOption};
-ghost use Rattle.chumsky_combinator.specs.Part.{MeansNoMore};
 
 use crate::delimited_by::DelimitedBy;
 use crate::ignore_then::IgnoreThen;
@@ -36,12 +36,18 @@ pub fn then_is_steady<
     A: Parser<'src, I, O, E>,
     B: Parser<'src, I, U, E>,
 >(then: &Then<A, B, O, U>, then_ignore: &ThenIgnore<A, B, U>)
-    ensures ready_then { A.ready then.now.first → B.ready then.now.second → ⟦<Then<A, B, O, U> as Parser<'src, I, (O, U), E>>⟧.ready then.now }
-    ensures ready_then_ignore { A.ready then_ignore.now.first → B.ready then_ignore.now.second → ⟦<ThenIgnore<A, B, U> as Parser<'src, I, O, E>>⟧.ready then_ignore.now }
-    ensures then { A.steady then.now.first → B.steady then.now.second → ⟦<Then<A, B, O, U> as Parser<'src, I, (O, U), E>>⟧.steady then.now }
-    ensures then_ignore { A.steady then_ignore.now.first → B.steady then_ignore.now.second → ⟦<ThenIgnore<A, B, U> as Parser<'src, I, O, E>>⟧.steady then_ignore.now }
-    ensures same_pair { (x y : O × U) → ⟦<Then<A, B, O, U> as Parser<'src, I, (O, U), E>>⟧.same then.now x y → A.same then.now.first x.0 y.0 × B.same then.now.second x.1 y.1 }
-    ensures same_first { (x y : O) → ⟦<ThenIgnore<A, B, U> as Parser<'src, I, O, E>>⟧.same then_ignore.now x y → A.same then_ignore.now.first x y }
+    ensures ready_then { A.ready then.now.first → B.ready then.now.second →
+        ⟦<Then<A, B, O, U> as Parser<'src, I, (O, U), E>>⟧.ready then.now }
+    ensures ready_then_ignore { let p = then_ignore.now in A.ready p.first → B.ready p.second →
+        ⟦<ThenIgnore<A, B, U> as Parser<'src, I, O, E>>⟧.ready p }
+    ensures then { A.steady then.now.first → B.steady then.now.second →
+        ⟦<Then<A, B, O, U> as Parser<'src, I, (O, U), E>>⟧.steady then.now }
+    ensures then_ignore { let p = then_ignore.now in A.steady p.first → B.steady p.second →
+        ⟦<ThenIgnore<A, B, U> as Parser<'src, I, O, E>>⟧.steady p }
+    ensures same_pair { (x y : O × U) → ⟦<Then<A, B, O, U> as Parser<'src, I, (O, U), E>>⟧.same then.now x y →
+        A.same then.now.first x.0 y.0 × B.same then.now.second x.1 y.1 }
+    ensures same_first { (x y : O) → ⟦<ThenIgnore<A, B, U> as Parser<'src, I, O, E>>⟧.same then_ignore.now x y →
+        A.same then_ignore.now.first x y }
 {}
 
 /// `a.ignore_then(b)`.
@@ -54,9 +60,12 @@ pub fn ignore_then_is_steady<
     A: Parser<'src, I, O, E>,
     B: Parser<'src, I, U, E>,
 >(ignore_then: &IgnoreThen<A, B, O>)
-    ensures ready { A.ready ignore_then.now.first → B.ready ignore_then.now.second → ⟦<IgnoreThen<A, B, O> as Parser<'src, I, U, E>>⟧.ready ignore_then.now }
-    ensures steady { A.steady ignore_then.now.first → B.steady ignore_then.now.second → ⟦<IgnoreThen<A, B, O> as Parser<'src, I, U, E>>⟧.steady ignore_then.now }
-    ensures same { (x y : U) → ⟦<IgnoreThen<A, B, O> as Parser<'src, I, U, E>>⟧.same ignore_then.now x y → B.same ignore_then.now.second x y }
+    ensures ready { let p = ignore_then.now in A.ready p.first → B.ready p.second →
+        ⟦<IgnoreThen<A, B, O> as Parser<'src, I, U, E>>⟧.ready p }
+    ensures steady { let p = ignore_then.now in A.steady p.first → B.steady p.second →
+        ⟦<IgnoreThen<A, B, O> as Parser<'src, I, U, E>>⟧.steady p }
+    ensures same { (x y : U) → ⟦<IgnoreThen<A, B, O> as Parser<'src, I, U, E>>⟧.same ignore_then.now x y →
+        B.same ignore_then.now.second x y }
 {}
 
 /// `a.delimited_by(b, c)` and `a.padded_by(b)`.
@@ -71,12 +80,21 @@ pub fn delimited_by_is_steady<
     B: Parser<'src, I, U, E>,
     C: Parser<'src, I, V, E>,
 >(delimited_by: &DelimitedBy<A, B, C, U, V>, padded_by: &PaddedBy<A, B, U>)
-    ensures ready_delimited_by { A.ready delimited_by.now.parser → B.ready delimited_by.now.opening → C.ready delimited_by.now.closing → ⟦<DelimitedBy<A, B, C, U, V> as Parser<'src, I, O, E>>⟧.ready delimited_by.now }
-    ensures ready_padded_by { A.ready padded_by.now.parser → B.ready padded_by.now.padding → ⟦<PaddedBy<A, B, U> as Parser<'src, I, O, E>>⟧.ready padded_by.now }
-    ensures delimited_by { A.steady delimited_by.now.parser → B.steady delimited_by.now.opening → C.steady delimited_by.now.closing → ⟦<DelimitedBy<A, B, C, U, V> as Parser<'src, I, O, E>>⟧.steady delimited_by.now }
-    ensures padded_by { A.steady padded_by.now.parser → B.steady padded_by.now.padding → ⟦<PaddedBy<A, B, U> as Parser<'src, I, O, E>>⟧.steady padded_by.now }
-    ensures same_delimited { (x y : O) → ⟦<DelimitedBy<A, B, C, U, V> as Parser<'src, I, O, E>>⟧.same delimited_by.now x y → A.same delimited_by.now.parser x y }
-    ensures same_padded { (x y : O) → ⟦<PaddedBy<A, B, U> as Parser<'src, I, O, E>>⟧.same padded_by.now x y → A.same padded_by.now.parser x y }
+    ensures ready_delimited_by { let p = delimited_by.now in
+        A.ready p.parser → B.ready p.opening → C.ready p.closing →
+        ⟦<DelimitedBy<A, B, C, U, V> as Parser<'src, I, O, E>>⟧.ready p }
+    ensures ready_padded_by { let p = padded_by.now in A.ready p.parser → B.ready p.padding →
+        ⟦<PaddedBy<A, B, U> as Parser<'src, I, O, E>>⟧.ready p }
+    ensures delimited_by { let p = delimited_by.now in
+        A.steady p.parser → B.steady p.opening → C.steady p.closing →
+        ⟦<DelimitedBy<A, B, C, U, V> as Parser<'src, I, O, E>>⟧.steady p }
+    ensures padded_by { let p = padded_by.now in A.steady p.parser → B.steady p.padding →
+        ⟦<PaddedBy<A, B, U> as Parser<'src, I, O, E>>⟧.steady p }
+    ensures same_delimited { (x y : O) →
+        ⟦<DelimitedBy<A, B, C, U, V> as Parser<'src, I, O, E>>⟧.same delimited_by.now x y →
+        A.same delimited_by.now.parser x y }
+    ensures same_padded { (x y : O) → ⟦<PaddedBy<A, B, U> as Parser<'src, I, O, E>>⟧.same padded_by.now x y →
+        A.same padded_by.now.parser x y }
 {}
 
 /// `a.or(b)`, and `a.or_not()` as a plain parser and as a parser of items.
@@ -88,15 +106,24 @@ pub fn or_is_steady<
     A: Parser<'src, I, O, E>,
     B: Parser<'src, I, O, E>,
 >(or: &Or<A, B>, or_not: &OrNot<A>)
-    ensures ready_or { A.ready or.now.first → B.ready or.now.second → ⟦<Or<A, B> as Parser<'src, I, O, E>>⟧.ready or.now }
-    ensures ready_or_not { A.ready or_not.now.parser → ⟦<OrNot<A> as Parser<'src, I, Option<O>, E>>⟧.ready or_not.now }
-    ensures ready_or_not_items { A.ready or_not.now.parser → ⟦<OrNot<A> as IterParser<'src, I, O, E>>⟧.ready or_not.now }
-    ensures or { A.steady or.now.first → B.steady or.now.second → ⟦<Or<A, B> as Parser<'src, I, O, E>>⟧.steady or.now }
-    ensures or_not { A.steady or_not.now.parser → ⟦<OrNot<A> as Parser<'src, I, Option<O>, E>>⟧.steady or_not.now }
-    ensures or_not_items { A.steady or_not.now.parser → ⟦<OrNot<A> as IterParser<'src, I, O, E>>⟧.steady or_not.now }
-    ensures same_either { (x y : O) → ⟦<Or<A, B> as Parser<'src, I, O, E>>⟧.same or.now x y → A.same or.now.first x y ⊎ B.same or.now.second x y }
-    ensures same_option { (x y : Option O) → ⟦<OrNot<A> as Parser<'src, I, Option<O>, E>>⟧.same or_not.now x y → SameOption (A.same or_not.now.parser) x y }
-    ensures same_item { (x y : O) → ⟦<OrNot<A> as IterParser<'src, I, O, E>>⟧.same or_not.now x y → A.same or_not.now.parser x y }
+    ensures ready_or { A.ready or.now.first → B.ready or.now.second →
+        ⟦<Or<A, B> as Parser<'src, I, O, E>>⟧.ready or.now }
+    ensures ready_or_not { A.ready or_not.now.parser →
+        ⟦<OrNot<A> as Parser<'src, I, Option<O>, E>>⟧.ready or_not.now }
+    ensures ready_or_not_items { A.ready or_not.now.parser →
+        ⟦<OrNot<A> as IterParser<'src, I, O, E>>⟧.ready or_not.now }
+    ensures or { A.steady or.now.first → B.steady or.now.second →
+        ⟦<Or<A, B> as Parser<'src, I, O, E>>⟧.steady or.now }
+    ensures or_not { A.steady or_not.now.parser →
+        ⟦<OrNot<A> as Parser<'src, I, Option<O>, E>>⟧.steady or_not.now }
+    ensures or_not_items { A.steady or_not.now.parser →
+        ⟦<OrNot<A> as IterParser<'src, I, O, E>>⟧.steady or_not.now }
+    ensures same_either { (x y : O) → ⟦<Or<A, B> as Parser<'src, I, O, E>>⟧.same or.now x y →
+        A.same or.now.first x y ⊎ B.same or.now.second x y }
+    ensures same_option { (x y : Option O) → ⟦<OrNot<A> as Parser<'src, I, Option<O>, E>>⟧.same or_not.now x y →
+        SameOption (A.same or_not.now.parser) x y }
+    ensures same_item { (x y : O) → ⟦<OrNot<A> as IterParser<'src, I, O, E>>⟧.same or_not.now x y →
+        A.same or_not.now.parser x y }
 {}
 
 /// `a.to(v)` and `a.ignored()`.
@@ -105,10 +132,13 @@ pub fn to_is_steady<'src, I: Input<'src>, O, U: Clone, E: ParserExtra<I>, A: Par
     ignored: &Ignored<A, O>,
 )
     ensures ready_to { A.ready to.now.parser → ⟦<To<A, O, U> as Parser<'src, I, U, E>>⟧.ready to.now }
-    ensures ready_ignored { A.ready ignored.now.parser → ⟦<Ignored<A, O> as Parser<'src, I, (), E>>⟧.ready ignored.now }
+    ensures ready_ignored { A.ready ignored.now.parser →
+        ⟦<Ignored<A, O> as Parser<'src, I, (), E>>⟧.ready ignored.now }
     ensures to { A.steady to.now.parser → ⟦<To<A, O, U> as Parser<'src, I, U, E>>⟧.steady to.now }
-    ensures ignored { A.steady ignored.now.parser → ⟦<Ignored<A, O> as Parser<'src, I, (), E>>⟧.steady ignored.now }
-    ensures same { (x y : U) → ⟦<To<A, O, U> as Parser<'src, I, U, E>>⟧.same to.now x y → U.is_clone to.now.value x × U.is_clone to.now.value y }
+    ensures ignored { A.steady ignored.now.parser →
+        ⟦<Ignored<A, O> as Parser<'src, I, (), E>>⟧.steady ignored.now }
+    ensures same { (x y : U) → ⟦<To<A, O, U> as Parser<'src, I, U, E>>⟧.same to.now x y →
+        U.is_clone to.now.value x × U.is_clone to.now.value y }
 {}
 
 /// `a.map(f)` and `a.map_by(f)`, where `f` gives one answer to each argument.
@@ -121,9 +151,12 @@ pub fn map_is_steady<
     A: Parser<'src, I, O, E>,
     F: Mapper<O, U>,
 >(map: &Map<A, O, F, U>)
-    ensures ready { A.ready map.now.parser → F.callable map.now.mapper → ⟦<Map<A, O, F, U> as Parser<'src, I, U, E>>⟧.ready map.now }
-    ensures steady { A.steady map.now.parser → IsFunction (F.gives map.now.mapper) → ⟦<Map<A, O, F, U> as Parser<'src, I, U, E>>⟧.steady map.now }
-    ensures same { (x y : U) → ⟦<Map<A, O, F, U> as Parser<'src, I, U, E>>⟧.same map.now x y → SameMapped (A.same map.now.parser) (F.gives map.now.mapper) x y }
+    ensures ready { A.ready map.now.parser → F.callable map.now.mapper →
+        ⟦<Map<A, O, F, U> as Parser<'src, I, U, E>>⟧.ready map.now }
+    ensures steady { A.steady map.now.parser → IsFunction (F.gives map.now.mapper) →
+        ⟦<Map<A, O, F, U> as Parser<'src, I, U, E>>⟧.steady map.now }
+    ensures same { (x y : U) → ⟦<Map<A, O, F, U> as Parser<'src, I, U, E>>⟧.same map.now x y →
+        SameMapped (A.same map.now.parser) (F.gives map.now.mapper) x y }
 {}
 
 /// `a.map_with(f)`, where `f` gives one answer to each value and each run that it is shown, and leaves the state as it is.
@@ -136,9 +169,14 @@ pub fn map_with_is_steady<
     A: Parser<'src, I, O, E>,
     F: MapperWith<'src, I, O, U, E>,
 >(map_with: &MapWith<A, O, F, U>)
-    ensures ready { A.ready map_with.now.parser → F.callable map_with.now.mapper → ⟦<MapWith<A, O, F, U> as Parser<'src, I, U, E>>⟧.ready map_with.now }
-    ensures steady { A.steady map_with.now.parser → OnlyAnswers (F.gives map_with.now.mapper E.State.Inspector) → ⟦<MapWith<A, O, F, U> as Parser<'src, I, U, E>>⟧.steady map_with.now }
-    ensures same { (x y : U) → ⟦<MapWith<A, O, F, U> as Parser<'src, I, U, E>>⟧.same map_with.now x y → SameShown (F.gives map_with.now.mapper E.State.Inspector) (A.same map_with.now.parser) x y }
+    ensures ready { let p = map_with.now in A.ready p.parser → F.callable p.mapper →
+        ⟦<MapWith<A, O, F, U> as Parser<'src, I, U, E>>⟧.ready p }
+    ensures steady { let p = map_with.now in
+        A.steady p.parser → OnlyAnswers (F.gives p.mapper E.State.Inspector) →
+        ⟦<MapWith<A, O, F, U> as Parser<'src, I, U, E>>⟧.steady p }
+    ensures same { let p = map_with.now in (x y : U) →
+        ⟦<MapWith<A, O, F, U> as Parser<'src, I, U, E>>⟧.same p x y →
+        SameShown (F.gives p.mapper E.State.Inspector) (A.same p.parser) x y }
 {}
 
 /// A closure maps where it may be called, and one that is shown the run where it keeps the reference to the state too.
@@ -149,7 +187,8 @@ where
     F: Fn(O) -> U,
     G: Fn(O, &mut MapExtra<'src, '_, I, E>) -> U,
     ensures mapper { F.IsAlwaysCallable mapper.now → ⟦<F as Mapper<O, U>>⟧.callable mapper.now }
-    ensures mapper_with { KeepsState I.Input E.State.Inspector G.Fn mapper_with.now → ⟦<G as MapperWith<'src, I, O, U, E>>⟧.callable mapper_with.now }
+    ensures mapper_with { KeepsState I.Input E.State.Inspector G.Fn mapper_with.now →
+        ⟦<G as MapperWith<'src, I, O, U, E>>⟧.callable mapper_with.now }
 {}
 
 /// `a.map_items(f)` and `a.map_items_by(f)`, where `f` gives one answer to each item.
@@ -162,9 +201,13 @@ pub fn map_items_is_steady<
     A: IterParser<'src, I, O, E>,
     F: Mapper<O, U>,
 >(map_items: &Map<A, O, F, U>)
-    ensures ready { A.ready map_items.now.parser → F.callable map_items.now.mapper → ⟦<Map<A, O, F, U> as IterParser<'src, I, U, E>>⟧.ready map_items.now }
-    ensures steady { A.steady map_items.now.parser → IsFunction (F.gives map_items.now.mapper) → ⟦<Map<A, O, F, U> as IterParser<'src, I, U, E>>⟧.steady map_items.now }
-    ensures same { (x y : U) → ⟦<Map<A, O, F, U> as IterParser<'src, I, U, E>>⟧.same map_items.now x y → SameMapped (A.same map_items.now.parser) (F.gives map_items.now.mapper) x y }
+    ensures ready { let p = map_items.now in A.ready p.parser → F.callable p.mapper →
+        ⟦<Map<A, O, F, U> as IterParser<'src, I, U, E>>⟧.ready p }
+    ensures steady { let p = map_items.now in A.steady p.parser → IsFunction (F.gives p.mapper) →
+        ⟦<Map<A, O, F, U> as IterParser<'src, I, U, E>>⟧.steady p }
+    ensures same { let p = map_items.now in (x y : U) →
+        ⟦<Map<A, O, F, U> as IterParser<'src, I, U, E>>⟧.same p x y →
+        SameMapped (A.same p.parser) (F.gives p.mapper) x y }
 {}
 
 /// `a.map_items_with(f)`, where `f` gives one answer to each item and what it is shown, and leaves the state as it is.
@@ -177,9 +220,14 @@ pub fn map_items_with_is_steady<
     A: IterParser<'src, I, O, E>,
     F: MapperWith<'src, I, O, U, E>,
 >(map_items: &MapWith<A, O, F, U>)
-    ensures ready { A.ready map_items.now.parser → F.callable map_items.now.mapper → ⟦<MapWith<A, O, F, U> as IterParser<'src, I, U, E>>⟧.ready map_items.now }
-    ensures steady { A.steady map_items.now.parser → OnlyAnswers (F.gives map_items.now.mapper E.State.Inspector) → ⟦<MapWith<A, O, F, U> as IterParser<'src, I, U, E>>⟧.steady map_items.now }
-    ensures same { (x y : U) → ⟦<MapWith<A, O, F, U> as IterParser<'src, I, U, E>>⟧.same map_items.now x y → SameShown (F.gives map_items.now.mapper E.State.Inspector) (A.same map_items.now.parser) x y }
+    ensures ready { let p = map_items.now in A.ready p.parser → F.callable p.mapper →
+        ⟦<MapWith<A, O, F, U> as IterParser<'src, I, U, E>>⟧.ready p }
+    ensures steady { let p = map_items.now in
+        A.steady p.parser → OnlyAnswers (F.gives p.mapper E.State.Inspector) →
+        ⟦<MapWith<A, O, F, U> as IterParser<'src, I, U, E>>⟧.steady p }
+    ensures same { let p = map_items.now in (x y : U) →
+        ⟦<MapWith<A, O, F, U> as IterParser<'src, I, U, E>>⟧.same p x y →
+        SameShown (F.gives p.mapper E.State.Inspector) (A.same p.parser) x y }
 {}
 
 /// `a.then_items(b)`, and `a.then(b)` of two lists, as parsers of items. Two items are the same where one of the two calls
@@ -194,9 +242,13 @@ pub fn then_items_is_steady<
     A: IterParser<'src, I, V, E>,
     B: IterParser<'src, I, V, E>,
 >(then_items: &Then<A, B, O, U>)
-    ensures ready { A.ready then_items.now.first → B.ready then_items.now.second → ⟦<Then<A, B, O, U> as IterParser<'src, I, V, E>>⟧.ready then_items.now }
-    ensures steady { A.steady then_items.now.first → B.steady then_items.now.second → ⟦<Then<A, B, O, U> as IterParser<'src, I, V, E>>⟧.steady then_items.now }
-    ensures same { (x y : V) → ⟦<Then<A, B, O, U> as IterParser<'src, I, V, E>>⟧.same then_items.now x y → A.same then_items.now.first x y ⊎ B.same then_items.now.second x y }
+    ensures ready { let p = then_items.now in A.ready p.first → B.ready p.second →
+        ⟦<Then<A, B, O, U> as IterParser<'src, I, V, E>>⟧.ready p }
+    ensures steady { let p = then_items.now in A.steady p.first → B.steady p.second →
+        ⟦<Then<A, B, O, U> as IterParser<'src, I, V, E>>⟧.steady p }
+    ensures same { let p = then_items.now in (x y : V) →
+        ⟦<Then<A, B, O, U> as IterParser<'src, I, V, E>>⟧.same p x y →
+        A.same p.first x y ⊎ B.same p.second x y }
 {}
 
 /// `part_of(p)`, where `p` means no more than a steady parser, and outputs that are the same to that parser are alike to
@@ -210,6 +262,10 @@ pub fn part_is_steady<
     P: Part<'src, I, O, E>,
 >(part: &OfPart<P>, inside: &A)
     ensures ready { ⟦<OfPart<P> as Parser<'src, I, O, E>>⟧.ready part.now }
-    ensures steady { A.steady inside.now → MeansNoMore (P.means part.now.part E.Error.Error E.State.Inspector) (A.meaning inside.now E.Error.Error E.State.Inspector) → ((v w : O) → A.same inside.now v w → P.alike part.now.part v w) → ⟦<OfPart<P> as Parser<'src, I, O, E>>⟧.steady part.now }
-    ensures same { (x y : O) → ⟦<OfPart<P> as Parser<'src, I, O, E>>⟧.same part.now x y → P.alike part.now.part x y }
+    ensures steady { let p = inside.now in
+        A.steady p → DoesNoMore E.Error.Error E.State.Inspector (P.means part.now.part) (A.meaning p) →
+        ((v w : O) → A.same p v w → P.alike part.now.part v w) →
+        ⟦<OfPart<P> as Parser<'src, I, O, E>>⟧.steady part.now }
+    ensures same { (x y : O) → ⟦<OfPart<P> as Parser<'src, I, O, E>>⟧.same part.now x y →
+        P.alike part.now.part x y }
 {}

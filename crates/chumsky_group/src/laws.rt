@@ -1,6 +1,8 @@
 //! Laws that compare groups with sequences, each the contract of a function that does nothing.
+ghost use Rattle.chumsky_combinator.specs.Built.{then_of};
+ghost use Rattle.chumsky_combinator.specs.Compared.{DoesSame, DoesShown};
 ghost use Rattle.chumsky_group.specs.Regrouped.{three_of_pairs, pairs_of_three};
-ghost use Rattle.chumsky_group.specs.Paired.{then_of, group_of, DoesSame, DoesShown};
+ghost use Rattle.chumsky_group.specs.Paired.{group_of};
 
 use crate::group::Group;
 use chumsky_combinator::then::Then;

@@ -11,8 +11,9 @@ use Rattle.chumsky_input.specs.Outcome.{Meaning, Outcome, Verdict, Yes, No, Halt
 use Rattle.chumsky_input.specs.Words.{Does}
 use Rattle.chumsky_parser.specs.Choice.{Stands, FirstOf}
 use Rattle.chumsky_parser.specs.Failure.{wanting}
+use Rattle.chumsky_combinator.specs.Standing.{each_meant}
 use Rattle.chumsky_choice.specs.Among.{FirstAmong}
-use Rattle.chumsky_choice.specs.Alternatives.{each_meant, TriesInOrder}
+use Rattle.chumsky_choice.specs.Alternatives.{TriesInOrder}
 use Rattle.chumsky_group.specs.InTurn.{InTurn, item_before}
 use Rattle.chumsky_group.specs.Parts.{Part, part, AnyStops, StopsOnlyByAny}
 use Rattle.chumsky_memory.specs.Memory.{IsNotMemory, SparesMemory, NeverOutOfMemory}
