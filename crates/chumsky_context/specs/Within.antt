@@ -16,6 +16,7 @@ use Rattle.chumsky_parser.specs.Chained.{Chained, Asked}
 use Rattle.chumsky_parser.specs.Failure.{Refuses}
 use Rattle.chumsky_parser.specs.Ignoring.{IgnoringSecond}
 use Rattle.chumsky_primitive.specs.End.{MeansEnd}
+use Rattle.chumsky_context.specs.declared.nested_in.NestedIn.{NestedIn}
 
 -- what a run over an input of its own came to: its answer, the error that it ends with, those that it emitted, and its state
 pub record RunReport (W Er St : Type 0) : Type 0 where
@@ -128,6 +129,10 @@ module _ {J Tok Sp Cu Mk Er St I Tok' Sp' Mk' : Type 0} (source : input_trait.Gh
     pub same_states : (x y : St) → states.seen x ≡ states.seen y → states'.seen x ≡ states'.seen y
     pub same_states_within : (x y : St) → states'.seen x ≡ states'.seen y → states.seen x ≡ states.seen y
     pub same_tokens : (x y : J) → same x y → source.tokens x ≡ source.tokens y
+
+  -- `nested_in` is steady where both its parts are, and errors and states count as the same over both inputs
+  abbrev pub SteadyNested : {A B C S M : Type 0} → (A → Type 0) → (B → Type 0) → (B → J → J → Type 0) → (NestedIn A B J C Tok S M → Type 0) → NestedIn A B J C Tok S M → Type 0
+  SteadyNested inner outer same nested p = inner p.parser → outer p.outer → SameOverBoth (same p.outer) → nested p
 
 module _ {J Tok Sp Cu Mk Er St I X Tok' Sp' Cu' Mk' Cx V : Type 0} (source : input_trait.Ghosts J Cu Tok Sp) (errors : error_trait.Ghosts Er J Tok Sp) (states : inspector_trait.Ghosts St J Mk Tok Sp) (source' : input_trait.Ghosts I Cu' Tok' Sp') (errors' : error_trait.Ghosts Er I Tok' Sp') (states' : inspector_trait.Ghosts St I Mk' Tok' Sp') where
   -- a run shows one outcome of what is done over the whole of another input, which is told at a place

@@ -6,7 +6,7 @@ ghost use Rattle.chumsky_context.specs.Configured.{Sets, IsDeterministic};
 ghost use Rattle.chumsky_context.specs.OnState.{CopiesCount};
 ghost use Rattle.chumsky_context.specs.TriedItems.{TrySets, OneRuling};
 ghost use Rattle.chumsky_context.specs.Under.{SameAreEqual};
-ghost use Rattle.chumsky_context.specs.Within.{SameOverBoth};
+ghost use Rattle.chumsky_context.specs.Within.{SteadyNested};
 
 use crate::config::ConfigParser;
 use crate::config_iter::ConfigIterParser;
@@ -278,7 +278,9 @@ where
     A: Parser<'src, J, U, Full<E::Error, E::State, E::Context>>,
     B: Parser<'src, I, J, E>,
     ensures ready { A.ready parser.now.parser → B.ready parser.now.outer → ⟦<NestedIn<A, B, J, C, T, S, M> as Parser<'src, I, U, E>>⟧.ready parser.now }
-    ensures steady { A.steady parser.now.parser → B.steady parser.now.outer → SameOverBoth J.Input ⟦<E::Error as Error<J>>⟧ ⟦<E::State as Inspector<J>>⟧ ⟦<E::Error as Error<I>>⟧ ⟦<E::State as Inspector<I>>⟧ (B.same parser.now.outer) → ⟦<NestedIn<A, B, J, C, T, S, M> as Parser<'src, I, U, E>>⟧.steady parser.now }
+    ensures steady { SteadyNested J.Input ⟦<E::Error as Error<J>>⟧ ⟦<E::State as Inspector<J>>⟧
+        ⟦<E::Error as Error<I>>⟧ ⟦<E::State as Inspector<I>>⟧ A.steady B.steady B.same
+        ⟦<NestedIn<A, B, J, C, T, S, M> as Parser<'src, I, U, E>>⟧.steady parser.now }
     ensures same { (x y : U) → ⟦<NestedIn<A, B, J, C, T, S, M> as Parser<'src, I, U, E>>⟧.same parser.now x y → A.same parser.now.parser x y }
 {}
 
