@@ -20,7 +20,7 @@ use Rattle.chumsky_parser.specs.Failure.{expects}
 use Rattle.chumsky_parser.proofs.ChainedLemmas.{ran-weaker}
 use Rattle.chumsky_parser.proofs.FailureLemmas.{ran-misses}
 use Rattle.chumsky_choice.specs.Among.{FirstAmong}
-use Rattle.chumsky_choice.specs.Next.{TriesNext}
+use Rattle.chumsky_choice.specs.Next.{GoesToNext}
 use Rattle.chumsky_choice.proofs.NextLemmas.{Tried, tried-first, tried-next, tried-stands, first_of-marked, first_of-unmarked}
 
 module _ {Tok Cx St Mk Er V X : Type 0} (merged : Er → Er → Er) (safe : Type 0) (back : St → Mk → St) (quiet : Type 0) (m : Marks Tok Mk) (meaning : X → Meaning Tok Cx St Er V) (first : X) (others rest : List X) (wanted : Bool) (old new : Held Tok Cx St Er) (r : Result (Option V) Fault) where
@@ -34,7 +34,7 @@ module _ {Tok Cx St Mk Er V X : Type 0} {merged : Er → Er → Er} {safe : Type
   some-first mark e h = record { tried = tried-first mark e h }
 
   pub some-next : {x : X} {left rest : List X} {old mid new : Held Tok Cx St Er} {t r : Result (Option V) Fault} → TriedSome merged safe back quiet m meaning first others left wanted old mid t → left ≡ x ∷ rest
-      → TriesNext merged safe back quiet m (meaning x) wanted mid new t r → TriedSome merged safe back quiet m meaning first others rest wanted old new r
+      → GoesToNext merged safe back quiet m (meaning x) wanted mid new t r → TriedSome merged safe back quiet m meaning first others rest wanted old new r
   some-next {x} {left} {rest} {old} {mid} {new} {t} {r} h s k =
       let left_now : TriedSome merged safe back quiet m meaning first others (x ∷ rest) wanted old mid t = subst (λ xs. TriedSome merged safe back quiet m meaning first others xs wanted old mid t) s h in
       record { tried = tried-next left_now.tried k }

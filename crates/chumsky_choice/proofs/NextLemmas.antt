@@ -11,11 +11,11 @@ use Rattle.chumsky_parser.specs.ChoiceLaws.{attempts-first_from}
 use Rattle.chumsky_parser.proofs.ChainedLemmas.{ran-weaker}
 use Rattle.chumsky_parser.proofs.ChoiceLemmas.{attempt-stands, attempt-gone_back, attempt-unrestored, ran-marked, stands_at-marked, stands_at-back}
 use Rattle.chumsky_parser.proofs.FailureLemmas.{ran-halts}
-use Rattle.chumsky_choice.specs.Next.{TriesNext}
+use Rattle.chumsky_choice.specs.Next.{GoesToNext}
 
 module _ {Tok Cx St Mk Er V : Type 0} {merged : Er → Er → Er} {safe : Type 0} {back : St → Mk → St} {quiet : Type 0} {m : Marks Tok Mk} {wanted : Bool} where
   after_tried : (first next : Meaning Tok Cx St Er V) (old mid new : Held Tok Cx St Er) (t r : Result (Option V) Fault) → StandsAt m old → Ran merged safe first wanted old mid t
-      → TriesNext merged safe back quiet m next wanted mid new t r → Ran merged safe (AttemptFrom back quiet m.mark first next) wanted old new r
+      → GoesToNext merged safe back quiet m next wanted mid new t r → Ran merged safe (AttemptFrom back quiet m.mark first next) wanted old new r
   after_tried first next old mid new (Ok v) r at h k = rw (k.after.0, k.after.1) (attempt-stands merged safe back quiet m.mark first next wanted old mid (Ok v) h (λ q. cc))
   after_tried first next old mid new (Err (fault.Stop s)) r at h k = rw (k.after.0, k.after.1) (attempt-stands merged safe back quiet m.mark first next wanted old mid (Err (fault.Stop s)) h (λ q. cc))
   after_tried first next old mid new (Err fault.Fail) r at h k =
@@ -25,37 +25,37 @@ module _ {Tok Cx St Mk Er V : Type 0} {merged : Er → Er → Er} {safe : Type 0
       ]
 
   -- what stands is not tried again
-  tries-stand : (next : Meaning Tok Cx St Er V) (old : Held Tok Cx St Er) (t : Result (Option V) Fault) → (t ≡ Err fault.Fail → ⊥) → TriesNext merged safe back quiet m next wanted old old t t
+  tries-stand : (next : Meaning Tok Cx St Er V) (old : Held Tok Cx St Er) (t : Result (Option V) Fault) → (t ≡ Err fault.Fail → ⊥) → GoesToNext merged safe back quiet m next wanted old old t t
   tries-stand next old (Ok v) n = record { after = (refl, refl) }
   tries-stand next old (Err (fault.Stop s)) n = record { after = (refl, refl) }
   tries-stand next old (Err fault.Fail) n = absurd (n refl)
 
   tries-weaker : (a b : Meaning Tok Cx St Er V) → ((s : Beginning Tok Cx St) (o : Outcome V Er St) → a s o → b s o) → (old new : Held Tok Cx St Er) (t r : Result (Option V) Fault)
-      → TriesNext merged safe back quiet m a wanted old new t r → TriesNext merged safe back quiet m b wanted old new t r
+      → GoesToNext merged safe back quiet m a wanted old new t r → GoesToNext merged safe back quiet m b wanted old new t r
   tries-weaker a b w old new (Ok v) r h = record { after = h.after }
   tries-weaker a b w old new (Err (fault.Stop s)) r h = record { after = h.after }
   tries-weaker a b w old new (Err fault.Fail) r h = record { after = elim h.after [ inl l ↦ inl l | inr k ↦ inr (ran-weaker merged safe a b wanted (gone_back back old m) new r (λ o z. w _ o z) k) ] }
 
   -- two that are tried in turn
   tries-both : (a b : Meaning Tok Cx St Er V) (old mid new : Held Tok Cx St Er) (t u r : Result (Option V) Fault) → (t ≡ Err fault.Fail → StandsAt m (gone_back back old m))
-      → TriesNext merged safe back quiet m a wanted old mid t u → TriesNext merged safe back quiet m b wanted mid new u r → TriesNext merged safe back quiet m (AttemptFrom back quiet m.mark a b) wanted old new t r
+      → GoesToNext merged safe back quiet m a wanted old mid t u → GoesToNext merged safe back quiet m b wanted mid new u r → GoesToNext merged safe back quiet m (AttemptFrom back quiet m.mark a b) wanted old new t r
   tries-both a b old mid new (Ok v) u r at h k =
-      let j = subst (λ x. TriesNext merged safe back quiet m b wanted mid new x r) h.after.0 k in
+      let j = subst (λ x. GoesToNext merged safe back quiet m b wanted mid new x r) h.after.0 k in
       record { after = (j.after.0, j.after.1 ∙ h.after.1) }
   tries-both a b old mid new (Err (fault.Stop s)) u r at h k =
-      let j = subst (λ x. TriesNext merged safe back quiet m b wanted mid new x r) h.after.0 k in
+      let j = subst (λ x. GoesToNext merged safe back quiet m b wanted mid new x r) h.after.0 k in
       record { after = (j.after.0, j.after.1 ∙ h.after.1) }
   tries-both a b old mid new (Err fault.Fail) u r at h k =
       record {
         after = elim h.after [
-          | inl l ↦ (let j = subst (λ x. TriesNext merged safe back quiet m b wanted mid new x r) l.0 k in inl (j.after.0, l.1, j.after.1 ∙ l.2))
+          | inl l ↦ (let j = subst (λ x. GoesToNext merged safe back quiet m b wanted mid new x r) l.0 k in inl (j.after.0, l.1, j.after.1 ∙ l.2))
           | inr l ↦ inr (after_tried a b (gone_back back old m) mid new u r (at refl) l k)
         ];
       }
 
   -- after a failure of what was tried, the run can go back again
   back_again : (a : Meaning Tok Cx St Er V) (old new : Held Tok Cx St Er) (t : Result (Option V) Fault) → (t ≡ Err fault.Fail → StandsAt m (gone_back back old m))
-      → TriesNext merged safe back quiet m a wanted old new t (Err fault.Fail) → StandsAt m (gone_back back new m)
+      → GoesToNext merged safe back quiet m a wanted old new t (Err fault.Fail) → StandsAt m (gone_back back new m)
   back_again a old new (Ok v) at h = let no : ⊥ = cc h.after.0 in absurd no
   back_again a old new (Err (fault.Stop s)) at h = let no : ⊥ = cc h.after.0 in absurd no
   back_again a old new (Err fault.Fail) at h =
@@ -68,7 +68,7 @@ module _ {Tok Cx St Mk Er V : Type 0} (merged : Er → Er → Er) (safe : Type 0
   -- the run of the whole, once the alternatives that are left are tried in turn
   abbrev Completes : List (Meaning Tok Cx St Er V) → Type 0
   Completes [] = Ran merged safe whole wanted old new r
-  Completes (next ∷ others) = (end : Held Tok Cx St Er) (s : Result (Option V) Fault) → TriesNext merged safe back quiet m (FirstFrom back quiet m.mark next others) wanted new end r s → Ran merged safe whole wanted old end s
+  Completes (next ∷ others) = (end : Held Tok Cx St Er) (s : Result (Option V) Fault) → GoesToNext merged safe back quiet m (FirstFrom back quiet m.mark next others) wanted new end r s → Ran merged safe whole wanted old end s
 
   -- some alternatives are tried, of which these are left
   pub record Tried (left : List (Meaning Tok Cx St Er V)) : Type 0 where
@@ -77,7 +77,7 @@ module _ {Tok Cx St Mk Er V : Type 0} (merged : Er → Er → Er) (safe : Type 0
 
 module _ {Tok Cx St Mk Er V : Type 0} {merged : Er → Er → Er} {safe : Type 0} {back : St → Mk → St} {quiet : Type 0} {m : Marks Tok Mk} {whole : Meaning Tok Cx St Er V} {wanted : Bool} where
   next_completes : (next : Meaning Tok Cx St Er V) (others : List (Meaning Tok Cx St Er V)) (old mid new : Held Tok Cx St Er) (t r : Result (Option V) Fault)
-      → Tried merged safe back quiet m whole wanted old mid t (next ∷ others) → TriesNext merged safe back quiet m next wanted mid new t r → Completes merged safe back quiet m whole wanted old new r others
+      → Tried merged safe back quiet m whole wanted old mid t (next ∷ others) → GoesToNext merged safe back quiet m next wanted mid new t r → Completes merged safe back quiet m whole wanted old new r others
   next_completes next [] old mid new t r h k = h.completes new r (tries-weaker next (FirstFrom back quiet m.mark next []) (λ s o z. record { k = 0; stands = (z, λ e. refl) }) mid new t r k)
   next_completes next (other ∷ others) old mid new t r h k = λ end s l.
       h.completes end s
@@ -85,10 +85,10 @@ module _ {Tok Cx St Mk Er V : Type 0} {merged : Er → Er → Er} {safe : Type 0
       (tries-both next (FirstFrom back quiet m.mark other others) mid new end t r s h.at k l))
 
   pub tried-next : {next : Meaning Tok Cx St Er V} {others : List (Meaning Tok Cx St Er V)} {old mid new : Held Tok Cx St Er} {t r : Result (Option V) Fault}
-      → Tried merged safe back quiet m whole wanted old mid t (next ∷ others) → TriesNext merged safe back quiet m next wanted mid new t r → Tried merged safe back quiet m whole wanted old new r others
+      → Tried merged safe back quiet m whole wanted old mid t (next ∷ others) → GoesToNext merged safe back quiet m next wanted mid new t r → Tried merged safe back quiet m whole wanted old new r others
   tried-next {next} {others} {old} {mid} {new} {t} {r} h k =
       record {
-        at = λ e. back_again next mid new t h.at (subst (λ x. TriesNext merged safe back quiet m next wanted mid new t x) e k);
+        at = λ e. back_again next mid new t h.at (subst (λ x. GoesToNext merged safe back quiet m next wanted mid new t x) e k);
         completes = next_completes next others old mid new t r h k;
       }
 

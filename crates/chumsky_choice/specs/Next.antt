@@ -1,5 +1,5 @@
 -- One more alternative, and what runs of several show.
--- Main words: TriesNext, RunsNext, RunsFirst, RunsAmong. Read first: Among.antt.
+-- Main words: GoesToNext, RunsNext, RunsFirst, RunsAmong. Read first: Among.antt.
 use Rattle.std.specs.Prelude.{◌≡◌, Bool, Option, None, Result, Ok, Err, List, [], ◌⊎◌, map}
 use Rattle.chumsky_input.specs.declared.error.Error as error_trait
 use Rattle.chumsky_input.specs.declared.inspector.Inspector as inspector_trait
@@ -24,13 +24,13 @@ module _ {Tok Cx St Mk Er V : Type 0} (merged : Er → Er → Er) (safe : Type 0
   NextAfter (Err (fault.Stop s)) r = (r ≡ Err (fault.Stop s)) × (new ≡ old)
   NextAfter (Err fault.Fail) r = ((r ≡ Err (fault.Stop Memory)) × (quiet → ⊥) × (new ≡ old)) ⊎ Ran merged safe next wanted (gone_back back old mark) new r
 
-  pub record TriesNext (tried result : Result (Option V) Fault) : Type 0 where
+  pub record GoesToNext (tried result : Result (Option V) Fault) : Type 0 where
     pub after : NextAfter tried result
 
 module _ {I X Tok Sp Cu Er St Cx Mk : Type 0} (source : input_trait.Ghosts I Cu Tok Sp) (errors : error_trait.Ghosts Er I Tok Sp) (states : inspector_trait.Ghosts St I Mk Tok Sp) where
   -- the run from `old` to `new` goes on after an answer with the next alternative, by a checkpoint
   abbrev pub RunsNext : {V : Type 0} → Checkpoint Cu Mk → Does I Tok Sp Er St Mk Cx V → Bool → InputRef I X Cu Tok Sp Er St Cx Mk → InputRef I X Cu Tok Sp Er St Cx Mk → Result (Option V) Fault → Result (Option V) Fault → Type 0
-  RunsNext before next wanted old new tried result = TriesNext errors.merged errors.takes_no_memory states.back states.takes_no_memory (marks source states before) (next errors states) wanted (held source errors states old) (held source errors states new) tried result
+  RunsNext before next wanted old new tried result = GoesToNext errors.merged errors.takes_no_memory states.back states.takes_no_memory (marks source states before) (next errors states) wanted (held source errors states old) (held source errors states new) tried result
 
   -- the run shows the first that does not say no of a parser and some others
   abbrev pub RunsFirst : {P V : Type 0} → (P → Does I Tok Sp Er St Mk Cx V) → P → List P → Bool → InputRef I X Cu Tok Sp Er St Cx Mk → InputRef I X Cu Tok Sp Er St Cx Mk → Result (Option V) Fault → Type 0

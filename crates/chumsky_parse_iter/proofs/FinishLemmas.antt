@@ -22,8 +22,8 @@ use Rattle.chumsky_primitive.specs.End.{MeansEnd}
 use Rattle.chumsky_parse_iter.specs.declared.parse_iter.Phase.{Phase}
 use Rattle.chumsky_parse_iter.specs.declared.parse_iter.Phase.TheVariants.{Unbegun, Running, Ended, Refused}
 use Rattle.chumsky_parse_iter.specs.Settled.{SettlesAs, reported, RefusesBy}
-use Rattle.chumsky_parse_iter.specs.Finish.{Closing, Closes, Replies, Finishes, AnswersBeside, AnswersWhole}
-use Rattle.chumsky_parse_iter.specs.Walk.{with_next, Counted, GivesMade, GivesFirst, Steps, WalksOn}
+use Rattle.chumsky_parse_iter.specs.Finish.{Closing, ClosesWith, Replies, Finishes, AnswersBeside, AnswersWhole}
+use Rattle.chumsky_parse_iter.specs.Walk.{with_next, GivesCounted, GivesMade, GivesFirst, Steps, WalksOn}
 
 module _ {I Tok Sp Cu Er St Cx R : Type 0} (source : input_trait.Ghosts I Cu Tok Sp) (errors : error_trait.Ghosts Er I Tok Sp) (out : R) (ts : List Tok) (before mid after : Held Tok Cx St errors.Seen) where
   settled_state : (a : Result (Unit {0}) Fault) (s : Result (Option (Unit {0})) Stop) → SettlesAs errors.expectation source.span_between a mid after s → after.state ≡ mid.state
@@ -63,7 +63,7 @@ module _ {I Tok Sp Cu Er St Cx R : Type 0} (source : input_trait.Ghosts I Cu Tok
 module _ {I Tok Sp Cu Er St Mk Cx R : Type 0} (source : input_trait.Ghosts I Cu Tok Sp) (errors : error_trait.Ghosts Er I Tok Sp) (states : inspector_trait.Ghosts St I Mk Tok Sp) where
   -- a run that closes from its beginning is answered as an outcome of the whole
   pub answers-whole : {meaning : Meaning Tok Cx states.Seen errors.Seen (Unit {0})} {start : Held Tok Cx states.Seen errors.Seen} {out : R} {state : states.Seen} {found : List errors.Seen} {closed : Result (Option (Unit {0})) Stop} {r : Result (ParseResult R Er) Stop}
-      → start.kept ≡ None → start.emitted ≡ [] → Closes source errors states meaning start state found closed → Replies errors out found closed r → AnswersWhole source errors meaning start out state r
+      → start.kept ≡ None → start.emitted ≡ [] → ClosesWith source errors states meaning start state found closed → Replies errors out found closed r → AnswersWhole source errors meaning start out state r
   answers-whole {meaning} {start} {out} {state} {found} {closed} {r} k e c p =
       let o = c.ran.outcome in
       record {

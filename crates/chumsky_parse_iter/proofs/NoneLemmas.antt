@@ -11,7 +11,7 @@ use Rattle.chumsky_parser.specs.Items.{Next}
 use Rattle.chumsky_parse_iter.specs.declared.parse_iter.Phase.{Phase}
 use Rattle.chumsky_parse_iter.specs.declared.parse_iter.Phase.TheVariants.{Unbegun, Running, Ended, Refused}
 use Rattle.chumsky_parse_iter.specs.Finish.{Called, AllNone, StaysNone}
-use Rattle.chumsky_parse_iter.specs.Walk.{Counted, WalksOn}
+use Rattle.chumsky_parse_iter.specs.Walk.{GivesCounted, WalksOn}
 
 -- the run has ended, or was refused
 abbrev IsOver : {S : Type 0} → Phase S → Type 0
@@ -25,7 +25,7 @@ module _ {Tok Cx St Er S V : Type 0} (merged : Er → Er → Er) (safe : Type 0)
   fits_over true y r i p n m h = let e = h.0 in let no : ⊥ = cc in absurd no
   fits_over false y r i p n m h = subst IsOver (sym h.1) tt
 
-  counted_over : (a : Result (Option (V × S)) Fault) (p : Phase S) (n m : ℕ) → Counted n a None p m → IsOver p
+  counted_over : (a : Result (Option (V × S)) Fault) (p : Phase S) (n m : ℕ) → GivesCounted n a None p m → IsOver p
   counted_over (Ok (Some y)) p n m c = fits_over (nat_lt (n + 1) (2 ^ 64)) y None refl p n m c
   counted_over (Ok None) p n m c = subst IsOver (sym c.1) tt
   counted_over (Err f) p n m c = subst IsOver (sym c.1) tt

@@ -15,7 +15,7 @@ use Rattle.chumsky_items.specs.Consumers.{Appends, HoldsAll, Collected, Collects
 use Rattle.chumsky_parse_iter.specs.declared.parse_iter.Phase.{Phase}
 use Rattle.chumsky_parse_iter.specs.declared.parse_iter.Phase.TheVariants.{Unbegun, Running, Ended, Refused}
 use Rattle.chumsky_parse_iter.specs.Finish.{Called, StaysNone, IsStartOf}
-use Rattle.chumsky_parse_iter.specs.Walk.{with_next, Counted, GivesMade, GivesFirst, WalksOn}
+use Rattle.chumsky_parse_iter.specs.Walk.{with_next, GivesCounted, GivesMade, GivesFirst, WalksOn}
 use Rattle.chumsky_parse_iter.proofs.WalkLemmas.{yes_of}
 
 module _ {Tok Cx St Er V : Type 0} (quiet : Type 0) where
@@ -189,7 +189,7 @@ module _ {Tok Cx St Er S V : Type 0} (merged : Er → Er → Er) (safe : Type 0)
       gave_item step y.0 y.1 p same h.1 h.2 k
   gave_fit step false y p h k = let e = h.0 in let no : ⊥ = cc in absurd no
 
-  gave_by : (step : Meaning Tok Cx St Er (Next S V)) (a : Result (Option (V × S)) Fault) (p : Phase S) → Ran merged safe step true old new (with_next a) → Counted n a (Some x) p m → Gave step p
+  gave_by : (step : Meaning Tok Cx St Er (Next S V)) (a : Result (Option (V × S)) Fault) (p : Phase S) → Ran merged safe step true old new (with_next a) → GivesCounted n a (Some x) p m → Gave step p
   gave_by step (Ok (Some y)) p h c = gave_fit step (nat_lt (n + 1) (2 ^ 64)) y p c h
   gave_by step (Ok None) p h c = let e = c.0 in let no : ⊥ = cc in absurd no
   gave_by step (Err f) p h c = let e = c.0 in let no : ⊥ = cc in absurd no
@@ -299,7 +299,7 @@ module _ {Tok Cx St Er S V T K : Type 0} (merged : Er → Er → Er) (safe : Typ
     ended_fit true y r i h = let e = h.0 in let no : ⊥ = cc in absurd no
     ended_fit false y r i h = absurd (faulted rs v u (fault.Stop CountTooLarge) calls h.1 done)
 
-    ended_by : (a : Result (Option (V × S)) Fault) → Ran merged safe step true (holds_at w) (holds_at v) (with_next a) → Counted (given w) a None (phase v) (given v) → given u ≡ given w + left
+    ended_by : (a : Result (Option (V × S)) Fault) → Ran merged safe step true (holds_at w) (holds_at v) (with_next a) → GivesCounted (given w) a None (phase v) (given v) → given u ≡ given w + left
     ended_by (Ok (Some y)) h c = ended_fit (nat_lt (given w + 1) (2 ^ 64)) y None refl c
     ended_by (Ok None) h c =
         let l : left ≡ 0 = none h.outcome h.meant (yes_of h.outcome.verdict (Some End) h.answered) in

@@ -19,10 +19,10 @@ use Rattle.chumsky_parser.specs.Items.{Next, More, End, AfterStep}
 use Rattle.chumsky_parser.proofs.ChainedLemmas.{failed, chained, ran-asked, ran-weaker, same_run-trans}
 use Rattle.chumsky_parse_iter.specs.declared.parse_iter.Phase.{Phase}
 use Rattle.chumsky_parse_iter.specs.declared.parse_iter.Phase.TheVariants.{Unbegun, Running, Ended, Refused}
-use Rattle.chumsky_parse_iter.specs.Finish.{Closing, Succeeding, RanFor, AfterCall, Takes, TakesMade, WholeWalk, Called, AnswersTheWhole}
+use Rattle.chumsky_parse_iter.specs.Finish.{Closing, Succeeding, RanFor, AfterCall, WalkFrom, WalkMade, WholeWalk, Called, AnswersTheWhole}
 use Rattle.chumsky_parse_iter.proofs.FinishLemmas.{answers-whole}
 use Rattle.chumsky_primitive.specs.End.{MeansEnd}
-use Rattle.chumsky_parse_iter.specs.Walk.{with_next, Counted, GivesMade, GivesFirst, Steps, WalksOn}
+use Rattle.chumsky_parse_iter.specs.Walk.{with_next, GivesCounted, GivesMade, GivesFirst, Steps, WalksOn}
 
 module _ {Tok Cx St Er : Type 0} where
   -- a fault that stands, where nothing more is run
@@ -184,17 +184,17 @@ module _ {Tok Cx St Er S V : Type 0} (begins : Meaning Tok Cx St Er S) (gives : 
   -- what is left of a run: items are asked for by calls that gave this, after n items
   abbrev pub Remains : List (Option V) → ℕ → Phase S → Meaning Tok Cx St Er (Unit {0})
   Remains rs n Unbegun = WholeWalk begins gives ending rs
-  Remains rs n (Running s) = Takes begins gives ending rs n s
+  Remains rs n (Running s) = WalkFrom begins gives ending rs n s
   Remains rs n Ended = ending
   Remains rs n (Refused f) = Standing f
 
   -- a step, and then the calls after it
   abbrev Called_on : Option V → List (Option V) → ℕ → Meaning Tok Cx St Er (Next S V) → Meaning Tok Cx St Er (Unit {0})
-  Called_on r rs n step = Chained (Asked true (RanFor r step)) (AfterCall r n (Takes begins gives ending rs (n + 1)) ending)
+  Called_on r rs n step = Chained (Asked true (RanFor r step)) (AfterCall r n (WalkFrom begins gives ending rs (n + 1)) ending)
 
   whole_first : (r : Option V) (rs : List (Option V)) (b : Beginning Tok Cx St) (o : Outcome (Unit {0}) Er St) → Called_on r rs 0 (GivesFirst begins gives) b o → WholeWalk begins gives ending (r ∷ rs) b o
-  whole_first (Some x) rs b o m = regrouped_yes begins gives (AfterCall (Some x) 0 (Takes begins gives ending rs 1) ending) (TakesMade begins gives ending (Some x ∷ rs)) (λ s c t z. z) b o m
-  whole_first None rs b o m = regrouped begins gives (AfterCall None 0 (Takes begins gives ending rs 1) ending) (TakesMade begins gives ending (None ∷ rs)) (λ s c t z. z) b o m
+  whole_first (Some x) rs b o m = regrouped_yes begins gives (AfterCall (Some x) 0 (WalkFrom begins gives ending rs 1) ending) (WalkMade begins gives ending (Some x ∷ rs)) (λ s c t z. z) b o m
+  whole_first None rs b o m = regrouped begins gives (AfterCall None 0 (WalkFrom begins gives ending rs 1) ending) (WalkMade begins gives ending (None ∷ rs)) (λ s c t z. z) b o m
 
 module _ {Tok Cx St Er S V : Type 0} (merged : Er → Er → Er) (safe : Type 0) (begins : Meaning Tok Cx St Er S) (gives : S → Meaning Tok Cx St Er (Next S V)) (ending : Meaning Tok Cx St Er (Unit {0})) where
   module _ (rs : List (Option V)) (n : ℕ) (old mid new : Held Tok Cx St Er) (x : Result (Option (Unit {0})) Fault) where
@@ -204,16 +204,16 @@ module _ {Tok Cx St Er S V : Type 0} (merged : Er → Er → Er) (safe : Type 0)
     counted_on : (step : Meaning Tok Cx St Er (Next S V)) (fit : Bool) → nat_lt (n + 1) (2 ^ 64) ≡ fit → (s : S) (v : V) (r : Option V) (p : Phase S) (m : ℕ) → MatchBool fit ((r ≡ Some v) × (p ≡ Running s) × (m ≡ n + 1)) ((r ≡ None) × (p ≡ Refused (fault.Stop CountTooLarge)) × (m ≡ n))
         → Ran merged safe step true old mid (Ok (Some (More (Some v) s))) → Ran merged safe (Remains begins gives ending rs m p) false mid new x → On r step
     counted_on step true e s v r p m h k g =
-        let on : Ran merged safe (Takes begins gives ending rs (n + 1) s) false mid new x = rw (h.1, h.2) at g in
-        let next : Ran merged safe (AfterCall (Some v) n (Takes begins gives ending rs (n + 1)) ending (Some (More (Some v) s))) false mid new x = ran-weaker merged safe (Takes begins gives ending rs (n + 1) s) _ false mid new x (λ o t. (refl, e, t)) on in
+        let on : Ran merged safe (WalkFrom begins gives ending rs (n + 1) s) false mid new x = rw (h.1, h.2) at g in
+        let next : Ran merged safe (AfterCall (Some v) n (WalkFrom begins gives ending rs (n + 1)) ending (Some (More (Some v) s))) false mid new x = ran-weaker merged safe (WalkFrom begins gives ending rs (n + 1) s) _ false mid new x (λ o t. (refl, e, t)) on in
         subst (λ q. On q step) (sym h.0) (chained (ran-asked (ran-succeeding k)) refl next)
     counted_on step false e s v r p m h k g =
         let on : Ran merged safe (Stops CountTooLarge) false mid new x = rw (h.1) at g in
-        let next : Ran merged safe (AfterCall None n (Takes begins gives ending rs (n + 1)) ending (Some (More (Some v) s))) false mid new x = ran-weaker merged safe (Stops CountTooLarge) _ false mid new x (λ o t. (e, t)) on in
+        let next : Ran merged safe (AfterCall None n (WalkFrom begins gives ending rs (n + 1)) ending (Some (More (Some v) s))) false mid new x = ran-weaker merged safe (Stops CountTooLarge) _ false mid new x (λ o t. (e, t)) on in
         subst (λ q. On q step) (sym h.0) (chained (ran-asked k) refl next)
 
     -- a step, and then what is left
-    steps_on : (step : Meaning Tok Cx St Er (Next S V)) (a : Result (Option (V × S)) Fault) (r : Option V) (p : Phase S) (m : ℕ) → Ran merged safe step true old mid (with_next a) → Counted n a r p m → Ran merged safe (Remains begins gives ending rs m p) false mid new x → On r step
+    steps_on : (step : Meaning Tok Cx St Er (Next S V)) (a : Result (Option (V × S)) Fault) (r : Option V) (p : Phase S) (m : ℕ) → Ran merged safe step true old mid (with_next a) → GivesCounted n a r p m → Ran merged safe (Remains begins gives ending rs m p) false mid new x → On r step
     steps_on step (Ok (Some y)) r p m h c g = counted_on step (nat_lt (n + 1) (2 ^ 64)) refl y.1 y.0 r p m c h g
     steps_on step (Ok None) r p m h c g =
         let on : Ran merged safe ending false mid new x = rw (c.1) at g in
@@ -238,7 +238,7 @@ module _ {Tok Cx St Er S V : Type 0} (merged : Er → Er → Er) (safe : Type 0)
   begun_by true y r q n m h e = let f = h.1 in cc
   begun_by false y r q n m h e = let f = h.1 in cc
 
-  counted_begun : (a : Result (Option (V × S)) Fault) (n : ℕ) (r : Option V) (q : Phase S) (m : ℕ) → Counted n a r q m → q ≡ Unbegun → ⊥
+  counted_begun : (a : Result (Option (V × S)) Fault) (n : ℕ) (r : Option V) (q : Phase S) (m : ℕ) → GivesCounted n a r q m → q ≡ Unbegun → ⊥
   counted_begun (Ok (Some y)) n r q m c e = begun_by (nat_lt (n + 1) (2 ^ 64)) y r q n m c e
   counted_begun (Ok None) n r q m c e = let f = c.1 in cc
   counted_begun (Err z) n r q m c e = let f = c.1 in cc

@@ -38,7 +38,7 @@ module _ {I Tok Sp Cu Er St Mk Cx : Type 0} (source : input_trait.Ghosts I Cu To
   Closing (Refused (fault.Stop s)) = Stops s
 
   -- the run closes, and a failure adds its last error to those that were emitted: the state and the errors that it leaves
-  pub record Closes (closing : Meaning Tok Cx states.Seen errors.Seen (Unit {0})) (old : Held Tok Cx states.Seen errors.Seen) (state : states.Seen) (found : List errors.Seen) (result : Result (Option (Unit {0})) Stop) : Type 0 where
+  pub record ClosesWith (closing : Meaning Tok Cx states.Seen errors.Seen (Unit {0})) (old : Held Tok Cx states.Seen errors.Seen) (state : states.Seen) (found : List errors.Seen) (result : Result (Option (Unit {0})) Stop) : Type 0 where
     pub answer : Result (Unit {0}) Fault
     pub mid : Held Tok Cx states.Seen errors.Seen
     pub left : Held Tok Cx states.Seen errors.Seen
@@ -58,14 +58,14 @@ module _ {I Tok Sp Cu Er St Mk Cx S R : Type 0} (source : input_trait.Ghosts I C
   pub record Finishes (phase : Phase S) (old : Held Tok Cx states.Seen errors.Seen) (out : R) (state : states.Seen) (result : Result (ParseResult R Er) Stop) : Type 0 where
     pub found : List errors.Seen
     pub closed : Result (Option (Unit {0})) Stop
-    pub closes : Closes source errors states (Closing source errors states phase) old state found closed
+    pub closes : ClosesWith source errors states (Closing source errors states phase) old state found closed
     pub replies : Replies errors out found closed result
 
 module _ {I Tok Sp Cu Er St Mk Cx S : Type 0} (source : input_trait.Ghosts I Cu Tok Sp) (errors : error_trait.Ghosts Er I Tok Sp) (states : inspector_trait.Ghosts St I Mk Tok Sp) where
   -- a run closes from a cursor, older errors and a state, under a context: the state and the errors that it leaves
   abbrev pub ClosesFrom : Phase S → Cu → Aside Er → St → Cx → St → List Er → Result (Option (Unit {0})) Stop → Type 0
   ClosesFrom phase cursor older state context left found closed =
-      Closes source errors states (Closing source errors states phase) (held_of source errors states cursor older state context) (states.seen left) (map errors.seen found) closed
+      ClosesWith source errors states (Closing source errors states phase) (held_of source errors states cursor older state context) (states.seen left) (map errors.seen found) closed
 
   -- the same of what a run holds, which is answered with this output
   abbrev pub FinishesRun : {R : Type 0} → Phase S → Parts Cu Er St Cx → R → St → Result (ParseResult R Er) Stop → Type 0
@@ -112,19 +112,20 @@ module _ {Tok Cx St Er S V : Type 0} where
   AfterCall None n on ending = AfterStep (λ v t b o. (nat_lt (n + 1) (2 ^ 64) ≡ false) × Stops CountTooLarge b o) ending
 
 module _ {Tok Cx St Er S V : Type 0} (begins : Meaning Tok Cx St Er S) (gives : S → Meaning Tok Cx St Er (Next S V)) (ending : Meaning Tok Cx St Er (Unit {0})) where
-  -- items are asked for by calls that gave this, after n items; then, or after an end before that, it ends
-  abbrev pub Takes : List (Option V) → ℕ → S → Meaning Tok Cx St Er (Unit {0})
-  Takes [] n s = ending
-  Takes (r ∷ rs) n s = Chained (Asked true (RanFor r (gives s))) (AfterCall r n (Takes rs (n + 1)) ending)
+  -- a walk on from after n items: the items are asked for by calls that gave this; then, or after an end before that, it ends
+  abbrev pub WalkFrom : List (Option V) → ℕ → S → Meaning Tok Cx St Er (Unit {0})
+  WalkFrom [] n s = ending
+  WalkFrom (r ∷ rs) n s = Chained (Asked true (RanFor r (gives s))) (AfterCall r n (WalkFrom rs (n + 1)) ending)
 
-  abbrev pub TakesMade : List (Option V) → Option S → Meaning Tok Cx St Er (Unit {0})
-  TakesMade rs (Some s) = Takes rs 0 s
-  TakesMade rs None = λ b o. ⊥
+  -- the same of an iteration that was made, from its first item on
+  abbrev pub WalkMade : List (Option V) → Option S → Meaning Tok Cx St Er (Unit {0})
+  WalkMade rs (Some s) = WalkFrom rs 0 s
+  WalkMade rs None = λ b o. ⊥
 
   -- a whole run of calls that gave this: where there is any, an iteration is made first
   abbrev pub WholeWalk : List (Option V) → Meaning Tok Cx St Er (Unit {0})
   WholeWalk [] = ending
-  WholeWalk (r ∷ rs) = Chained (Asked true (RanFor r begins)) (TakesMade (r ∷ rs))
+  WholeWalk (r ∷ rs) = Chained (Asked true (RanFor r begins)) (WalkMade (r ∷ rs))
 
 module _ {I Tok Sp Cu Er V R : Type 0} (source : input_trait.Ghosts I Cu Tok Sp) (errors : error_trait.Ghosts Er I Tok Sp) where
   -- the errors of an answer, beside an output that is there in any case

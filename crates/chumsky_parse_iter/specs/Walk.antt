@@ -44,13 +44,13 @@ with_next (Ok None) = Ok (Some End)
 with_next (Err f) = Err f
 
 -- what is given of the answer after n items: an item that can still be counted, and else none; and where the run stands then
-abbrev pub Counted : {S V : Type 0} → ℕ → Result (Option (V × S)) Fault → Option V → Phase S → ℕ → Type 0
-Counted n (Ok (Some x)) r p m =
+abbrev pub GivesCounted : {S V : Type 0} → ℕ → Result (Option (V × S)) Fault → Option V → Phase S → ℕ → Type 0
+GivesCounted n (Ok (Some x)) r p m =
     MatchBool (nat_lt (n + 1) (2 ^ 64))
     ((r ≡ Some x.0) × (p ≡ Running x.1) × (m ≡ n + 1))
     ((r ≡ None) × (p ≡ Refused (fault.Stop CountTooLarge)) × (m ≡ n))
-Counted n (Ok None) r p m = (r ≡ None) × (p ≡ Ended) × (m ≡ n)
-Counted n (Err f) r p m = (r ≡ None) × (p ≡ Refused f) × (m ≡ n)
+GivesCounted n (Ok None) r p m = (r ≡ None) × (p ≡ Ended) × (m ≡ n)
+GivesCounted n (Err f) r p m = (r ≡ None) × (p ≡ Refused f) × (m ≡ n)
 
 -- before the first step the parser may be run, and then its iteration may be asked
 abbrev pub MayStep : {S : Type 0} → Type 0 → (S → Type 0) → Option S → Type 0
@@ -84,7 +84,7 @@ module _ {Tok Cx St Er S V : Type 0} (merged : Er → Er → Er) (safe : Type 0)
   pub record Steps (step : Meaning Tok Cx St Er (Next S V)) (old : Held Tok Cx St Er) (n : ℕ) (r : Option V) (p : Phase S) (new : Held Tok Cx St Er) (m : ℕ) : Type 0 where
     pub answer : Result (Option (V × S)) Fault
     pub ran : Ran merged safe step true old new (with_next answer)
-    pub counted : Counted n answer r p m
+    pub counted : GivesCounted n answer r p m
 
   module _ (begins : Meaning Tok Cx St Er S) (gives : S → Meaning Tok Cx St Er (Next S V)) where
     -- one call of `next`, after n items: after an end, a failure and a refusal nothing is done

@@ -1,7 +1,7 @@
 //! An iterator over the items of a parser.
 ghost use Rattle.std.specs.Prelude.{◌≡◌, ◌-◌, ◌^◌, false};
 ghost use Rattle.std.specs.Iterator.{at_most};
-ghost use Rattle.chumsky_parse_iter.specs.Walk.{held_in, MayWalk, WalksOn, Counted, BeginsWhole};
+ghost use Rattle.chumsky_parse_iter.specs.Walk.{held_in, MayWalk, WalksOn, GivesCounted, BeginsWhole};
 ghost use Rattle.chumsky_parse_iter.specs.Finish.{FinishesRun};
 
 use crate::close::{Closed, close_from};
@@ -51,7 +51,7 @@ fn settle<O: Drop, S: Drop>(
     phase: &mut Phase<S>,
     given: &mut usize,
 ) -> Option<O>
-    ensures { Counted given.old answer result phase.new given.new }
+    ensures { GivesCounted given.old answer result phase.new given.new }
 {
     match answer {
         Ok(Some((item, iteration))) => {

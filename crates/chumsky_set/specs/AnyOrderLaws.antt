@@ -181,17 +181,17 @@ module _ {Tok Cx St Er T V : Type 0} (row : Row Tok Cx St Er T V) where
   Fewer n t b o = (rounds : List T) × (length rounds ≤ n) × Rounds row rounds t b o
 
   -- what follows the first of some rounds
-  abbrev AfterFirst : T → List T → Option T → Meaning Tok Cx St Er V
-  AfterFirst t [] v b o = TookNone row t v b o
-  AfterFirst t (u ∷ us) v b o = TookSome row t u (Rounds row us u) v b o
+  abbrev AfterFirstRound : T → List T → Option T → Meaning Tok Cx St Er V
+  AfterFirstRound t [] v b o = TookNone row t v b o
+  AfterFirstRound t (u ∷ us) v b o = TookSome row t u (Rounds row us u) v b o
 
-  from_first : (us : List T) (t : T) (b : Beginning Tok Cx St) (p : Outcome T Er St) (o : Outcome V Er St) → row.pass t b p → Follows p.verdict (AfterFirst t us) b p o → Rounds row us t b o
+  from_first : (us : List T) (t : T) (b : Beginning Tok Cx St) (p : Outcome T Er St) (o : Outcome V Er St) → row.pass t b p → Follows p.verdict (AfterFirstRound t us) b p o → Rounds row us t b o
   from_first [] t b p o m f = record { first = p; meant = m; follows = f }
   from_first (u ∷ us) t b p o m f = record { first = p; meant = m; follows = f }
 
   first-fewer : (u : T) (us : List T) (n : ℕ) (t : T) → row.left t ≤ n → ((k : ℕ) → row.left u ≤ k → (b : Beginning Tok Cx St) (o : Outcome V Er St) → Rounds row us u b o → Fewer k u b o)
       → (v : Verdict T Er) (b : Beginning Tok Cx St) (p : Outcome T Er St) (o : Outcome V Er St) → Follows v (TookSome row t u (Rounds row us u)) b p o
-      → (rounds : List T) × (length rounds ≤ n) × Follows v (AfterFirst t rounds) b p o
+      → (rounds : List T) × (length rounds ≤ n) × Follows v (AfterFirstRound t rounds) b p o
   first-fewer u us zero t l h (Yes (Some w)) b p o (q, m, e) = absurd (omega (arith, l, m.1))
   first-fewer u us (suc n) t l h (Yes (Some w)) b p o (q, m, e) =
       let k = ap (λ (x : T). row.left x) m.0 in
