@@ -14,6 +14,7 @@ use Rattle.chumsky_rules.specs.declared.kinds.NodeKind.TheVariants.{Leaf, Rule, 
 use Rattle.chumsky_rules.specs.Tables.{Tables}
 use Rattle.chumsky_rules.specs.Empty.{IsNode}
 use Rattle.chumsky_recursive.specs.declared.actions.Actions as actions_trait
+use Rattle.chumsky_recursive.specs.declared.grammar.Grammar.{Grammar}
 use Rattle.chumsky_recursive.specs.Calls.{TakesNoMemory}
 use Rattle.chumsky_recursive.specs.Going.{SucceedsBy, node-goes, call-goes}
 use Rattle.chumsky_recursive.specs.Means.{Acts, Made, MadeOf, has_others, waited, is_leaf, waits_for_parts, kind_means, known_means, node_means, body_means, call_means}
@@ -133,10 +134,10 @@ module _ {I Tok Sp Cu Er St Mk Cx V : Type 0} (source : input_trait.Ghosts I Cu 
   call-asks zero r b o w m h = absurd (deep_memory o (ap (λ (z : Outcome V errors.Seen states.Seen). z.verdict) m) h)
   call-asks (suc more) r b o w m h = body-asks (call_means source errors states a g more) (call-goes Reach Reach-refl Reach-trans source errors states a within g more) (call-asks more) (slice_get g.bodies r) b o w m h
 
-module _ {A I X V Cu Tok Sp Er St Cx Mk : Type 0} (errors : error_trait.Ghosts Er I Tok Sp) (states : inspector_trait.Ghosts St I Mk Tok Sp) (actions : actions_trait.Ghosts A I X V Cu Tok Sp Er St Cx Mk) (self : A) (g : Tables) where
+module _ {A I X V Cu Tok Sp Er St Cx Mk : Type 0} (errors : error_trait.Ghosts Er I Tok Sp) (states : inspector_trait.Ghosts St I Mk Tok Sp) (actions : actions_trait.Ghosts A I X V Cu Tok Sp Er St Cx Mk) (grammar : Grammar A) where
   -- begun at a place of its tokens, it is refused for memory only where a leaf is, or errors take memory, or a value is wanted and its
   -- function may take some
   abbrev pub HaltsForMemory : Does I Tok Sp Er St Mk Cx V → Type 0
   HaltsForMemory m =
       (b : Beginning Tok Cx states.Seen) (o : Outcome V errors.Seen states.Seen) → b.start ≤ length b.tokens → m errors states b o → o.verdict ≡ Halt Memory
-      → LeafHalts (λ n. actions.leaf_meaning self n errors states) g b.tokens Memory ⊎ (errors.takes_no_memory → ⊥) ⊎ ((b.wanted ≡ true) × CallsAsk g (actions.takes_no_memory self))
+      → LeafHalts (λ n. actions.leaf_meaning grammar.actions.now n errors states) grammar.rules.rules.now b.tokens Memory ⊎ (errors.takes_no_memory → ⊥) ⊎ ((b.wanted ≡ true) × CallsAsk grammar.rules.rules.now (actions.takes_no_memory grammar.actions.now))

@@ -2,7 +2,7 @@
 ghost use Rattle.std.specs.Prelude.{◌≡◌, ◌+◌, ◌*◌, length, IfOk, IfErr};
 ghost use Rattle.chumsky_rules.specs.Closed.{RefusesToClose};
 ghost use Rattle.chumsky_recursive.specs.Moving.{answers_of};
-ghost use Rattle.chumsky_recursive.specs.Refused.{IsRefusedAsLeaves};
+ghost use Rattle.chumsky_recursive.specs.Refused.{HaltsOnlyAsLeaves};
 ghost use Rattle.chumsky_recursive.specs.Unfounded.{AreFounded, RefusesFounded};
 
 use crate::actions::Actions;
@@ -46,7 +46,7 @@ pub trait CloseRules<'src, I: Input<'src>, E: ParserExtra<I>, A: Actions<'src, I
         ensures given { IfOk result (λ p. (p.actions.now ≡ actions.now) × (p.limit ≡ length (tables self.now).bodies * (tokens + 1))) }
         ensures ready { IfOk result (λ p. p.rules.leaves ≡ A.leaf_count p.actions.now) }
         ensures founded { IfOk result (λ p. AreFounded p.rules.rules.now (answers_of (A.leaf_may_be_empty p.actions.now) (A.leaf_count p.actions.now))) }
-        ensures stands { IfOk result (λ p. IsRefusedAsLeaves (λ n. A.leaf_meaning p.actions.now n E.Error.Error E.State.Inspector) p.rules.rules.now tokens (⟦<Grammar<'r, A> as Parser<'src, I, A::Value, E>>⟧.meaning p E.Error.Error E.State.Inspector)) }
+        ensures stands { IfOk result (λ p. HaltsOnlyAsLeaves E.Error.Error E.State.Inspector A.Actions p tokens (⟦<Grammar<'r, A> as Parser<'src, I, A::Value, E>>⟧.meaning p)) }
         ensures refused { IfErr result (RefusesFounded (tables self.now) (answers_of (A.leaf_may_be_empty actions.now) (A.leaf_count actions.now)) start (A.leaf_count actions.now) tokens) };
 }
 

@@ -3,7 +3,7 @@ ghost use Rattle.std.specs.Prelude.{◌≡◌, ◌+◌, ◌*◌, length, IfOk, I
 ghost use Rattle.chumsky_input.specs.Run.{Runs, with_value, without_value};
 ghost use Rattle.chumsky_rules.specs.Founded.{IsOrder};
 ghost use Rattle.chumsky_recursive.specs.Moving.{answers_of};
-ghost use Rattle.chumsky_recursive.specs.Refused.{IsRefusedAsLeaves, FailsAsLeaves};
+ghost use Rattle.chumsky_recursive.specs.Refused.{HaltsOnlyAsLeaves, FailsAsLeaves};
 ghost use Rattle.chumsky_recursive.specs.Unfounded.{AreFounded, RefusesOrder, RefusesFounded};
 ghost use Rattle.chumsky_recursive.specs.declared.founded.FoundedError.TheVariants as founded_error;
 
@@ -69,7 +69,7 @@ pub fn close_founded<'r, 'src, I: Input<'src>, E: ParserExtra<I>, A: Actions<'sr
     ensures given { IfOk result (λ p. (p.actions.now ≡ actions.now) × (p.limit ≡ length rules.now.bodies * (tokens + 1))) }
     ensures ready { IfOk result (λ p. p.rules.leaves ≡ A.leaf_count p.actions.now) }
     ensures founded { IfOk result (λ p. AreFounded p.rules.rules.now (answers_of (A.leaf_may_be_empty p.actions.now) (A.leaf_count p.actions.now))) }
-    ensures stands { IfOk result (λ p. IsRefusedAsLeaves (λ n. A.leaf_meaning p.actions.now n E.Error.Error E.State.Inspector) p.rules.rules.now tokens (⟦<Grammar<'r, A> as Parser<'src, I, A::Value, E>>⟧.meaning p E.Error.Error E.State.Inspector)) }
+    ensures stands { IfOk result (λ p. HaltsOnlyAsLeaves E.Error.Error E.State.Inspector A.Actions p tokens (⟦<Grammar<'r, A> as Parser<'src, I, A::Value, E>>⟧.meaning p)) }
     ensures refused { IfErr result (RefusesFounded rules.now (answers_of (A.leaf_may_be_empty actions.now) (A.leaf_count actions.now)) start (A.leaf_count actions.now) tokens) }
 {
     let mut grammar = match close::<I, E, A>(rules, start, actions, 0) {
@@ -126,7 +126,7 @@ pub fn emit_founded<'r, 'src, I: Input<'src>, E: ParserExtra<I>, A: Actions<'src
     inp: &mut InputRef<'src, '_, I, E>,
 ) -> PResult<A::Value>
     requires ready { ⟦<Grammar<'r, A> as Parser<'src, I, A::Value, E>>⟧.ready grammar.now }
-    requires stands { IsRefusedAsLeaves (λ n. A.leaf_meaning grammar.now.actions.now n E.Error.Error E.State.Inspector) grammar.now.rules.rules.now tokens (⟦<Grammar<'r, A> as Parser<'src, I, A::Value, E>>⟧.meaning grammar.now E.Error.Error E.State.Inspector) }
+    requires stands { HaltsOnlyAsLeaves E.Error.Error E.State.Inspector A.Actions grammar.now tokens (⟦<Grammar<'r, A> as Parser<'src, I, A::Value, E>>⟧.meaning grammar.now) }
     requires few { length (I.cursor_tokens inp.old.cursor) ≤ tokens }
     ensures ran { Runs I.Input E.Error.Error E.State.Inspector (⟦<Grammar<'r, A> as Parser<'src, I, A::Value, E>>⟧.meaning grammar.now E.Error.Error E.State.Inspector) true inp.old inp.new (with_value result) }
     ensures refused { IfErr result (FailsAsLeaves (λ n. A.leaf_meaning grammar.now.actions.now n E.Error.Error E.State.Inspector) grammar.now.rules.rules.now (I.cursor_tokens inp.old.cursor)) }
@@ -143,7 +143,7 @@ pub fn check_founded<'r, 'src, I: Input<'src>, E: ParserExtra<I>, A: Actions<'sr
     inp: &mut InputRef<'src, '_, I, E>,
 ) -> PResult<()>
     requires ready { ⟦<Grammar<'r, A> as Parser<'src, I, A::Value, E>>⟧.ready grammar.now }
-    requires stands { IsRefusedAsLeaves (λ n. A.leaf_meaning grammar.now.actions.now n E.Error.Error E.State.Inspector) grammar.now.rules.rules.now tokens (⟦<Grammar<'r, A> as Parser<'src, I, A::Value, E>>⟧.meaning grammar.now E.Error.Error E.State.Inspector) }
+    requires stands { HaltsOnlyAsLeaves E.Error.Error E.State.Inspector A.Actions grammar.now tokens (⟦<Grammar<'r, A> as Parser<'src, I, A::Value, E>>⟧.meaning grammar.now) }
     requires few { length (I.cursor_tokens inp.old.cursor) ≤ tokens }
     ensures ran { Runs I.Input E.Error.Error E.State.Inspector (⟦<Grammar<'r, A> as Parser<'src, I, A::Value, E>>⟧.meaning grammar.now E.Error.Error E.State.Inspector) false inp.old inp.new (without_value result) }
     ensures refused { IfErr result (FailsAsLeaves (λ n. A.leaf_meaning grammar.now.actions.now n E.Error.Error E.State.Inspector) grammar.now.rules.rules.now (I.cursor_tokens inp.old.cursor)) }
