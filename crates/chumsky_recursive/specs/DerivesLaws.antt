@@ -25,6 +25,7 @@ module _ {I Tok Sp Cu Er St Mk Cx V : Type 0} (source : input_trait.Ghosts I Cu 
     leaf_stays : (p n : ℕ) → StaysIn (λ q. p ≤ q) (a.leaf n)
     leaf_stays p n b o m v y i = let e = ends.leaf n b o m (subst IsAnswer (sym y) tt) in omega arith
 
+    -- each answer of a call is one of calls that begin no earlier than the calls that make them
     pub calls-onward : (more r : ℕ) → HasAnswers (call_means source errors states a g more r) (calls_along source errors states a (λ outer inner. outer ≤ inner) g more r)
     unfolding call_means calls_along
     calls-onward zero r b o y m = m
