@@ -1,9 +1,10 @@
 -- Marks of patterns, by their buckets.
-use Rattle.std.proofs.Common.{◌≡◌, ℕ, ◌%◌, ◌^◌, ◌-◌, bit_and, bit_or, Bool, true, false, cond, ◌||◌, List, [], ◌∷◌, ◌++◌, refl, ap, sym, ◌∙◌, arith}
+use Rattle.std.proofs.Common.{◌≡◌, ℕ, ◌+◌, ◌%◌, ◌^◌, ◌-◌, ◌<◌, bit_and, bit_or, Bool, true, false, cond, ◌||◌, List, [], ◌∷◌, ◌++◌, length, take, get_or, refl, ap, sym, subst, ◌∙◌, arith}
 use Rattle.std.specs.Int.{bit_at}
 use Rattle.std.specs.List.{list_any}
 use Rattle.std.proofs.lemmas.Nat.Bits.{bit_at_and, bit_at_or, bit_at-zero, bit_at-lt, bit_at_ones}
 use Rattle.std.proofs.lemmas.Nat.{mod_below}
+use Rattle.std.proofs.lemmas.List.{take_more}
 use Rattle.chumsky_input.specs.Same.{IsBucket}
 use Rattle.chumsky_input.specs.Wanted.{Wanted, Token, Any, SomethingElse, NothingElse, EndOfInput, Label, wanted_same}
 use Rattle.chumsky_input.specs.declared.rich.RichPattern.{RichPattern}
@@ -86,9 +87,15 @@ module _ {T : Type 0} (eq : T → T → Bool) (bucket : T → ℕ) where
   pub pattern-new : (marks m : ℕ) (p : RichPattern T) (ps : List (RichPattern T)) → bit_and marks m ≡ 0 → Marks eq bucket (pattern_wanted p) m → AreMarked bucket marks ps → ps ++ p ∷ [] ≡ add_new (pattern_same eq) ps (p ∷ [])
   pattern-new marks m p ps none h f = sym (ap (λ b. cond b ps (ps ++ p ∷ [])) (none_same marks m p ps none h f))
 
+  -- the patterns, and one more with its mark
+  marked-more : (marks m : ℕ) (p : RichPattern T) (ps : List (RichPattern T)) → Marks eq bucket (pattern_wanted p) m → AreMarked bucket marks ps → AreMarked bucket (bit_or marks m) (ps ++ p ∷ [])
+  marked-more marks m p ps h f = one-more bucket (bit_or marks m) p ps (or_sets marks m (wanted_bucket bucket (pattern_wanted p)) (marks_own (pattern_wanted p) m h)) (more-marked bucket marks m ps f)
+
   -- the patterns, and one more with its mark, where it is new
   pub pattern-marked : (marks m : ℕ) (p : RichPattern T) (ps : List (RichPattern T)) → Marks eq bucket (pattern_wanted p) m → AreMarked bucket marks ps → AreMarked bucket (bit_or marks m) (add_new (pattern_same eq) ps (p ∷ []))
   pattern-marked marks m p ps h f =
-      let kept = more-marked bucket marks m ps f in
-      let own = or_sets marks m (wanted_bucket bucket (pattern_wanted p)) (marks_own (pattern_wanted p) m h) in
-      elim (list_any (λ x. pattern_same eq x p) ps) as (λ b. AreMarked bucket (bit_or marks m) (cond b ps (ps ++ p ∷ []))) [ true ↦ kept | false ↦ one-more bucket (bit_or marks m) p ps own kept ]
+      elim (list_any (λ x. pattern_same eq x p) ps) as (λ b. AreMarked bucket (bit_or marks m) (cond b ps (ps ++ p ∷ []))) [ true ↦ more-marked bucket marks m ps f | false ↦ marked-more marks m p ps h f ]
+
+  -- the patterns before place i, and the one there with its mark
+  pub marked-next : (marks m i : ℕ) (p : RichPattern T) (ps : List (RichPattern T)) → i < length ps → p ≡ get_or ps i p → Marks eq bucket (pattern_wanted p) m → AreMarked bucket marks (take i ps) → AreMarked bucket (bit_or marks m) (take (i + 1) ps)
+  marked-next marks m i p ps l is h f = subst (λ t. AreMarked bucket (bit_or marks m) t) (sym (take_more ps i p l ∙ ap (λ q. take i ps ++ q ∷ []) (sym is))) (marked-more marks m p (take i ps) h f)

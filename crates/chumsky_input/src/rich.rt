@@ -334,14 +334,30 @@ fn bucket_bit(bucket: u32) -> u128
     1 << (bucket % 128)
 }
 
-/// Appends the items of `others` that `items` lacks.
-fn append_new<P: PartialEq + Drop>(items: &mut Vec<P>, others: Vec<P>) -> Result<(), AllocError>
-    ensures { OnOk result (items.new.items ≡ add_new P.eq items.old.items others.items) }
+/// Appends the patterns of `others` that `patterns` lacks. One in a bucket of its own is compared with none.
+fn append_new<T: SameClone + Drop>(
+    patterns: &mut Vec<RichPattern<T>>,
+    others: Vec<RichPattern<T>>,
+) -> Result<(), AllocError>
+    ensures { OnOk result (patterns.new.items ≡ add_new (pattern_same T.eq) patterns.old.items others.items) }
 {
-    for item in others {
-        push_new(items, item)?;
+    let mut marks = marks_of(patterns.as_slice());
+    for pattern in others {
+        push_pattern(patterns, &mut marks, pattern)?;
     }
     Ok(())
+}
+
+/// The bits of the buckets that the patterns are in.
+#[inline]
+fn marks_of<T: SameClone>(patterns: &[RichPattern<T>]) -> u128
+    ensures { AreMarked T.bucket_of result patterns.now }
+{
+    let mut marks = 0;
+    for pattern in patterns {
+        marks |= mark_of(pattern);
+    }
+    marks
 }
 
 /// Appends an item that `items` lacks.
