@@ -8,6 +8,7 @@ pub mod Empty
 pub mod EmptyLaws
 pub mod OneOf
 pub mod OneOfLaws
+pub mod Tested
 pub mod Select
 pub mod SelectLaws
 pub mod Custom

@@ -5,12 +5,16 @@ use Rattle.std.specs.Fn.{Shared}
 use Rattle.chumsky_input.specs.declared.error.Error as error_trait
 use Rattle.chumsky_input.specs.declared.inspector.Inspector as inspector_trait
 use Rattle.chumsky_input.specs.declared.input.Input as input_trait
+use Rattle.chumsky_input.specs.declared.input_ref.InputRef.{InputRef}
+use Rattle.chumsky_input.specs.declared.input_ref.Checkpoint.{Checkpoint}
 use Rattle.chumsky_input.specs.declared.map_extra.MapExtra.{MapExtra}
+use Rattle.chumsky_input.specs.declared.util.MaybeRef.{MaybeRef}
+use Rattle.chumsky_input.specs.Maybe.{maybe_value}
 use Rattle.chumsky_input.specs.declared.stop.Stop.TheVariants.{Memory}
 use Rattle.chumsky_input.specs.declared.stop.Fault.{Fault}
 use Rattle.chumsky_input.specs.declared.stop.Fault.TheVariants as fault
 use Rattle.chumsky_input.specs.Extra.{Shown, Answers}
-use Rattle.chumsky_input.specs.Held.{Held, Marks}
+use Rattle.chumsky_input.specs.Held.{Held, Marks, held, marks}
 use Rattle.chumsky_input.specs.Run.{Fails, gone_back}
 use Rattle.chumsky_input.specs.Wanted as wanted
 use Rattle.chumsky_input.specs.Outcome.{Meaning, Beginning, Outcome, Yes}
@@ -78,3 +82,8 @@ module _ {I Tok Sp Cu Er St Mk Cx : Type 0} (source : input_trait.Ghosts I Cu To
   abbrev pub MissesFrom : Marks Tok states.Marked → Tok → Held Tok Cx states.Seen errors.Seen → Held Tok Cx states.Seen errors.Seen → Fault → Type 0
   MissesFrom before t old new f =
       ((new ≡ old) × (states.takes_no_memory → ⊥) × (f ≡ fault.Stop Memory)) ⊎ Fails errors.merged errors.takes_no_memory (expects source errors before.tokens (wanted.SomethingElse ∷ []) (Some t) before.place old.place) (gone_back states.back old before) new f
+
+module _ {I X Tok Sp Cu Er St Cx Mk : Type 0} (source : input_trait.Ghosts I Cu Tok Sp) (errors : error_trait.Ghosts Er I Tok Sp) (states : inspector_trait.Ghosts St I Mk Tok Sp) where
+  -- the same of what a run is lent: from the token that was found back to the checkpoint before it
+  abbrev pub MissesToken : Checkpoint Cu Mk → MaybeRef Tok → InputRef I X Cu Tok Sp Er St Cx Mk → InputRef I X Cu Tok Sp Er St Cx Mk → Fault → Type 0
+  MissesToken before found old new result = MissesFrom source errors states (marks source states before) (maybe_value found) (held source errors states old) (held source errors states new) result

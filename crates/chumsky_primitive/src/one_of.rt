@@ -3,9 +3,8 @@ ghost use Rattle.std.specs.Prelude.{◌≡◌, map, option_map};
 ghost use Rattle.std.specs.Option.{option_copied};
 ghost use Rattle.chumsky_input.specs.Held.{held};
 ghost use Rattle.chumsky_input.specs.Maybe.{maybe_value};
-ghost use Rattle.chumsky_input.specs.Run.{Fails};
+ghost use Rattle.chumsky_input.specs.OneCall.{FailsExpecting};
 ghost use Rattle.chumsky_input.specs.Wanted as wanted;
-ghost use Rattle.chumsky_parser.specs.Failure.{expects};
 ghost use Rattle.chumsky_primitive.specs.OneOf.{among, Picks};
 
 use crate::tested::{go_back_from, take};
@@ -103,7 +102,7 @@ fn expect_members<'src, S: Seq<I::Token>, I: Input<'src>, E: ParserExtra<I>>(
 where
     I::Token: PartialEq,
     requires { I.cursor_tokens past.now ≡ (held I.Input E.Error.Error E.State.Inspector inp.old).tokens }
-    ensures fails { Fails E.Error.merged E.Error.takes_no_memory (expects I.Input E.Error.Error (held I.Input E.Error.Error E.State.Inspector inp.old).tokens (map wanted.Token (S.members seq.now)) (option_map maybe_value found.entry) (held I.Input E.Error.Error E.State.Inspector inp.old).place (I.place past.now)) (held I.Input E.Error.Error E.State.Inspector inp.old) (held I.Input E.Error.Error E.State.Inspector inp.new) result }
+    ensures fails { FailsExpecting I.Input E.Error.Error E.State.Inspector (map wanted.Token (S.members seq.now)) found.entry inp.old.cursor past.now inp.old inp.new result }
     ensures lent { inp.new.state.ghost_name ≡ inp.old.state.ghost_name }
 {
     let here = inp.cursor;

@@ -1,11 +1,10 @@
 //! A token that a closure picks.
 ghost use Rattle.std.specs.Prelude.{◌≡◌, Bool};
 ghost use Rattle.chumsky_input.specs.Held.{held, marks};
-ghost use Rattle.chumsky_input.specs.Maybe.{maybe_value};
 ghost use Rattle.chumsky_input.specs.Run.{Runs};
 ghost use Rattle.chumsky_input.specs.Extra.{KeepsState};
 ghost use Rattle.chumsky_parser.specs.Failure.{asked};
-ghost use Rattle.chumsky_primitive.specs.Select.{PicksValue, MeansSelect, MissesFrom};
+ghost use Rattle.chumsky_primitive.specs.Select.{PicksValue, MeansSelect, MissesToken};
 
 use chumsky_input::extra::ParserExtra;
 use chumsky_input::input::{Input, Tokens, ValueInput};
@@ -97,7 +96,7 @@ pub(crate) fn miss<'src, I: Input<'src>, E: ParserExtra<I>>(
     inp: &mut InputRef<'src, '_, I, E>,
 ) -> Fault
     requires { (marks I.Input E.State.Inspector before.now).tokens ≡ (held I.Input E.Error.Error E.State.Inspector inp.old).tokens }
-    ensures misses { MissesFrom I.Input E.Error.Error E.State.Inspector (marks I.Input E.State.Inspector before.now) (maybe_value found.entry) (held I.Input E.Error.Error E.State.Inspector inp.old) (held I.Input E.Error.Error E.State.Inspector inp.new) result }
+    ensures misses { MissesToken I.Input E.Error.Error E.State.Inspector before.now found.entry inp.old inp.new result }
     ensures lent { inp.new.state.ghost_name ≡ inp.old.state.ghost_name }
 {
     let past = inp.cursor;

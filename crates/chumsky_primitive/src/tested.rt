@@ -1,9 +1,6 @@
 //! What the test of a token leads to: the token is taken, or gone back from.
-ghost use Rattle.std.specs.Prelude.{◌≡◌, MatchResult, option_map};
-ghost use Rattle.chumsky_input.specs.Held.{held};
-ghost use Rattle.chumsky_input.specs.Maybe.{maybe_value};
-ghost use Rattle.chumsky_primitive.specs.Just.{told};
-ghost use Rattle.chumsky_primitive.specs.OneOf.{gone_back_from, StaysAt};
+ghost use Rattle.std.specs.Prelude.{◌≡◌};
+ghost use Rattle.chumsky_primitive.specs.Tested.{MovesPast, GoesBackFrom, TellsState};
 
 use chumsky_input::extra::ParserExtra;
 use chumsky_input::input::Input;
@@ -19,7 +16,7 @@ pub fn take<'src, I: Input<'src>, E: ParserExtra<I>>(
     past: I::Cursor,
     inp: &mut InputRef<'src, '_, I, E>,
 )
-    ensures moves { held I.Input E.Error.Error E.State.Inspector inp.new ≡ record (held I.Input E.Error.Error E.State.Inspector inp.old) { tokens = I.cursor_tokens past; place = I.place past; state = E.State.after (held I.Input E.Error.Error E.State.Inspector inp.old).state token.now } }
+    ensures moves { MovesPast I.Input E.Error.Error E.State.Inspector token.now past inp.old inp.new }
     ensures lent { inp.new.state.ghost_name ≡ inp.old.state.ghost_name }
 {
     inp.cursor = past;
@@ -32,7 +29,7 @@ pub fn go_back_from<'src, I: Input<'src>, E: ParserExtra<I>>(
     found: &Option<MaybeRef<'src, I::Token>>,
     inp: &mut InputRef<'src, '_, I, E>,
 ) -> Result<(), AllocError>
-    ensures back { MatchResult result (λ _. held I.Input E.Error.Error E.State.Inspector inp.new ≡ gone_back_from E.State.after E.State.mark E.State.back (option_map maybe_value found.now) (held I.Input E.Error.Error E.State.Inspector inp.old)) (λ _. StaysAt E.State.takes_no_memory E.State.after (option_map maybe_value found.now) (held I.Input E.Error.Error E.State.Inspector inp.old) (held I.Input E.Error.Error E.State.Inspector inp.new)) }
+    ensures back { GoesBackFrom I.Input E.Error.Error E.State.Inspector found.now inp.old inp.new result }
     ensures lent { inp.new.state.ghost_name ≡ inp.old.state.ghost_name }
 {
     let before = inp.save()?;
@@ -46,7 +43,7 @@ fn tell<'src, I: Input<'src>, E: ParserExtra<I>>(
     found: &Option<MaybeRef<'src, I::Token>>,
     inp: &mut InputRef<'src, '_, I, E>,
 )
-    ensures tells { held I.Input E.Error.Error E.State.Inspector inp.new ≡ record (held I.Input E.Error.Error E.State.Inspector inp.old) { state = told E.State.after (option_map maybe_value found.now) (held I.Input E.Error.Error E.State.Inspector inp.old).state } }
+    ensures tells { TellsState I.Input E.Error.Error E.State.Inspector found.now inp.old inp.new }
     ensures lent { inp.new.state.ghost_name ≡ inp.old.state.ghost_name }
 {
     match found {
