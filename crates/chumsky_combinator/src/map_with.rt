@@ -1,6 +1,6 @@
 //! Output mappers that are shown the run.
 ghost use Rattle.std.specs.Prelude.{◌≡◌, ◌≤◌};
-ghost use Rattle.chumsky_input.specs.Extra.{KeepsState, Answers, shown_from};
+ghost use Rattle.chumsky_input.specs.Extra.{KeepsState, MayAnswer, shown_from};
 ghost use Rattle.chumsky_input.specs.Held.{held};
 
 use chumsky_input::extra::ParserExtra;
@@ -42,7 +42,7 @@ where
 {
     ghost callable = { λ f. KeepsState I.Input E.State.Inspector F.Fn f };
 
-    ghost gives = { λ f states. Answers I.Input states F.Fn f };
+    ghost gives = { λ f states. MayAnswer I.Input states F.Fn f };
 
     #[inline(always)]
     fn apply_with(&self, value: O, since: &I::Cursor, inp: &mut InputRef<'src, '_, I, E>) -> U {

@@ -27,8 +27,8 @@ with_state x s = record x { state = record x.state { now = s } }
 
 module _ (I X Cu Tok Sp Er St Cx Mk : RattleType) where
   -- once the borrow r ends, the state behind x is what was last written through r; the lifetimes are those of 'src and 'b
-  abbrev pub LendsState : MutBor (MapExtra I.Denot X.Denot Cu.Denot Tok.Denot Sp.Denot Er.Denot St.Denot Cx.Denot Mk.Denot) → MutBor St.Denot → Fml
-  LendsState x r = Lends (the_row (record { mir = named 1; lft = [] }) (record { mir = named 2; lft = [] }) I X Cu Tok Sp Er St Cx Mk) St x r (with_state x.now)
+  abbrev pub ExtraLendsState : MutBor (MapExtra I.Denot X.Denot Cu.Denot Tok.Denot Sp.Denot Er.Denot St.Denot Cx.Denot Mk.Denot) → MutBor St.Denot → Fml
+  ExtraLendsState x r = Lends (the_row (record { mir = named 1; lft = [] }) (record { mir = named 2; lft = [] }) I X Cu Tok Sp Er St Cx Mk) St x r (with_state x.now)
 
 module _ {I X Cu Tok Sp Er St Cx Mk : Type 0} (source : input_trait.Ghosts I Cu Tok Sp) (states : inspector_trait.Ghosts St I Mk Tok Sp) where
   -- what counts of an extra
@@ -46,7 +46,7 @@ module _ {I X Cu Tok Sp Er St Cx Mk : Type 0} (source : input_trait.Ghosts I Cu 
       pub keeps : (a : A) (x left : MutBor (MapExtra I X Cu Tok Sp Er St Cx Mk)) (r : R) → InOrder x.now → calls.post f (a, (x, tt)) (r, (left, tt)) → left.now.state.ghost_name ≡ x.now.state.ghost_name
 
     -- f may answer r to a and an extra that shows x, and leave the state s
-    pub record Answers (a : A) (x : Shown Tok Cx states.Seen) (r : R) (s : states.Seen) : Type 0 where
+    pub record MayAnswer (a : A) (x : Shown Tok Cx states.Seen) (r : R) (s : states.Seen) : Type 0 where
       pub lent : MutBor (MapExtra I X Cu Tok Sp Er St Cx Mk)
       pub left : MutBor (MapExtra I X Cu Tok Sp Er St Cx Mk)
       pub met : calls.post f (a, (lent, tt)) (r, (left, tt))

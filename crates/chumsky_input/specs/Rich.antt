@@ -47,13 +47,13 @@ pub record MarksToken {T : Type 0} (eq : T → T → Bool) (bucket : T → ℕ) 
   pub shared : (y : T) → eq y t ≡ true → bit_at m (bucket y % 128) ≡ 1
 
 -- m has the bit of the bucket of what was expected
-abbrev pub Marks : {T : Type 0} → (T → T → Bool) → (T → ℕ) → Wanted T → ℕ → Type 0
-Marks eq bucket (wanted.Token t) m = MarksToken eq bucket t m
-Marks eq bucket wanted.Any m = m ≡ 2
-Marks eq bucket wanted.SomethingElse m = m ≡ 4
-Marks eq bucket wanted.NothingElse m = m ≡ 8
-Marks eq bucket wanted.EndOfInput m = m ≡ 16
-Marks eq bucket (wanted.Label text) m = m ≡ 32
+abbrev pub MarksBucket : {T : Type 0} → (T → T → Bool) → (T → ℕ) → Wanted T → ℕ → Type 0
+MarksBucket eq bucket (wanted.Token t) m = MarksToken eq bucket t m
+MarksBucket eq bucket wanted.Any m = m ≡ 2
+MarksBucket eq bucket wanted.SomethingElse m = m ≡ 4
+MarksBucket eq bucket wanted.NothingElse m = m ≡ 8
+MarksBucket eq bucket wanted.EndOfInput m = m ≡ 16
+MarksBucket eq bucket (wanted.Label text) m = m ≡ 32
 
 -- that the bit of each pattern's bucket is set in `marks`
 abbrev pub AreMarked : {T : Type 0} → (T → ℕ) → ℕ → List (RichPattern T) → Type 0

@@ -2,7 +2,7 @@
 ghost use Rattle.std.specs.Prelude.{◌≡◌, ◌≤◌, slice_range};
 ghost use Rattle.std.specs.Borrow.{sem};
 ghost use Rattle.chumsky_input.specs.Held.{held};
-ghost use Rattle.chumsky_input.specs.Extra.{shown_from, KeepsState, Answers, LendsState};
+ghost use Rattle.chumsky_input.specs.Extra.{shown_from, KeepsState, MayAnswer, ExtraLendsState};
 
 use crate::extra::ParserExtra;
 use crate::input::{Input, SliceInput};
@@ -35,7 +35,7 @@ impl<'src, 'b, I: Input<'src>, E: ParserExtra<I>> MapExtra<'src, 'b, I, E> {
     /// The state of the run. What is written to it stands, unless the run goes back past it.
     #[inline]
     pub fn state(&mut self) -> &mut E::State
-        ensures* writes_back { sem 𝓛 (LendsState I.row E.row I.Cursor.row I.Token.row I.Span.row E.Error.row E.State.row E.Context.row E.State.Mark.row self.entry result) }
+        ensures* writes_back { sem 𝓛 (ExtraLendsState I.row E.row I.Cursor.row I.Token.row I.Span.row E.Error.row E.State.row E.Context.row E.State.Mark.row self.entry result) }
         ensures value { result.now ≡ self.old.state.now }
     {
         &mut *self.state
@@ -85,7 +85,7 @@ where
     requires callable { KeepsState I.Input E.State.Inspector F.Fn closure.now }
     requires tokens { I.cursor_tokens since.now ≡ (held I.Input E.Error.Error E.State.Inspector inp.old).tokens }
     requires order { I.place since.now ≤ (held I.Input E.Error.Error E.State.Inspector inp.old).place }
-    ensures answers { Answers I.Input E.State.Inspector F.Fn closure.now argument (shown_from (I.place since.now) (held I.Input E.Error.Error E.State.Inspector inp.old)) result (held I.Input E.Error.Error E.State.Inspector inp.new).state }
+    ensures answers { MayAnswer I.Input E.State.Inspector F.Fn closure.now argument (shown_from (I.place since.now) (held I.Input E.Error.Error E.State.Inspector inp.old)) result (held I.Input E.Error.Error E.State.Inspector inp.new).state }
     ensures moves { held I.Input E.Error.Error E.State.Inspector inp.new ≡ record (held I.Input E.Error.Error E.State.Inspector inp.old) { state = (held I.Input E.Error.Error E.State.Inspector inp.new).state } }
     ensures lent { inp.new.state.ghost_name ≡ inp.old.state.ghost_name }
 {

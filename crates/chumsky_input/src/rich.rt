@@ -6,7 +6,7 @@ ghost use Rattle.std.specs.List.{filter_map};
 ghost use Rattle.std.specs.Slice.Iter.{iter_rest};
 ghost use Rattle.chumsky_input.specs.Maybe.{maybe_value};
 ghost use Rattle.chumsky_input.specs.Wanted.{Label, wanted_same};
-ghost use Rattle.chumsky_input.specs.Rich.{RichSeen, rich_seen, rich_span, rich_found, rich_patterns, rich_message, rich_expectation, rich_merged, Empty, add_new, pattern_same, pattern_seen, pattern_wanted, wanted_pattern, Marks, MarksToken, AreMarked};
+ghost use Rattle.chumsky_input.specs.Rich.{RichSeen, rich_seen, rich_span, rich_found, rich_patterns, rich_message, rich_expectation, rich_merged, Empty, add_new, pattern_same, pattern_seen, pattern_wanted, wanted_pattern, MarksBucket, MarksToken, AreMarked};
 ghost use Rattle.chumsky_input.specs.RichLaws.{pattern_same_laws};
 
 use crate::error::Error;
@@ -304,7 +304,7 @@ fn push_pattern<T: SameClone + Drop>(
 /// The bit of a pattern's bucket: that of its token, or one for each other kind.
 #[inline]
 fn mark_of<T: SameClone>(pattern: &RichPattern<T>) -> u128
-    ensures { Marks T.eq T.bucket_of (pattern_wanted pattern.now) result }
+    ensures { MarksBucket T.eq T.bucket_of (pattern_wanted pattern.now) result }
 {
     match pattern {
         RichPattern::Token(token) => token_mark(token),

@@ -11,7 +11,7 @@ use Rattle.chumsky_parser.specs.Failure.{wanting}
 use Rattle.chumsky_primitive.specs.Any.{MeansAnyAt, MeansAny, CountsAs}
 use Rattle.chumsky_primitive.specs.Empty.{MeansEmpty}
 use Rattle.chumsky_primitive.specs.End.{MeansEndAt, MeansEnd}
-use Rattle.chumsky_primitive.specs.Just.{MeansFound, MeansMember, MeansMembers, MeansJust, is_member}
+use Rattle.chumsky_primitive.specs.Just.{MeansMemberFound, MeansMember, MeansMembers, MeansJust, is_member}
 use Rattle.chumsky_primitive.specs.OneOf.{MeansTested, passes}
 use Rattle.chumsky_primitive.specs.OneOf as one_of
 use Rattle.chumsky_memory.specs.Memory.{SparesMemory, NeverOutOfMemory}
@@ -51,7 +51,7 @@ module _ {I Tok Sp Cu Er St Mk Cx : Type 0} (source : input_trait.Ghosts I Cu To
       tested-spares test what b o m = found-spares what (slice_get b.tokens b.start) (passes test (slice_get b.tokens b.start)) b o m.by_token
 
     module _ (equal : Tok → Tok → Bool) where
-      member_found-spares : (m : Tok) (found : Option Tok) (is : Bool) (b : Beginning Tok Cx states.Seen) (o : Outcome (Unit {0}) errors.Seen states.Seen) → MeansFound source equal errors states m found is b o → SparesMemory o.verdict
+      member_found-spares : (m : Tok) (found : Option Tok) (is : Bool) (b : Beginning Tok Cx states.Seen) (o : Outcome (Unit {0}) errors.Seen states.Seen) → MeansMemberFound source equal errors states m found is b o → SparesMemory o.verdict
       member_found-spares m found true b o e = rw (ap (λ (z : Outcome (Unit {0}) errors.Seen states.Seen). z.verdict) e) tt
       member_found-spares m found false b o (inl r) = absurd (r.0 still)
       member_found-spares m found false b o (inr k) = misses-spares quiet k

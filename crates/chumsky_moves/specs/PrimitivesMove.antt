@@ -12,7 +12,7 @@ use Rattle.chumsky_parser.specs.Laws.{chained-ends, given-ends}
 use Rattle.chumsky_primitive.specs.Any.{MeansAny, MeansAnyAt, CountsAs}
 use Rattle.chumsky_primitive.specs.OneOf as one_of
 use Rattle.chumsky_primitive.specs.OneOf.{MeansTested}
-use Rattle.chumsky_primitive.specs.Just.{past, is_member, MeansFound, MeansMember, MeansMembers, MeansJust}
+use Rattle.chumsky_primitive.specs.Just.{past, is_member, MeansMemberFound, MeansMember, MeansMembers, MeansJust}
 use Rattle.chumsky_primitive.specs.Select.{Picks, MeansAnswer, MeansSelect, MeansSelectAt}
 use Rattle.chumsky_items.specs.Lists.{IsYes}
 use Rattle.chumsky_moves.specs.Moves.{Moves, has_members}
@@ -56,12 +56,12 @@ past-after None p = omega arith
 past-after (Some t) p = omega arith
 
 module _ {I Tok Sp Cu Er St Mk Cx : Type 0} (source : input_trait.Ghosts I Cu Tok Sp) (equal : Tok → Tok → Bool) (errors : error_trait.Ghosts Er I Tok Sp) (states : inspector_trait.Ghosts St I Mk Tok Sp) where
-  taken_moves : (m t : Tok) (e : Bool) (b : Beginning Tok Cx states.Seen) (o : Outcome (Unit {0}) errors.Seen states.Seen) → MeansFound source equal errors states m (Some t) e b o → IsYes o.verdict → b.start < o.end
+  taken_moves : (m t : Tok) (e : Bool) (b : Beginning Tok Cx states.Seen) (o : Outcome (Unit {0}) errors.Seen states.Seen) → MeansMemberFound source equal errors states m (Some t) e b o → IsYes o.verdict → b.start < o.end
   taken_moves m t true b o h y = omega (arith, ap (λ (x : Outcome (Unit {0}) errors.Seen states.Seen). x.end) h)
   taken_moves m t false b o (inl r) y = absurd (subst IsYes r.1 y)
   taken_moves m t false b o (inr h) y = absurd (misses-no h y)
 
-  found_moves : (m : Tok) (t : Option Tok) (b : Beginning Tok Cx states.Seen) (o : Outcome (Unit {0}) errors.Seen states.Seen) → MeansFound source equal errors states m t (is_member equal m t) b o → IsYes o.verdict → b.start < o.end
+  found_moves : (m : Tok) (t : Option Tok) (b : Beginning Tok Cx states.Seen) (o : Outcome (Unit {0}) errors.Seen states.Seen) → MeansMemberFound source equal errors states m t (is_member equal m t) b o → IsYes o.verdict → b.start < o.end
   found_moves m (Some t) b o h y = taken_moves m t (equal m t) b o h y
   found_moves m None b o (inl r) y = absurd (subst IsYes r.1 y)
   found_moves m None b o (inr h) y = absurd (misses-no h y)
@@ -69,7 +69,7 @@ module _ {I Tok Sp Cu Er St Mk Cx : Type 0} (source : input_trait.Ghosts I Cu To
   member-moves : (m : Tok) → Moves (MeansMember {Cx = Cx} source equal errors states m)
   member-moves m b o h y = elim h.by_token [ inl r ↦ absurd (subst IsYes r.1 y) | inr k ↦ found_moves m _ b o k y ]
 
-  found_ends : (m : Tok) (t : Option Tok) (e : Bool) (b : Beginning Tok Cx states.Seen) (o : Outcome (Unit {0}) errors.Seen states.Seen) → MeansFound source equal errors states m t e b o → IsAnswer o.verdict → b.start ≤ o.end
+  found_ends : (m : Tok) (t : Option Tok) (e : Bool) (b : Beginning Tok Cx states.Seen) (o : Outcome (Unit {0}) errors.Seen states.Seen) → MeansMemberFound source equal errors states m t e b o → IsAnswer o.verdict → b.start ≤ o.end
   found_ends m t true b o h a = omega (arith, past-after t b.start, ap (λ (x : Outcome (Unit {0}) errors.Seen states.Seen). x.end) h)
   found_ends m t false b o (inl r) a = absurd (subst IsAnswer r.1 a)
   found_ends m t false b o (inr h) a = misses-ends (λ _ _. Unit {0}) (omega arith) h a

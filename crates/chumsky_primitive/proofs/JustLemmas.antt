@@ -16,7 +16,7 @@ use Rattle.chumsky_parser.proofs.ChainedLemmas.{ran-moved, ran-chained, ran-chai
 use Rattle.chumsky_parser.specs.Failure.{Misses, expects}
 use Rattle.chumsky_parser.proofs.IgnoringLemmas.{ran-copied, ran-uncopied, ran-lacks_copy}
 use Rattle.chumsky_parser.proofs.FailureLemmas.{ran-yes, ran-halts, ran-misses}
-use Rattle.chumsky_primitive.specs.Just.{past, told, is_member, MeansFound, MeansMember, MeansMembers, MeansJust}
+use Rattle.chumsky_primitive.specs.Just.{past, told, is_member, MeansMemberFound, MeansMember, MeansMembers, MeansJust}
 
 -- a token is taken where one is found, in one form for both cases
 took-is : {Tok Cx St Er : Type 0} (after : St → Tok → St) (h : Held Tok Cx St Er) (found : Option Tok) → took after h found ≡ record h { place = past found h.place; state = told after found h.state }
@@ -25,7 +25,7 @@ took-is after h (Some t) = refl
 
 module _ {I Tok Sp Cu Er St Mk Cx : Type 0} (source : input_trait.Ghosts I Cu Tok Sp) (equal : Tok → Tok → Bool) (errors : error_trait.Ghosts Er I Tok Sp) (states : inspector_trait.Ghosts St I Mk Tok Sp) (m : Tok) (w : Bool) (old : Held Tok Cx states.Seen errors.Seen) where
   means : (found : Option Tok) (e : Bool) → found ≡ slice_get old.tokens old.place → is_member equal m found ≡ e
-      → (o : Outcome (Unit {0}) errors.Seen states.Seen) → MeansFound source equal errors states m found e (begin w old) o → MeansMember source equal errors states m (begin w old) o
+      → (o : Outcome (Unit {0}) errors.Seen states.Seen) → MeansMemberFound source equal errors states m found e (begin w old) o → MeansMember source equal errors states m (begin w old) o
   means found e f i o h = record { by_token = inr (rw (sym f, i) h) }
 
   pub member_unmarked : (states.takes_no_memory → ⊥) → Ran errors.merged errors.takes_no_memory (MeansMember source equal errors states m) w old old (Err (fault.Stop Memory))

@@ -26,9 +26,9 @@ passes test None = false
 passes test (Some t) = test t
 
 -- what was found, where that is a token that passes the test
-abbrev pub Picks : {Tok : Type 0} → (Tok → Bool) → Option Tok → Option Tok → Type 0
-Picks test found None = passes test found ≡ false
-Picks test found (Some t) = (found ≡ Some t) × (test t ≡ true)
+abbrev pub FoundPasses : {Tok : Type 0} → (Tok → Bool) → Option Tok → Option Tok → Type 0
+FoundPasses test found None = passes test found ≡ false
+FoundPasses test found (Some t) = (found ≡ Some t) × (test t ≡ true)
 
 module _ {Tok Cx St Er : Type 0} where
   -- what was found is told to the state, and gone back from

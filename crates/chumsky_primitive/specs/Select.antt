@@ -13,7 +13,7 @@ use Rattle.chumsky_input.specs.Maybe.{maybe_value}
 use Rattle.chumsky_input.specs.declared.stop.Stop.TheVariants.{Memory}
 use Rattle.chumsky_input.specs.declared.stop.Fault.{Fault}
 use Rattle.chumsky_input.specs.declared.stop.Fault.TheVariants as fault
-use Rattle.chumsky_input.specs.Extra.{Shown, Answers}
+use Rattle.chumsky_input.specs.Extra.{Shown, MayAnswer}
 use Rattle.chumsky_input.specs.Held.{Held, Marks, held, marks}
 use Rattle.chumsky_input.specs.Run.{Fails, gone_back}
 use Rattle.chumsky_input.specs.Wanted as wanted
@@ -29,13 +29,13 @@ module _ {I X Cu Tok Sp Er St Cx Mk F V : Type 0} (source : input_trait.Ghosts I
   pub record PicksValue {S : Type 0} (seen : Tok → S) (calls : Shared F (Tok × (MutBor (MapExtra I X Cu Tok Sp Er St Cx Mk) × Unit {0})) (Option V × (MutBor (MapExtra I X Cu Tok Sp Er St Cx Mk) × Unit {0}))) (f : F) (t : Tok) (x : Shown Tok Cx states.Seen) (r : Option V) (s : states.Seen) : Type 0 where
     pub token : Tok
     pub counts : seen token ≡ seen t
-    pub answers : Answers source states calls f token x r s
+    pub answers : MayAnswer source states calls f token x r s
 
   -- by one that is given a reference to it
   pub record PicksRef (calls : Shared F (Bor Tok × (MutBor (MapExtra I X Cu Tok Sp Er St Cx Mk) × Unit {0})) (Option V × (MutBor (MapExtra I X Cu Tok Sp Er St Cx Mk) × Unit {0}))) (f : F) (t : Tok) (x : Shown Tok Cx states.Seen) (r : Option V) (s : states.Seen) : Type 0 where
     pub token : Bor Tok
     pub is_there : token.now ≡ t
-    pub answers : Answers source states calls f token x r s
+    pub answers : MayAnswer source states calls f token x r s
 
 module _ {Tok Cx St V : Type 0} (picks : Picks Tok Cx St V) where
   -- to each token and each extra one verdict, and one state

@@ -5,7 +5,7 @@ ghost use Rattle.chumsky_input.specs.Held.{held};
 ghost use Rattle.chumsky_input.specs.Maybe.{maybe_value};
 ghost use Rattle.chumsky_input.specs.OneCall.{FailsExpecting};
 ghost use Rattle.chumsky_input.specs.Wanted as wanted;
-ghost use Rattle.chumsky_primitive.specs.OneOf.{among, Picks};
+ghost use Rattle.chumsky_primitive.specs.OneOf.{among, FoundPasses};
 
 use crate::tested::{go_back_from, take};
 use chumsky_input::extra::ParserExtra;
@@ -81,7 +81,7 @@ fn member<'f, 'src, S: Seq<T>, T: PartialEq>(
     seq: &S,
     found: &'f Option<MaybeRef<'src, T>>,
 ) -> Option<&'f T>
-    ensures { Picks (among T.eq (S.members seq.now)) (option_map maybe_value found.now) (option_copied result) }
+    ensures { FoundPasses (among T.eq (S.members seq.now)) (option_map maybe_value found.now) (option_copied result) }
 {
     let token = found.as_ref()?.get();
     if seq.contains(token) {

@@ -6,7 +6,7 @@ use Rattle.chumsky_input.specs.declared.error.Error as error_trait
 use Rattle.chumsky_input.specs.declared.inspector.Inspector as inspector_trait
 use Rattle.chumsky_input.specs.declared.input.Input as input_trait
 use Rattle.chumsky_input.specs.declared.map_extra.MapExtra.{MapExtra}
-use Rattle.chumsky_input.specs.Extra.{Shown, Answers}
+use Rattle.chumsky_input.specs.Extra.{Shown, MayAnswer}
 use Rattle.chumsky_input.specs.Outcome.{Meaning, Beginning, Outcome, Verdict, Yes, No, Halt, Clash, IsAnswer}
 use Rattle.chumsky_parser.specs.Chained.{retold}
 use Rattle.chumsky_input.specs.Words.{Does}
@@ -141,4 +141,4 @@ module _ {I X Tok Sp Cu Er St Cx Mk V W A F G : Type 0} (source : input_trait.Gh
   -- outcomes of `try_map_by` with that mapper; these are what the two do
   abbrev pub SameIfBlind : {O : Type 0} → (TryMapWith A V F W → Does I Tok Sp Er St Mk Cx O) → (TryMap A V G W → Does I Tok Sp Er St Mk Cx O) → TryMapWith A V F W → G → Type 0
   SameIfBlind one other whole mapper =
-      TriesBlindly source (Answers source states calls whole.mapper) (gives mapper) → SameOutcomes (one whole errors states) (other (try_map_of whole.parser mapper) errors states)
+      TriesBlindly source (MayAnswer source states calls whole.mapper) (gives mapper) → SameOutcomes (one whole errors states) (other (try_map_of whole.parser mapper) errors states)

@@ -1,6 +1,6 @@
 //! Laws that compare parsers with their parts, each the contract of a function that does nothing.
 ghost use Rattle.std.specs.Prelude.{◌≡◌, true, Some};
-ghost use Rattle.chumsky_input.specs.Extra.{Answers};
+ghost use Rattle.chumsky_input.specs.Extra.{MayAnswer};
 ghost use Rattle.chumsky_shield.specs.Compared.{PassesEach, PicksEach, MapsEach, maps_spanned};
 ghost use Rattle.chumsky_shield.specs.Compared.{GivesBackAlone, GivesBackFrom, GivesBack};
 ghost use Rattle.chumsky_shield.specs.Compared.{YesStays, YesEndsAs, DoesAsPart, DoesAsPartIfQuiet, DoesAsOne, SucceedsAs, SameIfBlind};
@@ -178,7 +178,7 @@ pub fn map_err_with_succeeds_as_its_part<
     ensures succeeds { SucceedsAs E.Error.Error E.State.Inspector
         (A.meaning map_err.now.parser) (⟦<MapErrWith<A, F> as Parser<'src, I, O, E>>⟧.meaning map_err.now) }
     ensures itself { let m = map_err.now in
-        GivesBack (MapsShown E.Error.seen (Answers I.Input E.State.Inspector F.Fn m.mapper)) → DoesAsOne E.Error.Error E.State.Inspector
+        GivesBack (MapsShown E.Error.seen (MayAnswer I.Input E.State.Inspector F.Fn m.mapper)) → DoesAsOne E.Error.Error E.State.Inspector
         (A.meaning m.parser) (⟦<MapErrWith<A, F> as Parser<'src, I, O, E>>⟧.meaning m) }
 {}
 

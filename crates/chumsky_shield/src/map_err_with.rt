@@ -1,6 +1,6 @@
 //! A parser whose failures are mapped by a closure that is shown the run.
 ghost use Rattle.std.specs.Prelude.{◌≡◌, ◌≤◌};
-ghost use Rattle.chumsky_input.specs.Extra.{KeepsState, Answers, shown_from};
+ghost use Rattle.chumsky_input.specs.Extra.{KeepsState, MayAnswer, shown_from};
 ghost use Rattle.chumsky_shield.specs.MapErr.{MapsShown, MapsKeptOf};
 
 use chumsky_input::error::Error;
@@ -34,9 +34,9 @@ where
 
     ghost ready = { λ p. A.ready p.parser × KeepsState I.Input E.State.Inspector F.Fn p.mapper };
 
-    ghost meaning = { λ p errors states. MeansMapErr errors.merged (MapsShown errors.seen (Answers I.Input states F.Fn p.mapper)) (A.meaning p.parser errors states) };
+    ghost meaning = { λ p errors states. MeansMapErr errors.merged (MapsShown errors.seen (MayAnswer I.Input states F.Fn p.mapper)) (A.meaning p.parser errors states) };
 
-    ghost steady = { λ p. A.steady p.parser × MapsOnceShown (MapsShown E.Error.seen (Answers I.Input E.State.Inspector F.Fn p.mapper)) };
+    ghost steady = { λ p. A.steady p.parser × MapsOnceShown (MapsShown E.Error.seen (MayAnswer I.Input E.State.Inspector F.Fn p.mapper)) };
 
     ghost same = { λ p. A.same p.parser };
 
@@ -89,7 +89,7 @@ where
     requires tokens { I.cursor_tokens start.now ≡ I.cursor_tokens inp.old.cursor }
     requires order { I.place start.now ≤ I.place inp.old.cursor }
     ensures maps { MapsKeptOf I.Input E.Error.Error E.State.Inspector
-        (λ held. MapsShown E.Error.seen (Answers I.Input E.State.Inspector F.Fn mapper.now) (shown_from (I.place start.now) held))
+        (λ held. MapsShown E.Error.seen (MayAnswer I.Input E.State.Inspector F.Fn mapper.now) (shown_from (I.place start.now) held))
         older inp.old inp.new result }
     ensures lent { inp.new.state.ghost_name ≡ inp.old.state.ghost_name }
 {

@@ -2,7 +2,7 @@
 //! those whose parts are and whose closures may be called, and steady those whose parts are and whose closures answer alike to
 //! values that are the same. And what is known of two outputs that count as the same.
 ghost use Rattle.chumsky_shield.specs.Vetted.{TestsAlike};
-ghost use Rattle.chumsky_input.specs.Extra.{Answers, KeepsState};
+ghost use Rattle.chumsky_input.specs.Extra.{MayAnswer, KeepsState};
 ghost use Rattle.chumsky_shield.specs.MapErr.{MapsSeen, MapsOnce, MapsShown, MapsOnceShown, MapsWithState, MapsOnceFrom};
 ghost use Rattle.chumsky_shield.specs.TriedWith.{TriesWithAlike, SameTriedWith};
 ghost use Rattle.std.specs.Option.{IsSome};
@@ -138,7 +138,7 @@ pub fn map_err_with_is_steady<
     F: Fn(E::Error, &mut MapExtra<'src, '_, I, E>) -> E::Error,
 >(map_err: &MapErrWith<A, F>)
     ensures ready { A.ready map_err.now.parser → KeepsState I.Input E.State.Inspector F.Fn map_err.now.mapper → ⟦<MapErrWith<A, F> as Parser<'src, I, O, E>>⟧.ready map_err.now }
-    ensures steady { A.steady map_err.now.parser → MapsOnceShown (MapsShown E.Error.seen (Answers I.Input E.State.Inspector F.Fn map_err.now.mapper)) → ⟦<MapErrWith<A, F> as Parser<'src, I, O, E>>⟧.steady map_err.now }
+    ensures steady { A.steady map_err.now.parser → MapsOnceShown (MapsShown E.Error.seen (MayAnswer I.Input E.State.Inspector F.Fn map_err.now.mapper)) → ⟦<MapErrWith<A, F> as Parser<'src, I, O, E>>⟧.steady map_err.now }
     ensures same { (x y : O) → ⟦<MapErrWith<A, F> as Parser<'src, I, O, E>>⟧.same map_err.now x y → A.same map_err.now.parser x y }
 {}
 
@@ -167,8 +167,8 @@ pub fn try_map_with_is_steady<
     F: Fn(O, &mut MapExtra<'src, '_, I, E>) -> Result<U, E::Error>,
 >(try_map: &TryMapWith<A, O, F, U>)
     ensures ready { A.ready try_map.now.parser → KeepsState I.Input E.State.Inspector F.Fn try_map.now.mapper → ⟦<TryMapWith<A, O, F, U> as Parser<'src, I, U, E>>⟧.ready try_map.now }
-    ensures steady { A.steady try_map.now.parser → TriesWithAlike E.Error.seen (Answers I.Input E.State.Inspector F.Fn try_map.now.mapper) (A.same try_map.now.parser) → ⟦<TryMapWith<A, O, F, U> as Parser<'src, I, U, E>>⟧.steady try_map.now }
-    ensures same { (x y : U) → ⟦<TryMapWith<A, O, F, U> as Parser<'src, I, U, E>>⟧.same try_map.now x y → SameTriedWith E.Error.seen (Answers I.Input E.State.Inspector F.Fn try_map.now.mapper) (A.same try_map.now.parser) x y }
+    ensures steady { A.steady try_map.now.parser → TriesWithAlike E.Error.seen (MayAnswer I.Input E.State.Inspector F.Fn try_map.now.mapper) (A.same try_map.now.parser) → ⟦<TryMapWith<A, O, F, U> as Parser<'src, I, U, E>>⟧.steady try_map.now }
+    ensures same { (x y : U) → ⟦<TryMapWith<A, O, F, U> as Parser<'src, I, U, E>>⟧.same try_map.now x y → SameTriedWith E.Error.seen (MayAnswer I.Input E.State.Inspector F.Fn try_map.now.mapper) (A.same try_map.now.parser) x y }
 {}
 
 /// `a.validate(f)`.

@@ -1,6 +1,6 @@
 //! A mapper that may refuse, and is shown the run.
 ghost use Rattle.std.specs.Prelude.{◌≡◌, ⊤};
-ghost use Rattle.chumsky_input.specs.Extra.{KeepsState, Answers};
+ghost use Rattle.chumsky_input.specs.Extra.{KeepsState, MayAnswer};
 ghost use Rattle.chumsky_shield.specs.Calls.{RunsAnyway};
 ghost use Rattle.chumsky_shield.specs.Vetted.{Vetted};
 ghost use Rattle.chumsky_shield.specs.TriedWith.{ByTryWith};
@@ -41,11 +41,11 @@ where
 
     ghost ready = { λ p. A.ready p.parser × KeepsState I.Input E.State.Inspector F.Fn p.mapper };
 
-    ghost meaning = { λ p errors states. Vetted errors.merged ⊤ (ByTryWith errors.seen (Answers I.Input states F.Fn p.mapper)) (A.meaning p.parser errors states) };
+    ghost meaning = { λ p errors states. Vetted errors.merged ⊤ (ByTryWith errors.seen (MayAnswer I.Input states F.Fn p.mapper)) (A.meaning p.parser errors states) };
 
-    ghost steady = { λ p. A.steady p.parser × TriesWithAlike E.Error.seen (Answers I.Input E.State.Inspector F.Fn p.mapper) (A.same p.parser) };
+    ghost steady = { λ p. A.steady p.parser × TriesWithAlike E.Error.seen (MayAnswer I.Input E.State.Inspector F.Fn p.mapper) (A.same p.parser) };
 
-    ghost same = { λ p. SameTriedWith E.Error.seen (Answers I.Input E.State.Inspector F.Fn p.mapper) (A.same p.parser) };
+    ghost same = { λ p. SameTriedWith E.Error.seen (MayAnswer I.Input E.State.Inspector F.Fn p.mapper) (A.same p.parser) };
 
     ghost ends_after_start = { λ p. vetted-ends _ _ _ _ (A.ends_after_start p.parser) };
 
