@@ -1,13 +1,17 @@
 -- A part that is run by itself, within a closure: its events count as one.
 use Rattle.std.specs.Prelude.{◌≡◌, ℕ, Bool, Option, Some, None, List, ◌++◌, Result, Ok, Err, option_to_list, ◌⊎◌}
+use Rattle.chumsky_input.specs.declared.error.Error as error_trait
+use Rattle.chumsky_input.specs.declared.inspector.Inspector as inspector_trait
+use Rattle.chumsky_input.specs.declared.input.Input as input_trait
+use Rattle.chumsky_input.specs.declared.input_ref.InputRef.{InputRef}
 use Rattle.chumsky_input.specs.declared.stop.Stop.{Stop}
 use Rattle.chumsky_input.specs.declared.stop.Stop.TheVariants.{Memory}
 use Rattle.chumsky_input.specs.declared.stop.Failure.{Failure}
 use Rattle.chumsky_input.specs.declared.stop.Failure.TheVariants as failure
 use Rattle.chumsky_input.specs.Outcome.{Event, Meaning, Outcome, Verdict, Yes, No, Halt, Clash, HasEventAt}
 use Rattle.chumsky_input.specs.Primary.{primary}
-use Rattle.chumsky_input.specs.Held.{Held, first_stop}
-use Rattle.chumsky_input.specs.Run.{begin}
+use Rattle.chumsky_input.specs.Held.{Held, held, first_stop}
+use Rattle.chumsky_input.specs.Run.{begin, final_error}
 use Rattle.chumsky_input.specs.Aside.{failure_seen, ClashesWith}
 
 -- what a call that gives a value hands out, and one that gives none
@@ -44,3 +48,8 @@ module _ {Tok Cx St Er V : Type 0} (merged : Er → Er → Er) (safe : Type 0) (
     pub outcome : Outcome V Er St
     pub meant : meaning (begin wanted old) outcome
     pub hands : HandsBy outcome.verdict outcome old new result
+
+module _ {I X Tok Sp Cu Er St Cx Mk V : Type 0} (source : input_trait.Ghosts I Cu Tok Sp) (errors : error_trait.Ghosts Er I Tok Sp) (states : inspector_trait.Ghosts St I Mk Tok Sp) where
+  -- the run from `old` to `new` is a part run by itself, asked for a value or not, and what is handed out of one outcome of it
+  abbrev pub RunsApart : Meaning Tok Cx states.Seen errors.Seen V → Bool → InputRef I X Cu Tok Sp Er St Cx Mk → InputRef I X Cu Tok Sp Er St Cx Mk → Result (Option V) (Failure errors.Seen) → Type 0
+  RunsApart meaning wanted old new result = RanApart errors.merged errors.takes_no_memory (final_error errors.expectation source.span_between) meaning wanted (held source errors states old) (held source errors states new) result

@@ -1,9 +1,8 @@
 //! Running a parser within a closure that is lent an `InputRef`.
 ghost use Rattle.std.specs.Prelude.{◌≡◌, true, false};
 ghost use Rattle.chumsky_input.specs.Held.{held};
-ghost use Rattle.chumsky_input.specs.Run.{final_error};
 ghost use Rattle.chumsky_input.specs.Aside.{GoesForward};
-ghost use Rattle.chumsky_parser.specs.Apart.{RanApart, handed_value, handed_check};
+ghost use Rattle.chumsky_parser.specs.Apart.{RunsApart, handed_value, handed_check};
 
 use crate::parser::Parser;
 use chumsky_input::error::Error;
@@ -38,7 +37,8 @@ where
     #[inline]
     fn parse(&mut self, parser: P) -> Result<O, Failure<E::Error>>
         requires { P.ready parser }
-        ensures ran { RanApart E.Error.merged E.Error.takes_no_memory (final_error E.Error.expectation I.span_between) (P.meaning parser E.Error.Error E.State.Inspector) true (held I.Input E.Error.Error E.State.Inspector self.old) (held I.Input E.Error.Error E.State.Inspector self.new) (handed_value E.Error.seen result) }
+        ensures ran { RunsApart I.Input E.Error.Error E.State.Inspector
+            (P.meaning parser E.Error.Error E.State.Inspector) true self.old self.new (handed_value E.Error.seen result) }
         ensures forward { GoesForward result (held I.Input E.Error.Error E.State.Inspector self.old) (held I.Input E.Error.Error E.State.Inspector self.new) }
         ensures lent { self.new.state.ghost_name ≡ self.old.state.ghost_name }
     {
@@ -56,7 +56,8 @@ where
     #[inline]
     fn check(&mut self, parser: P) -> Result<(), Failure<E::Error>>
         requires { P.ready parser }
-        ensures ran { RanApart E.Error.merged E.Error.takes_no_memory (final_error E.Error.expectation I.span_between) (P.meaning parser E.Error.Error E.State.Inspector) false (held I.Input E.Error.Error E.State.Inspector self.old) (held I.Input E.Error.Error E.State.Inspector self.new) (handed_check E.Error.seen result) }
+        ensures ran { RunsApart I.Input E.Error.Error E.State.Inspector
+            (P.meaning parser E.Error.Error E.State.Inspector) false self.old self.new (handed_check E.Error.seen result) }
         ensures forward { GoesForward result (held I.Input E.Error.Error E.State.Inspector self.old) (held I.Input E.Error.Error E.State.Inspector self.new) }
         ensures lent { self.new.state.ghost_name ≡ self.old.state.ghost_name }
     {
