@@ -38,6 +38,16 @@ fn a_list_takes_as_many_items_as_its_context_says(rt: HostRuntime) {
 }
 
 #[test]
+fn configured_items_are_counted(rt: HostRuntime) {
+    let xs = just('x').repeated().configure(|c, n| c.exactly(*n)).count();
+    let rows = [
+        ("3xxx", "ok 3"),
+        ("3xx", "error 3..3 expected 'x' found end"),
+    ];
+    assert_answers(&rt, &digit!().ignore_with_ctx(xs), &rows);
+}
+
+#[test]
 fn the_fewest_and_the_most_items_are_set_by_themselves(rt: HostRuntime) {
     let some = digit!().ignore_with_ctx(just('x').repeated().configure(|c, n| c.at_least(*n)));
     let rows = [
@@ -154,6 +164,25 @@ fn a_part_that_is_turned_off_fails_and_expects_nothing_else(rt: HostRuntime) {
     assert_answers(&rt, &on, &[("foo", "ok \"foo\"")]);
     let unconfigured = just::<_, &str, Own>("foo").contextual();
     assert_answers(&rt, &unconfigured, &[("foo", "ok \"foo\"")]);
+}
+
+#[test]
+fn a_part_asks_its_context(rt: HostRuntime) {
+    let same = just::<_, &str, Under<char>>('?').configure(|c, wanted| c.seq(*wanted));
+    let rows = [("ab", "ok ('a', 'b')")];
+    assert_answers(
+        &rt,
+        &same.with_ctx('a').then(just::<_, _, Own>('b')),
+        &rows,
+    );
+    let foo = just::<_, &str, Under<bool>>("foo")
+        .contextual()
+        .configure(|_, on| *on);
+    let end = empty::<_, Own>();
+    let rows = [("foo", "ok (\"foo\", ())")];
+    assert_answers(&rt, &foo.with_ctx(true).then(end), &rows);
+    let rows = [("foo", "error 0..0 expected nothing found end")];
+    assert_answers(&rt, &foo.with_ctx(false).then(end), &rows);
 }
 
 #[test]

@@ -18,6 +18,8 @@ fn to_slice_gives_the_part_of_the_input_that_was_taken(rt: HostRuntime) {
         ("ab", "error 2..2 expected any, 'x' found end"),
     ];
     assert_answers(&rt, &before_x, &rows);
+    let letters = just_char('a').repeated().to_slice();
+    assert_answers(&rt, &letters, &[("aa", "ok \"aa\"")]);
 }
 
 #[test]
@@ -62,6 +64,11 @@ fn spanned_gives_the_output_with_its_span(rt: HostRuntime) {
         ("a", "error 0..1 expected 'é' found 'a'"),
     ];
     assert_answers(&rt, &just_char('é').spanned(), &rows);
+    let rows = [(
+        "é",
+        "ok Spanned { inner: 'é', span: SimpleSpan { start: 0, end: 2 } }",
+    )];
+    assert_answers(&rt, &any_char().spanned(), &rows);
     let nothing = empty::<&str, Own>().spanned();
     let rows = [(
         "",

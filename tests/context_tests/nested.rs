@@ -29,6 +29,13 @@ fn the_inner_parser_runs_over_the_whole_text_that_the_outer_one_gives(rt: HostRu
 }
 
 #[test]
+fn an_output_is_an_input(rt: HostRuntime) {
+    let inner = just::<_, &str, OfChars>('x').then(just('y'));
+    let nested = inner.nested_in(just_char('a').to("xy"));
+    assert_answers(&rt, &nested, &[("a", "ok ('x', 'y')")]);
+}
+
+#[test]
 fn the_inner_error_is_one_failure_where_the_outer_parser_began(rt: HostRuntime) {
     let nested = just::<_, &str, OfChars>('x')
         .then_ignore(just('z'))

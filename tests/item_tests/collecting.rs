@@ -64,6 +64,20 @@ fn characters_make_a_text(rt: HostRuntime) {
 }
 
 #[test]
+fn items_are_collected(rt: HostRuntime) {
+    let text = any_char().repeated().collect::<String>();
+    assert_answers(&rt, &text, &[("abc", "ok \"abc\"")]);
+    let two = just_char('a')
+        .repeated()
+        .collect_exactly::<ArrayVec<_, 2>>();
+    let rows = [
+        ("aa", "ok ['a', 'a']"),
+        ("a", "error 1..1 expected 'a' found end"),
+    ];
+    assert_answers(&rt, &two, &rows);
+}
+
+#[test]
 fn nothing_takes_each_item(rt: HostRuntime) {
     let nothing = any_char().repeated().collect::<()>();
     assert_answers(&rt, &nothing, &[("aé", "ok ()"), ("", "ok ()")]);

@@ -88,3 +88,17 @@ fn collections_of_collections_are_flattened_twice(rt: HostRuntime) {
     let rows = [("abcab", "ok ['a', 'a']"), ("bcb", "ok []"), ("", "ok []")];
     assert_answers(&rt, &letters, &rows);
 }
+
+#[test]
+fn letters_are_items_of_words(rt: HostRuntime) {
+    let word = any_char().repeated().collect::<Vec<_>>();
+    assert_answers(&rt, &word.into_iter().count(), &[("abc", "ok 3")]);
+    let words = one_of::<_, &str, Own>('a'..='z')
+        .repeated()
+        .collect::<Vec<_>>();
+    let letters = words
+        .separated_by(just_char(','))
+        .flatten()
+        .collect::<String>();
+    assert_answers(&rt, &letters, &[("ab,,c", "ok \"abc\"")]);
+}

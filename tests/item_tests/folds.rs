@@ -40,6 +40,29 @@ fn a_number_is_read_from_its_first_digit(rt: HostRuntime) {
     assert_answers(&rt, &first.foldl(others, with_digit), &rows);
 }
 
+/// A digit, as what it counts.
+macro_rules! digit {
+    () => {
+        one_of::<_, &str, Own>('0'..='9').map(|c: char| (c as usize).wrapping_sub(48))
+    };
+}
+
+#[test]
+fn items_are_folded(rt: HostRuntime) {
+    let sum = digit!()
+        .repeated()
+        .fold(0usize, |sum, n| sum.wrapping_add(n));
+    assert_answers(&rt, &sum, &[("123", "ok 6")]);
+    let number = digit!().foldl(digit!().repeated(), |number, n| {
+        number.wrapping_mul(10).wrapping_add(n)
+    });
+    assert_answers(&rt, &number, &[("123", "ok 123")]);
+    let minuses = just_char('-')
+        .repeated()
+        .foldr(digit!(), |_, n| n.wrapping_add(10));
+    assert_answers(&rt, &minuses, &[("--7", "ok 27")]);
+}
+
 #[test]
 fn a_number_is_folded_from_a_value(rt: HostRuntime) {
     let digit = one_of::<_, _, Own>('0'..='9').map_by(Value);
@@ -144,6 +167,12 @@ fn items_are_numbered_from_zero(rt: HostRuntime) {
         ("ab", "error 1..2 expected 'a', end of input found 'b'"),
     ];
     assert_answers(&rt, &numbered, &rows);
+}
+
+#[test]
+fn any_items_are_numbered(rt: HostRuntime) {
+    let numbered = any_char().repeated().enumerate().collect::<Vec<_>>();
+    assert_answers(&rt, &numbered, &[("ab", "ok [(0, 'a'), (1, 'b')]")]);
 }
 
 #[test]

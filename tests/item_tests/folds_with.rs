@@ -46,6 +46,27 @@ fn a_fold_from_the_right_is_shown_what_follows_an_item(rt: HostRuntime) {
     assert_answers(&rt, &spans, &rows);
 }
 
+/// A digit, as what it counts.
+macro_rules! digit {
+    () => {
+        one_of::<_, &str, Own>('0'..='9').map(|c: char| (c as usize).wrapping_sub(48))
+    };
+}
+
+#[test]
+fn folds_are_shown_where_each_step_lies(rt: HostRuntime) {
+    let ends = digit!().foldl_with(just('+').ignore_then(digit!()).repeated(), |ends, _, e| {
+        ends.wrapping_mul(10).wrapping_add(e.span().end)
+    });
+    assert_answers(&rt, &ends, &[("1+2+3", "ok 135")]);
+    let starts = just_char('-')
+        .repeated()
+        .foldr_with(digit!(), |_, starts, e| {
+            starts.wrapping_mul(10).wrapping_add(e.span().start)
+        });
+    assert_answers(&rt, &starts, &[("--7", "ok 710")]);
+}
+
 /// An error that says `zero`.
 fn zero(alloc: Global, span: SimpleSpan) -> Rich<char> {
     match Rich::custom_in(alloc, span, "zero") {
@@ -79,6 +100,22 @@ fn a_refused_item_fails_where_its_step_began(rt: HostRuntime) {
         ),
     ];
     assert_answers(&rt, &number, &rows);
+}
+
+#[test]
+fn a_sum_that_is_too_large_is_refused(rt: HostRuntime) {
+    let alloc = rt.alloc();
+    let others = just('+').ignore_then(digit!()).repeated();
+    let sum = digit!().try_foldl(others, |sum, n, e| {
+        let sum = sum.wrapping_add(n);
+        if sum < 10 {
+            Ok(sum)
+        } else {
+            Err(zero(alloc, e.span()))
+        }
+    });
+    let rows = [("1+2", "ok 3"), ("7+8", "error 0..3 \"zero\"")];
+    assert_answers(&rt, &sum, &rows);
 }
 
 /// The error of a refusal is no further than the failure of another alternative that took more.

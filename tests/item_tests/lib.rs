@@ -5,8 +5,6 @@ mod collecting;
 #[cfg(test)]
 mod containers;
 #[cfg(test)]
-mod docstrings;
-#[cfg(test)]
 mod edges;
 #[cfg(test)]
 mod flattened;

@@ -1,7 +1,7 @@
 //! Items that are put through mappers, and items after other items.
 use answers::asserts::assert_answers;
 use answers::extras::Own;
-use answers::leaves::just_char;
+use answers::leaves::{any_char, just_char};
 use chumsky::prelude::*;
 
 #[test]
@@ -45,4 +45,25 @@ fn the_items_of_one_list_come_before_those_of_another(rt: HostRuntime) {
         ("ab..", "error 3..4 expected end of input found '.'"),
     ];
     assert_answers(&rt, &letters, &rows);
+}
+
+#[test]
+fn items_are_made_of_items(rt: HostRuntime) {
+    let pairs = any_char().repeated().map_items(|c| (c, 1));
+    assert_answers(&rt, &pairs.collect::<Vec<_>>(), &[("a", "ok [('a', 1)]")]);
+    let spans = any_char()
+        .repeated()
+        .map_items_with(|c, extra| (c, extra.span()));
+    let spans_of_both =
+        "ok [('a', SimpleSpan { start: 0, end: 1 }), ('b', SimpleSpan { start: 1, end: 2 })]";
+    let rows = [("ab", spans_of_both)];
+    assert_answers(&rt, &spans.collect::<Vec<_>>(), &rows);
+    let both = just_char('a')
+        .repeated()
+        .then_items(just_char('b').repeated());
+    let rows = [
+        ("aabb", "ok \"aabb\""),
+        ("aba", "error 2..3 expected 'b', end of input found 'a'"),
+    ];
+    assert_answers(&rt, &both.collect::<String>(), &rows);
 }

@@ -81,6 +81,15 @@ fn items_are_counted_and_offsets_are_bytes(rt: HostRuntime) {
 }
 
 #[test]
+fn items_are_counted_until_one_fails(rt: HostRuntime) {
+    let rows = [
+        ("aaa", "ok 3"),
+        ("ab", "error 1..2 expected 'a', end of input found 'b'"),
+    ];
+    assert_answers(&rt, &just::<_, &str, Own>('a').repeated().count(), &rows);
+}
+
+#[test]
 fn just_so_many_items_are_taken(rt: HostRuntime) {
     let two = any_char().repeated().exactly(2).collect::<String>();
     let rows = [

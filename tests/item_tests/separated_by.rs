@@ -88,6 +88,13 @@ fn a_separator_may_lead_or_trail(rt: HostRuntime) {
 }
 
 #[test]
+fn items_between_separators_are_counted(rt: HostRuntime) {
+    let rows = [("a,a", "ok 2"), ("a,", "error 2..2 expected 'a' found end")];
+    let count = just_char('a').separated_by(just_char(',')).count();
+    assert_answers(&rt, &count, &rows);
+}
+
+#[test]
 fn a_list_with_too_few_items_fails(rt: HostRuntime) {
     let rows = [
         (",-,-", "error 4..4 expected ',' found end"),

@@ -11,6 +11,15 @@ use std::process::Abort;
 type Letter<'src> = Just<char, &'src str, Own>;
 
 #[test]
+fn the_first_of_two_that_succeeds_stands(rt: HostRuntime) {
+    let rows = [
+        ("if", "ok \"if\""),
+        ("fn", "error 0..1 expected 'l', 'i' found 'f'"),
+    ];
+    assert_answers(&rt, &just_text("let").or(just_text("if")), &rows);
+}
+
+#[test]
 fn a_later_alternative_that_goes_further_is_not_taken(rt: HostRuntime) {
     let a_before_ab = choice((just_text("a"), just_text("ab")));
     let rows = [

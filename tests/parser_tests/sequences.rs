@@ -1,6 +1,6 @@
-//! Sequences of which some outputs are ignored, and parts that may be absent.
+//! Sequences of which some outputs are ignored, outputs that are mapped, and parts that may be absent.
 use answers::asserts::assert_answers;
-use answers::leaves::just_char;
+use answers::leaves::{any_char, just_char};
 use chumsky::prelude::*;
 
 #[test]
@@ -24,6 +24,21 @@ fn padding_may_be_absent_on_either_side(rt: HostRuntime) {
         ("xy", "error 1..2 expected ' ', end of input found 'y'"),
     ];
     assert_answers(&rt, &padded, &rows);
+    let rows = [
+        ("_x_", "ok 'x'"),
+        ("_x", "error 2..2 expected '_' found end"),
+    ];
+    let padded = just_char('x').padded_by(just_char('_'));
+    assert_answers(&rt, &padded, &rows);
+}
+
+#[test]
+fn of_two_outputs_both_are_kept(rt: HostRuntime) {
+    let rows = [
+        ("ab", "ok ('a', 'b')"),
+        ("ac", "error 1..2 expected 'b' found 'c'"),
+    ];
+    assert_answers(&rt, &just_char('a').then(just_char('b')), &rows);
 }
 
 #[test]
@@ -41,6 +56,19 @@ fn of_two_outputs_the_first_is_kept(rt: HostRuntime) {
         ("ac", "error 1..2 expected 'b' found 'c'"),
     ];
     assert_answers(&rt, &first, &rows);
+}
+
+#[test]
+fn an_output_is_mapped(rt: HostRuntime) {
+    let paired = any_char().map(|c| (c, 1));
+    assert_answers(&rt, &paired, &[("a", "ok ('a', 1)")]);
+    let spanned = any_char().map_with(|c, extra| (c, extra.span()));
+    let rows = [("é", "ok ('é', SimpleSpan { start: 0, end: 2 })")];
+    assert_answers(&rt, &spanned, &rows);
+    assert_answers(&rt, &just_char('a').ignored(), &[("a", "ok ()")]);
+    assert_answers(&rt, &just_char('a').to(1), &[("a", "ok 1")]);
+    let unwrapped = just_char('a').map(Some).unwrapped();
+    assert_answers(&rt, &unwrapped, &[("a", "ok 'a'")]);
 }
 
 #[test]

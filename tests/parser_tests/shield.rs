@@ -4,6 +4,7 @@ use answers::extras::{Merging, Own};
 use answers::leaves::{any_char, just_char, just_text};
 use chumsky::prelude::*;
 use own_types::states::Kept;
+use std::alloc::Global;
 
 #[test]
 fn not_succeeds_where_its_part_fails_and_takes_nothing(rt: HostRuntime) {
@@ -20,6 +21,22 @@ fn not_succeeds_where_its_part_fails_and_takes_nothing(rt: HostRuntime) {
         ("", "ok ()"),
     ];
     assert_answers(&rt, &nothing, &rows);
+}
+
+#[test]
+fn what_is_looked_at_is_not_taken(rt: HostRuntime) {
+    let rows = [
+        ("b", "ok ((), 'b')"),
+        ("a", "error 0..1 expected something else found 'a'"),
+    ];
+    assert_answers(&rt, &just_char('a').not().then(any_char()), &rows);
+    let rows = [
+        ("a", "ok 'a'"),
+        ("x", "error 0..1 expected something else found 'x'"),
+    ];
+    assert_answers(&rt, &any_char().and_is(just_char('x').not()), &rows);
+    let twice = just_char('a').rewind().then(any_char());
+    assert_answers(&rt, &twice, &[("a", "ok ('a', 'a')")]);
 }
 
 #[test]
@@ -61,10 +78,47 @@ fn a_filter_that_refuses_stands_at_its_start(rt: HostRuntime) {
 fn filter_map_picks(rt: HostRuntime) {
     let digit = any_char().filter_map(|c| c.to_digit(10));
     let rows = [
+        ("3", "ok 3"),
         ("7", "ok 7"),
         ("x", "error 0..1 expected something else found 'x'"),
     ];
     assert_answers(&rt, &digit, &rows);
+}
+
+/// A digit, as what it counts.
+macro_rules! digit {
+    () => {
+        one_of::<_, &str, Own>('0'..='9').map(|c: char| (c as usize).wrapping_sub(48))
+    };
+}
+
+/// An error that says `no`.
+fn no(alloc: Global, span: SimpleSpan) -> Rich<char> {
+    match Rich::custom_in(alloc, span, "no") {
+        Ok(error) => error,
+        Err(_) => Rich::custom(span, String::new(alloc)),
+    }
+}
+
+#[test]
+fn a_digit_is_refused_or_doubted(rt: HostRuntime) {
+    let alloc = rt.alloc();
+    let small = digit!().try_map(|n, span| if n < 5 { Ok(n) } else { Err(no(alloc, span)) });
+    assert_answers(&rt, &small, &[("3", "ok 3"), ("7", "error 0..1 \"no\"")]);
+    let small = digit!().try_map_with(|n, e| if n < 5 {
+        Ok(n)
+    } else {
+        Err(no(alloc, e.span()))
+    });
+    assert_answers(&rt, &small, &[("3", "ok 3"), ("7", "error 0..1 \"no\"")]);
+    let doubted = digit!().validate(|n, e, emitter| {
+        if n > 4 {
+            emitter.emit(no(alloc, e.span()));
+        }
+        n
+    });
+    let rows = [("3", "ok 3"), ("7", "ok 7; error 0..1 \"no\"")];
+    assert_answers(&rt, &doubted, &rows);
 }
 
 #[test]
@@ -159,6 +213,17 @@ fn rewind_forgets_failures_past_its_start(rt: HostRuntime) {
         ("x", "error 0..1 expected 'a' found 'x'"),
     ];
     assert_answers(&rt, &perhaps.then(just_char('x')), &rows);
+}
+
+#[test]
+fn an_error_is_mapped(rt: HostRuntime) {
+    let alloc = rt.alloc();
+    let mapped = just_char('a').map_err(|error: Rich<char>| no(alloc, *error.span()));
+    assert_answers(&rt, &mapped, &[("b", "error 0..1 \"no\"")]);
+    let mapped = just_char('a').map_err_with_state(|_, span, _| no(alloc, span));
+    assert_answers(&rt, &mapped, &[("b", "error 0..0 \"no\"")]);
+    let mapped = just_char('a').map_err_with(|_, extra| no(alloc, extra.span()));
+    assert_answers(&rt, &mapped, &[("b", "error 0..0 \"no\"")]);
 }
 
 #[test]

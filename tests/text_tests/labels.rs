@@ -24,6 +24,12 @@ fn a_failure_at_the_start_says_the_label_alone(rt: HostRuntime) {
 }
 
 #[test]
+fn a_token_has_a_name(rt: HostRuntime) {
+    let named = just_char('a').labelled("an a");
+    assert_answers(&rt, &named, &[("b", "error 0..1 expected an a found 'b'")]);
+}
+
+#[test]
 fn a_failure_further_on_stays(rt: HostRuntime) {
     let month = just_text("Jan").or(just_text("Feb")).labelled("a month");
     let rows = [("Jap", "error 2..3 expected 'n' found 'p'")];

@@ -1,6 +1,7 @@
 //! Parsers between white space.
 use answers::asserts::{assert_answers, assert_answers_from};
 use answers::extras::{Own, Telling};
+use answers::leaves::just_char;
 use chumsky::prelude::*;
 use chumsky::text::{InlineWhitespace, int};
 use own_types::states::Told;
@@ -10,6 +11,7 @@ fn padded_takes_white_space_on_both_sides(rt: HostRuntime) {
     let rows = [
         ("7", "ok \"7\""),
         ("  7\n", "ok \"7\""),
+        (" 7\n", "ok \"7\""),
         ("\t7", "ok \"7\""),
         ("7 ", "ok \"7\""),
         ("  x", "error 2..3 expected int found 'x'"),
@@ -27,6 +29,11 @@ fn padded_with_a_kind_takes_that_alone(rt: HostRuntime) {
         ("\n7", "error 0..1 expected int found '\\n'"),
     ];
     assert_answers(&rt, &int::<&str, Own>(10).padded_with(InlineWhitespace), &rows);
+    let rows = [
+        (" a ", "ok 'a'"),
+        ("a\n", "error 1..2 expected end of input found '\\n'"),
+    ];
+    assert_answers(&rt, &just_char('a').padded_with(InlineWhitespace), &rows);
 }
 
 #[test]

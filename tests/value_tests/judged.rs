@@ -1,5 +1,6 @@
 //! Parsers whose closures are shown the run, or lent an emitter: what they refuse, map and emit.
 use answers::asserts::assert_answers;
+use answers::extras::Own;
 use answers::leaves::{any_char, just_char, just_text};
 use chumsky::prelude::*;
 
@@ -107,4 +108,14 @@ fn from_str_reads_the_text_of_its_part(rt: HostRuntime) {
         ("1", "error 1..1 expected '2' found end"),
     ];
     assert_answers(&rt, &number, &rows);
+}
+
+#[test]
+fn a_number_is_read_or_too_large(rt: HostRuntime) {
+    let byte = text::int::<&str, Own>(10).from_str::<u8>();
+    let rows = [
+        ("12", "ok Ok(12)"),
+        ("300", "ok Err(ParseIntError { kind: PosOverflow })"),
+    ];
+    assert_answers(&rt, &byte, &rows);
 }
