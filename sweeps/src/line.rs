@@ -1,7 +1,7 @@
 //! Lines of text in a place of their own: what is written on one asks for no memory.
 use chumsky::error::RichPattern;
 use chumsky::prelude::*;
-use own_types::merges::Merges;
+use extending::merges::Merges;
 use std::io;
 use std::io::Write;
 

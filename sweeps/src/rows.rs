@@ -3,7 +3,7 @@ use crate::line::Line;
 use crate::run::{Asked, over};
 use chumsky::extra::{Err, RichText};
 use chumsky::prelude::*;
-use own_types::merges::Merges;
+use extending::merges::Merges;
 use std::alloc::Global;
 
 /// Errors that show how they were merged.

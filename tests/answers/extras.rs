@@ -3,8 +3,8 @@ ghost use Rattle.std.specs.Prelude.{◌≡◌};
 
 use chumsky::extra::ParserExtra;
 use chumsky::prelude::*;
-use own_types::merges::Merges;
-use own_types::states::{Kept, Tally, Told};
+use extending::merges::Merges;
+use extending::states::{Kept, Tally, Told};
 
 /// Errors that say what was expected and what was found, over texts and bytes.
 pub struct Own;

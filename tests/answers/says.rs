@@ -1,7 +1,7 @@
 //! What errors say of themselves.
 use chumsky::error::RichPattern;
 use chumsky::prelude::*;
-use own_types::merges::Merges;
+use extending::merges::Merges;
 use std::alloc::AllocError;
 use std::fmt::Debug;
 

@@ -3,7 +3,7 @@ use answers::asserts::assert_line;
 use chumsky::inspector::{RollbackState, SimpleState, TruncateState};
 use chumsky::prelude::*;
 use chumsky::primitive::select;
-use own_types::states::Told;
+use extending::states::Told;
 use std::alloc::AllocGlobal;
 use std::fmt::Debug;
 use std::process::Abort;

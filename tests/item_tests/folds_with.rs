@@ -3,7 +3,7 @@ use answers::asserts::{assert_answers, assert_answers_from};
 use answers::extras::{Own, Tallied};
 use answers::leaves::just_char;
 use chumsky::prelude::*;
-use own_types::states::Tally;
+use extending::states::Tally;
 use std::alloc::Global;
 
 /// From the left each span begins where the whole began, and ends with the item.

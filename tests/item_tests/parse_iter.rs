@@ -5,7 +5,7 @@ use answers::leaves::{any_char, just_char};
 use answers::says::Says;
 use chumsky::extra::ParserExtra;
 use chumsky::prelude::*;
-use own_types::states::Told;
+use extending::states::Told;
 use std::alloc::{AllocError, AllocGlobal, Global};
 use std::fmt::Debug;
 use std::process::Abort;

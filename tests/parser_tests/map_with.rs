@@ -3,7 +3,7 @@ use answers::asserts::{assert_answers, assert_answers_from};
 use answers::extras::{Own, Telling};
 use answers::leaves::{any_char, just_char};
 use chumsky::prelude::*;
-use own_types::states::Told;
+use extending::states::Told;
 
 #[test]
 fn map_with_is_shown_what_its_part_took(rt: HostRuntime) {

@@ -2,7 +2,7 @@
 use answers::asserts::assert_answers_from;
 use answers::extras::Telling;
 use chumsky::prelude::*;
-use own_types::states::Told;
+use extending::states::Told;
 
 /// Each part that isn't taken reads a token in each round; the parts left over read once more.
 #[test]

@@ -3,7 +3,7 @@ use answers::asserts::{assert_answers, assert_answers_from};
 use answers::extras::{Key, Keyed, Own, Tallied};
 use chumsky::prelude::*;
 use chumsky::primitive::{Select, SelectRef, select};
-use own_types::states::Tally;
+use extending::states::Tally;
 
 #[test]
 fn the_arm_that_fits_gives_the_output(rt: HostRuntime) {

@@ -3,7 +3,7 @@ use answers::asserts::{assert_answers, assert_answers_from};
 use answers::extras::{Merging, Own};
 use answers::leaves::{any_char, just_char, just_text};
 use chumsky::prelude::*;
-use own_types::states::Kept;
+use extending::states::Kept;
 use std::alloc::Global;
 
 #[test]

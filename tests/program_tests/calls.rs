@@ -2,7 +2,7 @@
 use answers::asserts::{assert_answers, assert_answers_from};
 use answers::extras::{Counted, Own};
 use chumsky::prelude::*;
-use own_types::states::Kept;
+use extending::states::Kept;
 
 #[test]
 fn a_closure_looks_ahead(rt: HostRuntime) {

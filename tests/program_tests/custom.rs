@@ -6,7 +6,7 @@ use chumsky::extra::RichText;
 use chumsky::prelude::*;
 use chumsky::{Failure, Stop};
 use guide::closure::foo_or_nothing;
-use own_types::readers::{AnX, FooOrNothing, FooOrNothingByCheck, TwoAndAnError};
+use extending::readers::{AnX, FooOrNothing, FooOrNothingByCheck, TwoAndAnError};
 
 #[test]
 fn an_error_of_a_closure_stands_at_its_start(rt: HostRuntime) {

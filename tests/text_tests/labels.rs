@@ -7,7 +7,7 @@ use answers::leaves::{any_char, just_char, just_text};
 use chumsky::error::Error;
 use chumsky::label::LabelError;
 use chumsky::prelude::*;
-use own_types::merges::Merges;
+use extending::merges::Merges;
 use std::alloc::{AllocError, Global};
 use std::cell::Cell;
 

@@ -4,7 +4,7 @@ use answers::extras::{Own, Telling};
 use answers::leaves::just_char;
 use chumsky::prelude::*;
 use chumsky::text::{InlineWhitespace, int};
-use own_types::states::Told;
+use extending::states::Told;
 
 #[test]
 fn padded_takes_white_space_on_both_sides(rt: HostRuntime) {

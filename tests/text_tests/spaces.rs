@@ -3,7 +3,7 @@ use answers::asserts::{assert_answers, assert_answers_from};
 use answers::extras::{Own, Telling};
 use chumsky::prelude::*;
 use chumsky::text::{inline_whitespace, newline, whitespace};
-use own_types::states::Told;
+use extending::states::Told;
 
 #[test]
 fn whitespace_takes_the_longest_run_be_it_empty(rt: HostRuntime) {

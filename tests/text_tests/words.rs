@@ -2,7 +2,7 @@
 use answers::asserts::{assert_answers, assert_answers_from};
 use answers::extras::{Own, Telling};
 use chumsky::prelude::*;
-use own_types::states::Told;
+use extending::states::Told;
 
 #[test]
 fn an_ascii_identifier_begins_with_no_digit(rt: HostRuntime) {

@@ -1,7 +1,7 @@
 use Rattle.std.proofs.Common.{◌≡◌, map}
 use Rattle.std.specs.List.{filter_map}
 use Rattle.chumsky_input.specs.Wanted.{named_token}
-use Rattle.own_types.proofs.merges.MergesError.expected_found.Given as goal
+use Rattle.extending.proofs.merges.MergesError.expected_found.Given as goal
 
 abbrev pub invariant-loop-item : goal.invariant-loop-item
 invariant-loop-item g l =

@@ -3,7 +3,7 @@ ghost use Rattle.std.specs.Prelude.{◌≡◌, ℕ, List, IfOk, IsOk, map};
 ghost use Rattle.std.specs.List.{filter_map};
 ghost use Rattle.std.specs.Iterator.{IsFinite, Drains};
 ghost use Rattle.chumsky_input.specs.Wanted.{named_token};
-ghost use Rattle.own_types.specs.Merges.{in_brackets};
+ghost use Rattle.extending.specs.Merges.{in_brackets};
 
 use chumsky::DefaultExpected;
 use chumsky::error::Error;

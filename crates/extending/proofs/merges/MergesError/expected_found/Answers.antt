@@ -1,8 +1,8 @@
 use Rattle.std.proofs.Common.{Some, None, ap, sym, ◌∙◌, append-nil}
 use Rattle.chumsky_input.specs.Wanted.{named_token}
-use Rattle.own_types.proofs.MergesLemmas.{tokens-more, no-token, named-unlabelled}
-use Rattle.own_types.proofs.merges.MergesError.expected_found.Goals as goal
-use Rattle.own_types.proofs.merges.MergesError.expected_found.Goals.{in-Token+in_ok-push, in_default}
+use Rattle.extending.proofs.MergesLemmas.{tokens-more, no-token, named-unlabelled}
+use Rattle.extending.proofs.merges.MergesError.expected_found.Goals as goal
+use Rattle.extending.proofs.merges.MergesError.expected_found.Goals.{in-Token+in_ok-push, in_default}
 
 pub loop-item-preserved : goal.loop-item-preserved
 loop-item-preserved g c =
