@@ -1,5 +1,5 @@
 /* The jobs of crates/bench_jobs, by parsers and by hand, in turn: the best of the rounds of each. See scripts/bench. */
-#include <stdint.h>
+#include "jobs.h"
 #include <stdio.h>
 #include <stdlib.h>
 #include <string.h>
@@ -8,507 +8,11 @@
 #include <time.h>
 #include <unistd.h>
 
-typedef uint64_t job_function(const uint8_t *bytes, size_t length);
-
-job_function bench_dates_parse, bench_dates_check, bench_words_parse, bench_words_check, bench_headers_parse,
-    bench_headers_check, bench_digits_parse, bench_digits_check, bench_lists_parse, bench_lists_check,
-    bench_settings_parse, bench_settings_check, bench_keys_parse, bench_keys_check, bench_sums_parse,
-    bench_sums_check, bench_messages_parse, bench_messages_check, bench_spaces_parse, bench_spaces_check,
-    bench_ints_parse, bench_ints_check, bench_idents_parse, bench_idents_check, bench_brackets_parse, bench_brackets_check,
-    bench_json_parse, bench_json_check, bench_fail_empty, bench_fail_rich;
-
 #ifdef WITH_RUST
-job_function rust_dates_parse, rust_dates_check, rust_words_parse, rust_words_check, rust_headers_parse,
-    rust_headers_check, rust_digits_parse, rust_digits_check, rust_lists_parse, rust_lists_check,
-    rust_settings_parse, rust_settings_check, rust_sums_parse, rust_sums_check,
-    rust_messages_parse, rust_messages_check, rust_spaces_parse, rust_spaces_check, rust_ints_parse,
-    rust_ints_check, rust_idents_parse, rust_idents_check, rust_brackets_parse, rust_brackets_check, rust_json_parse,
-    rust_json_check, rust_fail;
 #define RUST(name) rust_##name
 #else
 #define RUST(name) NULL
 #endif
-
-/* By hand. */
-
-static inline int is_digit(uint8_t byte) { return (uint8_t)(byte - '0') < 10; }
-
-/* `2026-11-23` and a line's end. */
-enum { DATE = 11 };
-
-static inline int is_date(const uint8_t *at) {
-    return is_digit(at[0]) && is_digit(at[1]) && is_digit(at[2]) && is_digit(at[3]) && at[4] == '-' &&
-           is_digit(at[5]) && is_digit(at[6]) && at[7] == '-' && is_digit(at[8]) && is_digit(at[9]) && at[10] == '\n';
-}
-
-static inline uint64_t date_digits(const uint8_t *at) {
-    return (uint64_t)at[0] + at[1] + at[2] + at[3] + at[5] + at[6] + at[8] + at[9];
-}
-
-static uint64_t dates_parse(const uint8_t *bytes, size_t length) {
-    const uint8_t *at = bytes, *end = bytes + length;
-    uint64_t total = 0;
-    while (end - at >= DATE && is_date(at)) {
-        total += date_digits(at);
-        at += DATE;
-    }
-    return total;
-}
-
-static uint64_t dates_check(const uint8_t *bytes, size_t length) {
-    const uint8_t *at = bytes, *end = bytes + length;
-    uint64_t times = 0;
-    while (end - at >= DATE && is_date(at)) {
-        times += 1;
-        at += DATE;
-    }
-    return times;
-}
-
-/* A run from the start of each line, which refuses all that isn't one date to the end. */
-static uint64_t fail(const uint8_t *bytes, size_t length) {
-    uint64_t total = 0;
-    for (size_t at = 0; at < length; at += DATE) {
-        int is_whole = length - at >= DATE && is_date(bytes + at) && length - at == DATE;
-        total += is_whole ? date_digits(bytes + at) : 1000;
-    }
-    return total;
-}
-
-#define BEGINS(word) ((size_t)(end - at) >= sizeof word - 1 && !memcmp(at, word, sizeof word - 1))
-
-/* The number of the word at a place, or 0, and its length. */
-static inline unsigned word(const uint8_t *at, const uint8_t *end, size_t *length) {
-    if (BEGINS("let")) return *length = 3, 1;
-    if (BEGINS("fn")) return *length = 2, 2;
-    if (BEGINS("if")) return *length = 2, 3;
-    if (BEGINS("else")) return *length = 4, 4;
-    if (BEGINS("while")) return *length = 5, 5;
-    if (BEGINS("return")) return *length = 6, 6;
-    if (BEGINS("struct")) return *length = 6, 7;
-    if (BEGINS("impl")) return *length = 4, 8;
-    return 0;
-}
-
-static uint64_t words_parse(const uint8_t *bytes, size_t length) {
-    const uint8_t *at = bytes, *end = bytes + length;
-    uint64_t total = 0;
-    for (;;) {
-        size_t taken = 0;
-        unsigned number = word(at, end, &taken);
-        if (!number) return total;
-        at += taken;
-        if (at == end || *at != '\n') return total;
-        at += 1;
-        total += number;
-    }
-}
-
-static uint64_t words_check(const uint8_t *bytes, size_t length) {
-    const uint8_t *at = bytes, *end = bytes + length;
-    uint64_t times = 0;
-    for (;;) {
-        size_t taken = 0;
-        if (!word(at, end, &taken)) return times;
-        at += taken;
-        if (at == end || *at != '\n') return times;
-        at += 1;
-        times += 1;
-    }
-}
-
-/* Four fixed bytes, 1 or 2, a version, and two flags. */
-enum { HEADER = 8 };
-
-static inline int is_header(const uint8_t *at) {
-    return !memcmp(at, "\x7f" "ELF", 4) && (at[4] == 1 || at[4] == 2) && at[5] == 1;
-}
-
-static uint64_t headers_parse(const uint8_t *bytes, size_t length) {
-    const uint8_t *at = bytes, *end = bytes + length;
-    uint64_t total = 0;
-    while (end - at >= HEADER && is_header(at)) {
-        total += (uint64_t)at[6] + at[7];
-        at += HEADER;
-    }
-    return total;
-}
-
-static uint64_t headers_check(const uint8_t *bytes, size_t length) {
-    const uint8_t *at = bytes, *end = bytes + length;
-    uint64_t times = 0;
-    while (end - at >= HEADER && is_header(at)) {
-        times += 1;
-        at += HEADER;
-    }
-    return times;
-}
-
-/* How many digits stand at a place. */
-static inline size_t digits_at(const uint8_t *at, const uint8_t *end) {
-    const uint8_t *from = at;
-    while (at != end && is_digit(*at)) at += 1;
-    return (size_t)(at - from);
-}
-
-static uint64_t digits_parse(const uint8_t *bytes, size_t length) {
-    const uint8_t *at = bytes, *end = bytes + length;
-    uint64_t total = 0;
-    for (;;) {
-        size_t count = digits_at(at, end);
-        at += count;
-        if (!count || at == end || *at != '\n') return total;
-        at += 1;
-        total += count;
-    }
-}
-
-static uint64_t digits_check(const uint8_t *bytes, size_t length) {
-    const uint8_t *at = bytes, *end = bytes + length;
-    uint64_t times = 0;
-    for (;;) {
-        size_t count = digits_at(at, end);
-        at += count;
-        if (!count || at == end || *at != '\n') return times;
-        at += 1;
-        times += 1;
-    }
-}
-
-/* The numbers of a list, each a text of its own. */
-struct texts {
-    struct text {
-        char *bytes;
-        size_t length;
-    } * items;
-    size_t count, room;
-};
-
-static void push(struct texts *texts, const uint8_t *at, size_t length) {
-    if (texts->count == texts->room) {
-        texts->room = texts->room ? 2 * texts->room : 4;
-        texts->items = realloc(texts->items, texts->room * sizeof *texts->items);
-        if (!texts->items) exit(2);
-    }
-    char *copy = malloc(length);
-    if (!copy) exit(2);
-    memcpy(copy, at, length);
-    texts->items[texts->count++] = (struct text){copy, length};
-}
-
-/* How many digits the numbers have together. They are let go. */
-static uint64_t digits_of(struct texts *texts) {
-    uint64_t total = 0;
-    for (size_t each = 0; each < texts->count; each++) {
-        total += texts->items[each].length;
-        free(texts->items[each].bytes);
-    }
-    free(texts->items);
-    return total;
-}
-
-/* Where a list and the end of its line end, or null. Its numbers go to texts, if there are any to fill. */
-static inline const uint8_t *list(const uint8_t *at, const uint8_t *end, struct texts *texts) {
-    if (at == end || *at++ != '[') return NULL;
-    size_t count = digits_at(at, end);
-    while (count) {
-        if (texts) push(texts, at, count);
-        at += count;
-        count = at != end && *at == ',' ? digits_at(at + 1, end) : 0;
-        at += count != 0;
-    }
-    if (at == end || *at++ != ']') return NULL;
-    return at == end || *at++ != '\n' ? NULL : at;
-}
-
-static uint64_t lists_parse(const uint8_t *bytes, size_t length) {
-    const uint8_t *at = bytes, *end = bytes + length;
-    uint64_t total = 0;
-    for (;;) {
-        struct texts texts = {0};
-        at = list(at, end, &texts);
-        uint64_t digits = digits_of(&texts);
-        if (!at) return total;
-        total += digits;
-    }
-}
-
-static uint64_t lists_check(const uint8_t *bytes, size_t length) {
-    const uint8_t *at = bytes, *end = bytes + length;
-    uint64_t times = 0;
-    while ((at = list(at, end, NULL))) times += 1;
-    return times;
-}
-
-/* Where a number ends, or null, and its value. */
-static inline const uint8_t *number(const uint8_t *at, const uint8_t *end, uint64_t *value) {
-    size_t count = digits_at(at, end);
-    if (!count) return NULL;
-    *value = 0;
-    for (; count; count--) *value = *value * 10 + (*at++ - '0');
-    return at;
-}
-
-static inline const uint8_t *product(const uint8_t *at, const uint8_t *end, uint64_t *value) {
-    at = number(at, end, value);
-    while (at && at != end && *at == '*') {
-        uint64_t factor = 0;
-        const uint8_t *past = number(at + 1, end, &factor);
-        if (!past) return at;
-        *value *= factor;
-        at = past;
-    }
-    return at;
-}
-
-/* Where a sum of products and the end of its line end, or null, and what it comes to. */
-static inline const uint8_t *sum(const uint8_t *at, const uint8_t *end, uint64_t *value) {
-    at = product(at, end, value);
-    while (at && at != end && (*at == '+' || *at == '-')) {
-        uint64_t term = 0;
-        int is_added = *at == '+';
-        const uint8_t *past = product(at + 1, end, &term);
-        if (!past) break;
-        *value = is_added ? *value + term : *value - term;
-        at = past;
-    }
-    return !at || at == end || *at++ != '\n' ? NULL : at;
-}
-
-static uint64_t sums_parse(const uint8_t *bytes, size_t length) {
-    const uint8_t *at = bytes, *end = bytes + length;
-    uint64_t total = 0, value = 0;
-    while ((at = sum(at, end, &value))) total += value;
-    return total;
-}
-
-static uint64_t sums_check(const uint8_t *bytes, size_t length) {
-    const uint8_t *at = bytes, *end = bytes + length;
-    uint64_t times = 0, value = 0;
-    while ((at = sum(at, end, &value))) times += 1;
-    return times;
-}
-
-/* Messages: a byte that says how many bytes follow, and these. */
-static uint64_t messages_parse(const uint8_t *bytes, size_t length) {
-    uint64_t total = 0;
-    for (size_t at = 0; at < length && length - at - 1 >= bytes[at]; at += 1 + bytes[at]) total += bytes[at];
-    return total;
-}
-
-static uint64_t messages_check(const uint8_t *bytes, size_t length) {
-    uint64_t times = 0;
-    for (size_t at = 0; at < length && length - at - 1 >= bytes[at]; at += 1 + bytes[at]) times += 1;
-    return times;
-}
-
-static inline int is_space(uint8_t byte) { return byte == ' ' || (uint8_t)(byte - '\t') < 5; }
-
-/* How much white space, be it none, stands at a place. */
-static inline size_t space(const uint8_t *at, const uint8_t *end) {
-    const uint8_t *from = at;
-    while (at != end && is_space(*at)) at += 1;
-    return (size_t)(at - from);
-}
-
-static uint64_t spaces_parse(const uint8_t *bytes, size_t length) {
-    const uint8_t *at = bytes, *end = bytes + length;
-    uint64_t total = 0;
-    for (;;) {
-        size_t count = space(at, end);
-        at += count;
-        if (at == end || *at != '.') return total;
-        at += 1;
-        total += count;
-    }
-}
-
-static uint64_t spaces_check(const uint8_t *bytes, size_t length) {
-    const uint8_t *at = bytes, *end = bytes + length;
-    uint64_t times = 0;
-    for (;;) {
-        at += space(at, end);
-        if (at == end || *at != '.') return times;
-        at += 1;
-        times += 1;
-    }
-}
-
-/* How many digits a number has: one where it begins with a zero, and 0 where there is none. */
-static inline size_t int_at(const uint8_t *at, const uint8_t *end) {
-    return at != end && *at == '0' ? 1 : digits_at(at, end);
-}
-
-static uint64_t ints_parse(const uint8_t *bytes, size_t length) {
-    const uint8_t *at = bytes, *end = bytes + length;
-    uint64_t total = 0;
-    for (;;) {
-        size_t count = int_at(at, end);
-        at += count;
-        if (!count || at == end || *at != '\n') return total;
-        at += 1;
-        total += count;
-    }
-}
-
-static uint64_t ints_check(const uint8_t *bytes, size_t length) {
-    const uint8_t *at = bytes, *end = bytes + length;
-    uint64_t times = 0;
-    for (;;) {
-        size_t count = int_at(at, end);
-        at += count;
-        if (!count || at == end || *at != '\n') return times;
-        at += 1;
-        times += 1;
-    }
-}
-
-static inline int begins_ident(uint8_t byte) { return (uint8_t)((byte | 32) - 'a') < 26 || byte == '_'; }
-
-/* How many bytes an identifier has, or 0 where there is none. */
-static inline size_t ident(const uint8_t *at, const uint8_t *end) {
-    if (at == end || !begins_ident(*at)) return 0;
-    const uint8_t *from = at;
-    while (at != end && (begins_ident(*at) || is_digit(*at))) at += 1;
-    return (size_t)(at - from);
-}
-
-static uint64_t idents_parse(const uint8_t *bytes, size_t length) {
-    const uint8_t *at = bytes, *end = bytes + length;
-    uint64_t total = 0;
-    for (;;) {
-        size_t count = ident(at, end);
-        at += count;
-        if (!count || at == end || *at != '\n') return total;
-        at += 1;
-        total += count;
-    }
-}
-
-static uint64_t idents_check(const uint8_t *bytes, size_t length) {
-    const uint8_t *at = bytes, *end = bytes + length;
-    uint64_t times = 0;
-    for (;;) {
-        size_t count = ident(at, end);
-        at += count;
-        if (!count || at == end || *at != '\n') return times;
-        at += 1;
-        times += 1;
-    }
-}
-
-static const char *const keywords[] = {"host", "port", "user", "group", "root", "index",
-                                       "log", "level", "cache", "timeout", "retries", "verbose"};
-enum { KEYWORDS = sizeof keywords / sizeof *keywords };
-
-/* The number of a value at a place, or 0, and its length. */
-static inline unsigned value(const uint8_t *at, const uint8_t *end, size_t *length) {
-    if (BEGINS("true")) return *length = 4, 1;
-    if (BEGINS("false")) return *length = 5, 2;
-    *length = 0;
-    while (*length < 4 && at + *length != end && is_digit(at[*length])) *length += 1;
-    return (unsigned)*length;
-}
-
-/* Where a setting and the end of its line end, or null, and what it counts. */
-static inline const uint8_t *setting(const uint8_t *at, const uint8_t *end, uint64_t *counts) {
-    for (unsigned key = 0; key < KEYWORDS; key++) {
-        size_t length = strlen(keywords[key]);
-        if ((size_t)(end - at) < length || memcmp(at, keywords[key], length)) continue;
-        at += length;
-        if (!BEGINS(" = ")) return NULL;
-        at += 3;
-        unsigned number = value(at, end, &length);
-        at += length;
-        *counts = (uint64_t)(key + 1) * number;
-        return !number || at == end || *at != '\n' ? NULL : at + 1;
-    }
-    return NULL;
-}
-
-static uint64_t settings_parse(const uint8_t *bytes, size_t length) {
-    const uint8_t *at = bytes, *end = bytes + length;
-    uint64_t total = 0, counts = 0;
-    while ((at = setting(at, end, &counts))) total += counts;
-    return total;
-}
-
-static uint64_t settings_check(const uint8_t *bytes, size_t length) {
-    const uint8_t *at = bytes, *end = bytes + length;
-    uint64_t times = 0, counts = 0;
-    while ((at = setting(at, end, &counts))) times += 1;
-    return times;
-}
-
-/* How many pairs of brackets there are, within one another and one after another, if there is nothing else. */
-static int pairs(const uint8_t *bytes, size_t length, uint64_t *count) {
-    size_t depth = 0;
-    for (size_t at = 0; at < length; at++) {
-        if (bytes[at] == '[') {
-            depth += 1;
-        } else if (bytes[at] == ']' && depth) {
-            depth -= 1;
-            *count += 1;
-        } else {
-            return 0;
-        }
-    }
-    return depth == 0;
-}
-
-static uint64_t brackets_parse(const uint8_t *bytes, size_t length) {
-    uint64_t count = 0;
-    return pairs(bytes, length, &count) ? count : 0;
-}
-
-static uint64_t brackets_check(const uint8_t *bytes, size_t length) {
-    uint64_t count = 0;
-    return (uint64_t)pairs(bytes, length, &count);
-}
-
-static inline int is_letter(uint8_t byte) { return (uint8_t)(byte - 'a') < 26 || is_digit(byte); }
-
-/* Where a string ends, or null. */
-static inline const uint8_t *json_string(const uint8_t *at, const uint8_t *end) {
-    if (at == end || *at++ != '"') return NULL;
-    while (at != end && is_letter(*at)) at += 1;
-    return at != end && *at == '"' ? at + 1 : NULL;
-}
-
-/* Where a value ends, or null. JSON has no spaces here; strings, numbers and words are counted, names of members too. */
-static const uint8_t *json(const uint8_t *at, const uint8_t *end, uint64_t *count) {
-    if (at == end) return NULL;
-    uint8_t closing = *at == '[' ? ']' : *at == '{' ? '}' : 0;
-    if (!closing) {
-        *count += 1;
-        if (*at == '"') return json_string(at, end);
-        if (is_digit(*at)) return at + digits_at(at, end);
-        return BEGINS("true") ? at + 4 : BEGINS("false") ? at + 5 : BEGINS("null") ? at + 4 : NULL;
-    }
-    at += 1;
-    if (at != end && *at == closing) return at + 1;
-    for (;;) {
-        if (closing == '}') {
-            at = json_string(at, end);
-            if (!at || at == end || *at++ != ':') return NULL;
-            *count += 1;
-        }
-        at = json(at, end, count);
-        if (!at || at == end) return NULL;
-        if (*at == closing) return at + 1;
-        if (*at++ != ',') return NULL;
-    }
-}
-
-static uint64_t json_parse(const uint8_t *bytes, size_t length) {
-    uint64_t count = 0;
-    return json(bytes, bytes + length, &count) == bytes + length ? count : 0;
-}
-
-static uint64_t json_check(const uint8_t *bytes, size_t length) {
-    uint64_t count = 0;
-    return json(bytes, bytes + length, &count) == bytes + length;
-}
 
 /* Inputs, of a fixed seed. */
 
@@ -846,9 +350,9 @@ static struct cost cost_of(job_function *way, struct input input, double seconds
 
 static int grow(double seconds, const char *only) {
     struct growth growths[] = {
-        {"list of strings", {bench_lists_parse, lists_parse, RUST(lists_parse)}, make_list, 4},
-        {"json parse", {bench_json_parse, json_parse, RUST(json_parse)}, make_json, 195},
-        {"json check", {bench_json_check, json_check, RUST(json_check)}, make_json, 195},
+        {"list of strings", {bench_lists_parse, c_lists_parse, RUST(lists_parse)}, make_list, 4},
+        {"json parse", {bench_json_parse, c_json_parse, RUST(json_parse)}, make_json, 195},
+        {"json check", {bench_json_check, c_json_check, RUST(json_check)}, make_json, 195},
     };
     static const char *const names[WAYS] = {"parsers", "C", "Rust"};
     int all_agree = 1;
@@ -875,6 +379,11 @@ static int grow(double seconds, const char *only) {
     return all_agree ? 0 : 1;
 }
 
+/* The two rows of a job over an input, beside a job by hand. */
+#define ROWS(name, job, hand, input)                                                          \
+    {name " parse", {bench_##job##_parse, c_##hand##_parse, RUST(hand##_parse)}, input, {0}}, \
+        {name " check", {bench_##job##_check, c_##hand##_check, RUST(hand##_check)}, input, {0}}
+
 int main(int count, char **arguments) {
     int grows = count > 1 && !strcmp(arguments[1], "growth");
     if (grows) count--, arguments++;
@@ -887,38 +396,23 @@ int main(int count, char **arguments) {
     struct input failing = make_failing(2000), sums = make_sums(3000), messages = make_messages(2000);
     struct input spaces = make_spaces(8000), ints = make_ints(8000), idents = make_idents(8000);
     struct job jobs[] = {
-        {"dates parse", {bench_dates_parse, dates_parse, RUST(dates_parse)}, dates, {0}},
-        {"dates check", {bench_dates_check, dates_check, RUST(dates_check)}, dates, {0}},
-        {"words parse", {bench_words_parse, words_parse, RUST(words_parse)}, words, {0}},
-        {"words check", {bench_words_check, words_check, RUST(words_check)}, words, {0}},
-        {"headers parse", {bench_headers_parse, headers_parse, RUST(headers_parse)}, headers, {0}},
-        {"headers check", {bench_headers_check, headers_check, RUST(headers_check)}, headers, {0}},
-        {"digits parse", {bench_digits_parse, digits_parse, RUST(digits_parse)}, digits, {0}},
-        {"digits check", {bench_digits_check, digits_check, RUST(digits_check)}, digits, {0}},
-        {"lists parse", {bench_lists_parse, lists_parse, RUST(lists_parse)}, lists, {0}},
-        {"lists check", {bench_lists_check, lists_check, RUST(lists_check)}, lists, {0}},
-        {"settings parse", {bench_settings_parse, settings_parse, RUST(settings_parse)}, settings, {0}},
-        {"settings check", {bench_settings_check, settings_check, RUST(settings_check)}, settings, {0}},
-        {"keys parse", {bench_keys_parse, settings_parse, RUST(settings_parse)}, settings, {0}},
-        {"keys check", {bench_keys_check, settings_check, RUST(settings_check)}, settings, {0}},
-        {"sums parse", {bench_sums_parse, sums_parse, RUST(sums_parse)}, sums, {0}},
-        {"sums check", {bench_sums_check, sums_check, RUST(sums_check)}, sums, {0}},
-        {"messages parse", {bench_messages_parse, messages_parse, RUST(messages_parse)}, messages, {0}},
-        {"messages check", {bench_messages_check, messages_check, RUST(messages_check)}, messages, {0}},
-        {"spaces parse", {bench_spaces_parse, spaces_parse, RUST(spaces_parse)}, spaces, {0}},
-        {"spaces check", {bench_spaces_check, spaces_check, RUST(spaces_check)}, spaces, {0}},
-        {"ints parse", {bench_ints_parse, ints_parse, RUST(ints_parse)}, ints, {0}},
-        {"ints check", {bench_ints_check, ints_check, RUST(ints_check)}, ints, {0}},
-        {"idents parse", {bench_idents_parse, idents_parse, RUST(idents_parse)}, idents, {0}},
-        {"idents check", {bench_idents_check, idents_check, RUST(idents_check)}, idents, {0}},
-        {"shallow parse", {bench_brackets_parse, brackets_parse, RUST(brackets_parse)}, shallow, {0}},
-        {"shallow check", {bench_brackets_check, brackets_check, RUST(brackets_check)}, shallow, {0}},
-        {"deep parse", {bench_brackets_parse, brackets_parse, RUST(brackets_parse)}, deep, {0}},
-        {"deep check", {bench_brackets_check, brackets_check, RUST(brackets_check)}, deep, {0}},
-        {"json parse", {bench_json_parse, json_parse, RUST(json_parse)}, json, {0}},
-        {"json check", {bench_json_check, json_check, RUST(json_check)}, json, {0}},
-        {"fail EmptyErr", {bench_fail_empty, fail, RUST(fail)}, failing, {0}},
-        {"fail Rich", {bench_fail_rich, fail, RUST(fail)}, failing, {0}},
+        ROWS("dates", dates, dates, dates),
+        ROWS("words", words, words, words),
+        ROWS("headers", headers, headers, headers),
+        ROWS("digits", digits, digits, digits),
+        ROWS("lists", lists, lists, lists),
+        ROWS("settings", settings, settings, settings),
+        ROWS("keys", keys, settings, settings),
+        ROWS("sums", sums, sums, sums),
+        ROWS("messages", messages, messages, messages),
+        ROWS("spaces", spaces, spaces, spaces),
+        ROWS("ints", ints, ints, ints),
+        ROWS("idents", idents, idents, idents),
+        ROWS("shallow", brackets, brackets, shallow),
+        ROWS("deep", brackets, brackets, deep),
+        ROWS("json", json, json, json),
+        {"fail EmptyErr", {bench_fail_empty, c_fail, RUST(fail)}, failing, {0}},
+        {"fail Rich", {bench_fail_rich, c_fail, RUST(fail)}, failing, {0}},
     };
     size_t of = sizeof jobs / sizeof *jobs;
     int all_agree = 1;
