@@ -6,11 +6,15 @@ use Rattle.chumsky_input.specs.declared.input.Input as input_trait
 use Rattle.chumsky_input.specs.declared.stop.Stop.{Stop}
 use Rattle.chumsky_input.specs.declared.stop.Stop.TheVariants.{Memory}
 use Rattle.chumsky_input.specs.Outcome.{Meaning, Beginning, Outcome, Verdict, Yes, No, Halt, Clash, IsAnswer, SameValue}
+use Rattle.chumsky_input.specs.Words.{Does}
 use Rattle.chumsky_parser.specs.Chained.{Chained, Given, Asked}
 use Rattle.chumsky_primitive.specs.End.{MeansEnd}
 use Rattle.chumsky_parse_iter.specs.Settled.{reported, RefusesBy}
 use Rattle.chumsky_parser.specs.declared.parser.Parser as parser_trait
 use Rattle.chumsky_parser.specs.declared.result.ParseResult.{ParseResult}
+use Rattle.chumsky_recursive.specs.declared.actions.Actions as actions_trait
+use Rattle.chumsky_recursive.specs.declared.grammar.Grammar.{Grammar}
+use Rattle.chumsky_recursive.specs.Refused.{RefusesAsLeaves}
 
 module _ {I Tok Sp Cu Er St Mk Cx V : Type 0} (source : input_trait.Ghosts I Cu Tok Sp) (errors : error_trait.Ghosts Er I Tok Sp) (states : inspector_trait.Ghosts St I Mk Tok Sp) where
   -- the parser, and then the end of input
@@ -68,6 +72,21 @@ FromDefault {St = St} is_default seen run = (first : St) × (last : St) × is_de
 abbrev pub StopsOnlyAs : {Tok St R : Type 0} → ℕ → (List Tok → Stop → Type 0) → (List Tok → St → St → Result R Stop → Type 0) → Type 0
 StopsOnlyAs {Tok = Tok} {St = St} {R = R} many so gives = (ts : List Tok) (old new : St) (result : Result R Stop) → length ts ≤ many → gives ts old new result → IfErr result (so ts)
 
--- an answer that the run was refused for memory has an outcome that failed
-abbrev pub LacksMemoryOnlyOfNo : {Tok Cx St Er V : Type 0} → Type 0 → Meaning Tok Cx St Er V → Type 0
-LacksMemoryOnlyOfNo {Tok = Tok} {Cx = Cx} {St = St} {Er = Er} {V = V} takes_no_memory meaning = (b : Beginning Tok Cx St) (o : Outcome V Er St) (s : Stop) → meaning b o → RefusesBy takes_no_memory o.verdict o s → s ≡ Memory → o.verdict ≡ No
+module _ {I Tok Sp Cu Er St Mk Cx V : Type 0} (source : input_trait.Ghosts I Cu Tok Sp) (errors : error_trait.Ghosts Er I Tok Sp) (states : inspector_trait.Ghosts St I Mk Tok Sp) where
+  -- where a parser and then the end of input is refused for memory, that run failed
+  abbrev pub LacksMemoryOnlyOfNo : Does I Tok Sp Er St Mk Cx V → Type 0
+  LacksMemoryOnlyOfNo part =
+      (b : Beginning Tok Cx states.Seen) (o : Outcome V errors.Seen states.Seen) (s : Stop) → WholeRun source errors states (part errors states) b o → RefusesBy errors.takes_no_memory o.verdict o s → s ≡ Memory → o.verdict ≡ No
+
+module _ {A I X V Cu Tok Sp Er St Cx Mk : Type 0} (source : input_trait.Ghosts I Cu Tok Sp) (errors : error_trait.Ghosts Er I Tok Sp) (states : inspector_trait.Ghosts St I Mk Tok Sp) (is_default : Cx → Type 0) (actions : actions_trait.Ghosts A I X V Cu Tok Sp Er St Cx Mk) (parsers : parser_trait.Ghosts (Grammar A) I V X Cu Tok Sp Er St Cx Mk) (grammar : Grammar A) where
+  -- what stops a run over at most so many tokens, of which this is known, is for memory, or as a leaf of the grammar is on these tokens
+  abbrev StopsAsLeaves : {R : Type 0} → ℕ → (List Tok → states.Seen → states.Seen → Result R Stop → Type 0) → Type 0
+  StopsAsLeaves many gives = StopsOnlyAs many (RefusesAsLeaves (λ n. actions.leaf_meaning grammar.actions.now n errors states) grammar.rules.rules.now) gives
+
+  -- so is what stops `parse` of the grammar
+  abbrev pub ParseStopsAsLeaves : ℕ → Type 0
+  ParseStopsAsLeaves many = StopsAsLeaves many (ParseGives source errors states is_default parsers grammar)
+
+  -- and what stops `check` of it
+  abbrev pub CheckStopsAsLeaves : ℕ → Type 0
+  CheckStopsAsLeaves many = StopsAsLeaves many (CheckGives source errors states is_default parsers grammar)

@@ -1,6 +1,6 @@
 //! The builders and run forms of parsers of items, in the order of the Rust crate `chumsky`.
-ghost use Rattle.std.specs.Prelude.{◌≡◌, None, []};
-ghost use Rattle.chumsky_parse_iter.specs.Walk.{held_in};
+ghost use Rattle.std.specs.Prelude.{◌≡◌};
+ghost use Rattle.chumsky_parse_iter.specs.Walk.{BeginsWhole};
 
 use crate::combinator::{
     Collect, CollectExactly, Count, Enumerate, Flatten, Fold, Folder, Foldr, FoldrWith, Map,
@@ -280,7 +280,7 @@ pub trait IterParserExt<I, O, E>: Sized {
         E::Context: Default,
         Self: Iterates,
         ensures parser { result.parser ≡ self.entry }
-        ensures starts { (state : E.State) × (context : E.Context) × E.State.is_default state × E.Context.is_default context × (held_in I.Input E.Error.Error E.State.Inspector result.parts ≡ record { tokens = I.tokens input; place = 0; context = context; state = E.State.seen state; kept = None; emitted = []; stopped = None }) }
+        ensures starts { (state : E.State) × E.State.is_default state × BeginsWhole I.Input E.Error.Error E.State.Inspector E.Context.is_default input state result.parts }
         ensures phase { result.phase ≡ Phase.Unbegun }
         ensures given { result.given ≡ 0 }
     {
@@ -301,7 +301,7 @@ pub trait IterParserExt<I, O, E>: Sized {
         E::Context: Default,
         Self: Iterates,
         ensures parser { result.parser ≡ self.entry }
-        ensures starts { (context : E.Context) × E.Context.is_default context × (held_in I.Input E.Error.Error E.State.Inspector result.parts ≡ record { tokens = I.tokens input; place = 0; context = context; state = E.State.seen state; kept = None; emitted = []; stopped = None }) }
+        ensures starts { BeginsWhole I.Input E.Error.Error E.State.Inspector E.Context.is_default input state result.parts }
         ensures phase { result.phase ≡ Phase.Unbegun }
         ensures given { result.given ≡ 0 }
     {

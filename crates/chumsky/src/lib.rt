@@ -79,6 +79,7 @@ pub mod primitive {
     pub use chumsky_context::one_of_cfg::OneOfCfg;
     pub use chumsky_group::group::Group;
     pub use chumsky_group::make::group;
+    pub use chumsky_group::parts::Parts;
     pub use chumsky_primitive::any::Any;
     pub use chumsky_primitive::any_ref::AnyRef;
     pub use chumsky_primitive::custom::{Custom, Reader};
@@ -261,7 +262,7 @@ pub mod context_laws {
 }
 
 /// Laws of parsers, each the contract of a function that does nothing: which of them mean the same, and which are ready and
-/// steady.
+/// steady. Those of groups speak of any `primitive::Parts`.
 pub mod laws {
     pub use crate::steady::{from_str_is_steady, lazy_is_steady};
     pub use chumsky_choice::alternatives::Alternatives;

@@ -1,6 +1,6 @@
 //! For what a run asks for memory whose parser is never refused for it.
-ghost use Rattle.chumsky_memory.specs.Memory.{NeverOutOfMemory};
-ghost use Rattle.chumsky.specs.Answer.{WholeRun, LacksMemoryOnlyOfNo};
+ghost use Rattle.chumsky_memory.specs.ByParts.{NeverOut};
+ghost use Rattle.chumsky.specs.Answer.{LacksMemoryOnlyOfNo};
 
 use chumsky_input::extra::ParserExtra;
 use chumsky_input::input::Input;
@@ -18,5 +18,5 @@ pub fn memory_is_wanted_only_for_errors<
     E: ParserExtra<I>,
     P: Parser<'src, I, O, E>,
 >(parser: &P)
-    ensures { NeverOutOfMemory (P.meaning parser.now E.Error.Error E.State.Inspector) → E.Error.takes_no_memory → E.State.takes_no_memory → LacksMemoryOnlyOfNo E.Error.takes_no_memory (WholeRun I.Input E.Error.Error E.State.Inspector (P.meaning parser.now E.Error.Error E.State.Inspector)) }
+    ensures { NeverOut E.Error.Error E.State.Inspector (P.meaning parser.now) → E.Error.takes_no_memory → E.State.takes_no_memory → LacksMemoryOnlyOfNo I.Input E.Error.Error E.State.Inspector (P.meaning parser.now) }
 {}

@@ -1,6 +1,6 @@
 //! For what `parse` and `check` of well-founded rules are refused, as the contract of a function that does nothing.
-ghost use Rattle.chumsky.specs.Answer.{StopsOnlyAs, ParseGives, CheckGives};
-ghost use Rattle.chumsky_recursive.specs.Refused.{IsRefusedAsLeaves, RefusesAsLeaves};
+ghost use Rattle.chumsky.specs.Answer.{ParseStopsAsLeaves, CheckStopsAsLeaves};
+ghost use Rattle.chumsky_recursive.specs.Refused.{IsRefusedAsLeaves};
 
 use chumsky_input::extra::ParserExtra;
 use chumsky_input::input::Input;
@@ -20,7 +20,8 @@ pub fn founded_runs_are_refused_as_leaves<
 >(grammar: &Grammar<'r, A>, tokens: usize)
 where
     E::Context: Default,
-    requires stands { IsRefusedAsLeaves (λ n. A.leaf_meaning grammar.now.actions.now n E.Error.Error E.State.Inspector) grammar.now.rules.rules.now tokens (⟦<Grammar<'r, A> as Parser<'src, I, A::Value, E>>⟧.meaning grammar.now E.Error.Error E.State.Inspector) }
-    ensures parse { StopsOnlyAs tokens (RefusesAsLeaves (λ n. A.leaf_meaning grammar.now.actions.now n E.Error.Error E.State.Inspector) grammar.now.rules.rules.now) (ParseGives I.Input E.Error.Error E.State.Inspector E.Context.is_default ⟦<Grammar<'r, A> as Parser<'src, I, A::Value, E>>⟧ grammar.now) }
-    ensures check { StopsOnlyAs tokens (RefusesAsLeaves (λ n. A.leaf_meaning grammar.now.actions.now n E.Error.Error E.State.Inspector) grammar.now.rules.rules.now) (CheckGives I.Input E.Error.Error E.State.Inspector E.Context.is_default ⟦<Grammar<'r, A> as Parser<'src, I, A::Value, E>>⟧ grammar.now) }
+    requires stands { IsRefusedAsLeaves (λ n. A.leaf_meaning grammar.now.actions.now n E.Error.Error E.State.Inspector) grammar.now.rules.rules.now
+        tokens (⟦<Grammar<'r, A> as Parser<'src, I, A::Value, E>>⟧.meaning grammar.now E.Error.Error E.State.Inspector) }
+    ensures parse { ParseStopsAsLeaves I.Input E.Error.Error E.State.Inspector E.Context.is_default A.Actions ⟦<Grammar<'r, A> as Parser<'src, I, A::Value, E>>⟧ grammar.now tokens }
+    ensures check { CheckStopsAsLeaves I.Input E.Error.Error E.State.Inspector E.Context.is_default A.Actions ⟦<Grammar<'r, A> as Parser<'src, I, A::Value, E>>⟧ grammar.now tokens }
 {}
