@@ -14,4 +14,4 @@ returns-in-Some-clause-begins g c =
     })
 
 pub returns-in-None-clause-begins : goal.returns-in-None-clause-begins
-returns-in-None-clause-begins g c = inl (c.wait.ensures.waits, refl, sym c.leaf_at.ensures.is ∙ c.in-None.is)
+returns-in-None-clause-begins g c = inl (c.wait_if_wanted.ensures.waits, refl, sym c.leaf_at.ensures.is ∙ c.in-None.is)
