@@ -212,44 +212,68 @@ static struct input make_brackets(unsigned depth, unsigned times) {
     return made;
 }
 
-static uint8_t *write_string(uint8_t *at) {
+/* Which JSON is made: with no spaces, of plain strings and of digits; or with all that JSON has. */
+enum json { PLAIN, WHOLE };
+
+/* Up to eight letters. One in four strings of all JSON has an escape. */
+static uint8_t *write_string(uint8_t *at, enum json json) {
+    static const char *const escapes[] = {"\\n", "\\\"", "\\u00e9", "\\ud83d\\ude00"};
     *at++ = '"';
+    if (json == WHOLE && !below(4)) at += sprintf((char *)at, "%s", escapes[below(4)]);
     for (unsigned left = below(9); left; left--) *at++ = (uint8_t)('a' + below(26));
     *at++ = '"';
     return at;
 }
 
+/* Up to eight digits. One in four numbers of all JSON has a sign, a fraction or an exponent. */
+static uint8_t *write_number(uint8_t *at, enum json json) {
+    static const char *const after[] = {".5", ".125", "e9", "E-12"};
+    int is_plain = json == PLAIN || below(4);
+    if (!is_plain && below(2)) *at++ = '-';
+    uint8_t *from = at;
+    at += write_digits(at, 8);
+    if (json == WHOLE && *from == '0') *from = '1';
+    if (!is_plain) at += sprintf((char *)at, "%s", after[below(4)]);
+    return at;
+}
+
 /* Lists and objects within one another, down to this depth, and then a string, a number or a word. */
-static uint8_t *write_json(uint8_t *at, unsigned depth) {
+static uint8_t *write_json(uint8_t *at, unsigned depth, enum json json) {
     unsigned kind = depth ? 3 + below(2) : below(3);
-    if (kind == 0) return write_string(at);
-    if (kind == 1) return at + write_digits(at, 8);
+    if (kind == 0) return write_string(at, json);
+    if (kind == 1) return write_number(at, json);
     if (kind == 2) return at + sprintf((char *)at, "%s", below(2) ? "true" : below(2) ? "false" : "null");
     *at++ = kind == 3 ? '[' : '{';
     for (unsigned left = 1 + below(8); left; left--) {
         if (kind == 4) {
-            at = write_string(at);
+            at = write_string(at, json);
             *at++ = ':';
+            if (json == WHOLE) *at++ = ' ';
         }
-        at = write_json(at, depth - 1);
+        at = write_json(at, depth - 1, json);
         if (left > 1) *at++ = ',';
+        if (left > 1 && json == WHOLE) *at++ = depth > 1 ? '\n' : ' ';
     }
     *at++ = kind == 3 ? ']' : '}';
     return at;
 }
 
-static struct input make_json(unsigned count) {
-    struct input made = room((size_t)count * 1600 + 2);
+static struct input make_json_of(enum json json, unsigned count) {
+    struct input made = room((size_t)count * 3400 + 2);
     uint8_t *at = made.bytes;
     *at++ = '[';
     for (unsigned each = 0; each < count; each++) {
         if (each) *at++ = ',';
-        at = write_json(at, 2);
+        at = write_json(at, 2, json);
     }
     *at++ = ']';
     made.length = (size_t)(at - made.bytes);
     return made;
 }
+
+static struct input make_json(unsigned count) { return make_json_of(PLAIN, count); }
+
+static struct input make_tree(unsigned count) { return make_json_of(WHOLE, count); }
 
 /* Rounds. */
 
@@ -351,8 +375,11 @@ static struct cost cost_of(job_function *way, struct input input, double seconds
 static int grow(double seconds, const char *only) {
     struct growth growths[] = {
         {"list of strings", {bench_lists_parse, c_lists_parse, RUST(lists_parse)}, make_list, 4},
+        {"list of slices", {bench_slices_parse, c_slices_parse, RUST(slices_parse)}, make_list, 4},
         {"json parse", {bench_json_parse, c_json_parse, RUST(json_parse)}, make_json, 195},
         {"json check", {bench_json_check, c_json_check, RUST(json_check)}, make_json, 195},
+        {"tree parse", {bench_tree_parse, c_tree_parse, RUST(tree_parse)}, make_tree, 280},
+        {"tree check", {bench_tree_check, c_tree_check, RUST(tree_check)}, make_tree, 280},
     };
     static const char *const names[WAYS] = {"parsers", "C", "Rust"};
     int all_agree = 1;
@@ -394,13 +421,14 @@ int main(int count, char **arguments) {
     struct input digits = make_digits(5000), lists = make_lists(2000), settings = make_settings(5000);
     struct input shallow = make_brackets(2, 25000), deep = make_brackets(100000, 1), json = make_json(300);
     struct input failing = make_failing(2000), sums = make_sums(3000), messages = make_messages(2000);
-    struct input spaces = make_spaces(8000), ints = make_ints(8000), idents = make_idents(8000);
+    struct input spaces = make_spaces(8000), ints = make_ints(8000), idents = make_idents(8000), tree = make_tree(300);
     struct job jobs[] = {
         ROWS("dates", dates, dates, dates),
         ROWS("words", words, words, words),
         ROWS("headers", headers, headers, headers),
         ROWS("digits", digits, digits, digits),
         ROWS("lists", lists, lists, lists),
+        ROWS("slices", slices, slices, lists),
         ROWS("settings", settings, settings, settings),
         ROWS("keys", keys, settings, settings),
         ROWS("sums", sums, sums, sums),
@@ -411,6 +439,7 @@ int main(int count, char **arguments) {
         ROWS("shallow", brackets, brackets, shallow),
         ROWS("deep", brackets, brackets, deep),
         ROWS("json", json, json, json),
+        ROWS("tree", tree, tree, tree),
         {"fail EmptyErr", {bench_fail_empty, c_fail, RUST(fail)}, failing, {0}},
         {"fail Rich", {bench_fail_rich, c_fail, RUST(fail)}, failing, {0}},
     };

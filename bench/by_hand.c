@@ -129,8 +129,8 @@ static struct text copy_of(const uint8_t *at, size_t length) {
     return (struct text){memcpy(copy, at, length), length};
 }
 
-/* What becomes of the numbers of a list: nothing, or each is kept as a copy. */
-enum keeping { DROPPED, COPIED };
+/* What becomes of the numbers of a list: nothing, each is kept where it lies, or each as a copy. */
+enum keeping { DROPPED, LENT, COPIED };
 
 /* Where a list and the end of its line end, or null, and how many digits those of its numbers have that are kept. These are
    collected, and then let go. */
@@ -142,7 +142,7 @@ static inline const uint8_t *list(enum keeping keeping, const uint8_t *at, const
     while (count) {
         if (keeping != DROPPED) {
             numbers = with_room(numbers, sizeof *numbers, kept, &room);
-            numbers[kept++] = copy_of(at, count);
+            numbers[kept++] = keeping == COPIED ? copy_of(at, count) : (struct text){at, count};
         }
         at += count;
         count = at != end && *at == ',' ? digits_at(at + 1, end) : 0;
@@ -151,7 +151,7 @@ static inline const uint8_t *list(enum keeping keeping, const uint8_t *at, const
     *digits = 0;
     for (size_t each = 0; each < kept; each++) {
         *digits += numbers[each].length;
-        free((void *)numbers[each].bytes);
+        if (keeping == COPIED) free((void *)numbers[each].bytes);
     }
     free(numbers);
     at = at ? past(at, end, ']') : NULL;
@@ -162,12 +162,18 @@ static inline const uint8_t *list_of_strings(const uint8_t *at, const uint8_t *e
     return list(COPIED, at, end, digits);
 }
 
+static inline const uint8_t *list_of_slices(const uint8_t *at, const uint8_t *end, uint64_t *digits) {
+    return list(LENT, at, end, digits);
+}
+
 static inline const uint8_t *list_of_nothing(const uint8_t *at, const uint8_t *end, uint64_t *digits) {
     return list(DROPPED, at, end, digits);
 }
 
 PARSE_LINES(lists, list_of_strings)
 CHECK_LINES(lists, list_of_nothing)
+PARSE_LINES(slices, list_of_slices)
+CHECK_LINES(slices, list_of_nothing)
 
 /* Where a number ends, or null, and its value. */
 static inline const uint8_t *number(const uint8_t *at, const uint8_t *end, uint64_t *value) {
@@ -331,3 +337,215 @@ static const uint8_t *json(const uint8_t *at, const uint8_t *end, uint64_t *coun
 }
 
 WHOLE(json, json)
+
+/* A value of JSON. A number is its text, and an object has its members in the order of the text. */
+struct tree {
+    enum { NOTHING = 1, FALSE, TRUE, LIST, OBJECT, NUMBER, TEXT } kind;
+    union {
+        struct text text;
+        struct {
+            struct tree *items;
+            size_t count, room;
+        } list;
+        struct {
+            struct member *items;
+            size_t count, room;
+        } object;
+    };
+};
+
+struct member {
+    struct text name;
+    struct tree value;
+};
+
+static inline const uint8_t *blank(const uint8_t *at, const uint8_t *end) {
+    while (at != end && (*at == ' ' || *at == '\t' || *at == '\r' || *at == '\n')) at += 1;
+    return at;
+}
+
+/* Past four hexadecimal digits, or null, and the number that they make. */
+static const uint8_t *unit(const uint8_t *at, const uint8_t *end, uint32_t *number) {
+    if (end - at < 4) return NULL;
+    *number = 0;
+    for (int left = 4; left; left--, at++) {
+        uint8_t letter = (uint8_t)((*at | 32) - 'a');
+        if (!is_digit(*at) && letter >= 6) return NULL;
+        *number = *number * 16 + (uint32_t)(is_digit(*at) ? *at - '0' : letter + 10);
+    }
+    return at;
+}
+
+/* Past an escape whose backslash stands before the place, or null, and the character that it stands for. */
+static const uint8_t *escape(const uint8_t *at, const uint8_t *end, uint32_t *character) {
+    static const char names[] = "\"\\/bfnrt", meant[] = "\"\\/\b\f\n\r\t";
+    if (at == end) return NULL;
+    const char *name = memchr(names, *at, sizeof names - 1);
+    if (name) return *character = (uint8_t)meant[name - names], at + 1;
+    if (*at != 'u' || !(at = unit(at + 1, end, character))) return NULL;
+    if (*character < 0xD800 || *character > 0xDFFF) return at;
+    uint32_t low = 0;
+    if (*character > 0xDBFF || !BEGINS("\\u") || !(at = unit(at + 2, end, &low))) return NULL;
+    *character = 0x10000 + ((*character & 0x3FF) << 10) + (low & 0x3FF);
+    return low < 0xDC00 || low > 0xDFFF ? NULL : at;
+}
+
+static uint8_t *put_character(uint8_t *to, uint32_t character) {
+    if (character < 0x80) return *to++ = (uint8_t)character, to;
+    int more = character < 0x800 ? 1 : character < 0x10000 ? 2 : 3;
+    *to++ = (uint8_t)((0xF80 >> more) | (character >> (6 * more)));
+    while (more--) *to++ = (uint8_t)(0x80 | ((character >> (6 * more)) & 0x3F));
+    return to;
+}
+
+/* What a string between quotes stands for, whose escapes are known to be right. */
+static struct text without_escapes(const uint8_t *at, const uint8_t *end) {
+    struct text text = copy_of(at, (size_t)(end - at));
+    uint8_t *to = (uint8_t *)text.bytes;
+    while (at != end) {
+        uint32_t character = *at++;
+        if (character != '\\') {
+            *to++ = (uint8_t)character;
+        } else {
+            at = escape(at, end, &character);
+            to = put_character(to, character);
+        }
+    }
+    text.length = (size_t)(to - text.bytes);
+    return text;
+}
+
+/* Past a string whose first quote stands before the place, or null, and its text, if that is to be kept. */
+static const uint8_t *quoted(const uint8_t *at, const uint8_t *end, struct text *text) {
+    const uint8_t *from = at;
+    int has_escapes = 0;
+    while (at != end && *at != '"') {
+        uint32_t character;
+        if (*at < ' ') return NULL;
+        if (*at++ != '\\') continue;
+        has_escapes = 1;
+        if (!(at = escape(at, end, &character))) return NULL;
+    }
+    if (at == end) return NULL;
+    if (text) *text = has_escapes ? without_escapes(from, at) : copy_of(from, (size_t)(at - from));
+    return at + 1;
+}
+
+/* Past a number, or null. */
+static const uint8_t *numeral(const uint8_t *at, const uint8_t *end) {
+    if (at != end && *at == '-') at += 1;
+    size_t count = int_at(at, end);
+    at += count;
+    if (count && at != end && *at == '.') {
+        count = digits_at(at + 1, end);
+        at += 1 + count;
+    }
+    if (count && at != end && (*at | 32) == 'e') {
+        at += 1;
+        if (at != end && (*at == '+' || *at == '-')) at += 1;
+        count = digits_at(at, end);
+        at += count;
+    }
+    return count ? at : NULL;
+}
+
+static const uint8_t *value_at(const uint8_t *at, const uint8_t *end, struct tree *tree);
+
+/* Past the items of a list and its end, or null. They go to the list, if it is to be kept. */
+static const uint8_t *items_at(const uint8_t *at, const uint8_t *end, struct tree *tree) {
+    if (tree) *tree = (struct tree){.kind = LIST};
+    for (at = blank(at, end); at != end && *at != ']';) {
+        struct tree *item = NULL;
+        if (tree) {
+            tree->list.items = with_room(tree->list.items, sizeof *item, tree->list.count, &tree->list.room);
+            item = &tree->list.items[tree->list.count++];
+        }
+        if (!(at = value_at(at, end, item)) || at == end || *at == ']') break;
+        if (*at != ',') return NULL;
+        at = blank(at + 1, end);
+        if (at != end && *at == ']') return NULL;
+    }
+    return at && at != end ? at + 1 : NULL;
+}
+
+/* Past the members of an object and its end, or null. They go to the object, if it is to be kept. */
+static const uint8_t *members_at(const uint8_t *at, const uint8_t *end, struct tree *tree) {
+    if (tree) *tree = (struct tree){.kind = OBJECT};
+    for (at = blank(at, end); at != end && *at != '}';) {
+        struct member *member = NULL;
+        if (tree) {
+            tree->object.items = with_room(tree->object.items, sizeof *member, tree->object.count, &tree->object.room);
+            member = &tree->object.items[tree->object.count++];
+            *member = (struct member){0};
+        }
+        if (!(at = past(at, end, '"')) || !(at = quoted(at, end, member ? &member->name : NULL))) return NULL;
+        if (!(at = past(blank(at, end), end, ':'))) return NULL;
+        if (!(at = value_at(blank(at, end), end, member ? &member->value : NULL)) || at == end || *at == '}') break;
+        if (*at != ',') return NULL;
+        at = blank(at + 1, end);
+        if (at != end && *at == '}') return NULL;
+    }
+    return at && at != end ? at + 1 : NULL;
+}
+
+/* Past a value and what is blank after it, or null. It goes to the tree, if there is one. */
+static const uint8_t *value_at(const uint8_t *at, const uint8_t *end, struct tree *tree) {
+    const uint8_t *from = at;
+    struct tree none, *to = tree ? tree : &none;
+    to->kind = NOTHING;
+    if (at == end) return NULL;
+    if (*at == '[') {
+        at = items_at(at + 1, end, tree);
+    } else if (*at == '{') {
+        at = members_at(at + 1, end, tree);
+    } else if (*at == '"') {
+        at = quoted(at + 1, end, tree ? &tree->text : NULL);
+        if (at) to->kind = TEXT;
+    } else if (BEGINS("null")) {
+        at += 4;
+    } else if (BEGINS("true")) {
+        at += 4;
+        to->kind = TRUE;
+    } else if (BEGINS("false")) {
+        at += 5;
+        to->kind = FALSE;
+    } else if ((at = numeral(at, end)) && tree) {
+        *tree = (struct tree){.kind = NUMBER, .text = copy_of(from, (size_t)(at - from))};
+    }
+    return at ? blank(at, end) : NULL;
+}
+
+/* A number that depends on each value of a tree and on where it stands. The tree is let go. */
+static uint64_t weight_of(struct tree *tree) {
+    uint64_t weight = tree->kind;
+    if (tree->kind == NUMBER || tree->kind == TEXT) {
+        weight = tree->text.length;
+        free((void *)tree->text.bytes);
+    } else if (tree->kind == LIST) {
+        for (size_t each = 0; each < tree->list.count; each++) weight = weight * 31 + weight_of(&tree->list.items[each]);
+        free(tree->list.items);
+    } else if (tree->kind == OBJECT) {
+        for (size_t each = 0; each < tree->object.count; each++) {
+            struct member *member = &tree->object.items[each];
+            weight = (weight * 31 + member->name.length) * 31 + weight_of(&member->value);
+            free((void *)member->name.bytes);
+        }
+        free(tree->object.items);
+    }
+    return weight;
+}
+
+static const uint8_t *tree(const uint8_t *at, const uint8_t *end, uint64_t *weight) {
+    struct tree tree;
+    at = value_at(at, end, &tree);
+    *weight = weight_of(&tree);
+    return at;
+}
+
+static const uint8_t *no_tree(const uint8_t *at, const uint8_t *end, uint64_t *weight) {
+    (void)weight;
+    return value_at(at, end, NULL);
+}
+
+PARSE_WHOLE(tree, tree)
+CHECK_WHOLE(tree, no_tree)

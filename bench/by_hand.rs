@@ -30,6 +30,8 @@ jobs! {
     rust_digits_check = count_of_lines(line_of_digits);
     rust_lists_parse = sum_of_lines(list_of_strings);
     rust_lists_check = count_of_lines(list_of_nothing);
+    rust_slices_parse = sum_of_lines(list_of_slices);
+    rust_slices_check = count_of_lines(list_of_nothing);
     rust_settings_parse = sum_of_lines(setting);
     rust_settings_check = count_of_lines(setting);
     rust_sums_parse = sum_of_lines(sum);
@@ -46,6 +48,8 @@ jobs! {
     rust_brackets_check = is_some(brackets);
     rust_json_parse = number_of(json);
     rust_json_check = is_some(json);
+    rust_tree_parse = number_of(tree);
+    rust_tree_check = is_some(no_tree);
     rust_fail = sum_of_dates(date);
 }
 
@@ -140,6 +144,12 @@ fn list<'a>(bytes: &'a [u8], mut each: impl FnMut(&'a [u8])) -> Option<&'a [u8]>
 fn list_of_strings(bytes: &[u8]) -> Read<'_> {
     let mut numbers: Vec<String> = Vec::new();
     let rest = list(bytes, |digits| numbers.push(digits.iter().map(|&byte| byte as char).collect()))?;
+    Some((numbers.iter().map(|number| number.len() as u64).sum(), rest))
+}
+
+fn list_of_slices(bytes: &[u8]) -> Read<'_> {
+    let mut numbers: Vec<&[u8]> = Vec::new();
+    let rest = list(bytes, |digits| numbers.push(digits))?;
     Some((numbers.iter().map(|number| number.len() as u64).sum(), rest))
 }
 
@@ -293,4 +303,170 @@ fn json_value<'a>(bytes: &'a [u8], count: &mut u64) -> Option<&'a [u8]> {
 fn json(bytes: &[u8]) -> Option<u64> {
     let mut count = 0;
     json_value(bytes, &mut count)?.is_empty().then_some(count)
+}
+
+/// A value of JSON. A number is its text, and an object has its members in the order of the text.
+enum Tree {
+    Null,
+    False,
+    True,
+    Number(String),
+    Text(String),
+    List(Vec<Tree>),
+    Object(Vec<(String, Tree)>),
+}
+
+/// A text without what is blank at its start.
+fn unblanked(text: &str) -> &str {
+    let count = text.bytes().take_while(|byte| matches!(byte, b' ' | b'\t' | b'\r' | b'\n')).count();
+    &text[count..]
+}
+
+/// The number that four hexadecimal digits make, and what follows them.
+fn unit(text: &str) -> Option<(u32, &str)> {
+    let (digits, rest) = text.split_at_checked(4)?;
+    let are_digits = digits.bytes().all(|byte| byte.is_ascii_hexdigit());
+    Some((u32::from_str_radix(digits, 16).ok().filter(|_| are_digits)?, rest))
+}
+
+/// The character that an escape stands for whose backslash stands before the text, and what follows it.
+fn escape(text: &str) -> Option<(char, &str)> {
+    let rest = text.get(1..)?;
+    let named = match text.as_bytes()[0] {
+        byte @ (b'"' | b'\\' | b'/') => char::from(byte),
+        b'b' => '\u{8}',
+        b'f' => '\u{c}',
+        b'n' => '\n',
+        b'r' => '\r',
+        b't' => '\t',
+        b'u' => {
+            let (high, rest) = unit(rest)?;
+            if !matches!(high, 0xD800..=0xDBFF) {
+                return Some((char::from_u32(high)?, rest));
+            }
+            let (low, rest) = unit(rest.strip_prefix("\\u")?)?;
+            let is_low = matches!(low, 0xDC00..=0xDFFF);
+            let joined = 0x1_0000 + ((high & 0x3FF) << 10) + (low & 0x3FF);
+            return Some((char::from_u32(joined).filter(|_| is_low)?, rest));
+        }
+        _ => return None,
+    };
+    Some((named, rest))
+}
+
+/// What a string stands for whose first quote stands before the text, if it is to be kept, and what follows it.
+fn quoted<const KEPT: bool>(mut text: &str) -> Option<(String, &str)> {
+    let mut string = String::new();
+    loop {
+        let end = text.bytes().position(|byte| matches!(byte, b'"' | b'\\' | ..b' '))?;
+        if KEPT {
+            string.push_str(&text[..end]);
+        }
+        let rest = &text[end + 1..];
+        match text.as_bytes()[end] {
+            b'"' => return Some((string, rest)),
+            b'\\' => {
+                let (character, after) = escape(rest)?;
+                if KEPT {
+                    string.push(character);
+                }
+                text = after;
+            }
+            _ => return None,
+        }
+    }
+}
+
+/// What follows a number.
+fn numeral(text: &str) -> Option<&str> {
+    let bytes = text.as_bytes();
+    let (_, mut rest) = split_int(bytes.strip_prefix(b"-").unwrap_or(bytes))?;
+    if let [b'.', fraction @ ..] = rest {
+        (_, rest) = split_digits(fraction)?;
+    }
+    if let [b'e' | b'E', b'+' | b'-', exponent @ ..] | [b'e' | b'E', exponent @ ..] = rest {
+        (_, rest) = split_digits(exponent)?;
+    }
+    Some(&text[text.len() - rest.len()..])
+}
+
+/// A value, if it is to be kept, and what follows it and what is blank after it.
+fn tree_value<const KEPT: bool>(text: &str) -> Option<(Tree, &str)> {
+    let (tree, rest) = match text.as_bytes().first()? {
+        b'[' => {
+            let mut list = Vec::new();
+            let rest = items(&text[1..], ']', |text| {
+                let (item, rest) = tree_value::<KEPT>(text)?;
+                if KEPT {
+                    list.push(item);
+                }
+                Some(rest)
+            })?;
+            (Tree::List(list), rest)
+        }
+        b'{' => {
+            let mut object = Vec::new();
+            let rest = items(&text[1..], '}', |text| {
+                let (name, rest) = quoted::<KEPT>(text.strip_prefix('"')?)?;
+                let given = unblanked(unblanked(rest).strip_prefix(':')?);
+                let (value, rest) = tree_value::<KEPT>(given)?;
+                if KEPT {
+                    object.push((name, value));
+                }
+                Some(rest)
+            })?;
+            (Tree::Object(object), rest)
+        }
+        b'"' => quoted::<KEPT>(&text[1..]).map(|(string, rest)| (Tree::Text(string), rest))?,
+        b'n' => (Tree::Null, text.strip_prefix("null")?),
+        b'f' => (Tree::False, text.strip_prefix("false")?),
+        b't' => (Tree::True, text.strip_prefix("true")?),
+        _ => {
+            let rest = numeral(text)?;
+            let number = if KEPT { text[..text.len() - rest.len()].to_owned() } else { String::new() };
+            (Tree::Number(number), rest)
+        }
+    };
+    Some((tree, unblanked(rest)))
+}
+
+/// What follows items with commas between them and the mark that ends them; `item` is handed what begins with an item, and gives
+/// what follows it and what is blank after it.
+fn items<'a>(text: &'a str, closing: char, mut item: impl FnMut(&'a str) -> Option<&'a str>) -> Option<&'a str> {
+    let mut rest = unblanked(text);
+    if let Some(rest) = rest.strip_prefix(closing) {
+        return Some(rest);
+    }
+    loop {
+        rest = item(rest)?;
+        match rest.strip_prefix(',') {
+            Some(after) => rest = unblanked(after),
+            None => return rest.strip_prefix(closing),
+        }
+    }
+}
+
+/// A number that depends on each value of a tree and on where it stands.
+fn weight_of(tree: &Tree) -> u64 {
+    let joined = |weight: u64, next: u64| weight.wrapping_mul(31).wrapping_add(next);
+    match tree {
+        Tree::Null => 1,
+        Tree::False => 2,
+        Tree::True => 3,
+        Tree::Number(text) | Tree::Text(text) => text.len() as u64,
+        Tree::List(items) => items.iter().fold(4, |weight, item| joined(weight, weight_of(item))),
+        Tree::Object(members) => members
+            .iter()
+            .fold(5, |weight, (name, value)| joined(joined(weight, name.len() as u64), weight_of(value))),
+    }
+}
+
+fn tree(bytes: &[u8]) -> Option<u64> {
+    let (tree, rest) = tree_value::<true>(str::from_utf8(bytes).ok()?)?;
+    rest.is_empty().then(|| weight_of(&tree))
+}
+
+fn no_tree(bytes: &[u8]) -> Option<u64> {
+    let (_, rest) = tree_value::<false>(str::from_utf8(bytes).ok()?)?;
+    rest.is_empty().then_some(1)
 }

@@ -13,6 +13,7 @@ JOB(words);
 JOB(headers);
 JOB(digits);
 JOB(lists);
+JOB(slices);
 JOB(settings);
 JOB(sums);
 JOB(messages);
@@ -21,6 +22,7 @@ JOB(ints);
 JOB(idents);
 JOB(brackets);
 JOB(json);
+JOB(tree);
 
 /* By hand, keys are settings. */
 job_function bench_keys_parse, bench_keys_check;

@@ -1,6 +1,7 @@
 //! Pairs of brackets within one another, and JSON: grammars by rules, each run once over the whole text.
 ghost use Rattle.std.specs.Prelude.{IfOk, ⊤};
 
+use crate::run::once;
 use chumsky::extra::EmptyText;
 use chumsky::prelude::*;
 use chumsky::recursive::{BuildError, Leaves, Node, RecursiveError, SepCfg, Values};
@@ -219,24 +220,5 @@ fn run_json(alloc: Global, bytes: &[u8], wanted: bool) -> u64 {
     match close(&rules, start, &actions, usize::MAX) {
         Ok(grammar) => once(&grammar, alloc, text, wanted),
         Err(_) => 0,
-    }
-}
-
-/// The output of a run over the whole text, and where it isn't wanted 1; of a text that is refused 0.
-fn once<'src, P>(parser: &P, alloc: Global, text: &'src str, wanted: bool) -> u64
-where
-    P: IsParser<&'src str, u64, EmptyText> + Parser<'src, &'src str, u64, EmptyText>,
-    requires { P.ready parser.now }
-{
-    if wanted {
-        match parser.parse(alloc, text) {
-            Ok(parsed) => parsed.into_output().unwrap_or(0),
-            Err(_) => 0,
-        }
-    } else {
-        match parser.check(alloc, text) {
-            Ok(checked) => u64::from(checked.has_output()),
-            Err(_) => 0,
-        }
     }
 }

@@ -11,4 +11,5 @@ mod run;
 mod settings;
 mod sums;
 mod texts;
+mod trees;
 mod words;

@@ -68,3 +68,42 @@ fn digits_of(numbers: &[String]) -> u64 {
     }
     total
 }
+
+/// The number of digits in all lists, whose numbers are slices of the text.
+#[unsafe(no_mangle)]
+pub extern "C" fn bench_slices_parse(alloc: Global, bytes: &[u8]) -> u64 {
+    slices(alloc, bytes, true)
+}
+
+/// The number of lists.
+#[unsafe(no_mangle)]
+pub extern "C" fn bench_slices_check(alloc: Global, bytes: &[u8]) -> u64 {
+    slices(alloc, bytes, false)
+}
+
+fn slices(alloc: Global, bytes: &[u8], wanted: bool) -> u64 {
+    match std::str::from_utf8(bytes) {
+        Ok(text) => {
+            let number = one_of::<_, &str, EmptyText>('0'..='9')
+                .repeated()
+                .at_least(1)
+                .to_slice();
+            let list = number
+                .separated_by(just(','))
+                .collect::<Vec<&str>>()
+                .delimited_by(just('['), just(']'))
+                .map(|numbers| length_of(&numbers));
+            again(&list.then_ignore(just('\n')), alloc, text, wanted)
+        }
+        Err(_) => 0,
+    }
+}
+
+/// How many bytes the slices have together.
+fn length_of(slices: &[&str]) -> u64 {
+    let mut total = 0u64;
+    for slice in slices {
+        total = total.wrapping_add(slice.len() as u64);
+    }
+    total
+}

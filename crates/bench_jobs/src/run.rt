@@ -1,7 +1,7 @@
 //! How a job runs its parser.
 ghost use Rattle.std.specs.Prelude.{◌<◌};
 
-use chumsky::extra::ParserExtra;
+use chumsky::extra::{EmptyText, ParserExtra};
 use chumsky::input::{Finished, InputRef};
 use chumsky::prelude::*;
 use std::alloc::Global;
@@ -125,4 +125,23 @@ where
         }
     }
     total
+}
+
+/// The output of a run over the whole text, and where it isn't wanted 1; of a text that is refused 0.
+pub fn once<'src, P>(parser: &P, alloc: Global, text: &'src str, wanted: bool) -> u64
+where
+    P: IsParser<&'src str, u64, EmptyText> + Parser<'src, &'src str, u64, EmptyText>,
+    requires { P.ready parser.now }
+{
+    if wanted {
+        match parser.parse(alloc, text) {
+            Ok(parsed) => parsed.into_output().unwrap_or(0),
+            Err(_) => 0,
+        }
+    } else {
+        match parser.check(alloc, text) {
+            Ok(checked) => u64::from(checked.has_output()),
+            Err(_) => 0,
+        }
+    }
 }
