@@ -1,12 +1,18 @@
-//! A law called at parsers.
+//! Laws called at parsers and at grammars.
+ghost use Rattle.std.specs.Prelude.{◌≡◌, ◌≤◌};
 ghost use Rattle.chumsky_combinator.specs.Compared.{AgreesAs};
+ghost use Rattle.chumsky_recursive.specs.Derives.{calls_along};
+ghost use Rattle.chumsky_recursive.specs.LimitLaws.{HasAnswers};
+ghost use Rattle.chumsky_recursive.specs.Means.{acts_of};
 
 use chumsky::combinator::{IgnoreThen, Then};
 use chumsky::extra::ParserExtra;
-use chumsky::input::ValueInput;
+use chumsky::grammar_laws::{answers_stand_under_a_greater_limit, open_calls_never_go_back};
+use chumsky::input::{Input, ValueInput};
 use chumsky::laws::{any_is_steady, ignore_then_agrees_with_then};
 use chumsky::prelude::*;
 use chumsky::primitive::Any;
+use chumsky::recursive::{Actions, Grammar};
 
 /// A token past what a steady parser takes. Where both answer, `then` gives a pair and `ignore_then` the token, the second
 /// of it, and they agree in all else. That is their law at a parser and `any`, which is steady too.
@@ -14,8 +20,35 @@ pub fn token_past<'src, I: ValueInput<'src>, O: Drop, E: ParserExtra<I>, A: Pars
     first: &A,
     second: &Any<I, E>,
 )
-    ensures { A.steady first.now → AgreesAs (λ p. p.1) (⟦<Any<I, E> as Parser<'src, I, I::Token, E>>⟧.same second.now) (⟦<Then<A, Any<I, E>, O, I::Token> as Parser<'src, I, (O, I::Token), E>>⟧.meaning (record { first = first.now; second = second.now; of = record {} }) E.Error.Error E.State.Inspector) (⟦<IgnoreThen<A, Any<I, E>, O> as Parser<'src, I, I::Token, E>>⟧.meaning (record { first = first.now; second = second.now; of = record {} }) E.Error.Error E.State.Inspector) }
+    ensures { A.steady first.now → AgreesAs (λ p. p.1) (⟦<Any<I, E> as Parser<'src, I, I::Token, E>>⟧.same second.now)
+        (⟦<Then<A, Any<I, E>, O, I::Token> as Parser<'src, I, (O, I::Token), E>>⟧.meaning
+        (record { first = first.now; second = second.now; of = record {} }) E.Error.Error E.State.Inspector)
+        (⟦<IgnoreThen<A, Any<I, E>, O> as Parser<'src, I, I::Token, E>>⟧.meaning
+        (record { first = first.now; second = second.now; of = record {} }) E.Error.Error E.State.Inspector) }
 {
     any_is_steady(second);
     ignore_then_agrees_with_then(first, second);
+}
+
+/// A grammar under two limits. An answer under the lower one is an answer under the higher one too, and is derived there by rule
+/// calls of which none begins before the call in whose body it stands: along the calls that are open the places never fall.
+pub fn never_back_under_a_higher_limit<
+    'src,
+    'r,
+    I: Input<'src>,
+    E: ParserExtra<I>,
+    A: Actions<'src, I, E>,
+>(low: &Grammar<'r, A>, high: &Grammar<'r, A>)
+    requires rules { high.now.rules.rules.now ≡ low.now.rules.rules.now }
+    requires start { high.now.rules.start ≡ low.now.rules.start }
+    requires actions { high.now.actions.now ≡ low.now.actions.now }
+    requires limit { low.now.limit ≤ high.now.limit }
+    ensures { let errors = E.Error.Error in
+        let states = E.State.Inspector in
+        HasAnswers (⟦<Grammar<'r, A> as Parser<'src, I, A::Value, E>>⟧.meaning low.now errors states)
+        (calls_along I.Input errors states (acts_of A.Actions high.now.actions.now I.Input errors states) (λ outer inner. outer ≤ inner)
+        high.now.rules.rules.now high.now.limit high.now.rules.start) }
+{
+    answers_stand_under_a_greater_limit::<I, E, A>(low, high);
+    open_calls_never_go_back::<I, E, A>(high);
 }

@@ -1,5 +1,5 @@
-//! The items that docs/GUIDE.md shows, and the parser that README.md begins with, as they stand there; and a law called at
-//! parsers.
+//! The items that docs/GUIDE.md shows, and the parser that README.md begins with, as they stand there; and laws called at
+//! parsers and at grammars.
 #![tactic(auto)]
 
 pub mod arithmetic;
