@@ -1,9 +1,8 @@
 //! Laws called at parsers and at grammars.
 ghost use Rattle.std.specs.Prelude.{◌≡◌, ◌≤◌};
-ghost use Rattle.chumsky_combinator.specs.Compared.{AgreesAs};
-ghost use Rattle.chumsky_recursive.specs.Derives.{calls_along};
+ghost use Rattle.chumsky_combinator.specs.AsParsers.{AgreesOnSecond};
+ghost use Rattle.chumsky_recursive.specs.Derives.{start_along};
 ghost use Rattle.chumsky_recursive.specs.LimitLaws.{HasAnswers};
-ghost use Rattle.chumsky_recursive.specs.Means.{acts_of};
 
 use chumsky::combinator::{IgnoreThen, Then};
 use chumsky::extra::ParserExtra;
@@ -20,11 +19,9 @@ pub fn token_past<'src, I: ValueInput<'src>, O: Drop, E: ParserExtra<I>, A: Pars
     first: &A,
     second: &Any<I, E>,
 )
-    ensures { A.steady first.now → AgreesAs (λ p. p.1) (⟦<Any<I, E> as Parser<'src, I, I::Token, E>>⟧.same second.now)
-        (⟦<Then<A, Any<I, E>, O, I::Token> as Parser<'src, I, (O, I::Token), E>>⟧.meaning
-        (record { first = first.now; second = second.now; of = record {} }) E.Error.Error E.State.Inspector)
-        (⟦<IgnoreThen<A, Any<I, E>, O> as Parser<'src, I, I::Token, E>>⟧.meaning
-        (record { first = first.now; second = second.now; of = record {} }) E.Error.Error E.State.Inspector) }
+    ensures { A.steady first.now → AgreesOnSecond E.Error.Error E.State.Inspector (⟦<Any<I, E> as Parser<'src, I, I::Token, E>>⟧.same second.now)
+        ⟦<Then<A, Any<I, E>, O, I::Token> as Parser<'src, I, (O, I::Token), E>>⟧.meaning
+        ⟦<IgnoreThen<A, Any<I, E>, O> as Parser<'src, I, I::Token, E>>⟧.meaning first.now second.now }
 {
     any_is_steady(second);
     ignore_then_agrees_with_then(first, second);
@@ -43,11 +40,8 @@ pub fn never_back_under_a_higher_limit<
     requires start { high.now.rules.start ≡ low.now.rules.start }
     requires actions { high.now.actions.now ≡ low.now.actions.now }
     requires limit { low.now.limit ≤ high.now.limit }
-    ensures { let errors = E.Error.Error in
-        let states = E.State.Inspector in
-        HasAnswers (⟦<Grammar<'r, A> as Parser<'src, I, A::Value, E>>⟧.meaning low.now errors states)
-        (calls_along I.Input errors states (acts_of A.Actions high.now.actions.now I.Input errors states) (λ outer inner. outer ≤ inner)
-        high.now.rules.rules.now high.now.limit high.now.rules.start) }
+    ensures { HasAnswers (⟦<Grammar<'r, A> as Parser<'src, I, A::Value, E>>⟧.meaning low.now E.Error.Error E.State.Inspector)
+        (start_along I.Input E.Error.Error E.State.Inspector A.Actions high.now (λ outer inner. outer ≤ inner)) }
 {
     answers_stand_under_a_greater_limit::<I, E, A>(low, high);
     open_calls_never_go_back::<I, E, A>(high);
