@@ -537,14 +537,14 @@ static uint64_t weight_of(struct tree *tree) {
 
 static const uint8_t *tree(const uint8_t *at, const uint8_t *end, uint64_t *weight) {
     struct tree tree;
-    at = value_at(at, end, &tree);
+    at = value_at(blank(at, end), end, &tree);
     *weight = weight_of(&tree);
     return at;
 }
 
 static const uint8_t *no_tree(const uint8_t *at, const uint8_t *end, uint64_t *weight) {
     (void)weight;
-    return value_at(at, end, NULL);
+    return value_at(blank(at, end), end, NULL);
 }
 
 PARSE_WHOLE(tree, tree)

@@ -462,11 +462,11 @@ fn weight_of(tree: &Tree) -> u64 {
 }
 
 fn tree(bytes: &[u8]) -> Option<u64> {
-    let (tree, rest) = tree_value::<true>(str::from_utf8(bytes).ok()?)?;
+    let (tree, rest) = tree_value::<true>(unblanked(str::from_utf8(bytes).ok()?))?;
     rest.is_empty().then(|| weight_of(&tree))
 }
 
 fn no_tree(bytes: &[u8]) -> Option<u64> {
-    let (_, rest) = tree_value::<false>(str::from_utf8(bytes).ok()?)?;
+    let (_, rest) = tree_value::<false>(unblanked(str::from_utf8(bytes).ok()?))?;
     rest.is_empty().then_some(1)
 }

@@ -91,19 +91,9 @@ fn slices(alloc: Global, bytes: &[u8], wanted: bool) -> u64 {
             let list = number
                 .separated_by(just(','))
                 .collect::<Vec<&str>>()
-                .delimited_by(just('['), just(']'))
-                .map(|numbers| length_of(&numbers));
+                .delimited_by(just('['), just(']'));
             again(&list.then_ignore(just('\n')), alloc, text, wanted)
         }
         Err(_) => 0,
     }
-}
-
-/// How many bytes the slices have together.
-fn length_of(slices: &[&str]) -> u64 {
-    let mut total = 0u64;
-    for slice in slices {
-        total = total.wrapping_add(slice.len() as u64);
-    }
-    total
 }

@@ -6,9 +6,31 @@ use chumsky::input::{Finished, InputRef};
 use chumsky::prelude::*;
 use std::alloc::Global;
 
-/// Runs a parser from the start of an input as long as it succeeds, in one run: the sum of its outputs, or where they
+/// What an output adds to the number that a job answers.
+pub trait Weigh {
+    fn weigh(&self) -> u64;
+}
+
+impl Weigh for u64 {
+    fn weigh(&self) -> u64 {
+        *self
+    }
+}
+
+/// Of slices, how many bytes they have together.
+impl<'src> Weigh for Vec<&'src str> {
+    fn weigh(&self) -> u64 {
+        let mut total = 0u64;
+        for slice in self.as_slice() {
+            total = total.wrapping_add(slice.len() as u64);
+        }
+        total
+    }
+}
+
+/// Runs a parser from the start of an input as long as it succeeds, in one run: what its outputs weigh, or where they
 /// aren't wanted how often it succeeds.
-pub fn again<'src, I: Input<'src>, E: ParserExtra<I>, P: Parser<'src, I, u64, E>>(
+pub fn again<'src, I: Input<'src>, O: Weigh + Drop, E: ParserExtra<I>, P: Parser<'src, I, O, E>>(
     parser: &P,
     alloc: Global,
     input: I,
@@ -37,7 +59,7 @@ where
     total
 }
 
-fn sum<'src, I: Input<'src>, E: ParserExtra<I>, P: Parser<'src, I, u64, E>>(
+fn sum<'src, I: Input<'src>, O: Weigh + Drop, E: ParserExtra<I>, P: Parser<'src, I, O, E>>(
     parser: &P,
     inp: &mut InputRef<'src, '_, I, E>,
 ) -> u64
@@ -46,7 +68,7 @@ fn sum<'src, I: Input<'src>, E: ParserExtra<I>, P: Parser<'src, I, u64, E>>(
     let mut total = 0u64;
     for _ in 0..u64::MAX {
         match parser.go_emit(inp) {
-            Ok(value) => total = total.wrapping_add(value),
+            Ok(value) => total = total.wrapping_add(value.weigh()),
             Err(_) => break,
         }
     }

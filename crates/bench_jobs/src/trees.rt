@@ -1,16 +1,15 @@
 //! JSON into a tree: a grammar by rules whose leaves read a whole token each.
-ghost use Rattle.std.specs.Prelude.{[], ◌∷◌, ◌||◌, ◌==◌, IfOk, ⊤, codes};
-ghost use Rattle.chumsky_input.specs.Wanted.{Label};
+ghost use Rattle.std.specs.Prelude.{[], ◌||◌, ◌==◌, IfOk, ⊤};
 
 use crate::run::once;
 use chumsky::PResult;
-use chumsky::combinator::{Map, Mapper, Part, ThenIgnore, part_of, run_part};
+use chumsky::combinator::{Map, Mapper, Part, part_of, run_part};
 use chumsky::extra::EmptyText;
 use chumsky::input::InputRef;
 use chumsky::prelude::*;
 use chumsky::primitive::{Just, Select};
 use chumsky::recursive::{BuildError, Leaves, MayStay, Node, RecursiveError, SepCfg, Values};
-use chumsky::text::{Kind, Run};
+use chumsky::text::{Kind, Padded};
 use chumsky::util::Plain;
 use either::Either;
 use std::alloc::{AllocError, Global};
@@ -47,14 +46,14 @@ impl Kind<char> for Blank {
 
     ghost holds = { λ _ c. (c == 32) || (c == 9) || (c == 13) || (c == 10) };
 
-    ghost wants = { λ _. Label (codes "whitespace") ∷ [] };
+    ghost wants = { λ _. [] };
 
     fn test(&self, token: &char) -> bool {
         *token == ' ' || *token == '\t' || *token == '\r' || *token == '\n'
     }
 
     fn expected(&self) -> Plain<'_> {
-        Plain::Label("whitespace")
+        Plain::Nothing
     }
 }
 
@@ -166,7 +165,7 @@ impl<'src> Part<'src, &'src str, String, EmptyText> for Number {
     }
 }
 
-/// A leaf of the grammar, with what is blank after it: a value that is no list and no object, or a name and its colon.
+/// A leaf of the grammar, with what is blank around it: a value that is no list and no object, or a name and its colon.
 #[derive(Clone, Copy)]
 enum Leaf {
     Scalar,
@@ -181,22 +180,21 @@ impl<'src> Part<'src, &'src str, Value, EmptyText> for Leaf {
         wanted: bool,
         inp: &mut InputRef<'src, '_, &'src str, EmptyText>,
     ) -> PResult<Option<Value>> {
-        let blank = text::run_of::<Blank, &'src str, EmptyText>(Blank);
-        let text = part_of(Quoted).map(|text| Value::Tree(Tree::Text(text)));
         match *self {
             Leaf::Scalar => {
                 let scalar = choice((
-                    text,
+                    part_of(Quoted).map(|text| Value::Tree(Tree::Text(text))),
                     part_of(Number).map(|number| Value::Tree(Tree::Number(number))),
                     just("null").map(|_| Value::Tree(Tree::Null)),
                     just("true").map(|_| Value::Tree(Tree::True)),
                     just("false").map(|_| Value::Tree(Tree::False)),
                 ));
-                run_part(&scalar.then_ignore(blank), wanted, inp)
+                run_part(&scalar.padded_with(Blank), wanted, inp)
             }
             Leaf::Name => {
-                let name = text.then_ignore(blank).then_ignore(just(':'));
-                run_part(&name.then_ignore(blank), wanted, inp)
+                let name = part_of(Quoted).map(|name| Value::Tree(Tree::Text(name)));
+                let colon = just(':').padded_with(Blank);
+                run_part(&name.padded_with(Blank).then_ignore(colon), wanted, inp)
             }
         }
     }
@@ -215,13 +213,11 @@ impl Mapper<char, Value> for ToMark {
     }
 }
 
-type Spaced<'src, P> = ThenIgnore<P, Run<Blank, &'src str, EmptyText>, &'src str>;
+type Mark<'src> = Map<Padded<Just<char, &'src str, EmptyText>, Blank>, char, ToMark, Value>;
 
-type Mark<'src> = Map<Spaced<'src, Just<char, &'src str, EmptyText>>, char, ToMark, Value>;
-
-/// A comma or a bracket, with what is blank after it.
-fn mark<'src>(mark: char) -> Mark<'src> {
-    just(mark).then_ignore(text::run_of(Blank)).map_by(ToMark)
+/// A comma or a bracket.
+fn mark_leaf<'src>(mark: char) -> Mark<'src> {
+    just(mark).padded_with(Blank).map_by(ToMark)
 }
 
 /// The leaves, by number.
@@ -380,11 +376,11 @@ fn run_tree(alloc: Global, bytes: &[u8], wanted: bool) -> u64 {
     let leaves = [
         Either::Left(part_of(Leaf::Scalar)),
         Either::Left(part_of(Leaf::Name)),
-        Either::Right(mark(',')),
-        Either::Right(mark('[')),
-        Either::Right(mark(']')),
-        Either::Right(mark('{')),
-        Either::Right(mark('}')),
+        Either::Right(mark_leaf(',')),
+        Either::Right(mark_leaf('[')),
+        Either::Right(mark_leaf(']')),
+        Either::Right(mark_leaf('{')),
+        Either::Right(mark_leaf('}')),
     ];
     let actions = Leaves {
         leaves: &leaves,
