@@ -11,4 +11,6 @@ mod grammars;
 #[cfg(test)]
 mod nested;
 #[cfg(test)]
+mod spanned_tokens;
+#[cfg(test)]
 mod states;

@@ -3,13 +3,17 @@ use answers::extras::Own;
 use answers::leaves::{any_char, just_char, just_text};
 use chumsky::Failure;
 use chumsky::prelude::*;
-use chumsky::report::{ByteReport, Report, place_of};
+use chumsky::report::{ByteReport, LineIndex, Report, Source, place_of};
 use std::alloc::{AllocError, AllocGlobal, Global};
 use std::fmt::Debug;
 use std::process::Abort;
 
-/// The reports of some errors of a text, each with a line end after it.
-fn reports(alloc: Global, text: &str, errors: &[Rich<char>]) -> Result<String, AllocError> {
+/// The reports of some errors of a text, or of an index of one, each with a line end after it.
+fn reports<S: Source>(
+    alloc: Global,
+    text: S,
+    errors: &[Rich<char>],
+) -> Result<String, AllocError> {
     let mut printed = String::new(alloc);
     for error in errors {
         let report = Report {
@@ -34,10 +38,11 @@ fn assert_reports<
             .parse(rt.alloc(), *text)
             .ok()
             .expect(rt, "want of memory");
-        let printed = reports(rt.alloc(), text, parsed.errors.as_slice()).expect(
-            rt,
-            "want of memory",
-        );
+        let errors = parsed.errors.as_slice();
+        let printed = reports(rt.alloc(), *text, errors).expect(rt, "want of memory");
+        assert_eq!(rt; printed.as_str(), *expected);
+        let lines = LineIndex::new(rt.alloc(), *text).expect(rt, "want of memory");
+        let printed = reports(rt.alloc(), &lines, errors).expect(rt, "want of memory");
         assert_eq!(rt; printed.as_str(), *expected);
     }
 }
@@ -85,7 +90,10 @@ fn the_end_of_input_has_a_caret(rt: HostRuntime) {
     let two_lines = just_text("ab\ncd");
     let rows = [
         ("a", "input:1:2: expected 'b', found end of input\na\n ^\n"),
-        ("ab\n", "input:2:1: expected 'c', found end of input\n\n^\n"),
+        (
+            "ab\n",
+            "input:1:3: expected 'c', found end of input\nab\n  ^\n",
+        ),
         ("", "input:1:1: expected 'a', found end of input\n\n^\n"),
         (
             "ab\ncde",
@@ -154,7 +162,7 @@ fn what_names_no_token_is_in_words(rt: HostRuntime) {
     assert_reports(&rt, &any_char(), &rows);
     let rows = [(
         "\u{7f}",
-        "input:1:1: expected something else, found '\\u{7f}'\n\u{7f}\n^\n",
+        "input:1:1: expected something else, found '\\u{7f}'\n\u{2421}\n^\n",
     )];
     assert_reports(&rt, &none_of::<_, _, Own>(['\u{7f}']), &rows);
     let rows = [(
@@ -271,6 +279,115 @@ fn a_span_over_several_lines_says_to_which_it_goes(rt: HostRuntime) {
     ] {
         let printed = report_of_message(rt.alloc(), lines, 0, end).expect(&rt, "want of memory");
         assert_eq!(rt; printed.as_str(), expected, "of 0..{end}");
+    }
+}
+
+/// Spans at the end of a text, which may end in line feeds and carriage returns.
+#[test]
+fn the_end_is_shown_behind_the_last_line_that_has_something(rt: HostRuntime) {
+    let rows = [
+        ("ab", "days.txt:1:3: no such day\nab\n  ^"),
+        ("ab\n", "days.txt:1:3: no such day\nab\n  ^"),
+        ("ab\ncd\r\n\n\r\n", "days.txt:2:3: no such day\ncd \n  ^"),
+        ("ab\n  \n", "days.txt:2:3: no such day\n  \n  ^"),
+        ("\n\n", "days.txt:1:1: no such day\n\n^"),
+        ("", "days.txt:1:1: no such day\n\n^"),
+    ];
+    for (text, expected) in rows {
+        for past in [0, 1, 7] {
+            let start = text.len() + past;
+            let printed =
+                report_of_message(rt.alloc(), text, start, start).expect(&rt, "want of memory");
+            assert_eq!(rt; printed.as_str(), expected, "of {text:?}");
+        }
+    }
+}
+
+#[test]
+fn control_characters_of_the_line_show_as_signs(rt: HostRuntime) {
+    let text = "\u{1b}[31mr\u{e9}d\0\u{7}\u{9b}\u{7f}\tx\r\nnext";
+    let expected = "days.txt:1:9: no such day\n\u{241b}[31mr\u{e9}d\u{2400}\u{2407}\u{fffd}\u{2421}\tx \n        ^^^^^^";
+    let printed = report_of_message(rt.alloc(), text, 9, 16).expect(&rt, "want of memory");
+    assert_eq!(rt; printed.as_str(), expected);
+}
+
+/// A span that begins or ends within a character.
+#[test]
+fn a_place_within_a_character_is_where_it_begins(rt: HostRuntime) {
+    let printed = report_of_message(rt.alloc(), "\u{e9}\u{e9}", 3, 4).expect(&rt, "want of memory");
+    let expected = "days.txt:1:2: no such day\n\u{e9}\u{e9}\n ^";
+    assert_eq!(rt; printed.as_str(), expected);
+}
+
+/// Of a line of so many characters, what is reported at one of them.
+fn report_of_line(alloc: Global, length: usize, at: usize) -> Result<String, AllocError> {
+    let line = "a".repeat(alloc, length)?;
+    report_of_message(alloc, line.as_str(), at, at + 2)
+}
+
+/// What is expected of that: the column, the characters before it and from it on, and whether others are left out on a side.
+fn expected_of_line(
+    alloc: Global,
+    at: usize,
+    sides: (usize, usize),
+    cut: (bool, bool),
+) -> Result<String, AllocError> {
+    let before = "a".repeat(alloc, sides.0)?;
+    let after = "a".repeat(alloc, sides.1)?;
+    let below = " ".repeat(alloc, sides.0)?;
+    let carets = "^".repeat(alloc, sides.1.clamp(1, 2))?;
+    let first = if cut.0 { "\u{2026}" } else { "" };
+    let last = if cut.1 { "\u{2026}" } else { "" };
+    let space = if cut.0 { " " } else { "" };
+    let column = at + 1;
+    format!(in alloc; "days.txt:1:{column}: no such day\n{first}{before}{after}{last}\n{space}{below}{carets}")
+}
+
+#[test]
+fn of_a_long_line_160_characters_are_shown(rt: HostRuntime) {
+    let rows = [
+        (160, 0, (0, 160), (false, false)),
+        (160, 80, (80, 80), (false, false)),
+        (160, 160, (160, 0), (false, false)),
+        (161, 0, (0, 160), (false, true)),
+        (161, 80, (80, 80), (false, true)),
+        (161, 81, (80, 80), (true, false)),
+        (161, 161, (160, 0), (true, false)),
+        (300, 20, (20, 140), (false, true)),
+        (300, 150, (80, 80), (true, true)),
+        (300, 290, (150, 10), (true, false)),
+        (200_000, 200_000, (160, 0), (true, false)),
+        (200_000, 100_000, (80, 80), (true, true)),
+    ];
+    for (length, at, sides, cut) in rows {
+        let printed = report_of_line(rt.alloc(), length, at).expect(&rt, "want of memory");
+        let expected = expected_of_line(rt.alloc(), at, sides, cut).expect(&rt, "want of memory");
+        assert_eq!(rt; printed.as_str(), expected.as_str(), "of {length} at {at}");
+    }
+}
+
+/// A text of some lines, long and short, some with characters of two and three bytes.
+fn many_lines(alloc: Global) -> Result<String, AllocError> {
+    let mut text = String::new(alloc);
+    for number in 0..100 {
+        text.push_str(if number % 7 == 0 { "\u{e9}\u{20ac}" } else { "" })?;
+        let line = "x".repeat(alloc, number % 90)?;
+        text.push_str(line.as_str())?;
+        text.push('\n')?;
+    }
+    Ok(text)
+}
+
+#[test]
+fn an_index_finds_each_place(rt: HostRuntime) {
+    let text = many_lines(rt.alloc()).expect(&rt, "want of memory");
+    let lines = LineIndex::new(rt.alloc(), text.as_str()).expect(&rt, "want of memory");
+    let source = &lines;
+    for offset in (0..text.len() + 3).step_by(7) {
+        assert!(rt;
+            source.place(offset) == place_of(text.as_str(), offset),
+            "at {offset}"
+        );
     }
 }
 

@@ -286,3 +286,65 @@ fn spanned_values_compare_by_value_and_span(rt: HostRuntime) {
             })
     );
 }
+
+/// The error where each of some characters was expected.
+fn all_expected(alloc: Global, tokens: &[char]) -> Result<Rich<char>, AllocError> {
+    let mut expected = Vec::new(alloc);
+    for token in tokens {
+        expected.push(DefaultExpected::Token(MaybeRef::Val(*token)))?;
+    }
+    Error::<&str>::expected_found(alloc, expected.into_iter(), None, FIRST)
+}
+
+/// Whether an error expects these characters, in order.
+fn expects_all(error: &Rich<char>, tokens: &[char]) -> bool {
+    let patterns = error.expected().as_slice();
+    if patterns.len() != tokens.len() {
+        return false;
+    }
+    for place in 0..tokens.len() {
+        if patterns[place] != RichPattern::Token(tokens[place]) {
+            return false;
+        }
+    }
+    true
+}
+
+/// So many characters past ASCII, of which every third stood there already.
+fn many(alloc: Global, first: u32, count: u32) -> Result<Vec<char>, AllocError> {
+    let mut all = Vec::new(alloc);
+    for number in 0..count {
+        let code = if number % 3 == 2 { first + number - 2 } else { first + number };
+        all.push(char::from_u32(code).unwrap_or('?'))?;
+    }
+    Ok(all)
+}
+
+/// The first of each of these.
+fn each_once(alloc: Global, tokens: &[char]) -> Result<Vec<char>, AllocError> {
+    let mut once = Vec::new(alloc);
+    for token in tokens {
+        if !once.as_slice().contains(token) {
+            once.push(*token)?;
+        }
+    }
+    Ok(once)
+}
+
+#[test]
+fn many_patterns_stand_once_in_the_order_of_their_arrival(rt: HostRuntime) {
+    let alloc = rt.alloc();
+    let one = many(alloc, 0x4e00, 600).ok().expect(&rt, "refused");
+    let two = many(alloc, 0x4e00 + 300, 600).ok().expect(&rt, "refused");
+    let first = all_expected(alloc, one.as_slice()).ok().expect(&rt, "refused");
+    let second = all_expected(alloc, two.as_slice()).ok().expect(&rt, "refused");
+    let once = each_once(alloc, one.as_slice()).ok().expect(&rt, "refused");
+    assert!(rt; expects_all(&first, once.as_slice()));
+    let merged = Error::<&str>::merge(first, second).ok().expect(&rt, "refused");
+    let mut both = one;
+    for token in two.as_slice() {
+        both.push(*token).ok().expect(&rt, "refused");
+    }
+    let once = each_once(alloc, both.as_slice()).ok().expect(&rt, "refused");
+    assert!(rt; expects_all(&merged, once.as_slice()));
+}

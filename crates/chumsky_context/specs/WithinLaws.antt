@@ -1,5 +1,6 @@
 -- The laws of runs over the whole of an input that another part gave.
 use Rattle.std.proofs.Common.{◌≡◌, ℕ, Bool, true, Option, Some, None, List, [], ◌∷◌, Result, Ok, Err, refl, sym, ◌∙◌, ap, subst, inl, inr, map, option_map, option_to_list, arith}
+use Rattle.chumsky_input.specs.Layout.{Layout}
 use Rattle.chumsky_input.specs.declared.error.Error as error_trait
 use Rattle.chumsky_input.specs.declared.inspector.Inspector as inspector_trait
 use Rattle.chumsky_input.specs.declared.input.Input as input_trait
@@ -50,21 +51,21 @@ module _ {V Er : Type 0} (same : V → V → Type 0) (Er' : Type 0) where
 
 module _ {J Tok Sp Cu Er : Type 0} (source : input_trait.Ghosts J Cu Tok Sp) (errors : error_trait.Ghosts Er J Tok Sp) where
   -- the error that is reported of an outcome
-  abbrev last_of : {V S : Type 0} → Verdict V errors.Seen → List Tok → Outcome V errors.Seen S → Option errors.Seen
+  abbrev last_of : {V S : Type 0} → Verdict V errors.Seen → Layout Tok → Outcome V errors.Seen S → Option errors.Seen
   last_of (Yes _) ts o = option_map (λ e. e.error) (primary errors.merged o.events)
   last_of No ts o = option_map (λ e. e.error) (primary errors.merged o.events)
   last_of (Halt _) ts o = None
   last_of (Clash _) ts o = None
 
   -- what is reported of an answer
-  record Tallies {V St S : Type 0} (v : Verdict V errors.Seen) (o : Outcome V errors.Seen S) (ts : List Tok) (r : RunReport (Option V) Er St) : Type 0 where
+  record Tallies {V St S : Type 0} (v : Verdict V errors.Seen) (o : Outcome V errors.Seen S) (ts : Layout Tok) (r : RunReport (Option V) Er St) : Type 0 where
     is_answer : IsAnswer v
     answered : r.answer ≡ answer v
     error : option_map errors.seen r.error ≡ last_of v ts o
     emitted : map errors.seen r.emitted ≡ o.emitted
 
   -- of outcomes that agree the same error is reported
-  last-same : {V S : Type 0} (same : V → V → Type 0) (v w : Verdict V errors.Seen) (ts us : List Tok) (o q : Outcome V errors.Seen S) → IsAnswer v → IsAnswer w → SameAnswer same v w → ts ≡ us → o.end ≡ q.end → o.events ≡ q.events → last_of v ts o ≡ last_of w us q
+  last-same : {V S : Type 0} (same : V → V → Type 0) (v w : Verdict V errors.Seen) (ts us : Layout Tok) (o q : Outcome V errors.Seen S) → IsAnswer v → IsAnswer w → SameAnswer same v w → ts ≡ us → o.end ≡ q.end → o.events ≡ q.events → last_of v ts o ≡ last_of w us q
   last-same same (Yes v) (Yes w) ts us o q a z s t e es = cc es
   last-same same (Yes v) No ts us o q a z s t e es = absurd s
   last-same same No (Yes w) ts us o q a z s t e es = absurd s

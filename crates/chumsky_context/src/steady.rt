@@ -1,8 +1,11 @@
 //! Which of these parsers are ready, and which are steady, each the contract of a function that does nothing: ready are those
 //! whose parts are and whose closures may be called, and of those that are steady two runs agree.
-ghost use Rattle.std.specs.Prelude.{◌≡◌, ℕ};
+ghost use Rattle.std.specs.Prelude.{◌≡◌, ℕ, Bool};
 ghost use Rattle.chumsky_input.specs.declared.span.Spanned as output;
-ghost use Rattle.chumsky_context.specs.Configured.{Sets, IsDeterministic};
+ghost use Rattle.chumsky_parser.specs.Copied.{BothCopies};
+ghost use Rattle.chumsky_context.specs.declared.just_cfg.JustCfg as config;
+ghost use Rattle.chumsky_context.specs.declared.one_of_cfg.OneOfCfg as sequence;
+ghost use Rattle.chumsky_context.specs.Configured.{Sets, IsDeterministic, SameByConfig, set_or};
 ghost use Rattle.chumsky_context.specs.OnState.{CopiesCount};
 ghost use Rattle.chumsky_context.specs.TriedItems.{TrySets, OneRuling};
 ghost use Rattle.chumsky_context.specs.Under.{SameAreEqual};
@@ -37,7 +40,8 @@ use chumsky_primitive::any::Any;
 use chumsky_primitive::just::Just;
 use chumsky_primitive::one_of::OneOf;
 
-/// `configure` is steady where its part is, and the configurer makes one configuration under one context.
+/// `configure` is steady where its part is, and the configurer makes one configuration under one context. Its outputs that are
+/// the same are so to the part by some configuration.
 pub fn configure_is_steady<'src, I, O, E, A, F>(parser: &Configure<A, F>)
 where
     I: Input<'src>,
@@ -46,9 +50,11 @@ where
     F: Configurer<A::Config, E::Context>,
     ensures ready { A.ready parser.now.parser → F.callable parser.now.configurer → ⟦<Configure<A, F> as Parser<'src, I, O, E>>⟧.ready parser.now }
     ensures steady { A.steady parser.now.parser → IsDeterministic (Sets A.Config.is_default (F.gives parser.now.configurer)) → ⟦<Configure<A, F> as Parser<'src, I, O, E>>⟧.steady parser.now }
+    ensures same { (x y : O) → ⟦<Configure<A, F> as Parser<'src, I, O, E>>⟧.same parser.now x y → SameByConfig (A.same parser.now.parser) x y }
 {}
 
-/// Configured items are steady where the items are, and the configurer makes one configuration under one context.
+/// Configured items are steady where the items are, and the configurer makes one configuration under one context. Items that are
+/// the same are so to the part.
 pub fn configured_items_are_steady<'src, I, O, E, A, F>(items: &IterConfigure<A, F, O>)
 where
     I: Input<'src>,
@@ -57,6 +63,7 @@ where
     F: Configurer<A::Config, E::Context>,
     ensures ready { A.ready items.now.parser → F.callable items.now.configurer → ⟦<IterConfigure<A, F, O> as IterParser<'src, I, O, E>>⟧.ready items.now }
     ensures steady { A.steady items.now.parser → IsDeterministic (Sets A.Config.is_default (F.gives items.now.configurer)) → ⟦<IterConfigure<A, F, O> as IterParser<'src, I, O, E>>⟧.steady items.now }
+    ensures same { (x y : O) → ⟦<IterConfigure<A, F, O> as IterParser<'src, I, O, E>>⟧.same items.now x y → A.same items.now.parser x y }
 {}
 
 /// A configured list that stands as a parser of `()` is steady where its items are, and the configurer makes one configuration
@@ -73,7 +80,7 @@ where
 {}
 
 /// `try_configure` is steady where its items are, and the configurer answers one context with one configuration, or with errors
-/// that count as one.
+/// that count as one. Items that are the same are so to the part.
 pub fn try_configure_is_steady<'src, I, O, E, A, F>(items: &TryIterConfigure<A, F, O>)
 where
     I: Input<'src>,
@@ -82,6 +89,7 @@ where
     F: TryConfigurer<A::Config, E::Context, I::Span, E::Error>,
     ensures ready { A.ready items.now.parser → F.callable items.now.configurer → ⟦<TryIterConfigure<A, F, O> as IterParser<'src, I, O, E>>⟧.ready items.now }
     ensures steady { A.steady items.now.parser → OneRuling E.Error.seen (TrySets A.Config.is_default (F.gives items.now.configurer)) → ⟦<TryIterConfigure<A, F, O> as IterParser<'src, I, O, E>>⟧.steady items.now }
+    ensures same { (x y : O) → ⟦<TryIterConfigure<A, F, O> as IterParser<'src, I, O, E>>⟧.same items.now x y → A.same items.now.parser x y }
 {}
 
 /// A list under `try_configure` that stands as a parser of `()` is steady where its items are, and the configurer answers one
@@ -97,7 +105,8 @@ where
     ensures steady { A.steady list.now.parser → OneRuling E.Error.seen (TrySets A.Config.is_default (F.gives list.now.configurer)) → ⟦<TryIterConfigure<A, F, O> as Parser<'src, I, (), E>>⟧.steady list.now }
 {}
 
-/// `just` is ready and steady by each configuration.
+/// `just` is ready and steady by each configuration. Its outputs that are the same are clones of the sequence that is set, or of
+/// its own.
 pub fn configured_just_is_steady<'src, T, I, E>(just: &Just<T, I, E>)
 where
     T: OrderedSeq<I::Token> + Clone + Drop,
@@ -106,9 +115,10 @@ where
     E: ParserExtra<I>,
     ensures ready { ⟦<Just<T, I, E> as ConfigParser<'src, I, T, E>>⟧.ready just.now }
     ensures steady { ⟦<Just<T, I, E> as ConfigParser<'src, I, T, E>>⟧.steady just.now }
+    ensures same { (c : config.JustCfg T) (x y : T) → ⟦<Just<T, I, E> as ConfigParser<'src, I, T, E>>⟧.same just.now c x y → BothCopies (T.is_clone (set_or c.seq just.now.seq)) x y }
 {}
 
-/// `one_of` is ready and steady by each configuration.
+/// `one_of` is ready and steady by each configuration. Its outputs that are the same are seen alike.
 pub fn configured_one_of_is_steady<'src, S, I, E>(one_of: &OneOf<S, I, E>)
 where
     S: Seq<I::Token> + Drop,
@@ -117,9 +127,10 @@ where
     E: ParserExtra<I>,
     ensures ready { ⟦<OneOf<S, I, E> as ConfigParser<'src, I, I::Token, E>>⟧.ready one_of.now }
     ensures steady { ⟦<OneOf<S, I, E> as ConfigParser<'src, I, I::Token, E>>⟧.steady one_of.now }
+    ensures same { (c : sequence.OneOfCfg S) (x y : I.Token) → ⟦<OneOf<S, I, E> as ConfigParser<'src, I, I::Token, E>>⟧.same one_of.now c x y → I.seen x ≡ I.seen y }
 {}
 
-/// `contextual` is steady where its part is. Its outputs that are the same are so to the part.
+/// `contextual` is steady where its part is, configured or not. Its outputs that are the same are so to the part.
 pub fn contextual_is_steady<'src, I, O, E, A>(parser: &Contextual<A>)
 where
     I: Input<'src>,
@@ -130,6 +141,7 @@ where
     ensures steady { A.steady parser.now.inner → ⟦<Contextual<A> as Parser<'src, I, O, E>>⟧.steady parser.now }
     ensures configured { A.steady parser.now.inner → ⟦<Contextual<A> as ConfigParser<'src, I, O, E>>⟧.steady parser.now }
     ensures same { (x y : O) → ⟦<Contextual<A> as Parser<'src, I, O, E>>⟧.same parser.now x y → A.same parser.now.inner x y }
+    ensures same_configured { (on : Bool) (x y : O) → ⟦<Contextual<A> as ConfigParser<'src, I, O, E>>⟧.same parser.now on x y → A.same parser.now.inner x y }
 {}
 
 /// `to_slice` is steady where its part is. Its outputs that are the same are seen alike.
@@ -214,7 +226,7 @@ where
 {}
 
 /// Items under the output of another parser are steady where both parts are, and outputs of the first that are the same are
-/// equal.
+/// equal. Items that are the same are so to the second part.
 pub fn items_with_ctx_are_steady<'src, I, O, U, E, X, A, B>(items: &ThenWithCtx<A, B, O, I, X>)
 where
     I: Input<'src>,
@@ -226,10 +238,11 @@ where
     B: IterParser<'src, I, U, X>,
     ensures ready { A.ready items.now.parser → B.ready items.now.then → ⟦<ThenWithCtx<A, B, O, I, X> as IterParser<'src, I, U, E>>⟧.ready items.now }
     ensures steady { A.steady items.now.parser → B.steady items.now.then → SameAreEqual (A.same items.now.parser) → ⟦<ThenWithCtx<A, B, O, I, X> as IterParser<'src, I, U, E>>⟧.steady items.now }
+    ensures same { (x y : U) → ⟦<ThenWithCtx<A, B, O, I, X> as IterParser<'src, I, U, E>>⟧.same items.now x y → B.same items.now.then x y }
 {}
 
 /// Such items for the output of the second parser alone are steady where both parts are, and outputs of the first that are the
-/// same are equal.
+/// same are equal. Items that are the same are so to the second part.
 pub fn ignored_items_with_ctx_are_steady<'src, I, O, U, E, X, A, B>(
     second: &IgnoreWithCtx<A, B, O, I, X>,
 )
@@ -243,6 +256,7 @@ where
     B: IterParser<'src, I, U, X>,
     ensures ready { A.ready second.now.parser → B.ready second.now.then → ⟦<IgnoreWithCtx<A, B, O, I, X> as IterParser<'src, I, U, E>>⟧.ready second.now }
     ensures steady { A.steady second.now.parser → B.steady second.now.then → SameAreEqual (A.same second.now.parser) → ⟦<IgnoreWithCtx<A, B, O, I, X> as IterParser<'src, I, U, E>>⟧.steady second.now }
+    ensures same { (x y : U) → ⟦<IgnoreWithCtx<A, B, O, I, X> as IterParser<'src, I, U, E>>⟧.same second.now x y → B.same second.now.then x y }
 {}
 
 /// `with_state` is steady where its part is, and any two copies of the state count as the same.

@@ -23,13 +23,13 @@ impl<'src, I: SliceInput<'src>, O, E: ParserExtra<I>, A: Parser<'src, I, O, E>> 
     I::Slice,
     E,
 > for ToSlice<A, O> {
-    ghost use Rattle.std.specs.Prelude.{◌≡◌, slice_range};
+    ghost use Rattle.std.specs.Prelude.{◌≡◌};
     ghost use Rattle.chumsky_context.specs.Covered.{Covers};
     ghost use Rattle.chumsky_context.specs.CoveredLaws.{covers-ends, covers-agree};
 
     ghost ready = { λ p. A.ready p.parser };
 
-    ghost meaning = { λ p errors states. Covers (λ ts i j w. I.slice_seen w ≡ I.slice_of (slice_range ts i j)) (A.meaning p.parser errors states) };
+    ghost meaning = { λ p errors states. Covers (λ l i j w. I.slice_seen w ≡ I.slice_of l i j) (A.meaning p.parser errors states) };
 
     ghost steady = { λ p. A.steady p.parser };
 

@@ -1,6 +1,7 @@
 -- Why a folder that takes no notice of the run folds from the last item back as any other.
 use Rattle.std.proofs.Common.{◌≡◌, ◌∙◌, ℕ, zero, suc, Bool, true, false, Option, Some, None, option_map, List, [], ◌∷◌, map, refl, sym, ap, subst, inl, inr}
 use Rattle.std.proofs.lemmas.List.{append-nil, map-append}
+use Rattle.chumsky_input.specs.Layout.{Layout}
 use Rattle.chumsky_input.specs.declared.stop.Stop.TheVariants.{CountTooLarge}
 use Rattle.chumsky_input.specs.Extra.{Shown}
 use Rattle.chumsky_input.specs.Outcome.{Meaning, Beginning, Outcome, Verdict, Yes, No, Halt, Clash}
@@ -144,7 +145,7 @@ module _ {Tok Cx St Er S V C D : Type 0} (gives : S → Meaning Tok Cx St Er (Ne
       (made-carried m.room (wanting b.wanted [])) (Asked true begins) o m.run in
       record { room = m.room; full = m.full; run = subst (λ l. Chained (Asked true begins) (FromMade gives (Appends ⊥) (Collected holds) m.room l) b (carried plain o)) (no_items b.wanted) run }
 
-  module _ {A : Type 0} (folds : GivesShown Tok Cx St (V × A) A) (steps : V → A → A → Type 0) {stands : List Tok → ℕ → St → Type 0} (blind : IsBlind stands folds steps) where
+  module _ {A : Type 0} (folds : GivesShown Tok Cx St (V × A) A) (steps : V → A → A → Type 0) {stands : Layout Tok → ℕ → St → Type 0} (blind : IsBlind stands folds steps) where
     folds-bare : (run : Shown Tok Cx St) (a : A) (xs : List (V × ℕ)) (z : A) (s : St) → FoldsRightShown folds run a xs z s → FoldsRight steps a (bare xs) z × (s ≡ run.state)
     folds-bare run a [] z s f = f
     folds-bare run a (x ∷ xs) z s f =

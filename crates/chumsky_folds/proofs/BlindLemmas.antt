@@ -2,6 +2,7 @@
 use Rattle.std.proofs.Common.{◌≡◌, ◌≤◌, ◌∙◌, ℕ, zero, suc, true, Option, Some, None, List, [], ◌∷◌, ◌++◌, refl, sym, ap, subst, inr, arith, append_assoc}
 use Rattle.std.specs.Prelude.{⊤}
 use Rattle.std.proofs.lemmas.List.{append-nil}
+use Rattle.chumsky_input.specs.Layout.{Layout}
 use Rattle.chumsky_input.specs.declared.stop.Stop.TheVariants.{CountTooLarge}
 use Rattle.chumsky_input.specs.Outcome.{Meaning, Beginning, Outcome, Verdict, Yes, No, Halt, Clash, IsAnswer, EndsAfterStart}
 use Rattle.chumsky_parser.specs.Chained.{Chained, Follows, Given, Asked, both, from}
@@ -46,7 +47,7 @@ module _ {Tok Cx St Er V W : Type 0} (P : Verdict W Er → Type 0) (next next' :
 abbrev has_value : {A Er : Type 0} → Verdict A Er → Type 0
 has_value v = v ≡ Yes None → ⊥
 
-module _ {Tok Cx St Er S V A : Type 0} (gives : S → Meaning Tok Cx St Er (Next S V)) (folds : GivesShown Tok Cx St (A × V) A) (steps : A → V → A → Type 0) {stands : List Tok → ℕ → St → Type 0} (blind : IsBlind stands folds steps) (start : Option A) (place : ℕ) where
+module _ {Tok Cx St Er S V A : Type 0} (gives : S → Meaning Tok Cx St Er (Next S V)) (folds : GivesShown Tok Cx St (A × V) A) (steps : A → V → A → Type 0) {stands : Layout Tok → ℕ → St → Type 0} (blind : IsBlind stands folds steps) (start : Option A) (place : ℕ) where
   abbrev plain : ℕ → Option (List V) → S → Meaning Tok Cx St Er A
   plain = AllSteps gives (Appends ⊤) (Collected (FoldsFrom steps start))
 
@@ -214,7 +215,7 @@ module _ {Tok Cx St Er S V A : Type 0} (gives : S → Meaning Tok Cx St Er (Next
         (λ x p q n y f k. later-made m.room x (from b p) q z (stood-on t (Asked true begins) b p x asked_ends asked_where h n y) f k) run e in
         record { rest = l.rest; folded = l.folded; on = λ a f. record { room = m.room; full = m.full; run = l.on a f } }
 
-module _ {Tok Cx St Er S V A : Type 0} (gives : S → Meaning Tok Cx St Er (Next S V)) (begins : Meaning Tok Cx St Er S) (folds : GivesShown Tok Cx St (A × V) A) (steps : A → V → A → Type 0) {stands : List Tok → ℕ → St → Type 0} (blind : IsBlind stands folds steps) where
+module _ {Tok Cx St Er S V A : Type 0} (gives : S → Meaning Tok Cx St Er (Next S V)) (begins : Meaning Tok Cx St Er S) (folds : GivesShown Tok Cx St (A × V) A) (steps : A → V → A → Type 0) {stands : Layout Tok → ℕ → St → Type 0} (blind : IsBlind stands folds steps) where
   from_value : (t : St) (start : Option A) (place : ℕ) (b : Beginning Tok Cx St) (o : Outcome A Er St) (z : A) → ItemsEnd begins gives → EndsWhere stands begins → ((s : S) → EndsWhere stands (gives s)) → b.wanted ≡ true → Stood gives folds steps blind start place t b
       → FoldsItems gives begins steps start b o → o.verdict ≡ Yes (Some z) → TakesAll gives begins (TakesShown folds place) start b o
   from_value t (Some a) place b o z e wb ws w h m y = let l = later-all gives folds steps blind (Some a) place t e.step ws begins e.begin wb b o z w h m y in l.on a l.folded

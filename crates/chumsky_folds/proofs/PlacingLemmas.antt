@@ -4,6 +4,7 @@ use Rattle.std.specs.Prelude.{⊤}
 use Rattle.std.proofs.lemmas.List.{map-append, length-map}
 use Rattle.std.specs.declared.alloc.Global.{Global}
 use Rattle.std.specs.declared.vec.Vec.{Vec}
+use Rattle.chumsky_input.specs.Layout.{Layout}
 use Rattle.chumsky_input.specs.declared.input.Input as input_trait
 use Rattle.chumsky_input.specs.declared.inspector.Inspector as inspector_trait
 use Rattle.chumsky_input.specs.declared.stop.Stop.TheVariants.{CountTooLarge, Memory}
@@ -37,42 +38,42 @@ revalued No c = No
 revalued (Halt s) c = Halt s
 revalued (Clash e) c = Clash e
 
-module _ {Tok St V : Type 0} (stands : List Tok → ℕ → St → Type 0) where
+module _ {Tok St V : Type 0} (stands : Layout Tok → ℕ → St → Type 0) where
   -- an item began where a run may stand, not past this place
-  abbrev Began : List Tok → ℕ → V × ℕ → Type 0
+  abbrev Began : Layout Tok → ℕ → V × ℕ → Type 0
   Began ts n x = (x.1 ≤ n) × ((s : St) × stands ts x.1 s)
 
-  abbrev AllBegan : List Tok → ℕ → List (V × ℕ) → Type 0
+  abbrev AllBegan : Layout Tok → ℕ → List (V × ℕ) → Type 0
   AllBegan ts n [] = ⊤
   AllBegan ts n (x ∷ xs) = Began ts n x × AllBegan ts n xs
 
-  began-later : (ts : List Tok) (m n : ℕ) (ps : List (V × ℕ)) → m ≤ n → AllBegan ts m ps → AllBegan ts n ps
+  began-later : (ts : Layout Tok) (m n : ℕ) (ps : List (V × ℕ)) → m ≤ n → AllBegan ts m ps → AllBegan ts n ps
   began-later ts m n [] l h = tt
   began-later ts m n (x ∷ ps) l h = ((omega (arith, h.0.0, l), h.0.1), began-later ts m n ps l h.1)
 
-  began-more : (ts : List Tok) (n : ℕ) (ps : List (V × ℕ)) (x : V × ℕ) → AllBegan ts n ps → Began ts n x → AllBegan ts n (ps ++ x ∷ [])
+  began-more : (ts : Layout Tok) (n : ℕ) (ps : List (V × ℕ)) (x : V × ℕ) → AllBegan ts n ps → Began ts n x → AllBegan ts n (ps ++ x ∷ [])
   began-more ts n [] x h k = (k, tt)
   began-more ts n (y ∷ ps) x h k = (h.0, began-more ts n ps x h.1 k)
 
   -- the items so far, without their places and with them
-  abbrev BothLists : List Tok → ℕ → Option (List V) → Option (List (V × ℕ)) → Type 0
+  abbrev BothLists : Layout Tok → ℕ → Option (List V) → Option (List (V × ℕ)) → Type 0
   BothLists ts n (Some xs) (Some ps) = (bare ps ≡ xs) × AllBegan ts n ps
   BothLists ts n (Some xs) None = ⊥
   BothLists ts n None (Some ps) = ⊥
   BothLists ts n None None = ⊤
 
-  lists-later : (ts : List Tok) (m n : ℕ) (l : Option (List V)) (p : Option (List (V × ℕ))) → m ≤ n → BothLists ts m l p → BothLists ts n l p
+  lists-later : (ts : Layout Tok) (m n : ℕ) (l : Option (List V)) (p : Option (List (V × ℕ))) → m ≤ n → BothLists ts m l p → BothLists ts n l p
   lists-later ts m n (Some xs) (Some ps) e h = (h.0, began-later ts m n ps e h.1)
   lists-later ts m n (Some xs) None e h = absurd h
   lists-later ts m n None (Some ps) e h = absurd h
   lists-later ts m n None None e h = tt
 
-module _ {Tok St : Type 0} (stands : List Tok → ℕ → St → Type 0) (V : Type 0) where
-  no_lists : (ts : List Tok) (n : ℕ) (w : Bool) → BothLists {V = V} stands ts n (wanting w []) (wanting w [])
+module _ {Tok St : Type 0} (stands : Layout Tok → ℕ → St → Type 0) (V : Type 0) where
+  no_lists : (ts : Layout Tok) (n : ℕ) (w : Bool) → BothLists {V = V} stands ts n (wanting w []) (wanting w [])
   no_lists ts n true = (refl, tt)
   no_lists ts n false = tt
 
-module _ {Tok Cx St V A : Type 0} {stands : List Tok → ℕ → St → Type 0} (folds : GivesShown Tok Cx St (V × A) A) (steps : V → A → A → Type 0) (blind : IsBlind stands folds steps) where
+module _ {Tok Cx St V A : Type 0} {stands : Layout Tok → ℕ → St → Type 0} (folds : GivesShown Tok Cx St (V × A) A) (steps : V → A → A → Type 0) (blind : IsBlind stands folds steps) where
   -- items that began where runs may stand are folded back by a folder that takes no notice of the run
   shown-back : (run : Shown Tok Cx St) (a : A) (ps : List (V × ℕ)) (z : A) → stands run.tokens run.to run.state → AllBegan stands run.tokens run.to ps → FoldsRight steps a (bare ps) z → FoldsRightShown folds run a ps z run.state
   shown-back run a [] z h k f = (f, refl)
@@ -80,21 +81,21 @@ module _ {Tok Cx St V A : Type 0} {stands : List Tok → ℕ → St → Type 0} 
       let first : folds (x.0, f.0) (record run { from = x.1 }) z run.state = blind.answers (x.0, f.0) (record run { from = x.1 }) k.0.1.0 z k.0.1.1 h k.0.0 f.2 in
       (f.0, run.state, shown-back run a ps f.0 h k.1 f.1, first)
 
-module _ {Tok St V C D : Type 0} (held : List (V × ℕ) → C → Type 0) (holds : List V → D → Type 0) (stands : List Tok → ℕ → St → Type 0) where
+module _ {Tok St V C D : Type 0} (held : List (V × ℕ) → C → Type 0) (holds : List V → D → Type 0) (stands : Layout Tok → ℕ → St → Type 0) where
   -- two collections of the same items
-  abbrev BothHold : List Tok → ℕ → Option D → Option C → Type 0
+  abbrev BothHold : Layout Tok → ℕ → Option D → Option C → Type 0
   BothHold ts n (Some d) (Some c) = (ps : List (V × ℕ)) × AllBegan stands ts n ps × holds (bare ps) d × held ps c
   BothHold ts n (Some d) None = ⊥
   BothHold ts n None (Some c) = ⊥
   BothHold ts n None None = ⊤
 
-  hold-later : (ts : List Tok) (m n : ℕ) (d : Option D) (c : Option C) → m ≤ n → BothHold ts m d c → BothHold ts n d c
+  hold-later : (ts : Layout Tok) (m n : ℕ) (d : Option D) (c : Option C) → m ≤ n → BothHold ts m d c → BothHold ts n d c
   hold-later ts m n (Some d) (Some c) l k = (k.0, began-later stands ts m n k.0 l k.1, k.2, k.3)
   hold-later ts m n (Some d) None l k = absurd k
   hold-later ts m n None (Some c) l k = absurd k
   hold-later ts m n None None l k = tt
 
-  abbrev BothAnswer : {Er : Type 0} → List Tok → ℕ → Verdict D Er → Option C → Type 0
+  abbrev BothAnswer : {Er : Type 0} → Layout Tok → ℕ → Verdict D Er → Option C → Type 0
   BothAnswer ts n (Yes d) c = BothHold ts n d c
   BothAnswer ts n No c = ⊤
   BothAnswer ts n (Halt s) c = ⊤
@@ -102,9 +103,9 @@ module _ {Tok St V C D : Type 0} (held : List (V × ℕ) → C → Type 0) (hold
 
   -- each list of items that began where runs may stand has a collection with their places, where it has one without
   abbrev CanHold : Type 0
-  CanHold = (ts : List Tok) (n : ℕ) (ps : List (V × ℕ)) (d : D) → AllBegan stands ts n ps → holds (bare ps) d → (c : C) × held ps c
+  CanHold = (ts : Layout Tok) (n : ℕ) (ps : List (V × ℕ)) (d : D) → AllBegan stands ts n ps → holds (bare ps) d → (c : C) × held ps c
 
-module _ {Tok Cx St Er V C D : Type 0} (held : List (V × ℕ) → C → Type 0) (holds : List V → D → Type 0) (stands : List Tok → ℕ → St → Type 0) where
+module _ {Tok Cx St Er V C D : Type 0} (held : List (V × ℕ) → C → Type 0) (holds : List V → D → Type 0) (stands : Layout Tok → ℕ → St → Type 0) where
   -- the outcome, with the collection of the same items and their places
   record Placing (whole : Meaning Tok Cx St Er C) (b : Beginning Tok Cx St) (o : Outcome D Er St) : Type 0 where
     pub value : Option C
@@ -263,7 +264,7 @@ module _ {Tok Cx St Er V C D : Type 0} (held : List (V × ℕ) → C → Type 0)
       after_items b p o (Halt s) c h k f = f
       after_items b p o (Clash e) c h k f = f
 
-module _ {Tok Cx St Er S V C D A : Type 0} (gives : S → Meaning Tok Cx St Er (Next S V)) (begins : Meaning Tok Cx St Er S) (held : List (V × ℕ) → C → Type 0) (holds : List V → D → Type 0) {stands : List Tok → ℕ → St → Type 0} (folds : GivesShown Tok Cx St (V × A) A) (steps : V → A → A → Type 0) (blind : IsBlind stands folds steps)
+module _ {Tok Cx St Er S V C D A : Type 0} (gives : S → Meaning Tok Cx St Er (Next S V)) (begins : Meaning Tok Cx St Er S) (held : List (V × ℕ) → C → Type 0) (holds : List V → D → Type 0) {stands : Layout Tok → ℕ → St → Type 0} (folds : GivesShown Tok Cx St (V × A) A) (steps : V → A → A → Type 0) (blind : IsBlind stands folds steps)
     (plain : C → D) (keeps : (xs : List (V × ℕ)) (c : C) → held xs c → holds (map (λ x. x.0) xs) (plain c)) (one : (xs ys : List V) (d : D) → holds xs d → holds ys d → xs ≡ ys) (can : CanHold held holds stands) where
   -- what is folded back by a folder that takes no notice of the run is what is folded back
   pub back-alike : (part : Meaning Tok Cx St Er A) → ItemsEnd begins gives → EndsAfterStart part → SameOutcomesFrom (StandsFrom stands begins gives part) (FoldsBackShown gives begins held folds part) (FoldsBack gives begins holds ⊥ part steps)
@@ -281,7 +282,7 @@ module _ {Tok Cx St Er S V C D A : Type 0} (gives : S → Meaning Tok Cx St Er (
 
 module _ {I Cu Tok Sp St Mk V : Type 0} (source : input_trait.Ghosts I Cu Tok Sp) (states : inspector_trait.Ghosts St I Mk Tok Sp) where
   -- items that began at cursors, with those cursors
-  cursors : (ts : List Tok) (n : ℕ) (ps : List (V × ℕ)) → AllBegan (AtCursor source states) ts n ps → (xs : List (V × Cu)) × (places_of source xs ≡ ps)
+  cursors : (ts : Layout Tok) (n : ℕ) (ps : List (V × ℕ)) → AllBegan (AtCursor source states) ts n ps → (xs : List (V × Cu)) × (places_of source xs ≡ ps)
   cursors ts n [] h = ([], refl)
   cursors ts n (x ∷ ps) h =
       let rest = cursors ts n ps h.1 in

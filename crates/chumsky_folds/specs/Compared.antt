@@ -1,5 +1,6 @@
 -- What the laws say of folds, and of items with their numbers.
 use Rattle.std.specs.Prelude.{◌≡◌, ◌≤◌, ℕ, ◌+◌, true, Some, None, List, [], ◌∷◌, ⊤, Result, Ok}
+use Rattle.chumsky_input.specs.Layout.{Layout}
 use Rattle.chumsky_input.specs.Extra.{Shown}
 use Rattle.chumsky_input.specs.Outcome.{Meaning, Beginning, Outcome, Yes}
 use Rattle.chumsky_parser.specs.Chained.{retold}
@@ -14,7 +15,7 @@ module _ {Tok Cx St Er L C A : Type 0} where
     pub apart : (b : Beginning Tok Cx St) (o : Outcome A Er St) (z : A) → b.wanted ≡ true → whole b o → o.verdict ≡ Yes (Some z) → (l : L) × folds l z × ((c : C) → holds l c → collects b (retold (Yes (Some c)) o))
     pub together : (b : Beginning Tok Cx St) (o : Outcome C Er St) (c : C) (l : L) (z : A) → b.wanted ≡ true → collects b o → o.verdict ≡ Yes (Some c) → holds l c → folds l z → whole b (retold (Yes (Some z)) o)
 
-module _ {Tok St : Type 0} (stands : List Tok → ℕ → St → Type 0) where
+module _ {Tok St : Type 0} (stands : Layout Tok → ℕ → St → Type 0) where
   -- where a run may stand, over these tokens at a place in a state: a part that begins there succeeds only there
   abbrev pub EndsWhere : {Cx Er V : Type 0} → Meaning Tok Cx St Er V → Type 0
   EndsWhere {Cx} {Er} {V} part = (b : Beginning Tok Cx St) (o : Outcome V Er St) → stands b.tokens b.start b.state → part b o → IsYes o.verdict → stands b.tokens o.end o.state

@@ -2,6 +2,7 @@
 use Rattle.std.specs.Prelude.{◌≡◌, ◌≤◌, ℕ, Option, Some, option_map, List, map}
 use Rattle.std.specs.declared.alloc.Global.{Global}
 use Rattle.std.specs.declared.vec.Vec.{Vec}
+use Rattle.chumsky_input.specs.Layout.{Layout}
 use Rattle.chumsky_input.specs.declared.input.Input as input_trait
 use Rattle.chumsky_input.specs.Outcome.{Meaning, Beginning, Outcome}
 use Rattle.chumsky_parser.specs.Chained.{Chained, Given}
@@ -26,7 +27,7 @@ module _ {I Cu Tok Sp V : Type 0} (source : input_trait.Ghosts I Cu Tok Sp) wher
   places_of xs = map (λ x. (x.0, source.place x.1)) xs
 
   -- the cursor of an item stands among these tokens, not past this place
-  abbrev pub StartsIn : List Tok → ℕ → V × Cu → Type 0
+  abbrev pub StartsIn : Layout Tok → ℕ → V × Cu → Type 0
   StartsIn tokens place x = (source.cursor_tokens x.1 ≡ tokens) × (source.place x.1 ≤ place)
 
   -- a collection of items with cursors holds these items with places

@@ -1,7 +1,10 @@
 pub mod DisplayLemmas
 pub mod PrimaryLemmas
 pub mod Events
+pub mod KeepingLemmas
 pub mod AsideLemmas
 pub mod Ascii
 pub mod RichLemmas
 pub mod MarkLemmas
+pub mod KeyLemmas
+pub mod PartLemmas

@@ -7,6 +7,7 @@ use Rattle.std.proofs.lemmas.List.Elements.{filter_map-append}
 use Rattle.chumsky_input.specs.Wanted.{Wanted, wanted_map, wanted_same}
 use Rattle.chumsky_input.specs.Wanted as wanted
 use Rattle.chumsky_input.specs.declared.rich.RichPattern.{RichPattern}
+use Rattle.chumsky_input.specs.declared.rich.RichPattern.TheVariants as pattern
 use Rattle.chumsky_input.specs.declared.rich.Rich.{Rich}
 use Rattle.chumsky_input.specs.declared.rich.RichReason.TheVariants.{Expected}
 use Rattle.chumsky_input.specs.Rich.{RichSeen, pattern_same, pattern_seen, pattern_wanted, wanted_pattern, add_new, rich_seen, rich_merged}
@@ -79,6 +80,26 @@ module _ {T S : Type 0} (eq : T → T → Bool) (same : S → S → Bool) (seen 
   patterns-more f ps qs xs x o so_far shows is =
       add_new-more (pattern_same eq) (wanted_same same) (pattern_seen seen) pattern_same-seen (wanted_pattern seen) ps qs (map f xs) (f x) o so_far shows is
       ∙ ap (λ t. add_new (wanted_same same) [] (filter_map (wanted_pattern seen) t)) (sym (map-append f xs (x ∷ [])))
+
+  -- one pattern more, where it shows what was expected
+  pub patterns-one : (ps qs : List (RichPattern T)) (o : Option (RichPattern T)) (ws : List (Wanted S)) → qs ≡ add_new (pattern_same eq) ps (option_to_list o) → option_to_list (option_map (pattern_seen seen) o) ≡ ws → map (pattern_seen seen) qs ≡ add_new (wanted_same same) (map (pattern_seen seen) ps) ws
+  patterns-one ps qs o ws is shows =
+      ap (map (pattern_seen seen)) is ∙ patterns-add_new ps (option_to_list o) ∙ ap (add_new (wanted_same same) (map (pattern_seen seen) ps)) (option_to_list-map (pattern_seen seen) o ∙ shows)
+
+  named : (ps : List (RichPattern T)) (t : T) (b : Bool) → list_any (λ x. pattern_same eq x (pattern.Token t)) ps ≡ b → add_new (wanted_same same) (map (pattern_seen seen) ps) (wanted.Token (seen t) ∷ []) ≡ cond b (map (pattern_seen seen) ps) (map (pattern_seen seen) ps ++ wanted.Token (seen t) ∷ [])
+  named ps t b is =
+      ap (λ c. cond c (map (pattern_seen seen) ps) (map (pattern_seen seen) ps ++ wanted.Token (seen t) ∷ [])) (list_any-map (pattern_same eq) (wanted_same same) (pattern_seen seen) pattern_same-seen (pattern.Token t) ps ∙ is)
+
+  -- a token that none of the patterns names, and one that some does
+  pub token-added : (ps qs : List (RichPattern T)) (t u : T) → list_any (λ x. pattern_same eq x (pattern.Token t)) ps ≡ false → seen u ≡ seen t → qs ≡ ps ++ pattern.Token u ∷ [] → map (pattern_seen seen) qs ≡ add_new (wanted_same same) (map (pattern_seen seen) ps) (wanted.Token (seen t) ∷ [])
+  token-added ps qs t u none e is =
+      ap (map (pattern_seen seen)) is
+      ∙ map-append (pattern_seen seen) ps (pattern.Token u ∷ [])
+      ∙ ap (λ s. map (pattern_seen seen) ps ++ wanted.Token s ∷ []) e
+      ∙ sym (named ps t false none)
+
+  pub token-there : (ps : List (RichPattern T)) (t : T) → list_any (λ x. pattern_same eq x (pattern.Token t)) ps ≡ true → map (pattern_seen seen) ps ≡ add_new (wanted_same same) (map (pattern_seen seen) ps) (wanted.Token (seen t) ∷ [])
+  token-there ps t some = sym (named ps t true some)
 
   -- two errors that are not custom, and the first with the patterns ts
   pub merged-patterns : (a b : Rich T) {ps qs : Vec (RichPattern T)} {f g : Option T} (ts : Vec (RichPattern T)) → a.reason ≡ Expected ps f → b.reason ≡ Expected qs g → ts.items ≡ add_new (pattern_same eq) ps.items qs.items → rich_seen seen (record { span = a.span; reason = Expected ts f }) ≡ rich_merged same (rich_seen seen a) (rich_seen seen b)

@@ -3,6 +3,7 @@ use Rattle.std.specs.Prelude.{◌≡◌, ℕ, ◌≤◌, ◌++◌, length, take,
 use Rattle.chumsky_input.specs.declared.stop.Stop.TheVariants.{Memory}
 use Rattle.chumsky_input.specs.declared.stop.Failure.{Failure}
 use Rattle.chumsky_input.specs.declared.stop.Failure.TheVariants as failure
+use Rattle.chumsky_input.specs.Layout.{Layout}
 use Rattle.chumsky_input.specs.Outcome.{Event, HasEventAt}
 use Rattle.chumsky_input.specs.Primary.{primary}
 use Rattle.chumsky_input.specs.Held.{Held, with_stop, PassesOn}
@@ -49,7 +50,7 @@ module _ {Tok Cx St Er : Type 0} (merged : Er → Er → Er) where
   abbrev pub brought_back : Option (Event Er) → List Er → Held Tok Cx St Er → Held Tok Cx St Er
   brought_back older emitted h = record h { kept = primary merged (option_to_list older ++ option_to_list h.kept); emitted = emitted ++ h.emitted }
 
-module _ {Tok Cx St Er : Type 0} (safe : Type 0) (final : Option (Event Er) → List Tok → ℕ → Er) where
+module _ {Tok Cx St Er : Type 0} (safe : Type 0) (final : Option (Event Er) → Layout Tok → ℕ → Er) where
   -- the last error of a failure is handed out and an older event kept in its place; or there is no memory to build one
   abbrev pub HandsOut : Option (Event Er) → Held Tok Cx St Er → Held Tok Cx St Er → Failure Er → Type 0
   HandsOut older old new (failure.Error e) = (e ≡ final old.kept old.tokens old.place) × (new ≡ record old { kept = older })

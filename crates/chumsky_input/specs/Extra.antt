@@ -1,8 +1,9 @@
 -- What a closure is shown of a run, and what counts of its calls.
-use Rattle.std.specs.Prelude.{◌≡◌, ℕ, ◌≤◌, List, []}
+use Rattle.std.specs.Prelude.{◌≡◌, ℕ, ◌≤◌, []}
 use Rattle.std.specs.Borrow.{Lends, MutBor, Fml, RattleType}
 use Rattle.std.specs.Fn.{Shared}
 use mir.Syntax.{named}
+use Rattle.chumsky_input.specs.Layout.{Layout}
 use Rattle.chumsky_input.specs.declared.input.Input as input_trait
 use Rattle.chumsky_input.specs.declared.inspector.Inspector as inspector_trait
 use Rattle.chumsky_input.specs.declared.map_extra.MapExtra.{MapExtra}
@@ -11,7 +12,7 @@ use Rattle.chumsky_input.specs.Held.{Held}
 
 -- the tokens, two places among them, the context and the state
 pub record Shown (Tok Cx St : Type 0) : Type 0 where
-  pub tokens : List Tok
+  pub tokens : Layout Tok
   pub from : ℕ
   pub to : ℕ
   pub context : Cx

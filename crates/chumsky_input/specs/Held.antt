@@ -1,5 +1,6 @@
 -- What counts of what a run holds.
 use Rattle.std.specs.Prelude.{◌≡◌, ℕ, Option, Some, None, List, [], map, option_map}
+use Rattle.chumsky_input.specs.Layout.{Layout}
 use Rattle.chumsky_input.specs.declared.error.Error as error_trait
 use Rattle.chumsky_input.specs.declared.inspector.Inspector as inspector_trait
 use Rattle.chumsky_input.specs.declared.input.Input as input_trait
@@ -11,7 +12,7 @@ use Rattle.chumsky_input.specs.Outcome.{Event}
 
 -- the tokens, the place, the context, the state, the error that is kept, those that were emitted, and the first stop of a parser that a closure ran
 pub record Held (Tok Cx St Er : Type 0) : Type 0 where
-  pub tokens : List Tok
+  pub tokens : Layout Tok
   pub place : ℕ
   pub context : Cx
   pub state : St
@@ -26,7 +27,7 @@ first_stop None s = s
 
 module _ {Tok Cx St Er : Type 0} where
   -- a run that begins at this place, with no error and no stop
-  abbrev pub begun_at : List Tok → ℕ → Cx → St → Held Tok Cx St Er
+  abbrev pub begun_at : Layout Tok → ℕ → Cx → St → Held Tok Cx St Er
   begun_at tokens place context state = record { tokens = tokens; place = place; context = context; state = state; kept = None; emitted = []; stopped = None }
 
   -- a stop is noted, where none was
@@ -56,7 +57,7 @@ module _ {I X Tok Sp Cu Er St Cx Mk : Type 0} (source : input_trait.Ghosts I Cu 
 
 -- what a checkpoint holds
 pub record Marks (Tok Mk : Type 0) : Type 0 where
-  pub tokens : List Tok
+  pub tokens : Layout Tok
   pub place : ℕ
   pub emitted : ℕ
   pub mark : Mk

@@ -45,6 +45,11 @@ module _ {I X Tok Sp Cu Er St Cx Mk : Type 0} (source : input_trait.Ghosts I Cu 
       let span = source.span_between (source.cursor_tokens from) (source.place from) (source.place to) in
       Fails errors.merged errors.takes_no_memory (record { place = source.place from; error = errors.expectation es (option_map maybe_value found) span }) (view old) (view new) fault
 
+  -- a failure at a place, over a span, where these were expected and that was found
+  abbrev pub FailsWith : List (Wanted Tok) → Option (MaybeRef Tok) → ℕ → Sp → InputRef I X Cu Tok Sp Er St Cx Mk → InputRef I X Cu Tok Sp Er St Cx Mk → Fault → Type 0
+  FailsWith es found place span old new fault =
+      Fails errors.merged errors.takes_no_memory (record { place = place; error = errors.expectation es (option_map maybe_value found) span }) (view old) (view new) fault
+
   -- a failure with an error at a place
   abbrev pub AddsEvent : ℕ → Er → InputRef I X Cu Tok Sp Er St Cx Mk → InputRef I X Cu Tok Sp Er St Cx Mk → Fault → Type 0
   AddsEvent place error old new fault = Adds errors.merged errors.takes_no_memory (record { place = place; error = errors.seen error }) (view old) (view new) fault

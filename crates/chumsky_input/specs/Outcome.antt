@@ -1,5 +1,6 @@
 -- What a parser may do, from where it begins.
 use Rattle.std.specs.Prelude.{◌≡◌, ◌≤◌, ℕ, Bool, Option, Some, None, List, [], ◌∷◌, ◌⊎◌, ⊤}
+use Rattle.chumsky_input.specs.Layout.{Layout}
 use Rattle.chumsky_input.specs.declared.stop.Stop.{Stop}
 
 -- a failure: its place, and what counts of its error
@@ -10,7 +11,7 @@ pub record Event (Er : Type 0) : Type 0 where
 -- where a run begins: whether a value is wanted, of which tokens, at which place, under which context and in which state
 pub record Beginning (Tok Cx St : Type 0) : Type 0 where
   pub wanted : Bool
-  pub tokens : List Tok
+  pub tokens : Layout Tok
   pub start : ℕ
   pub context : Cx
   pub state : St

@@ -1,5 +1,6 @@
 -- What a run leaves, of one outcome.
 use Rattle.std.specs.Prelude.{◌≡◌, ℕ, ◌+◌, ◌<◌, Bool, Option, Some, None, List, [], ◌∷◌, ◌++◌, Result, Ok, Err, length, option_to_list, slice_get, take, ◌⊎◌}
+use Rattle.chumsky_input.specs.Layout.{Layout}
 use Rattle.chumsky_input.specs.declared.error.Error as error_trait
 use Rattle.chumsky_input.specs.declared.inspector.Inspector as inspector_trait
 use Rattle.chumsky_input.specs.declared.input.Input as input_trait
@@ -34,7 +35,7 @@ module _ {Tok Cx St Er : Type 0} where
 
   -- the token that comes next; none at the end of input
   abbrev pub next_token : Held Tok Cx St Er → Option Tok
-  next_token h = slice_get h.tokens h.place
+  next_token h = slice_get h.tokens.list h.place
 
   -- a token is taken, where there is one
   abbrev pub took : (St → Tok → St) → Held Tok Cx St Er → Option Tok → Held Tok Cx St Er
@@ -43,12 +44,12 @@ module _ {Tok Cx St Er : Type 0} where
 
   -- a token is taken by value
   abbrev pub TookValue : {S : Type 0} → (Tok → S) → (St → Tok → St) → Held Tok Cx St Er → Held Tok Cx St Er → Option Tok → Type 0
-  TookValue seen after old new None = (slice_get old.tokens old.place ≡ None) × (new ≡ old)
-  TookValue seen after old new (Some v) = (t : Tok) × (slice_get old.tokens old.place ≡ Some t) × (seen v ≡ seen t) × (new ≡ took after old (Some t))
+  TookValue seen after old new None = (slice_get old.tokens.list old.place ≡ None) × (new ≡ old)
+  TookValue seen after old new (Some v) = (t : Tok) × (slice_get old.tokens.list old.place ≡ Some t) × (seen v ≡ seen t) × (new ≡ took after old (Some t))
 
   -- a token is there, and to have it by value may take memory
   abbrev pub TokenMayLack : (Tok → Type 0) → Held Tok Cx St Er → Type 0
-  TokenMayLack safe h = (t : Tok) × (slice_get h.tokens h.place ≡ Some t) × (safe t → ⊥)
+  TokenMayLack safe h = (t : Tok) × (slice_get h.tokens.list h.place ≡ Some t) × (safe t → ⊥)
 
   -- that of a token there is no memory for nothing is taken
   abbrev pub LacksToken : (Tok → Type 0) → Held Tok Cx St Er → Held Tok Cx St Er → Type 0
@@ -117,9 +118,9 @@ abbrev pub KeepsPast : {Er : Type 0} → ℕ → Option (Event Er) → Type 0
 KeepsPast p None = ⊥
 KeepsPast p (Some k) = p < k.place
 
-module _ {Tok Sp Er : Type 0} (expectation : List (Wanted Tok) → Option Tok → Sp → Er) (span : List Tok → ℕ → ℕ → Sp) where
+module _ {Tok Sp Er : Type 0} (expectation : List (Wanted Tok) → Option Tok → Sp → Er) (span : Layout Tok → ℕ → ℕ → Sp) where
   -- the last error of a failure that kept this event, and of one that kept none, with its end
-  abbrev pub final_error : Option (Event Er) → List Tok → ℕ → Er
+  abbrev pub final_error : Option (Event Er) → Layout Tok → ℕ → Er
   final_error (Some e) ts end = e.error
   final_error None ts end = expectation [] None (span ts end end)
 

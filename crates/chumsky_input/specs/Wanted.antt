@@ -12,6 +12,8 @@ use Rattle.chumsky_input.specs.declared.util.MaybeLabel.{MaybeLabel}
 use Rattle.chumsky_input.specs.declared.util.MaybeLabel.TheVariants as maybe
 use Rattle.chumsky_input.specs.declared.util.Plain.{Plain}
 use Rattle.chumsky_input.specs.declared.util.Plain.TheVariants as plain
+use Rattle.chumsky_input.specs.declared.util.Sole.{Sole}
+use Rattle.chumsky_input.specs.declared.util.Sole.TheVariants as sole
 
 -- what was expected; of a label its text
 pub data Wanted (T : Type 0) : Type 0 where
@@ -95,6 +97,11 @@ plain_wanted plain.SomethingElse = SomethingElse ∷ []
 plain_wanted plain.NothingElse = NothingElse ∷ []
 plain_wanted plain.EndOfInput = EndOfInput ∷ []
 plain_wanted (plain.Label text) = Label text.now ∷ []
+
+-- the token, or what else was expected
+abbrev pub sole_wanted : {T : Type 0} → Sole T → List (Wanted T)
+sole_wanted (sole.Token t) = Token t.now ∷ []
+sole_wanted (sole.Other p) = plain_wanted p
 
 -- however it is drained, an iterator gives items that say this
 abbrev pub Shows : {S A T : Type 0} → (S → Option A → S → Type 0) → (A → Wanted T) → S → List (Wanted T) → Type 0

@@ -3,7 +3,9 @@ use crate::error::{EmptyErr, Error};
 use crate::input::Tokens;
 use crate::inspector::Inspector;
 use crate::rich::Rich;
+use crate::same::SameClone;
 use crate::simple::Simple;
+use crate::spanned_tokens::SpannedTokens;
 use std::marker::PhantomData;
 
 /// The error, the state and the context of parsers over the inputs `I`.
@@ -79,6 +81,17 @@ pub struct RichBytes;
 
 impl<'src> ParserExtra<&'src [u8]> for RichBytes {
     type Error = Rich<u8>;
+
+    type State = ();
+
+    type Context = ();
+}
+
+/// `Err<Rich<T>>` over tokens with spans, as a type of its own.
+pub struct RichTokens<T>(PhantomData<T>);
+
+impl<'src, T: SameClone + Drop> ParserExtra<SpannedTokens<'src, T>> for RichTokens<T> {
+    type Error = Rich<T>;
 
     type State = ();
 

@@ -3,7 +3,8 @@ ghost use Rattle.std.specs.Prelude.{◌≡◌, ℕ, ◌+◌, ◌≤◌, ◌<◌,
 ghost use Rattle.std.specs.Str.{chars, encode_utf8_all, IsUtf8, IsCharBoundary};
 ghost use Rattle.chumsky_input.specs.Text.{text_place};
 ghost use Rattle.chumsky_input.specs.Maybe.{maybe_value, ref_value};
-ghost use Rattle.chumsky_input.specs.Cursors.{char_offset, place_in_text};
+ghost use Rattle.chumsky_input.specs.Cursors.{place_in_text};
+ghost use Rattle.chumsky_input.specs.Layout.{Layout, text_layout};
 
 use crate::span::SimpleSpan;
 use crate::util::MaybeRef;
@@ -21,13 +22,13 @@ pub trait Input<'src>: Tokens {
     type Cursor: Copy;
 
     /// The tokens of an input, and of the input that a cursor stands in.
-    ghost tokens: { Self → List Self.Token };
+    ghost tokens: { Self → Layout Self.Token };
 
-    ghost cursor_tokens: { Self.Cursor → List Self.Token };
+    ghost cursor_tokens: { Self.Cursor → Layout Self.Token };
     /// The number of tokens before a cursor.
     ghost place: { Self.Cursor → ℕ };
     /// The span from one place to another.
-    ghost span_between: { List Self.Token → ℕ → ℕ → Self.Span };
+    ghost span_between: { Layout Self.Token → ℕ → ℕ → Self.Span };
 
     /// The cursor before the first token.
     fn begin(self) -> Self::Cursor
@@ -36,7 +37,7 @@ pub trait Input<'src>: Tokens {
 
     /// The token at a cursor, which moves past it; at the end none, and the cursor stays.
     fn next_maybe(cursor: &mut Self::Cursor) -> Option<MaybeRef<'src, Self::Token>>
-        ensures token { option_map maybe_value result ≡ slice_get (cursor_tokens cursor.old) (place cursor.old) }
+        ensures token { option_map maybe_value result ≡ slice_get (cursor_tokens cursor.old).list (place cursor.old) }
         ensures tokens { cursor_tokens cursor.new ≡ cursor_tokens cursor.old }
         ensures moves { MatchOption result (cursor.new ≡ cursor.old) (λ _. place cursor.new ≡ place cursor.old + 1) };
 
@@ -50,7 +51,7 @@ pub trait Input<'src>: Tokens {
         ensures { result ≡ span_between (cursor_tokens from.now) (place from.now) (place to.now) };
 
     /// No cursor stands past the end.
-    ghost within: { (c : Self.Cursor) → place c ≤ length (cursor_tokens c) };
+    ghost within: { (c : Self.Cursor) → place c ≤ length (cursor_tokens c).list };
 }
 
 /// An input whose tokens can be had by value.
@@ -71,7 +72,7 @@ pub trait ValueInput<'src>: Input<'src> {
 pub trait BorrowInput<'src>: Input<'src> {
     /// The token at a cursor where it lies, and the cursor moves past it; at the end none, and the cursor stays.
     fn next_ref(cursor: &mut Self::Cursor) -> Option<&'src Self::Token>
-        ensures token { option_map ref_value result ≡ slice_get (Self.cursor_tokens cursor.old) (Self.place cursor.old) }
+        ensures token { option_map ref_value result ≡ slice_get (Self.cursor_tokens cursor.old).list (Self.place cursor.old) }
         ensures tokens { Self.cursor_tokens cursor.new ≡ Self.cursor_tokens cursor.old }
         ensures moves { MatchOption result (cursor.new ≡ cursor.old) (λ _. Self.place cursor.new ≡ Self.place cursor.old + 1) };
 }
@@ -84,14 +85,14 @@ pub trait SliceInput<'src>: Input<'src> {
     ghost SliceSeen: { Type 0 };
 
     ghost slice_seen: { Self.Slice → SliceSeen };
-    /// What counts of the slice of just these tokens.
-    ghost slice_of: { List Self.Token → SliceSeen };
+    /// What counts of the slice between two places.
+    ghost slice_of: { Layout Self.Token → ℕ → ℕ → SliceSeen };
 
     /// The part of an input from one cursor to another, which is not before it.
     fn slice(from: &Self::Cursor, to: &Self::Cursor) -> Self::Slice
         requires same { Self.cursor_tokens to.now ≡ Self.cursor_tokens from.now }
         requires order { Self.place from.now ≤ Self.place to.now }
-        ensures { slice_seen result ≡ slice_of (slice_range (Self.cursor_tokens from.now) (Self.place from.now) (Self.place to.now)) };
+        ensures { slice_seen result ≡ slice_of (Self.cursor_tokens from.now) (Self.place from.now) (Self.place to.now) };
 }
 
 /// A place in a text.
@@ -128,13 +129,13 @@ impl<'src> Tokens for &'src str {
 impl<'src> Input<'src> for &'src str {
     type Cursor = TextCursor<'src>;
 
-    ghost tokens = { λ s. chars s.now };
+    ghost tokens = { λ s. text_layout s.now };
 
-    ghost cursor_tokens = { λ c. chars c.text.now };
+    ghost cursor_tokens = { λ c. text_layout c.text.now };
 
     ghost place = { λ c. c.place };
 
-    ghost span_between = { λ ts i j. record { start = char_offset ts i; end = char_offset ts j } };
+    ghost span_between = { λ l i j. l.span i j };
 
     ghost within = { λ c. place_in_text c.text.now c.at c.place c.utf8 c.boundary c.count };
 
@@ -187,7 +188,7 @@ impl<'src> Input<'src> for &'src str {
 /// The character at a cursor, however many bytes it takes.
 fn decode<'src>(cursor: &mut TextCursor<'src>) -> Option<MaybeRef<'src, char>>
     ensures token { option_map maybe_value result ≡ slice_get (chars cursor.old.text.now) cursor.old.place }
-    ensures tokens { chars cursor.new.text.now ≡ chars cursor.old.text.now }
+    ensures tokens { cursor.new.text.now ≡ cursor.old.text.now }
     ensures moves { MatchOption result (cursor.new ≡ cursor.old) (λ _. cursor.new.place ≡ cursor.old.place + 1) }
 {
     let text: &'src str = cursor.text;
@@ -232,7 +233,7 @@ impl<'src> SliceInput<'src> for &'src str {
 
     ghost slice_seen = { λ s. s.now };
 
-    ghost slice_of = { encode_utf8_all };
+    ghost slice_of = { λ l i j. encode_utf8_all (slice_range l.list i j) };
 
     #[inline]
     fn slice(from: &TextCursor<'src>, to: &TextCursor<'src>) -> &'src str {

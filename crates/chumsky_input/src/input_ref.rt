@@ -1,14 +1,14 @@
 //! What a parser is lent: where its run stands, and what it holds.
-ghost use Rattle.std.specs.Prelude.{◌≡◌, ◌∷◌, [], option_map, option_to_list, slice_range, MatchResult, None, ◌≤◌, IsTrue, is_some, IfOk, List, OnErr};
+ghost use Rattle.std.specs.Prelude.{◌≡◌, ◌∷◌, [], option_map, option_to_list, MatchResult, None, ◌≤◌, IsTrue, is_some, IfOk, List, OnErr};
 ghost use Rattle.chumsky_input.specs.declared.stop.Failure.TheVariants as failure;
 ghost use Rattle.std.specs.Borrow.{sem};
 ghost use Rattle.std.specs.Iterator.{YieldsFirstBy, item_count, IsFinite};
 ghost use Rattle.chumsky_input.specs.Held.{held, begun_at, marks, with_stop};
 ghost use Rattle.chumsky_input.specs.Lending.{LendsState};
 ghost use Rattle.chumsky_input.specs.Maybe.{maybe_value, ref_value};
-ghost use Rattle.chumsky_input.specs.Wanted.{maybe_wanted, plain_wanted, Token, Wanted, Shows};
+ghost use Rattle.chumsky_input.specs.Wanted.{maybe_wanted, plain_wanted, sole_wanted, Token, Wanted, Shows};
 ghost use Rattle.chumsky_input.specs.Run.{took, next_token, marked_here, KeepsPast};
-ghost use Rattle.chumsky_input.specs.OneCall.{Advances, TakesNext, PeeksNext, GoesBack, FailsExpecting, AddsEvent, EmitsError, EmitsLast, last_seen};
+ghost use Rattle.chumsky_input.specs.OneCall.{Advances, TakesNext, PeeksNext, GoesBack, FailsExpecting, FailsWith, AddsEvent, EmitsError, EmitsLast, last_seen};
 
 use crate::aside::Aside;
 use crate::error::Error;
@@ -16,7 +16,7 @@ use crate::extra::ParserExtra;
 use crate::input::{BorrowInput, Input, SliceInput, ValueInput};
 use crate::inspector::Inspector;
 use crate::stop::{Failure, Fault, Stop};
-use crate::util::{DefaultExpected, Expectation, MaybeLabel, MaybeRef, Plain};
+use crate::util::{Expectation, MaybeLabel, MaybeRef, Plain, Sole, found_token};
 use std::alloc::{AllocError, Global};
 use std::marker::PhantomData;
 
@@ -203,6 +203,7 @@ impl<'src, 'p, I: Input<'src>, E: ParserExtra<I>> InputRef<'src, 'p, I, E> {
 
     /// A failure where something was expected, with the span between two cursors. Where the error that is kept lies
     /// further on, none is built. `inp.expected(&before, &here, Plain::Label("a month"), None)` fails with a label.
+    #[inline]
     pub fn expected(
         &mut self,
         from: &I::Cursor,
@@ -219,14 +220,11 @@ impl<'src, 'p, I: Input<'src>, E: ParserExtra<I>> InputRef<'src, 'p, I, E> {
             return Fault::Fail;
         }
         let span = I::span(from, to);
-        let expected = what.as_expected();
-        match E::Error::expected_found(self.alloc, One { left: expected }, found, span) {
-            Ok(error) => self.add_event(place, error),
-            Err(_) => Fault::Stop(Stop::Memory),
-        }
+        self.keep_expected(place, Sole::Other(what), &found, span)
     }
 
     /// The same where one token was expected.
+    #[inline]
     pub fn expected_token(
         &mut self,
         from: &I::Cursor,
@@ -243,22 +241,32 @@ impl<'src, 'p, I: Input<'src>, E: ParserExtra<I>> InputRef<'src, 'p, I, E> {
             return Fault::Fail;
         }
         let span = I::span(from, to);
-        let expected = MaybeLabel::Expected(DefaultExpected::Token(MaybeRef::Ref(token)));
-        match E::Error::expected_found(
-            self.alloc,
-            One {
-                left: Some(expected),
-            },
-            found,
-            span,
-        ) {
-            Ok(error) => self.add_event(place, error),
+        self.keep_expected(place, Sole::Token(token), &found, span)
+    }
+
+    /// A failure at a place, not before that of the error that is kept, where at most one thing was expected.
+    #[inline(always)]
+    fn keep_expected(
+        &mut self,
+        place: usize,
+        expected: Sole<'_, I::Token>,
+        found: &Option<MaybeRef<'src, I::Token>>,
+        span: I::Span,
+    ) -> Fault
+        requires near { ¬ KeepsPast place (held I.Input E.Error.Error E.State.Inspector self.old).kept }
+        ensures fails { FailsWith I.Input E.Error.Error E.State.Inspector (sole_wanted expected.entry) found.now place span self.old self.new result }
+        ensures lent { self.new.state.ghost_name ≡ self.old.state.ghost_name }
+    {
+        let found = found_token(found);
+        match E::Error::keep_expected(&mut self.kept, place, self.alloc, &expected, found, span) {
+            Ok(()) => Fault::Fail,
             Err(_) => Fault::Stop(Stop::Memory),
         }
     }
 
     /// The same where each item of an iterator was expected. Where the error that is kept lies further on, no item is
     /// asked for.
+    #[inline]
     pub fn expected_each<X: Iterator + Drop>(
         &mut self,
         from: &I::Cursor,
@@ -505,7 +513,7 @@ impl<'src, 'p, I: SliceInput<'src>, E: ParserExtra<I>> InputRef<'src, 'p, I, E> 
     pub fn slice_since(&self, before: &I::Cursor) -> I::Slice
         requires tokens { I.cursor_tokens before.now ≡ (held I.Input E.Error.Error E.State.Inspector self.now).tokens }
         requires order { I.place before.now ≤ (held I.Input E.Error.Error E.State.Inspector self.now).place }
-        ensures { I.slice_seen result ≡ I.slice_of (slice_range (I.cursor_tokens before.now) (I.place before.now) (held I.Input E.Error.Error E.State.Inspector self.now).place) }
+        ensures { I.slice_seen result ≡ I.slice_of (I.cursor_tokens before.now) (I.place before.now) (held I.Input E.Error.Error E.State.Inspector self.now).place }
     {
         I::slice(before, &self.cursor)
     }

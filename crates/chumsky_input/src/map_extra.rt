@@ -1,5 +1,5 @@
 //! What a closure is shown of a run.
-ghost use Rattle.std.specs.Prelude.{◌≡◌, ◌≤◌, slice_range};
+ghost use Rattle.std.specs.Prelude.{◌≡◌, ◌≤◌};
 ghost use Rattle.std.specs.Borrow.{sem};
 ghost use Rattle.chumsky_input.specs.Held.{held};
 ghost use Rattle.chumsky_input.specs.Extra.{shown_from, KeepsState, MayAnswer, ExtraLendsState};
@@ -64,7 +64,7 @@ impl<'src, 'b, I: SliceInput<'src>, E: ParserExtra<I>> MapExtra<'src, 'b, I, E> 
     pub fn slice(&self) -> I::Slice
         requires tokens { I.cursor_tokens self.now.to ≡ I.cursor_tokens self.now.from }
         requires order { I.place self.now.from ≤ I.place self.now.to }
-        ensures { I.slice_seen result ≡ I.slice_of (slice_range (I.cursor_tokens self.now.to) (I.place self.now.from) (I.place self.now.to)) }
+        ensures { I.slice_seen result ≡ I.slice_of (I.cursor_tokens self.now.to) (I.place self.now.from) (I.place self.now.to) }
     {
         I::slice(&self.from, &self.to)
     }

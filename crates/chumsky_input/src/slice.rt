@@ -1,5 +1,6 @@
 //! Slices of tokens as inputs.
-ghost use Rattle.std.specs.Prelude.{◌≡◌, ◌+◌, ◌≤◌, List, ⊤, length, slice_get, option_map, MatchOption, MatchResult};
+ghost use Rattle.std.specs.Prelude.{◌≡◌, ◌+◌, ◌≤◌, List, ⊤, length, slice_get, slice_range, option_map, MatchOption, MatchResult};
+ghost use Rattle.chumsky_input.specs.Layout.{list_layout};
 ghost use Rattle.chumsky_input.specs.Maybe.{ref_value};
 
 use crate::input::{BorrowInput, Input, SliceInput, Tokens, ValueInput};
@@ -38,13 +39,13 @@ impl<'src, T: Drop> Tokens for &'src [T] {
 impl<'src, T: Drop> Input<'src> for &'src [T] {
     type Cursor = SliceCursor<'src, T>;
 
-    ghost tokens = { λ s. s.now };
+    ghost tokens = { λ s. list_layout s.now };
 
-    ghost cursor_tokens = { λ c. c.tokens.now };
+    ghost cursor_tokens = { λ c. list_layout c.tokens.now };
 
     ghost place = { λ c. c.place };
 
-    ghost span_between = { λ ts i j. record { start = i; end = j } };
+    ghost span_between = { λ l i j. l.span i j };
 
     ghost within = { λ c. c.within };
 
@@ -125,7 +126,7 @@ impl<'src, T: Drop> SliceInput<'src> for &'src [T] {
 
     ghost slice_seen = { λ s. s.now };
 
-    ghost slice_of = { λ ts. ts };
+    ghost slice_of = { λ l i j. slice_range l.list i j };
 
     #[inline]
     fn slice(from: &SliceCursor<'src, T>, to: &SliceCursor<'src, T>) -> &'src [T] {

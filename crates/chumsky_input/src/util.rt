@@ -2,7 +2,7 @@
 ghost use Rattle.std.specs.Prelude.{◌≡◌, IfOk, IsOk, IsTrue, option_to_list, option_map, option_copied};
 ghost use Rattle.std.specs.Cmp.{on_per};
 ghost use Rattle.chumsky_input.specs.Maybe.{maybe_value, OwnsFreely};
-ghost use Rattle.chumsky_input.specs.Wanted.{Wanted, wanted, wanted_map, unlabelled, label_text, maybe_wanted, owns_token, WantsFreely, plain_wanted};
+ghost use Rattle.chumsky_input.specs.Wanted.{Wanted, wanted, wanted_map, unlabelled, label_text, maybe_wanted, owns_token, WantsFreely, plain_wanted, sole_wanted};
 
 use crate::same::SameClone;
 use std::alloc::AllocError;
@@ -48,6 +48,28 @@ pub(crate) fn token_of<'a, T: SameClone>(token: MaybeRef<'a, T>) -> Result<T, Al
     match token {
         MaybeRef::Ref(lent) => lent.clone(),
         MaybeRef::Val(owned) => Ok(owned),
+    }
+}
+
+/// A token that is lent, as what was found.
+#[inline(always)]
+pub(crate) fn lent<'a, T>(token: Option<&'a T>) -> Option<MaybeRef<'a, T>>
+    ensures { option_map maybe_value result ≡ option_copied token.entry }
+{
+    match token {
+        Some(token) => Some(MaybeRef::Ref(token)),
+        None => None,
+    }
+}
+
+/// What was found, wherever its token lies.
+#[inline(always)]
+pub(crate) fn found_token<'f, 'a, T>(found: &'f Option<MaybeRef<'a, T>>) -> Option<&'f T>
+    ensures { option_copied result ≡ option_map maybe_value found.now }
+{
+    match found {
+        Some(token) => Some(token.get()),
+        None => None,
     }
 }
 
@@ -168,6 +190,27 @@ impl<'l> Plain<'l> {
             Plain::NothingElse => Some(MaybeLabel::Expected(DefaultExpected::NothingElse)),
             Plain::EndOfInput => Some(MaybeLabel::Expected(DefaultExpected::EndOfInput)),
             Plain::Label(text) => Some(MaybeLabel::Label(text)),
+        }
+    }
+}
+
+/// What alone was expected, or nothing: a token, where it lies, or what is none.
+#[derive_where(Clone, Copy)]
+pub enum Sole<'e, T> {
+    Token(&'e T),
+    Other(Plain<'e>),
+}
+
+impl<'e, T> Sole<'e, T> {
+    #[inline(always)]
+    pub fn as_expected(self) -> Option<MaybeLabel<'e, T>>
+        ensures { option_to_list (option_map maybe_wanted result) ≡ sole_wanted self.entry }
+    {
+        match self {
+            Sole::Token(token) => Some(MaybeLabel::Expected(DefaultExpected::Token(MaybeRef::Ref(
+                token,
+            )))),
+            Sole::Other(what) => what.as_expected(),
         }
     }
 }

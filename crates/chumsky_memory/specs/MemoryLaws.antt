@@ -2,6 +2,7 @@
 -- Main laws: chained-spares, or_else-spares, run-spares. Read first: Memory.antt.
 use Rattle.std.proofs.Common.{◌≡◌, ℕ, Bool, true, false, Option, Some, None, List, [], ◌∷◌, Result, inl, inr, refl, ap, subst}
 use Rattle.std.specs.Prelude.{⊤, option_map}
+use Rattle.chumsky_input.specs.Layout.{Layout}
 use Rattle.chumsky_input.specs.declared.stop.Stop.{Stop}
 use Rattle.chumsky_input.specs.declared.stop.Fault.{Fault}
 use Rattle.chumsky_input.specs.Held.{Held}
@@ -95,7 +96,7 @@ module _ {Tok Cx St Er V W : Type 0} (maps : V → W → Type 0) where
   pub mapped-spares : (part : Meaning Tok Cx St Er V) → NeverOutOfMemory part → NeverOutOfMemory (Mapped maps part)
   mapped-spares part h = chained-spares part (GivenBy maps) h (λ v b o m. given_as-spares v b o m.by_value)
 
-module _ {Tok Cx St Er V W : Type 0} (is : List Tok → ℕ → ℕ → W → Type 0) (part : Meaning Tok Cx St Er V) where
+module _ {Tok Cx St Er V W : Type 0} (is : Layout Tok → ℕ → ℕ → W → Type 0) (part : Meaning Tok Cx St Er V) where
   -- what a part took, in place of its value
   pub covers-spares : NeverOutOfMemory part → NeverOutOfMemory (Covers is part)
   covers-spares h b o m =

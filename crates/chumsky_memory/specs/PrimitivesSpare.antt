@@ -29,7 +29,7 @@ module _ {I Tok Sp Cu Er St Mk Cx : Type 0} (source : input_trait.Ghosts I Cu To
     any_at-spares None b o m = misses-spares quiet m
 
     pub any-spares : NeverOutOfMemory (MeansAny {Cx = Cx} source IsOf safe errors states)
-    any-spares b o m = any_at-spares (slice_get b.tokens b.start) b o m.by_token
+    any-spares b o m = any_at-spares (slice_get b.tokens.list b.start) b o m.by_token
 
   module _ (still : states.takes_no_memory) where
     end_at-spares : (found : Option Tok) (b : Beginning Tok Cx states.Seen) (o : Outcome (Unit {0}) errors.Seen states.Seen) → MeansEndAt source errors states found b o → SparesMemory o.verdict
@@ -38,7 +38,7 @@ module _ {I Tok Sp Cu Er St Mk Cx : Type 0} (source : input_trait.Ghosts I Cu To
     end_at-spares None b o m = given-spares (wanting b.wanted tt) b o m
 
     pub end-spares : NeverOutOfMemory (MeansEnd {Cx = Cx} source errors states)
-    end-spares b o m = elim m.by_token [ inl r ↦ absurd (r.0 still) | inr k ↦ end_at-spares (slice_get b.tokens b.start) b o k ]
+    end-spares b o m = elim m.by_token [ inl r ↦ absurd (r.0 still) | inr k ↦ end_at-spares (slice_get b.tokens.list b.start) b o k ]
 
     module _ {S : Type 0} (seen : Tok → S) (safe : Tok → Type 0) (free : (t : Tok) → safe t) where
       found-spares : (what : List (Wanted Tok)) (found : Option Tok) (passed : Bool) (b : Beginning Tok Cx states.Seen) (o : Outcome Tok errors.Seen states.Seen) → one_of.MeansFound source seen safe errors states what found passed b o → SparesMemory o.verdict
@@ -48,7 +48,7 @@ module _ {I Tok Sp Cu Er St Mk Cx : Type 0} (source : input_trait.Ghosts I Cu To
       found-spares what found false b o (inr (inr m)) = misses-spares quiet m
 
       pub tested-spares : (test : Tok → Bool) (what : List (Wanted Tok)) → NeverOutOfMemory (MeansTested {Cx = Cx} source seen safe errors states test what)
-      tested-spares test what b o m = found-spares what (slice_get b.tokens b.start) (passes test (slice_get b.tokens b.start)) b o m.by_token
+      tested-spares test what b o m = found-spares what (slice_get b.tokens.list b.start) (passes test (slice_get b.tokens.list b.start)) b o m.by_token
 
     module _ (equal : Tok → Tok → Bool) where
       member_found-spares : (m : Tok) (found : Option Tok) (is : Bool) (b : Beginning Tok Cx states.Seen) (o : Outcome (Unit {0}) errors.Seen states.Seen) → MeansMemberFound source equal errors states m found is b o → SparesMemory o.verdict
@@ -58,7 +58,7 @@ module _ {I Tok Sp Cu Er St Mk Cx : Type 0} (source : input_trait.Ghosts I Cu To
 
       member-spares : (m : Tok) → NeverOutOfMemory (MeansMember {Cx = Cx} source equal errors states m)
       member-spares m b o k =
-          elim k.by_token [ inl r ↦ absurd (r.0 still) | inr f ↦ member_found-spares m (slice_get b.tokens b.start) (is_member equal m (slice_get b.tokens b.start)) b o f ]
+          elim k.by_token [ inl r ↦ absurd (r.0 still) | inr f ↦ member_found-spares m (slice_get b.tokens.list b.start) (is_member equal m (slice_get b.tokens.list b.start)) b o f ]
 
       members-spare : (ms : List Tok) → NeverOutOfMemory (MeansMembers {Cx = Cx} source equal errors states ms)
       members-spare [] = given-spares None

@@ -19,15 +19,23 @@ use chumsky_combinator::padded_by::PaddedBy;
 use chumsky_combinator::then::Then;
 use chumsky_combinator::then_ignore::ThenIgnore;
 use chumsky_combinator::to::To;
+use chumsky_context::states::{RollbackState, SimpleState, TruncateState};
 use chumsky_context::to_slice::ToSlice;
 use chumsky_context::to_span::ToSpan;
 use chumsky_group::group::Group;
 use chumsky_group::parts::Parts;
+use chumsky_input::error::{EmptyErr, Error};
 use chumsky_input::extra::ParserExtra;
-use chumsky_input::input::{Input, SliceInput, ValueInput};
+use chumsky_input::input::{Input, SliceInput, Tokens, ValueInput};
+use chumsky_input::inspector::Inspector;
+use chumsky_input::same::SameClone;
+use chumsky_input::simple::{Cheap, Simple};
+use chumsky_input::span::SimpleSpan;
+use chumsky_items::container::Container;
 use chumsky_items::count::Count;
 use chumsky_items::repeated::Repeated;
 use chumsky_items::separated_by::SeparatedBy;
+use chumsky_label::label_error::LabelError;
 use chumsky_parser::container::{OrderedSeq, Seq};
 use chumsky_parser::iter::IterParser;
 use chumsky_parser::parser::Parser;
@@ -40,6 +48,23 @@ use chumsky_primitive::one_of::OneOf;
 use chumsky_shield::filter::{Filter, Tester};
 use chumsky_shield::filter_map::{FilterMap, Picker};
 use chumsky_shield::try_map::{TryMap, TryMapper};
+
+/// What takes no memory: errors that say where they stand, and at most what was found, where a clone of a token takes none, and
+/// their labels; states that hold nothing, that stay, or that are cut, and one that is restored, where a clone of its value takes
+/// none; and a container that drops its items.
+pub fn these_take_no_memory<T: SameClone + Drop, I: Tokens<Token = T, Span = SimpleSpan>, L>()
+    ensures empty { ⟦<EmptyErr as Error<I>>⟧.takes_no_memory }
+    ensures cheap { ⟦<Cheap as Error<I>>⟧.takes_no_memory }
+    ensures simple { ((x : T) → T.is_infallible x) → ⟦<Simple<T> as Error<I>>⟧.takes_no_memory }
+    ensures labels_of_empty { ⟦<EmptyErr as LabelError<I, L>>⟧.labels_freely }
+    ensures labels_of_cheap { ⟦<Cheap as LabelError<I, L>>⟧.labels_freely }
+    ensures labels_of_simple { ⟦<Simple<T> as LabelError<I, L>>⟧.labels_freely }
+    ensures no_state { ⟦<() as Inspector<I>>⟧.takes_no_memory }
+    ensures simple_state { ⟦<SimpleState<T> as Inspector<I>>⟧.takes_no_memory }
+    ensures truncate_state { ⟦<TruncateState<T> as Inspector<I>>⟧.takes_no_memory }
+    ensures rollback_state { ((x : T) → T.is_infallible x) → ⟦<RollbackState<T> as Inspector<I>>⟧.takes_no_memory }
+    ensures no_container { ⟦<() as Container<T>>⟧.takes_no_memory }
+{}
 
 /// `end()` and `empty()`.
 pub fn end_is_never_out_of_memory<'src, I: Input<'src>, E: ParserExtra<I>>(

@@ -1,6 +1,7 @@
 -- What a part took, labelled and padded parts, and words of text, move where they succeed.
 -- Main laws: covers-move, with_span-moves, labelled-moves, padded-moves, no_or-moves. Read first: Moves.antt, MovesLaws.antt.
 use Rattle.std.proofs.Common.{ℕ, ◌<◌, Bool, false, Option, option_map, List, ap, subst, arith, inl, inr}
+use Rattle.chumsky_input.specs.Layout.{Layout}
 use Rattle.chumsky_input.specs.declared.error.Error as error_trait
 use Rattle.chumsky_input.specs.declared.inspector.Inspector as inspector_trait
 use Rattle.chumsky_input.specs.Outcome.{Meaning, Beginning, Outcome, Yes, No, EndsAfterStart}
@@ -16,10 +17,10 @@ use Rattle.chumsky_moves.specs.MovesLaws.{yes-answers, asked-moves, chained-firs
 use Rattle.chumsky_moves.specs.PartsMove.{clash-yes, shielded-moves}
 
 module _ {Tok Cx St Er V W : Type 0} (part : Meaning Tok Cx St Er V) where
-  pub covers-move : (is : List Tok → ℕ → ℕ → W → Type 0) → Moves part → Moves (Covers is part)
+  pub covers-move : (is : Layout Tok → ℕ → ℕ → W → Type 0) → Moves part → Moves (Covers is part)
   covers-move is h b o m y = chained-first (Asked false part) (λ _. Cover is b.start) (asked-moves false part h) (λ _ c p n z. given-ends n.copies.value c p n.copies.given z) b o m.run y
 
-  pub with_span-moves : (with_span : List Tok → ℕ → ℕ → V → W) → Moves part → Moves (WithSpan with_span part)
+  pub with_span-moves : (with_span : Layout Tok → ℕ → ℕ → V → W) → Moves part → Moves (WithSpan with_span part)
   with_span-moves with_span h b o m y = chained-first part (AddsSpan with_span b.start) h (λ v c p n z. given-ends (option_map (with_span c.tokens b.start c.start) v) c p n.given z) b o m.run y
 
 module _ {Tok Cx St Er V : Type 0} (merged : Er → Er → Er) (maps : Er → Er → Type 0) (free : Type 0) where

@@ -1,6 +1,7 @@
 -- What a whole run that gave its items one after another is answered.
 use Rattle.std.proofs.Common.{◌≡◌, ℕ, zero, suc, ◌+◌, ◌^◌, Bool, true, false, nat_lt, Option, Some, None, List, [], ◌∷◌, ◌++◌, length, refl, sym, ◌∙◌, ap, subst, Result, Ok, Err, option_to_list, inl, inr, map}
 use Rattle.std.specs.Bool.{MatchBool}
+use Rattle.chumsky_input.specs.Layout.{Layout}
 use Rattle.chumsky_input.specs.declared.error.Error as error_trait
 use Rattle.chumsky_input.specs.declared.inspector.Inspector as inspector_trait
 use Rattle.chumsky_input.specs.declared.input.Input as input_trait
@@ -25,7 +26,7 @@ use Rattle.chumsky_parse_iter.specs.Settled.{SettlesAs, reported, RefusesBy}
 use Rattle.chumsky_parse_iter.specs.Finish.{Closing, ClosesWith, Replies, Finishes, AnswersBeside, AnswersWhole}
 use Rattle.chumsky_parse_iter.specs.Walk.{with_next, GivesCounted, GivesMade, GivesFirst, Steps, WalksOn}
 
-module _ {I Tok Sp Cu Er St Cx R : Type 0} (source : input_trait.Ghosts I Cu Tok Sp) (errors : error_trait.Ghosts Er I Tok Sp) (out : R) (ts : List Tok) (before mid after : Held Tok Cx St errors.Seen) where
+module _ {I Tok Sp Cu Er St Cx R : Type 0} (source : input_trait.Ghosts I Cu Tok Sp) (errors : error_trait.Ghosts Er I Tok Sp) (out : R) (ts : Layout Tok) (before mid after : Held Tok Cx St errors.Seen) where
   settled_state : (a : Result (Unit {0}) Fault) (s : Result (Option (Unit {0})) Stop) → SettlesAs errors.expectation source.span_between a mid after s → after.state ≡ mid.state
   settled_state (Ok v) s t = ap (λ (h : Held Tok Cx St errors.Seen). h.state) t.1
   settled_state (Err fault.Fail) s (inl t) = ap (λ (h : Held Tok Cx St errors.Seen). h.state) t.1

@@ -2,6 +2,7 @@
 use Rattle.std.specs.Prelude.{◌≡◌, ⊤, ℕ, ◌+◌, ◌^◌, nat_lt, Bool, true, false, Option, Some, None, List, [], ◌∷◌, length, Result, Ok, Err, map}
 use Rattle.std.specs.declared.alloc.Global.{Global}
 use Rattle.std.specs.declared.vec.Vec.{Vec}
+use Rattle.chumsky_input.specs.Layout.{Layout}
 use Rattle.chumsky_input.specs.declared.error.Error as error_trait
 use Rattle.chumsky_input.specs.declared.inspector.Inspector as inspector_trait
 use Rattle.chumsky_input.specs.declared.input.Input as input_trait
@@ -129,12 +130,12 @@ module _ {Tok Cx St Er S V : Type 0} (begins : Meaning Tok Cx St Er S) (gives : 
 
 module _ {I Tok Sp Cu Er V R : Type 0} (source : input_trait.Ghosts I Cu Tok Sp) (errors : error_trait.Ghosts Er I Tok Sp) where
   -- the errors of an answer, beside an output that is there in any case
-  pub record ReportsBeside {St : Type 0} (out : R) (ts : List Tok) (o : Outcome V errors.Seen St) (parsed : ParseResult R Er) : Type 0 where
+  pub record ReportsBeside {St : Type 0} (out : R) (ts : Layout Tok) (o : Outcome V errors.Seen St) (parsed : ParseResult R Er) : Type 0 where
     pub answers : IsAnswer o.verdict
     pub output : parsed.output ≡ Some out
     pub errors_are : map errors.seen parsed.errors.items ≡ reported errors.expectation source.span_between o.verdict ts o errors.merged
 
-  abbrev pub AnswersBeside : {St : Type 0} → R → List Tok → Outcome V errors.Seen St → Result (ParseResult R Er) Stop → Type 0
+  abbrev pub AnswersBeside : {St : Type 0} → R → Layout Tok → Outcome V errors.Seen St → Result (ParseResult R Er) Stop → Type 0
   AnswersBeside out ts o (Ok parsed) = ReportsBeside out ts o parsed
   AnswersBeside out ts o (Err s) = RefusesBy errors.takes_no_memory o.verdict o s
 

@@ -1,6 +1,7 @@
 //! An iterator over the items of a parser.
-ghost use Rattle.std.specs.Prelude.{◌≡◌, ◌-◌, ◌^◌, false};
-ghost use Rattle.std.specs.Iterator.{at_most};
+ghost use Rattle.std.specs.Prelude.{◌≡◌, ◌-◌, ◌^◌, false, IfSome};
+ghost use Rattle.std.specs.Iterator.{UpTo, at_most};
+ghost use Rattle.std.specs.Iterator.SizeHint.{IsWithinCount};
 ghost use Rattle.chumsky_parse_iter.specs.Walk.{held_in, MayWalk, WalksOn, GivesCounted, BeginsWhole};
 ghost use Rattle.chumsky_parse_iter.specs.Finish.{FinishesRun};
 
@@ -108,8 +109,13 @@ where
         settle(answer, &mut self.phase, &mut self.given)
     }
 
+    /// No item is promised: any step may be the last.
     #[inline]
-    fn size_hint(&self) -> (usize, Option<usize>) {
+    fn size_hint(&self) -> (usize, Option<usize>)
+        ensures lower { IsWithinCount result.0 (at_most (2 ^ 64 - self.now.given)) }
+        ensures upper { IfSome result.1 (UpTo (at_most (2 ^ 64 - self.now.given))) }
+        ensures promises_none { result.0 ≡ 0 }
+    {
         (0, None)
     }
 }

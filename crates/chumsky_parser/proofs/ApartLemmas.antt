@@ -1,5 +1,6 @@
 -- What a part that was run by itself leaves.
 use Rattle.std.proofs.Common.{◌≡◌, ℕ, Bool, Option, Some, None, List, ◌++◌, Ok, Err, option_to_list, refl, sym, ◌∙◌, ap, subst, inl, inr}
+use Rattle.chumsky_input.specs.Layout.{Layout}
 use Rattle.chumsky_input.specs.declared.stop.Stop.{Stop}
 use Rattle.chumsky_input.specs.declared.stop.Stop.TheVariants.{Memory}
 use Rattle.chumsky_input.specs.declared.stop.Fault.TheVariants as fault
@@ -12,7 +13,7 @@ use Rattle.chumsky_input.specs.Run.{Ran, Leaves, LeavesBy, SameRun, answer}
 use Rattle.chumsky_input.specs.Aside.{ClashesWith, HandsOut, kept_after}
 use Rattle.chumsky_parser.specs.Apart.{RanApart, HandsBy, ended}
 
-module _ {Tok Cx St Er V : Type 0} (merged : Er → Er → Er) (safe : Type 0) (final : Option (Event Er) → List Tok → ℕ → Er) (meaning : Meaning Tok Cx St Er V) (w : Bool) (old mid : Held Tok Cx St Er) where
+module _ {Tok Cx St Er V : Type 0} (merged : Er → Er → Er) (safe : Type 0) (final : Option (Event Er) → Layout Tok → ℕ → Er) (meaning : Meaning Tok Cx St Er V) (w : Bool) (old mid : Held Tok Cx St Er) where
   -- a yes, taken apart
   yes_of : (v : Verdict V Er) (o : Outcome V Er St) (x : Option V) → Ok x ≡ answer v → LeavesBy merged safe v o (record old { kept = None }) mid → (v ≡ Yes x) × Leaves merged safe o (record old { kept = None }) mid
   yes_of (Yes y) o x a l = (cc, l)

@@ -1,5 +1,6 @@
 -- A part that is run by itself, within a closure: its events count as one.
 use Rattle.std.specs.Prelude.{◌≡◌, ℕ, Bool, Option, Some, None, List, ◌++◌, Result, Ok, Err, option_to_list, ◌⊎◌}
+use Rattle.chumsky_input.specs.Layout.{Layout}
 use Rattle.chumsky_input.specs.declared.error.Error as error_trait
 use Rattle.chumsky_input.specs.declared.inspector.Inspector as inspector_trait
 use Rattle.chumsky_input.specs.declared.input.Input as input_trait
@@ -23,7 +24,7 @@ abbrev pub handed_check : {V E S : Type 0} → (E → S) → Result (Unit {0}) (
 handed_check seen (Ok _) = Ok None
 handed_check seen (Err f) = Err (failure_seen seen f)
 
-module _ {Tok Cx St Er V : Type 0} (merged : Er → Er → Er) (safe : Type 0) (final : Option (Event Er) → List Tok → ℕ → Er) where
+module _ {Tok Cx St Er V : Type 0} (merged : Er → Er → Er) (safe : Type 0) (final : Option (Event Er) → Layout Tok → ℕ → Er) where
   -- the place and the state of an outcome, and its emitted errors after older ones
   abbrev pub ended : Outcome V Er St → Held Tok Cx St Er → Held Tok Cx St Er
   ended o h = record h { place = o.end; state = o.state; emitted = h.emitted ++ o.emitted }

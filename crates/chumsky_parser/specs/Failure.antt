@@ -1,5 +1,6 @@
 -- How a parser fails, or is refused for want of memory.
 use Rattle.std.specs.Prelude.{◌≡◌, ℕ, Bool, true, false, Option, Some, None, List, [], ◌∷◌, ◌⊎◌, ⊤, Result, Ok, Err}
+use Rattle.chumsky_input.specs.Layout.{Layout}
 use Rattle.chumsky_input.specs.declared.error.Error as error_trait
 use Rattle.chumsky_input.specs.declared.input.Input as input_trait
 use Rattle.chumsky_input.specs.declared.stop.Stop.{Stop}
@@ -45,7 +46,7 @@ module _ {Tok Cx St Er V : Type 0} where
 
 module _ {I Tok Sp Cu Er : Type 0} (source : input_trait.Ghosts I Cu Tok Sp) (errors : error_trait.Ghosts Er I Tok Sp) where
   -- the event of an expectation, at a place and spanning to another one
-  abbrev pub expects : List Tok → List (Wanted Tok) → Option Tok → ℕ → ℕ → Event errors.Seen
+  abbrev pub expects : Layout Tok → List (Wanted Tok) → Option Tok → ℕ → ℕ → Event errors.Seen
   expects ts what found place to = record { place = place; error = errors.expectation what found (source.span_between ts place to) }
 
 -- a value, where one is wanted

@@ -19,25 +19,25 @@ use Rattle.chumsky_parser.proofs.FailureLemmas.{ran-yes, ran-halts, ran-misses}
 use Rattle.chumsky_primitive.specs.Just.{past, told, is_member, MeansMemberFound, MeansMember, MeansMembers, MeansJust}
 
 -- a token is taken where one is found, in one form for both cases
-took-is : {Tok Cx St Er : Type 0} (after : St → Tok → St) (h : Held Tok Cx St Er) (found : Option Tok) → took after h found ≡ record h { place = past found h.place; state = told after found h.state }
+pub took-is : {Tok Cx St Er : Type 0} (after : St → Tok → St) (h : Held Tok Cx St Er) (found : Option Tok) → took after h found ≡ record h { place = past found h.place; state = told after found h.state }
 took-is after h None = refl
 took-is after h (Some t) = refl
 
 module _ {I Tok Sp Cu Er St Mk Cx : Type 0} (source : input_trait.Ghosts I Cu Tok Sp) (equal : Tok → Tok → Bool) (errors : error_trait.Ghosts Er I Tok Sp) (states : inspector_trait.Ghosts St I Mk Tok Sp) (m : Tok) (w : Bool) (old : Held Tok Cx states.Seen errors.Seen) where
-  means : (found : Option Tok) (e : Bool) → found ≡ slice_get old.tokens old.place → is_member equal m found ≡ e
+  means : (found : Option Tok) (e : Bool) → found ≡ slice_get old.tokens.list old.place → is_member equal m found ≡ e
       → (o : Outcome (Unit {0}) errors.Seen states.Seen) → MeansMemberFound source equal errors states m found e (begin w old) o → MeansMember source equal errors states m (begin w old) o
   means found e f i o h = record { by_token = inr (rw (sym f, i) h) }
 
   pub member_unmarked : (states.takes_no_memory → ⊥) → Ran errors.merged errors.takes_no_memory (MeansMember source equal errors states m) w old old (Err (fault.Stop Memory))
   member_unmarked may = ran-halts errors.merged errors.takes_no_memory _ w old old (record { tokens = refl; context = refl }) refl (λ o v s. record { by_token = inl (may, v, s) })
 
-  pub member_there : (found : Option Tok) (mid : Held Tok Cx states.Seen errors.Seen) → found ≡ slice_get old.tokens old.place → is_member equal m found ≡ true → mid ≡ took states.after old found
+  pub member_there : (found : Option Tok) (mid : Held Tok Cx states.Seen errors.Seen) → found ≡ slice_get old.tokens.list old.place → is_member equal m found ≡ true → mid ≡ took states.after old found
       → Ran errors.merged errors.takes_no_memory (MeansMember source equal errors states m) w old mid (Ok None)
   member_there found mid f i k =
       rw (k ∙ took-is states.after old found)
       (ran-yes errors.merged errors.takes_no_memory _ w old None (past found old.place) (told states.after found old.state) (means found true f i _ refl))
 
-  pub member_unrestored : (found : Option Tok) (mid new : Held Tok Cx states.Seen errors.Seen) → found ≡ slice_get old.tokens old.place → is_member equal m found ≡ false → mid ≡ took states.after old found → new ≡ mid → (states.takes_no_memory → ⊥)
+  pub member_unrestored : (found : Option Tok) (mid new : Held Tok Cx states.Seen errors.Seen) → found ≡ slice_get old.tokens.list old.place → is_member equal m found ≡ false → mid ≡ took states.after old found → new ≡ mid → (states.takes_no_memory → ⊥)
       → Ran errors.merged errors.takes_no_memory (MeansMember source equal errors states m) w old new (Err (fault.Stop Memory))
   member_unrestored found mid new f i k n may =
       rw (n ∙ k ∙ took-is states.after old found)
@@ -45,7 +45,7 @@ module _ {I Tok Sp Cu Er St Mk Cx : Type 0} (source : input_trait.Ghosts I Cu To
       (λ o v s. means found false f i o (inl (may, v, s))))
 
   -- the event of a member, where what was found was gone back from
-  back_from : (found : Option Tok) (new : Held Tok Cx states.Seen errors.Seen) (f : Fault) → found ≡ slice_get old.tokens old.place → is_member equal m found ≡ false
+  back_from : (found : Option Tok) (new : Held Tok Cx states.Seen errors.Seen) (f : Fault) → found ≡ slice_get old.tokens.list old.place → is_member equal m found ≡ false
       → Fails errors.merged errors.takes_no_memory (expects source errors old.tokens (wanted.Token m ∷ []) found old.place (past found old.place)) (record old { state = states.back (told states.after found old.state) (states.mark old.state) }) new f
       → Ran errors.merged errors.takes_no_memory (MeansMember source equal errors states m) w old new (Err f)
   back_from found new f e i k =
@@ -55,7 +55,7 @@ module _ {I Tok Sp Cu Er St Mk Cx : Type 0} (source : input_trait.Ghosts I Cu To
       w (record old { state = states.back (told states.after found old.state) (states.mark old.state) }) _ new f k (λ o h. h))
 
   pub member_misses : (found : Option Tok) (k : Marks Tok states.Marked) (to : ℕ) (mid back new : Held Tok Cx states.Seen errors.Seen) (f : Fault)
-      → found ≡ slice_get old.tokens old.place → is_member equal m found ≡ false → k ≡ marked_here states.mark old → mid ≡ took states.after old found → to ≡ mid.place → back ≡ gone_back states.back mid k
+      → found ≡ slice_get old.tokens.list old.place → is_member equal m found ≡ false → k ≡ marked_here states.mark old → mid ≡ took states.after old found → to ≡ mid.place → back ≡ gone_back states.back mid k
       → Fails errors.merged errors.takes_no_memory (expects source errors k.tokens (wanted.Token m ∷ []) found k.place to) back new f
       → Ran errors.merged errors.takes_no_memory (MeansMember source equal errors states m) w old new (Err f)
   member_misses found k to mid back new f e i q n p g h =

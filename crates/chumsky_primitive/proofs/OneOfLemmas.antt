@@ -1,6 +1,7 @@
 -- What a token leaves that passes a test, and one that doesn't.
 use Rattle.std.proofs.Common.{◌≡◌, ℕ, ◌+◌, Bool, true, false, Option, Some, None, List, refl, sym, ◌∙◌, ap, Ok, Err, inl, inr}
 use Rattle.std.specs.Prelude.{slice_get, option_map, MatchOption}
+use Rattle.chumsky_input.specs.Layout.{Layout}
 use Rattle.chumsky_input.specs.declared.error.Error as error_trait
 use Rattle.chumsky_input.specs.declared.inspector.Inspector as inspector_trait
 use Rattle.chumsky_input.specs.declared.input.Input as input_trait
@@ -25,40 +26,40 @@ past_is value place before after None m = ap place m
 past_is value place before after (Some t) m = m
 
 module _ {I Tok Sp Cu Er St Mk Cx S : Type 0} (source : input_trait.Ghosts I Cu Tok Sp) (seen : Tok → S) (safe : Tok → Type 0) (errors : error_trait.Ghosts Er I Tok Sp) (states : inspector_trait.Ghosts St I Mk Tok Sp) (test : Tok → Bool) (what : List (Wanted Tok)) (old : Held Tok Cx states.Seen errors.Seen) where
-  taken : {found : Option Tok} {t : Tok} {tokens : List Tok} {place : ℕ} (new : Held Tok Cx states.Seen errors.Seen) → found ≡ Some t → tokens ≡ old.tokens → place ≡ past found old.place
+  taken : {found : Option Tok} {t : Tok} {tokens : Layout Tok} {place : ℕ} (new : Held Tok Cx states.Seen errors.Seen) → found ≡ Some t → tokens ≡ old.tokens → place ≡ past found old.place
       → new ≡ record old { tokens = tokens; place = place; state = states.after old.state t } → new ≡ record old { place = old.place + 1; state = states.after old.state t }
   taken {t = t} new p l k m =
       let next = k ∙ ap (λ z. past z old.place) p in
       m ∙ cc (l, next)
 
-  means : (w : Bool) (found : Option Tok) (e : Bool) → found ≡ slice_get old.tokens old.place → passes test found ≡ e
+  means : (w : Bool) (found : Option Tok) (e : Bool) → found ≡ slice_get old.tokens.list old.place → passes test found ≡ e
       → (o : Outcome Tok errors.Seen states.Seen) → MeansFound source seen safe errors states what found e (begin w old) o → MeansTested source seen safe errors states test what (begin w old) o
   means w found e f p o h = record { by_token = rw (sym f, p) h }
 
   -- a token that passes, taken by value; the same without one; and want of memory for it
-  pub tested_takes : {found : Option Tok} {t v : Tok} {tokens : List Tok} {place : ℕ} (new : Held Tok Cx states.Seen errors.Seen)
-      → found ≡ slice_get old.tokens old.place → (found ≡ Some t) × (test t ≡ true) → tokens ≡ old.tokens → place ≡ past found old.place → seen v ≡ seen t
+  pub tested_takes : {found : Option Tok} {t v : Tok} {tokens : Layout Tok} {place : ℕ} (new : Held Tok Cx states.Seen errors.Seen)
+      → found ≡ slice_get old.tokens.list old.place → (found ≡ Some t) × (test t ≡ true) → tokens ≡ old.tokens → place ≡ past found old.place → seen v ≡ seen t
       → new ≡ record old { tokens = tokens; place = place; state = states.after old.state t } → Ran errors.merged errors.takes_no_memory (MeansTested source seen safe errors states test what) true old new (Ok (Some v))
   tested_takes {found} {t} {v} {tokens} {place} new e p l k s m =
       ran-weaker errors.merged errors.takes_no_memory _ _ true old new (Ok (Some v)) (means true (Some t) true (sym p.0 ∙ e) p.1)
       (any_takes source (CountsAs seen) safe errors states old t v new (sym e ∙ p.0) s (taken new p.0 l k m))
 
-  pub tested_skips : {found : Option Tok} {t : Tok} {tokens : List Tok} {place : ℕ} (new : Held Tok Cx states.Seen errors.Seen)
-      → found ≡ slice_get old.tokens old.place → (found ≡ Some t) × (test t ≡ true) → tokens ≡ old.tokens → place ≡ past found old.place
+  pub tested_skips : {found : Option Tok} {t : Tok} {tokens : Layout Tok} {place : ℕ} (new : Held Tok Cx states.Seen errors.Seen)
+      → found ≡ slice_get old.tokens.list old.place → (found ≡ Some t) × (test t ≡ true) → tokens ≡ old.tokens → place ≡ past found old.place
       → new ≡ record old { tokens = tokens; place = place; state = states.after old.state t } → Ran errors.merged errors.takes_no_memory (MeansTested source seen safe errors states test what) false old new (Ok None)
   tested_skips {found} {t} {tokens} {place} new e p l k m =
-      let there : slice_get old.tokens old.place ≡ Some t = sym e ∙ p.0 in
+      let there : slice_get old.tokens.list old.place ≡ Some t = sym e ∙ p.0 in
       ran-weaker errors.merged errors.takes_no_memory _ _ false old new (Ok None) (means false (Some t) true (sym there) p.1)
       (any_skips source (CountsAs seen) safe errors states old new (rw there refl) (rw there (taken new p.0 l k m)))
 
-  pub tested_lacks : {found : Option Tok} {t : Tok} → found ≡ slice_get old.tokens old.place → (found ≡ Some t) × (test t ≡ true) → (safe t → ⊥)
+  pub tested_lacks : {found : Option Tok} {t : Tok} → found ≡ slice_get old.tokens.list old.place → (found ≡ Some t) × (test t ≡ true) → (safe t → ⊥)
       → Ran errors.merged errors.takes_no_memory (MeansTested source seen safe errors states test what) true old old (Err (fault.Stop Memory))
   tested_lacks {found} {t} e p may =
       ran-weaker errors.merged errors.takes_no_memory _ _ true old old (Err (fault.Stop Memory)) (means true (Some t) true (sym p.0 ∙ e) p.1)
       (any_lacks source (CountsAs seen) safe errors states old old (refl, (t, sym e ∙ p.0, may)))
 
   -- want of memory to go back from what doesn't pass
-  pub tested_stays : (found : Option Tok) (new : Held Tok Cx states.Seen errors.Seen) → found ≡ slice_get old.tokens old.place → passes test found ≡ false → StaysAt states.takes_no_memory states.after found old new
+  pub tested_stays : (found : Option Tok) (new : Held Tok Cx states.Seen errors.Seen) → found ≡ slice_get old.tokens.list old.place → passes test found ≡ false → StaysAt states.takes_no_memory states.after found old new
       → (w : Bool) → Ran errors.merged errors.takes_no_memory (MeansTested source seen safe errors states test what) w old new (Err (fault.Stop Memory))
   tested_stays found new f p (may, inl n) w =
       rw n (ran-halts errors.merged errors.takes_no_memory _ w old old (record { tokens = refl; context = refl }) refl (λ o v s. means w found false f p o (inl (may, v, s))))
@@ -67,7 +68,7 @@ module _ {I Tok Sp Cu Er St Mk Cx S : Type 0} (source : input_trait.Ghosts I Cu 
       (λ o v s. means w found false f p o (inr (inl (may, v, s)))))
 
   -- the event of what doesn't pass, where that was gone back from
-  back_from : (found : Option Tok) (new : Held Tok Cx states.Seen errors.Seen) (f : Fault) → found ≡ slice_get old.tokens old.place → passes test found ≡ false
+  back_from : (found : Option Tok) (new : Held Tok Cx states.Seen errors.Seen) (f : Fault) → found ≡ slice_get old.tokens.list old.place → passes test found ≡ false
       → Fails errors.merged errors.takes_no_memory (expects source errors old.tokens what found old.place (past found old.place)) (gone_back_from states.after states.mark states.back found old) new f
       → (w : Bool) → Ran errors.merged errors.takes_no_memory (MeansTested source seen safe errors states test what) w old new (Err f)
   back_from found new f e p k w =
@@ -77,7 +78,7 @@ module _ {I Tok Sp Cu Er St Mk Cx S : Type 0} (source : input_trait.Ghosts I Cu 
       w (gone_back_from states.after states.mark states.back found old) _ new f k (λ o h. h))
 
   pub tested_fails : (found : Option Tok) (to : ℕ) (mid new : Held Tok Cx states.Seen errors.Seen) (f : Fault)
-      → found ≡ slice_get old.tokens old.place → passes test found ≡ false → mid ≡ gone_back_from states.after states.mark states.back found old → to ≡ past found old.place
+      → found ≡ slice_get old.tokens.list old.place → passes test found ≡ false → mid ≡ gone_back_from states.after states.mark states.back found old → to ≡ past found old.place
       → Fails errors.merged errors.takes_no_memory (expects source errors mid.tokens what found mid.place to) mid new f
       → (w : Bool) → Ran errors.merged errors.takes_no_memory (MeansTested source seen safe errors states test what) w old new (Err f)
   tested_fails found to mid new f e p b l h w = back_from found new f e p (rw (b, l) at h) w

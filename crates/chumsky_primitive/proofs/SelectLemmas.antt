@@ -23,17 +23,17 @@ module _ {I Tok Sp Cu Er St Mk Cx V : Type 0} (source : input_trait.Ghosts I Cu 
   select_unmarked x e may =
       rw e (ran-halts errors.merged errors.takes_no_memory (MeansSelect source safe errors states picks) w old old (record { tokens = refl; context = refl }) refl (λ o v s. record { by_token = inl (may, v, s) }))
 
-  at_end : (new : Held Tok Cx states.Seen errors.Seen) (f : Fault) → None ≡ slice_get old.tokens old.place
+  at_end : (new : Held Tok Cx states.Seen errors.Seen) (f : Fault) → None ≡ slice_get old.tokens.list old.place
       → Fails errors.merged errors.takes_no_memory (expects source errors old.tokens (wanted.SomethingElse ∷ []) None old.place old.place) old new f
       → Ran errors.merged errors.takes_no_memory (MeansSelect source safe errors states picks) w old new (Err f)
   at_end new f e k = ran-misses errors.merged errors.takes_no_memory (MeansSelect source safe errors states picks) w old _ new f k (λ o h. record { by_token = rw (sym e) (inr h) })
 
-  pub select_ends_input : (mid new : Held Tok Cx states.Seen errors.Seen) (f : Fault) → None ≡ slice_get old.tokens old.place → mid ≡ old
+  pub select_ends_input : (mid new : Held Tok Cx states.Seen errors.Seen) (f : Fault) → None ≡ slice_get old.tokens.list old.place → mid ≡ old
       → Fails errors.merged errors.takes_no_memory (expects source errors mid.tokens (wanted.SomethingElse ∷ []) None mid.place mid.place) mid new f
       → Ran errors.merged errors.takes_no_memory (MeansSelect source safe errors states picks) w old new (Err f)
   select_ends_input mid new f e s k = at_end new f e (subst (λ (h : Held Tok Cx states.Seen errors.Seen). Fails errors.merged errors.takes_no_memory (expects source errors h.tokens (wanted.SomethingElse ∷ []) None h.place h.place) h new f) s k)
 
-  module _ (t : Tok) (there : Some t ≡ slice_get old.tokens old.place) (mid : Held Tok Cx states.Seen errors.Seen) (taken : mid ≡ took states.after old (Some t)) where
+  module _ (t : Tok) (there : Some t ≡ slice_get old.tokens.list old.place) (mid : Held Tok Cx states.Seen errors.Seen) (taken : mid ≡ took states.after old (Some t)) where
     pub select_lacks : (x : Result V Fault) → x ≡ Err (fault.Stop Memory) → (safe t → ⊥)
         → Ran errors.merged errors.takes_no_memory (MeansSelect source safe errors states picks) w old mid (asked w x)
     select_lacks x e may =

@@ -29,4 +29,4 @@ module _ {I Tok Sp Cu Er St Mk Cx V : Type 0} (source : input_trait.Ghosts I Cu 
   MeansAnyAt None b o = Misses errors.takes_no_memory (expects source errors b.tokens (wanted.Any ∷ []) None b.start b.start) b.start b.state o
 
   pub record MeansAny (b : Beginning Tok Cx states.Seen) (o : Outcome V errors.Seen states.Seen) : Type 0 where
-    pub by_token : MeansAnyAt (slice_get b.tokens b.start) b o
+    pub by_token : MeansAnyAt (slice_get b.tokens.list b.start) b o

@@ -17,4 +17,4 @@ module _ {I Tok Sp Cu Er St Mk Cx : Type 0} (source : input_trait.Ghosts I Cu To
   MeansEndAt None b o = Given (wanting b.wanted tt) b o
 
   pub record MeansEnd (b : Beginning Tok Cx states.Seen) (o : Outcome (Unit {0}) errors.Seen states.Seen) : Type 0 where
-    pub by_token : Refuses (states.takes_no_memory → ⊥) b.state o ⊎ MeansEndAt (slice_get b.tokens b.start) b o
+    pub by_token : Refuses (states.takes_no_memory → ⊥) b.state o ⊎ MeansEndAt (slice_get b.tokens.list b.start) b o

@@ -34,7 +34,7 @@ module _ {I Tok Sp Cu Er St Mk Cx : Type 0} (source : input_trait.Ghosts I Cu To
 
   -- one member
   pub record MeansMember (m : Tok) (b : Beginning Tok Cx states.Seen) (o : Outcome (Unit {0}) errors.Seen states.Seen) : Type 0 where
-    pub by_token : Refuses (states.takes_no_memory → ⊥) b.state o ⊎ MeansMemberFound m (slice_get b.tokens b.start) (is_member equal m (slice_get b.tokens b.start)) b o
+    pub by_token : Refuses (states.takes_no_memory → ⊥) b.state o ⊎ MeansMemberFound m (slice_get b.tokens.list b.start) (is_member equal m (slice_get b.tokens.list b.start)) b o
 
   -- the members, each where the former ended
   abbrev pub MeansMembers : List Tok → Meaning Tok Cx states.Seen errors.Seen (Unit {0})

@@ -10,7 +10,7 @@ use Rattle.chumsky_parser.specs.Laws.{chained-ends, chained-agrees, given-ends, 
 use Rattle.chumsky_parser.specs.FailureLaws.{SameUnit, misses-agree, misses-ends}
 use Rattle.chumsky_primitive.specs.Just.{past, told, MeansMemberFound, MeansMember, MeansMembers, MeansJust}
 
-past-after : {Tok : Type 0} (t : Option Tok) (p : ℕ) → p ≤ past t p
+pub past-after : {Tok : Type 0} (t : Option Tok) (p : ℕ) → p ≤ past t p
 past-after None p = omega arith
 past-after (Some t) p = omega arith
 

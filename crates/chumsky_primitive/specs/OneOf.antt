@@ -49,7 +49,7 @@ module _ {I Tok Sp Cu Er St Mk Cx S : Type 0} (source : input_trait.Ghosts I Cu 
 
   -- one token, by a test
   pub record MeansTested (test : Tok → Bool) (what : List (Wanted Tok)) (b : Beginning Tok Cx states.Seen) (o : Outcome Tok errors.Seen states.Seen) : Type 0 where
-    pub by_token : MeansFound what (slice_get b.tokens b.start) (passes test (slice_get b.tokens b.start)) b o
+    pub by_token : MeansFound what (slice_get b.tokens.list b.start) (passes test (slice_get b.tokens.list b.start)) b o
 
   -- a member, and where there is none, each was expected
   abbrev pub MeansOneOf : (Tok → Tok → Bool) → List Tok → Meaning Tok Cx states.Seen errors.Seen Tok

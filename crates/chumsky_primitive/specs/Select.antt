@@ -75,7 +75,7 @@ module _ {I Tok Sp Cu Er St Mk Cx V : Type 0} (source : input_trait.Ghosts I Cu 
     MeansSelectAt None b o = Misses errors.takes_no_memory (expects source errors b.tokens (wanted.SomethingElse ∷ []) None b.start b.start) b.start b.state o
 
     pub record MeansSelect (b : Beginning Tok Cx states.Seen) (o : Outcome V errors.Seen states.Seen) : Type 0 where
-      pub by_token : Refuses (states.takes_no_memory → ⊥) b.state o ⊎ MeansSelectAt (slice_get b.tokens b.start) b o
+      pub by_token : Refuses (states.takes_no_memory → ⊥) b.state o ⊎ MeansSelectAt (slice_get b.tokens.list b.start) b o
 
 module _ {I Tok Sp Cu Er St Mk Cx : Type 0} (source : input_trait.Ghosts I Cu Tok Sp) (errors : error_trait.Ghosts Er I Tok Sp) (states : inspector_trait.Ghosts St I Mk Tok Sp) where
   -- the run goes back from a token to the checkpoint before it, and fails there; or there is no memory to go back, and nothing is done

@@ -1,2 +1,4 @@
-pub mod LineLemmas
+pub mod CutLemmas
+pub mod FloorLemmas
 pub mod MessageLemmas
+pub mod ReportLemmas

@@ -1,8 +1,8 @@
 //! Lines and columns of a text.
-ghost use Rattle.std.specs.Prelude.{◌≡◌, ◌≤◌, length};
-ghost use Rattle.std.specs.List.{position_or_len, before_first};
+ghost use Rattle.std.specs.Prelude.{◌≡◌, ◌+◌, ◌^◌, ◌<◌, ◌≤◌, length};
 ghost use Rattle.std.specs.Str.{IsCharBoundary};
-ghost use Rattle.chumsky_report.specs.Line.{is_line_end, line_ends, characters, line_start, line_before, line_of, line_number, column_number};
+ghost use Rattle.chumsky_report.specs.Line.{characters, line_number, column_number, text_end};
+ghost use Rattle.chumsky_report.specs.Place.{IsPlace, place_after};
 
 /// Where an offset of a text stands. Both numbers count from one.
 #[derive(Clone, Copy, PartialEq, Eq)]
@@ -18,32 +18,42 @@ pub fn place_of(text: &str, offset: usize) -> Place
     ensures line { result.line ≡ line_number text.now offset }
     ensures column { result.column ≡ column_number text.now offset }
 {
-    Place {
-        line: line_number(text, offset),
-        column: characters(line_before(text, offset)) + 1,
-    }
+    let start = Place { line: 1, column: 1 };
+    place_from(text, start, 0, offset)
 }
 
-/// The number of the line of a byte offset, which counts from one.
-pub fn line_number(text: &str, offset: usize) -> usize
-    ensures { result ≡ line_number text.now offset }
+/// The place of an offset, from that of an offset before it.
+pub fn place_from(text: &str, place: Place, from: usize, offset: usize) -> Place
+    requires before { from ≤ offset }
+    requires within { from ≤ length text.now }
+    requires place { IsPlace text.now from place }
+    ensures { IsPlace text.now offset result }
 {
-    let (before, _) = text.as_bytes().split_at(offset.min(text.len()));
-    line_ends(before) + 1
+    let bytes = text.as_bytes();
+    let mut place = place;
+    for index in from..offset.min(bytes.len()) {
+        place = place_after(place, bytes[index]);
+    }
+    place
 }
 
-/// How many lines end in the bytes.
-fn line_ends(bytes: &[u8]) -> usize
-    ensures value { result ≡ line_ends bytes.now }
-    ensures bound { result ≤ length bytes.now }
+/// The place after a byte that stands at a place.
+fn place_after(place: Place, byte: u8) -> Place
+    requires line { place.line < 2 ^ 63 + 1 }
+    requires column { place.column < 2 ^ 63 + 1 }
+    ensures { result ≡ place_after place byte }
 {
-    let mut count: usize = 0;
-    for byte in bytes {
-        if *byte == b'\n' {
-            count += 1;
-        }
+    match byte {
+        b'\n' => Place {
+            line: place.line + 1,
+            column: 1,
+        },
+        0x80..=0xBF => place,
+        _ => Place {
+            line: place.line,
+            column: place.column + 1,
+        },
     }
-    count
 }
 
 /// How many characters begin in the bytes.
@@ -60,57 +70,15 @@ pub fn characters(bytes: &[u8]) -> usize
     count
 }
 
-/// Where the line of an offset begins.
-fn line_start(text: &str, offset: usize) -> usize
-    ensures value { result ≡ line_start text.now offset }
+/// Where a text ends, but for the line feeds and carriage returns at its end.
+pub fn text_end(text: &str) -> usize
+    ensures value { result ≡ text_end text.now }
     ensures boundary { IsCharBoundary text.now result }
-    ensures bound { result ≤ offset }
 {
     let bytes = text.as_bytes();
-    let mut start: usize = 0;
-    for index in 0..offset.min(bytes.len()) {
-        if bytes[index] == b'\n' {
-            start = index + 1;
-        }
+    let mut end = bytes.len();
+    while end > 0 && matches!(bytes[end - 1], b'\n' | b'\r') {
+        end -= 1;
     }
-    start
-}
-
-/// What stands before an offset on its line.
-pub fn line_before(text: &str, offset: usize) -> &[u8]
-    ensures { result.now ≡ line_before text.now offset }
-{
-    let (before, _) = text.as_bytes().split_at(offset.min(text.len()));
-    let (_, line) = before.split_at(line_start(text, offset));
-    line
-}
-
-/// The line of an offset, without its end.
-pub fn line_of(text: &str, offset: usize) -> &str
-    ensures { result.now ≡ line_of text.now offset }
-{
-    let (_, rest) = text.split_at(line_start(text, offset));
-    let (line, _) = rest.split_at(line_length(rest));
-    line
-}
-
-/// How many bytes stand before the first line end.
-fn line_length(text: &str) -> usize
-    ensures value { result ≡ position_or_len is_line_end text.now }
-    ensures boundary { IsCharBoundary text.now result }
-{
-    first_line(text.as_bytes()).len()
-}
-
-/// What stands before the first line end.
-pub fn first_line(bytes: &[u8]) -> &[u8]
-    ensures { result.now ≡ before_first is_line_end bytes.now }
-{
-    for index in 0..bytes.len() {
-        if bytes[index] == b'\n' {
-            let (line, _) = bytes.split_at(index);
-            return line;
-        }
-    }
-    bytes
+    end
 }

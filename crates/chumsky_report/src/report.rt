@@ -1,9 +1,14 @@
 //! Errors as they are shown to people.
-ghost use Rattle.std.specs.Prelude.{◌≡◌, Some, replicate, flat_map, max};
-ghost use Rattle.chumsky_report.specs.Report.{below, marked, last_line, onward, place_text, marks, report_text, byte_report_text};
+ghost use Rattle.std.specs.Prelude.{◌≡◌, Some, replicate};
+ghost use Rattle.std.specs.Str.{IsCharBoundary};
+ghost use Rattle.chumsky_input.specs.Display.{rich_text};
+ghost use Rattle.chumsky_report.specs.Printed.{located_text, marks_text, named_text, onward_of};
+ghost use Rattle.chumsky_report.specs.Report.{shown_span, text_at, report_text, token_report_text, byte_report_text};
 
-use crate::line::{characters, first_line, line_before, line_number, line_of, place_of};
+use crate::index::Source;
+use crate::line::{Place, characters};
 use crate::message::Message;
+use crate::window::{Below, Line, Window, window_of};
 use chumsky_input::rich::Rich;
 use chumsky_input::span::SimpleSpan;
 use std::fmt;
@@ -23,97 +28,174 @@ use std::fmt::{Display, Formatter};
 /// character that is wider than others shifts them. Where the span has characters of later lines too, the carets go to the
 /// end of the line, and `to line 4` follows them. Three or more characters that were expected and follow one another print
 /// as a range, `'a' to 'f'`; the ten digits print as `a digit`.
+///
+/// Of a line of more than 160 characters, so many round the place are shown, with `…` where others are left out. Control
+/// characters of the line show as signs, as `␛`. At the end of a text the report points behind the last line that has
+/// something.
+///
+/// A text stands for itself, or for many errors a [`LineIndex`](crate::index::LineIndex) of it.
 #[derive(Clone, Copy)]
-pub struct Report<'a> {
+pub struct Report<'a, S> {
     /// What the text is called, as the name of a file.
     pub name: &'a str,
     /// The text that was parsed.
-    pub text: &'a str,
+    pub text: S,
     pub error: &'a Rich<char>,
 }
 
-impl Display for Report<'_> {
-    ghost output = { λ r. Some (report_text r.name.now r.text.now r.error.now) };
+impl<S: Source> Display for Report<'_, S> {
+    ghost output = { λ r. report_text r.name.now (S.text r.text) r.error.now };
 
     fn fmt<W: fmt::Write>(&self, f: &mut Formatter<W>) -> fmt::Result {
-        let span = *self.error.span();
-        let place = Place {
-            name: self.name,
-            text: self.text,
-            offset: span.start,
-        };
-        let message = Message(self.error);
-        let line = line_of(self.text, span.start);
+        let span = shown_span(self.text, *self.error.span());
+        write!(
+            f,
+            "{}",
+            locate(self.name, &self.text, Message(self.error), span)
+        )
+    }
+}
+
+/// An error of a parser over the tokens of a text, in three lines as a `Report` has them. Its span is one of the text, as that
+/// of a run over `SpannedTokens` is. The message is that of the error's own `Display`, where tokens print themselves between
+/// single quotes:
+///
+/// ```text
+/// sums.txt:2:7: expected ')' or ',', found 'let'
+/// f(1, 2 let
+///        ^^^
+/// ```
+#[derive_where(Clone, Copy; S)]
+pub struct TokenReport<'a, T, S> {
+    /// What the text is called, as the name of a file.
+    pub name: &'a str,
+    /// The text that the tokens were read from, or a `LineIndex` of it.
+    pub text: S,
+    pub error: &'a Rich<T>,
+}
+
+impl<T: Display, S: Source> Display for TokenReport<'_, T, S> {
+    ghost output = { λ r. token_report_text T.output r.name.now (S.text r.text) r.error.now };
+
+    fn fmt<W: fmt::Write>(&self, f: &mut Formatter<W>) -> fmt::Result {
+        let span = shown_span(self.text, *self.error.span());
+        write!(
+            f,
+            "{}",
+            locate(self.name, &self.text, Printed(self.error), span)
+        )
+    }
+}
+
+/// An error as it prints by itself.
+#[derive_where(Clone, Copy)]
+struct Printed<'a, T>(&'a Rich<T>);
+
+impl<T: Display> Display for Printed<'_, T> {
+    ghost output = { λ e. rich_text T.output e.0.now };
+
+    fn fmt<W: fmt::Write>(&self, f: &mut Formatter<W>) -> fmt::Result {
+        write!(f, "{}", self.0)
+    }
+}
+
+/// Where a span is shown: from the start of a character on; at the end of the text, behind the last line that has something.
+fn shown_span<S: Source>(text: S, span: SimpleSpan) -> SimpleSpan
+    ensures value { result ≡ shown_span (S.text text) span }
+    ensures boundary { IsCharBoundary (S.text text) result.start }
+{
+    if span.start >= text.as_str().len() {
+        let end = text.end();
+        return SimpleSpan { start: end, end };
+    }
+    SimpleSpan {
+        start: text.as_str().floor_char_boundary(span.start),
+        end: span.end,
+    }
+}
+
+/// A report whose places are known.
+#[derive(Clone, Copy)]
+struct Located<'a, M> {
+    name: &'a str,
+    place: Place,
+    message: M,
+    window: Window<'a>,
+    /// How many of the characters that are shown belong to the span.
+    marked: usize,
+    /// The line of the span's last character.
+    last_line: usize,
+}
+
+/// A report over a span.
+fn locate<'a, S: Source, M: Display + Copy>(
+    name: &'a str,
+    text: &'a S,
+    message: M,
+    span: SimpleSpan,
+) -> Located<'a, M>
+    requires { IsCharBoundary (S.text text.now) span.start }
+    ensures { located_text M.output result ≡ text_at name.now (S.text text.now) (M.output message) span }
+{
+    let window = window_of(text.as_str(), span.start);
+    let shown = window.after.as_bytes();
+    let (inside, _) = shown.split_at(span.end.saturating_sub(span.start).min(shown.len()));
+    let last = span.end.min(text.as_str().len()).saturating_sub(1);
+    Located {
+        name,
+        place: text.place(span.start),
+        message,
+        window,
+        marked: characters(inside),
+        last_line: text.place(last).line,
+    }
+}
+
+impl<M: Display + Copy> Display for Located<'_, M> {
+    ghost output = { λ r. located_text M.output r };
+
+    fn fmt<W: fmt::Write>(&self, f: &mut Formatter<W>) -> fmt::Result {
+        let place = Named(self.name, self.place);
+        let message = self.message;
+        let line = Line(self.window);
         let marks = Marks {
-            text: self.text,
-            span,
+            window: self.window,
+            marked: self.marked,
+            onward: Onward(self.place.line, self.last_line),
         };
         write!(f, "{place}: {message}\n{line}\n{marks}")
     }
 }
 
-/// Where an error stands.
+/// A place of a text that has a name.
 #[derive(Clone, Copy)]
-struct Place<'a> {
-    name: &'a str,
-    text: &'a str,
-    offset: usize,
-}
+struct Named<'a>(&'a str, Place);
 
-impl Display for Place<'_> {
-    ghost output = { λ p. Some (place_text p.name.now p.text.now p.offset) };
+impl Display for Named<'_> {
+    ghost output = { λ p. Some (named_text p.0.now p.1) };
 
     fn fmt<W: fmt::Write>(&self, f: &mut Formatter<W>) -> fmt::Result {
-        let place = place_of(self.text, self.offset);
-        write!(f, "{}:{}:{}", self.name, place.line, place.column)
+        let Place { line, column } = self.1;
+        write!(f, "{}:{line}:{column}", self.0)
     }
 }
 
 /// What stands below the line.
 #[derive(Clone, Copy)]
 struct Marks<'a> {
-    text: &'a str,
-    span: SimpleSpan,
+    window: Window<'a>,
+    /// How many of the characters that are shown belong to the span.
+    marked: usize,
+    onward: Onward,
 }
 
 impl Display for Marks<'_> {
-    ghost output = { λ m. Some (marks m.text.now m.span) };
+    ghost output = { λ m. Some (marks_text m) };
 
     fn fmt<W: fmt::Write>(&self, f: &mut Formatter<W>) -> fmt::Result {
-        let below = Below(line_before(self.text, self.span.start));
-        let carets = Carets(marked(self.text, self.span).max(1));
-        let onward = Onward {
-            text: self.text,
-            span: self.span,
-        };
-        write!(f, "{below}{carets}{onward}")
-    }
-}
-
-/// A space below each character, and a tab below a tab.
-#[derive(Clone, Copy)]
-struct Below<'a>(&'a [u8]);
-
-impl Display for Below<'_> {
-    ghost output = { λ b. Some (flat_map below b.0.now) };
-
-    fn fmt<W: fmt::Write>(&self, f: &mut Formatter<W>) -> fmt::Result {
-        let bytes = self.0;
-        for byte in bytes {
-            write!(f, "{}", sign_below(*byte))?;
-        }
-        Ok(())
-    }
-}
-
-/// What stands below a byte: a character has it below its first.
-fn sign_below(byte: u8) -> &'static str
-    ensures { result.now ≡ below byte }
-{
-    match byte {
-        b'\t' => "\t",
-        0x80..=0xBF => "",
-        _ => " ",
+        let below = Below(self.window);
+        let carets = Carets(self.marked.max(1));
+        write!(f, "{below}{carets}{}", self.onward)
     }
 }
 
@@ -132,41 +214,19 @@ impl Display for Carets {
     }
 }
 
-/// To which line a span goes on, where it has characters of later lines.
+/// To which line a span goes on, by its first line and its last, where these are two.
 #[derive(Clone, Copy)]
-struct Onward<'a> {
-    text: &'a str,
-    span: SimpleSpan,
-}
+struct Onward(usize, usize);
 
-impl Display for Onward<'_> {
-    ghost output = { λ o. Some (onward o.text.now o.span) };
+impl Display for Onward {
+    ghost output = { λ o. Some (onward_of o.0 o.1) };
 
     fn fmt<W: fmt::Write>(&self, f: &mut Formatter<W>) -> fmt::Result {
-        let last = last_line(self.text, self.span);
-        if last <= line_number(self.text, self.span.start) {
+        if self.1 <= self.0 {
             return Ok(());
         }
-        write!(f, " to line {last}")
+        write!(f, " to line {}", self.1)
     }
-}
-
-/// The line of the last character of a span.
-fn last_line(text: &str, span: SimpleSpan) -> usize
-    ensures { result ≡ last_line text.now span }
-{
-    line_number(text, span.end.min(text.len()).saturating_sub(1))
-}
-
-/// How many characters of a span stand on its first line.
-fn marked(text: &str, span: SimpleSpan) -> usize
-    ensures { result ≡ marked text.now span }
-{
-    let bytes = text.as_bytes();
-    let (_, rest) = bytes.split_at(span.start.min(bytes.len()));
-    let length = span.end.saturating_sub(span.start);
-    let (inside, _) = rest.split_at(length.min(rest.len()));
-    characters(first_line(inside))
 }
 
 /// An error of bytes, in one line: the name, the offset where the error's span begins, in decimal and in hexadecimal, and

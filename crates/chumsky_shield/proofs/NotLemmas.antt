@@ -4,6 +4,7 @@ use Rattle.std.proofs.lemmas.List.{append-nil}
 use Rattle.std.proofs.Math.Seq.{take-append_seam}
 use Rattle.std.specs.Prelude.{◌⊎◌}
 use Rattle.chumsky_input.proofs.PrimaryLemmas.{kept-same}
+use Rattle.chumsky_input.specs.Layout.{Layout}
 use Rattle.chumsky_input.specs.declared.error.Error as error_trait
 use Rattle.chumsky_input.specs.declared.inspector.Inspector as inspector_trait
 use Rattle.chumsky_input.specs.declared.input.Input as input_trait
@@ -76,7 +77,7 @@ module _ {I Tok Sp Cu Er St Mk Cx V : Type 0} (source : input_trait.Ghosts I Cu 
         (n ∙ back_at went bk k ∙ ap (λ z. record old { place = old.place; state = gone; kept = z; emitted = old.emitted ++ [] }) (kept-same errors.merged old.kept))))
 
     -- after a yes
-    pub not_yes : (v : Option V) (past : ℕ) (ts : List Tok) (place : ℕ) (bk here new : Held Tok Cx states.Seen errors.Seen) (f : Fault) → Ran errors.merged errors.takes_no_memory part false (record old { kept = None }) mid (Ok v) → bk ≡ gone_back states.back mid m → here ≡ record bk { kept = old.kept }
+    pub not_yes : (v : Option V) (past : ℕ) (ts : Layout Tok) (place : ℕ) (bk here new : Held Tok Cx states.Seen errors.Seen) (f : Fault) → Ran errors.merged errors.takes_no_memory part false (record old { kept = None }) mid (Ok v) → bk ≡ gone_back states.back mid m → here ≡ record bk { kept = old.kept }
         → ts ≡ m.tokens → place ≡ m.place → past ≡ mid.place
         → Fails errors.merged errors.takes_no_memory (something_else source errors ts place past) here new f → Ran errors.merged errors.takes_no_memory (MeansNot source errors states part) w old new (Err f)
     not_yes v past ts place bk here new f h k n t p q a =

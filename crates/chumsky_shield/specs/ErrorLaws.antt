@@ -1,6 +1,7 @@
 -- Laws that compare parsers whose failures are mapped, or whose values a validator looks at, with their parts.
 use Rattle.std.proofs.Common.{◌≡◌, ℕ, true, Option, Some, None, List, [], ◌++◌, refl, sym, ap, ◌∙◌, subst, inl, inr}
 use Rattle.std.proofs.lemmas.List.{append-nil}
+use Rattle.chumsky_input.specs.Layout.{Layout}
 use Rattle.chumsky_input.specs.Outcome.{Event, Meaning, Beginning, Outcome, Verdict, Yes, No, Halt, Clash, IsAnswer}
 use Rattle.chumsky_input.specs.Primary.{primary}
 use Rattle.chumsky_parser.specs.Chained.{retold, from, after, Follows}
@@ -68,7 +69,7 @@ pub alone-itself : {Tok Cx St Er : Type 0} {maps : Er → Er → Type 0} → Giv
 alone-itself h x e r s m = (h e r m.0, m.1)
 
 -- one that is handed the span and the state
-pub spanned-itself : {Tok Cx St Er Sp : Type 0} (span : List Tok → ℕ → ℕ → Sp) {maps : Sp → St → Er → Er → St → Type 0} → GivesBackFrom maps → GivesBack {Tok = Tok} {Cx = Cx} (λ x. maps (span x.tokens x.from x.to) x.state)
+pub spanned-itself : {Tok Cx St Er Sp : Type 0} (span : Layout Tok → ℕ → ℕ → Sp) {maps : Sp → St → Er → Er → St → Type 0} → GivesBackFrom maps → GivesBack {Tok = Tok} {Cx = Cx} (λ x. maps (span x.tokens x.from x.to) x.state)
 spanned-itself span h x e r s m = h (span x.tokens x.from x.to) x.state e r s m
 
 module _ {Tok Cx St Er V W : Type 0} (emits : Emits Tok Cx St Er V W) (nothing : EmitsNothing emits) (part : Meaning Tok Cx St Er V) where

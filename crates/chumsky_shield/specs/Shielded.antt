@@ -1,5 +1,6 @@
 -- A part whose failures count as one, or are put aside for others.
 use Rattle.std.specs.Prelude.{◌≡◌, ℕ, Option, None, List, [], ◌∷◌, ◌⊎◌, option_to_list, slice_get}
+use Rattle.chumsky_input.specs.Layout.{Layout}
 use Rattle.chumsky_input.specs.declared.error.Error as error_trait
 use Rattle.chumsky_input.specs.declared.input.Input as input_trait
 use Rattle.chumsky_input.specs.declared.stop.Stop.TheVariants.{Memory}
@@ -64,5 +65,5 @@ module _ {Tok Cx St Er : Type 0} (merged : Er → Er → Er) (safe : Type 0) whe
 
 module _ {I Tok Sp Cu Er : Type 0} (source : input_trait.Ghosts I Cu Tok Sp) (errors : error_trait.Ghosts Er I Tok Sp) where
   -- something else than what stands at a place was expected there, spanning to another one
-  abbrev pub something_else : List Tok → ℕ → ℕ → Event errors.Seen
-  something_else ts place to = expects source errors ts (wanted.SomethingElse ∷ []) (slice_get ts place) place to
+  abbrev pub something_else : Layout Tok → ℕ → ℕ → Event errors.Seen
+  something_else ts place to = expects source errors ts (wanted.SomethingElse ∷ []) (slice_get ts.list place) place to

@@ -2,6 +2,7 @@
 use Rattle.std.proofs.Common.{◌≡◌, ℕ, ◌+◌, Bool, true, false, Option, Some, None, List, [], ◌∷◌, refl, sym, ◌∙◌, ap, subst, arith, Result, Ok, Err, inl, inr, option_to_list}
 use Rattle.std.specs.Prelude.{slice_get, slice_range}
 use Rattle.std.proofs.lemmas.List.{append-nil}
+use Rattle.chumsky_input.specs.Layout.{Layout}
 use Rattle.chumsky_input.specs.declared.error.Error as error_trait
 use Rattle.chumsky_input.specs.declared.inspector.Inspector as inspector_trait
 use Rattle.chumsky_input.specs.declared.input.Input as input_trait
@@ -34,10 +35,10 @@ module _ {Tok Cx St Er : Type 0} (after : St → Tok → St) (test : Tok → Boo
 
   stepped : (r : Bool) (old new : Held Tok Cx St Er) → StepsBy after test r old new → new ≡ one_on old
   stepped true old new s =
-      let more : one_more test (slice_get old.tokens old.place) ≡ s.0 ∷ [] = rw (s.1, s.2) refl in
+      let more : one_more test (slice_get old.tokens.list old.place) ≡ s.0 ∷ [] = rw (s.1, s.2) refl in
       s.3 ∙ rw more refl
   stepped false old new s =
-      let more : one_more test (slice_get old.tokens old.place) ≡ [] = none_more test (slice_get old.tokens old.place) s.0 in
+      let more : one_more test (slice_get old.tokens.list old.place) ≡ [] = none_more test (slice_get old.tokens.list old.place) s.0 in
       s.1 ∙ rw more (let z : old.place + 0 ≡ old.place = omega arith in rw z refl)
 
 module _ {I Tok Sp Cu Er Cx St : Type 0} (source : input_trait.Ghosts I Cu Tok Sp) (errors : error_trait.Ghosts Er I Tok Sp) where
@@ -59,7 +60,7 @@ module _ {I Tok Sp Cu Er Cx St : Type 0} (source : input_trait.Ghosts I Cu Tok S
   ends_memory (w ∷ ws) old new (fault.Stop s) n (inl a) = inl (refl, a.1, a.2, a.3)
   ends_memory (w ∷ ws) old new (fault.Stop s) n (inr a) = inr (refl, a.1, a.2)
 
-module _ {I Tok Sp Cu Er St Mk Cx W : Type 0} (source : input_trait.Ghosts I Cu Tok Sp) (is : List Tok → ℕ → ℕ → W → Type 0) (errors : error_trait.Ghosts Er I Tok Sp) (states : inspector_trait.Ghosts St I Mk Tok Sp) where
+module _ {I Tok Sp Cu Er St Mk Cx W : Type 0} (source : input_trait.Ghosts I Cu Tok Sp) (is : Layout Tok → ℕ → ℕ → W → Type 0) (errors : error_trait.Ghosts Er I Tok Sp) (states : inspector_trait.Ghosts St I Mk Tok Sp) where
   module _ (w : Bool) (old mid : Held Tok Cx states.Seen errors.Seen) (from end : ℕ) (state : states.Seen) (v : Option W) (k : IsWanted (is old.tokens from end) w v) (moved : mid ≡ record old { place = end; state = state }) where
     abbrev whole : Event errors.Seen → Outcome W errors.Seen states.Seen
     whole e = record { verdict = Yes v; end = end; state = state; events = e ∷ []; emitted = [] }
@@ -134,7 +135,7 @@ module _ {I Tok Sp Cu Er St Mk Cx W : Type 0} (source : input_trait.Ghosts I Cu 
     misses_by (Some t) o p m = rw p m
 
     -- what is there begins nothing
-    pub begun_misses : (mid new : Held Tok Cx states.Seen errors.Seen) (f : Fault) → passes begins (slice_get old.tokens old.place) ≡ false → mid ≡ old
+    pub begun_misses : (mid new : Held Tok Cx states.Seen errors.Seen) (f : Fault) → passes begins (slice_get old.tokens.list old.place) ≡ false → mid ≡ old
         → Fails errors.merged errors.takes_no_memory (expected_at source errors what mid.tokens mid.place) mid new f
         → Ran errors.merged errors.takes_no_memory (MeansBegun source is errors states begins next what) w old new (Err f)
     begun_misses mid new f p e a = ran-misses errors.merged errors.takes_no_memory _ w old _ new f (rw e at a) (λ o m. record { by_token = misses_by _ o p m })
@@ -189,18 +190,18 @@ module _ {I Tok Sp Cu Er St Mk Cx W : Type 0} (source : input_trait.Ghosts I Cu 
 
       module _ (spells : List Tok → Bool) (moved : there ≡ ran_on states.after (holds r) mid) where
         -- a word was begun, and its run spells the keyword
-        pub keyword_ran : spells (slice_range old.tokens old.place there.place) ≡ true
+        pub keyword_ran : spells (slice_range old.tokens.list old.place there.place) ≡ true
             → Ran errors.merged errors.takes_no_memory (MeansKeyword source is errors states spells begins goes_on what) w old there (Ok v)
         keyword_ran spelt =
             let end = run_end (holds r) mid.tokens mid.place in
             let value : IsWanted (is mid.tokens old.place end) w v = rw tokens (rw (place_of states.after (holds r) mid there moved, tokens) at k) in
-            let spelled : spells (slice_range mid.tokens old.place end) ≡ true = rw tokens (rw (place_of states.after (holds r) mid there moved, tokens) at spelt) in
+            let spelled : spells (slice_range mid.tokens.list old.place end) ≡ true = rw tokens (rw (place_of states.after (holds r) mid there moved, tokens) at spelt) in
             begun begins _ what w old mid there b (Ok v)
             (rw b.rest at (ran-weaker errors.merged errors.takes_no_memory _ (Spells source is errors states spells old.place (holds r) what) w mid there _ (λ o m. rw spelled m)
             (cut w mid there old.place end (run_state states.after (holds r) mid.tokens mid.place mid.state) v value moved [] there (refl, refl))))
 
     module _ (spells : List Tok → Bool) where
-      misspelled : (f : Fault) → spells (slice_range mid.tokens old.place (run_end (holds r) mid.tokens mid.place)) ≡ false
+      misspelled : (f : Fault) → spells (slice_range mid.tokens.list old.place (run_end (holds r) mid.tokens mid.place)) ≡ false
           → Fails errors.merged errors.takes_no_memory (expects source errors mid.tokens what None old.place (run_end (holds r) mid.tokens mid.place)) (ran_on states.after (holds r) mid) new f
           → Ran errors.merged errors.takes_no_memory (Spells source is errors states spells old.place (holds r) what) w mid new (Err f)
       misspelled f off a =
@@ -208,11 +209,11 @@ module _ {I Tok Sp Cu Er St Mk Cx W : Type 0} (source : input_trait.Ghosts I Cu 
           (ran-misses errors.merged errors.takes_no_memory (λ b o. Misses errors.takes_no_memory (expects source errors mid.tokens what None old.place (run_end (holds r) mid.tokens mid.place)) (run_end (holds r) mid.tokens mid.place) (run_state states.after (holds r) mid.tokens mid.place mid.state) o) w (ran_on states.after (holds r) mid) _ new f a (λ o m. m))
 
       -- a word was begun, and its run does not spell the keyword
-      pub keyword_misses : (f : Fault) → there ≡ ran_on states.after (holds r) mid → spells (slice_range old.tokens old.place there.place) ≡ false
+      pub keyword_misses : (f : Fault) → there ≡ ran_on states.after (holds r) mid → spells (slice_range old.tokens.list old.place there.place) ≡ false
           → Fails errors.merged errors.takes_no_memory (expects source errors old.tokens what None old.place there.place) there new f
           → Ran errors.merged errors.takes_no_memory (MeansKeyword source is errors states spells begins goes_on what) w old new (Err f)
       keyword_misses f moved off a =
-          let wrong : spells (slice_range mid.tokens old.place (run_end (holds r) mid.tokens mid.place)) ≡ false = rw tokens (rw (place_of states.after (holds r) mid there moved, tokens) at off) in
+          let wrong : spells (slice_range mid.tokens.list old.place (run_end (holds r) mid.tokens mid.place)) ≡ false = rw tokens (rw (place_of states.after (holds r) mid there moved, tokens) at off) in
           let fails : Fails errors.merged errors.takes_no_memory (expects source errors mid.tokens what None old.place (run_end (holds r) mid.tokens mid.place)) (ran_on states.after (holds r) mid) new f = rw (sym tokens) at (rw moved at a) in
           begun begins _ what w old mid new b (Err f) (rw b.rest at (misspelled f wrong fails))
 

@@ -1,6 +1,7 @@
 -- Parsers of text: runs, words, ends of lines, keywords, and what is padded.
 -- Main words: MeansRun, MeansWord, MeansNewline, MeansKeyword, MeansPadded. Laws: TextRunLaws.antt. Read first: Leading.antt.
 use Rattle.std.specs.Prelude.{◌≡◌, ℕ, ◌+◌, Bool, true, false, Option, Some, None, List, [], ◌∷◌, slice_get, slice_range}
+use Rattle.chumsky_input.specs.Layout.{Layout}
 use Rattle.chumsky_input.specs.declared.error.Error as error_trait
 use Rattle.chumsky_input.specs.declared.inspector.Inspector as inspector_trait
 use Rattle.chumsky_input.specs.declared.input.Input as input_trait
@@ -13,11 +14,11 @@ use Rattle.chumsky_text.specs.Leading.{run_end, run_state, one_end, one_state, e
 
 module _ {I Tok Sp Cu Er S W : Type 0} (source : input_trait.Ghosts I Cu Tok Sp) (errors : error_trait.Ghosts Er I Tok Sp) where
   -- the outcome; where something would have gone on, it was expected at the end, and that is its one event
-  abbrev pub EndsBy : List (Wanted Tok) → List Tok → Outcome W errors.Seen S → Outcome W errors.Seen S → Type 0
+  abbrev pub EndsBy : List (Wanted Tok) → Layout Tok → Outcome W errors.Seen S → Outcome W errors.Seen S → Type 0
   EndsBy [] ts whole o = o ≡ whole
   EndsBy (w ∷ ws) ts whole o = OrLacks errors.takes_no_memory (record whole { events = expected_at source errors (w ∷ ws) ts whole.end ∷ [] }) o
 
-module _ {I Tok Sp Cu Er St Mk Cx W : Type 0} (source : input_trait.Ghosts I Cu Tok Sp) (is : List Tok → ℕ → ℕ → W → Type 0) (errors : error_trait.Ghosts Er I Tok Sp) (states : inspector_trait.Ghosts St I Mk Tok Sp) where
+module _ {I Tok Sp Cu Er St Mk Cx W : Type 0} (source : input_trait.Ghosts I Cu Tok Sp) (is : Layout Tok → ℕ → ℕ → W → Type 0) (errors : error_trait.Ghosts Er I Tok Sp) (states : inspector_trait.Ghosts St I Mk Tok Sp) where
   -- yes, with what there is of the tokens from one place to another, where it ends, and where this would have gone on
   pub record Cut (what : List (Wanted Tok)) (from end : ℕ) (state : states.Seen) (b : Beginning Tok Cx states.Seen) (o : Outcome W errors.Seen states.Seen) : Type 0 where
     pub value : Option W
@@ -40,7 +41,7 @@ module _ {I Tok Sp Cu Er St Mk Cx W : Type 0} (source : input_trait.Ghosts I Cu 
       Misses errors.takes_no_memory (expects source errors b.tokens what None from end) end (run_state states.after test b.tokens b.start b.state)
 
   abbrev pub Spells : (List Tok → Bool) → ℕ → (Tok → Bool) → List (Wanted Tok) → Meaning Tok Cx states.Seen errors.Seen W
-  Spells spells from test what b = SpelledBy (spells (slice_range b.tokens from (run_end test b.tokens b.start))) from test what b
+  Spells spells from test what b = SpelledBy (spells (slice_range b.tokens.list from (run_end test b.tokens b.start))) from test what b
 
   -- the run from where the parser begins, be it empty
   pub record MeansRun (test : Tok → Bool) (what : List (Wanted Tok)) (b : Beginning Tok Cx states.Seen) (o : Outcome W errors.Seen states.Seen) : Type 0 where
@@ -57,7 +58,7 @@ module _ {I Tok Sp Cu Er St Mk Cx W : Type 0} (source : input_trait.Ghosts I Cu 
 
     -- a first token that passes is taken, and then what that token leads to; else this was expected here, and nothing is done
     pub record MeansBegun (b : Beginning Tok Cx states.Seen) (o : Outcome W errors.Seen states.Seen) : Type 0 where
-      pub by_token : AfterFirst (slice_get b.tokens b.start) b o
+      pub by_token : AfterFirst (slice_get b.tokens.list b.start) b o
 
   module _ (begins : Tok → Bool) (goes_on : Tok → Tok → Bool) (what : List (Wanted Tok)) where
     -- a first token that passes, and the longest run of tokens that may follow it

@@ -1,6 +1,7 @@
 -- The laws of parsers of text.
 use Rattle.std.proofs.Common.{◌≡◌, ℕ, ◌≤◌, ◌<◌, ◌+◌, Bool, true, false, Option, Some, None, List, [], ◌∷◌, refl, sym, ◌∙◌, ap, subst, arith, inl, inr}
 use Rattle.std.specs.Prelude.{slice_range, ◌⊎◌}
+use Rattle.chumsky_input.specs.Layout.{Layout}
 use Rattle.chumsky_input.specs.declared.error.Error as error_trait
 use Rattle.chumsky_input.specs.declared.inspector.Inspector as inspector_trait
 use Rattle.chumsky_input.specs.declared.input.Input as input_trait
@@ -25,18 +26,18 @@ module _ {V Er St : Type 0} {safe : Type 0} {e : Event Er} {end : ℕ} {s : St} 
 
 module _ {I Tok Sp Cu Er : Type 0} (source : input_trait.Ghosts I Cu Tok Sp) (errors : error_trait.Ghosts Er I Tok Sp) where
   -- the events of a run that ended
-  abbrev ended : List (Wanted Tok) → List Tok → ℕ → List (Event errors.Seen)
+  abbrev ended : List (Wanted Tok) → Layout Tok → ℕ → List (Event errors.Seen)
   ended [] ts p = []
   ended (w ∷ ws) ts p = expected_at source errors (w ∷ ws) ts p ∷ []
 
   -- an answer is the whole, with its event
-  ends_by-whole : {S W : Type 0} (what : List (Wanted Tok)) (ts : List Tok) (v : Option W) (end : ℕ) (state : S) (o : Outcome W errors.Seen S)
+  ends_by-whole : {S W : Type 0} (what : List (Wanted Tok)) (ts : Layout Tok) (v : Option W) (end : ℕ) (state : S) (o : Outcome W errors.Seen S)
       → EndsBy source errors what ts (record { verdict = Yes v; end = end; state = state; events = []; emitted = [] }) o → IsAnswer o.verdict
       → o ≡ record { verdict = Yes v; end = end; state = state; events = ended what ts end; emitted = [] }
   ends_by-whole [] ts v end state o m a = m
   ends_by-whole (w ∷ ws) ts v end state o m a = or_lacks-whole m a
 
-module _ {I Tok Sp Cu Er St Mk Cx W : Type 0} (source : input_trait.Ghosts I Cu Tok Sp) (is : List Tok → ℕ → ℕ → W → Type 0) (errors : error_trait.Ghosts Er I Tok Sp) (states : inspector_trait.Ghosts St I Mk Tok Sp) where
+module _ {I Tok Sp Cu Er St Mk Cx W : Type 0} (source : input_trait.Ghosts I Cu Tok Sp) (is : Layout Tok → ℕ → ℕ → W → Type 0) (errors : error_trait.Ghosts Er I Tok Sp) (states : inspector_trait.Ghosts St I Mk Tok Sp) where
   cut-ends : (what : List (Wanted Tok)) (from end p : ℕ) (state : states.Seen) (b : Beginning Tok Cx states.Seen) (o : Outcome W errors.Seen states.Seen)
       → p ≤ end → Cut source is errors states what from end state b o → IsAnswer o.verdict → p ≤ o.end
   cut-ends what from end p state b o l m a =
@@ -88,12 +89,12 @@ module _ {I Tok Sp Cu Er St Mk Cx W : Type 0} (source : input_trait.Ghosts I Cu 
     newline-ends = begun-ends begins _ what (λ t from b o m a. cut-ends [] from (one_end (goes_on t) b.tokens b.start) b.start (one_state states.after (goes_on t) b.tokens b.start b.state) b o (omega arith) m a)
 
   pub keyword-ends : (spells : List Tok → Bool) (begins : Tok → Bool) (goes_on : Tok → Tok → Bool) (what : List (Wanted Tok)) → EndsAfterStart (MeansKeyword {Cx = Cx} source is errors states spells begins goes_on what)
-  keyword-ends spells begins goes_on what = begun-ends begins _ what (λ t from b o m a. spelled-ends (spells (slice_range b.tokens from (run_end (goes_on t) b.tokens b.start))) from (goes_on t) what b o m a)
+  keyword-ends spells begins goes_on what = begun-ends begins _ what (λ t from b o m a. spelled-ends (spells (slice_range b.tokens.list from (run_end (goes_on t) b.tokens b.start))) from (goes_on t) what b o m a)
 
   pub keyword-moves : (spells : List Tok → Bool) (begins : Tok → Bool) (goes_on : Tok → Tok → Bool) (what : List (Wanted Tok)) → NoOrMoves (MeansKeyword {Cx = Cx} source is errors states spells begins goes_on what)
-  keyword-moves spells begins goes_on what = begun-moves begins _ what (λ t from b o m a. spelled-ends (spells (slice_range b.tokens from (run_end (goes_on t) b.tokens b.start))) from (goes_on t) what b o m a)
+  keyword-moves spells begins goes_on what = begun-moves begins _ what (λ t from b o m a. spelled-ends (spells (slice_range b.tokens.list from (run_end (goes_on t) b.tokens b.start))) from (goes_on t) what b o m a)
 
-  module _ (same : W → W → Type 0) (one : (ts : List Tok) (i j : ℕ) (v w : W) → is ts i j v → is ts i j w → same v w) where
+  module _ (same : W → W → Type 0) (one : (ts : Layout Tok) (i j : ℕ) (v w : W) → is ts i j v → is ts i j w → same v w) where
     cut-agree : (what : List (Wanted Tok)) (from from' end end' : ℕ) (state state' : states.Seen) → from ≡ from' → end ≡ end' → state ≡ state'
         → Agreeing same (Cut {Cx = Cx} source is errors states what from end state) (Cut source is errors states what from' end' state')
     cut-agree what from from' end end' state state' s t u b c o q alike m n a z =
@@ -143,8 +144,8 @@ module _ {I Tok Sp Cu Er St Mk Cx W : Type 0} (source : input_trait.Ghosts I Cu 
 
     pub keyword-agrees : (spells : List Tok → Bool) (begins : Tok → Bool) (goes_on : Tok → Tok → Bool) (what : List (Wanted Tok)) → Agreeing same (MeansKeyword {Cx = Cx} source is errors states spells begins goes_on what) (MeansKeyword source is errors states spells begins goes_on what)
     keyword-agrees spells begins goes_on what = begun-agrees begins _ what (λ t from from' s b c o q alike m n a z.
-        let e : spells (slice_range b.tokens from (run_end (goes_on t) b.tokens b.start)) ≡ spells (slice_range c.tokens from' (run_end (goes_on t) c.tokens c.start)) = cc (alike.tokens, alike.start, s) in
-        spelled-agree (spells (slice_range b.tokens from (run_end (goes_on t) b.tokens b.start))) from from' (goes_on t) what s b c o q alike m (rw e n) a z)
+        let e : spells (slice_range b.tokens.list from (run_end (goes_on t) b.tokens b.start)) ≡ spells (slice_range c.tokens.list from' (run_end (goes_on t) c.tokens c.start)) = cc (alike.tokens, alike.start, s) in
+        spelled-agree (spells (slice_range b.tokens.list from (run_end (goes_on t) b.tokens b.start))) from from' (goes_on t) what s b c o q alike m (rw e n) a z)
 
 module _ {I Tok Sp Er St Mk Cx V : Type 0} (errors : error_trait.Ghosts Er I Tok Sp) (states : inspector_trait.Ghosts St I Mk Tok Sp) (test : Tok → Bool) (part : Meaning Tok Cx states.Seen errors.Seen V) where
   pub skips-ends : EndsAfterStart (SkipsRun {Cx = Cx} errors states test)

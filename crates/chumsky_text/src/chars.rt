@@ -1,7 +1,8 @@
 //! What a token of a text is, and an input whose slices can be compared with a text.
-ghost use Rattle.std.specs.Prelude.{◌≡◌, Bool, List, ℕ, ◌||◌, ◌==◌};
+ghost use Rattle.std.specs.Prelude.{◌≡◌, Bool, List, ℕ, ◌||◌, ◌==◌, slice_range};
 ghost use Rattle.std.specs.Char.{is_whitespace, is_ascii_whitespace};
 ghost use Rattle.std.specs.Str.{bytes_eq, encode_utf8_all};
+ghost use Rattle.chumsky_input.specs.Layout.{Layout};
 
 use chumsky_input::input::SliceInput;
 
@@ -88,7 +89,7 @@ pub trait TextInput<'src>: SliceInput<'src> {
 
     /// Whether the slice is the text: `<&str>::is_text(&"let", "let")`.
     fn is_text(slice: &Self::Slice, text: &str) -> bool
-        ensures { (tokens : List Self.Token) → Self.slice_seen slice.now ≡ Self.slice_of tokens → result ≡ spells text.now tokens };
+        ensures { (l : Layout Self.Token) (i j : ℕ) → Self.slice_seen slice.now ≡ Self.slice_of l i j → result ≡ spells text.now (slice_range l.list i j) };
 }
 
 impl<'src> TextInput<'src> for &'src str {

@@ -29,13 +29,13 @@ impl<'src, 'k, K: Lexeme<I::Token>, I: TextInput<'src>, E: ParserExtra<I>> Parse
     I::Slice,
     E,
 > for Keyword<'k, K, I, E> {
-    ghost use Rattle.std.specs.Prelude.{⊤, [], ◌∷◌, slice_range};
+    ghost use Rattle.std.specs.Prelude.{⊤, [], ◌∷◌};
     ghost use Rattle.chumsky_text.specs.TextRun.{MeansKeyword};
     ghost use Rattle.chumsky_text.specs.TextRunLaws.{keyword-ends, keyword-agrees};
 
     ghost ready = { λ p. K.fits p.kind };
 
-    ghost meaning = { λ p errors states. MeansKeyword I.Input (λ ts i j w. I.slice_seen w ≡ I.slice_of (slice_range ts i j)) errors states (I.spells p.word.now) (K.holds p.kind) (λ t. K.Rest.holds (K.rest_after p.kind t)) (Label p.word.now ∷ []) };
+    ghost meaning = { λ p errors states. MeansKeyword I.Input (λ l i j w. I.slice_seen w ≡ I.slice_of l i j) errors states (I.spells p.word.now) (K.holds p.kind) (λ t. K.Rest.holds (K.rest_after p.kind t)) (Label p.word.now ∷ []) };
 
     ghost steady = { λ _. ⊤ };
 

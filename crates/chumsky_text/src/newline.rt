@@ -22,13 +22,13 @@ impl<'src, K, I: SliceInput<'src>, E> IsParser<I, I::Slice, E> for Newline<K, I,
 
 impl<'src, K: Lexeme<I::Token>, I: SliceInput<'src>, E: ParserExtra<I>> Parser<'src, I, I::Slice, E>
     for Newline<K, I, E> {
-    ghost use Rattle.std.specs.Prelude.{⊤, slice_range};
+    ghost use Rattle.std.specs.Prelude.{⊤};
     ghost use Rattle.chumsky_text.specs.TextRun.{MeansNewline};
     ghost use Rattle.chumsky_text.specs.TextRunLaws.{newline-ends, newline-agrees};
 
     ghost ready = { λ p. K.fits p.kind };
 
-    ghost meaning = { λ p errors states. MeansNewline I.Input (λ ts i j w. I.slice_seen w ≡ I.slice_of (slice_range ts i j)) errors states (K.holds p.kind) (λ t. K.Rest.holds (K.rest_after p.kind t)) (K.wants p.kind) };
+    ghost meaning = { λ p errors states. MeansNewline I.Input (λ l i j w. I.slice_seen w ≡ I.slice_of l i j) errors states (K.holds p.kind) (λ t. K.Rest.holds (K.rest_after p.kind t)) (K.wants p.kind) };
 
     ghost steady = { λ _. ⊤ };
 

@@ -20,13 +20,13 @@ impl<'src, K, I: SliceInput<'src>, E> IsParser<I, I::Slice, E> for Run<K, I, E> 
 
 impl<'src, K: Kind<I::Token>, I: SliceInput<'src>, E: ParserExtra<I>> Parser<'src, I, I::Slice, E>
     for Run<K, I, E> {
-    ghost use Rattle.std.specs.Prelude.{◌≡◌, ⊤, slice_range};
+    ghost use Rattle.std.specs.Prelude.{◌≡◌, ⊤};
     ghost use Rattle.chumsky_text.specs.TextRun.{MeansRun};
     ghost use Rattle.chumsky_text.specs.TextRunLaws.{run-ends, run-agrees};
 
     ghost ready = { λ p. K.fits p.kind };
 
-    ghost meaning = { λ p errors states. MeansRun I.Input (λ ts i j w. I.slice_seen w ≡ I.slice_of (slice_range ts i j)) errors states (K.holds p.kind) (K.wants p.kind) };
+    ghost meaning = { λ p errors states. MeansRun I.Input (λ l i j w. I.slice_seen w ≡ I.slice_of l i j) errors states (K.holds p.kind) (K.wants p.kind) };
 
     ghost steady = { λ _. ⊤ };
 

@@ -22,13 +22,13 @@ impl<'src, K, I: SliceInput<'src>, E> IsParser<I, I::Slice, E> for Word<K, I, E>
 
 impl<'src, K: Lexeme<I::Token>, I: SliceInput<'src>, E: ParserExtra<I>> Parser<'src, I, I::Slice, E>
     for Word<K, I, E> {
-    ghost use Rattle.std.specs.Prelude.{⊤, slice_range};
+    ghost use Rattle.std.specs.Prelude.{⊤};
     ghost use Rattle.chumsky_text.specs.TextRun.{MeansWord};
     ghost use Rattle.chumsky_text.specs.TextRunLaws.{word-ends, word-agrees};
 
     ghost ready = { λ p. K.fits p.kind };
 
-    ghost meaning = { λ p errors states. MeansWord I.Input (λ ts i j w. I.slice_seen w ≡ I.slice_of (slice_range ts i j)) errors states (K.holds p.kind) (λ t. K.Rest.holds (K.rest_after p.kind t)) (K.wants p.kind) (λ t. K.Rest.wants (K.rest_after p.kind t)) };
+    ghost meaning = { λ p errors states. MeansWord I.Input (λ l i j w. I.slice_seen w ≡ I.slice_of l i j) errors states (K.holds p.kind) (λ t. K.Rest.holds (K.rest_after p.kind t)) (K.wants p.kind) (λ t. K.Rest.wants (K.rest_after p.kind t)) };
 
     ghost steady = { λ _. ⊤ };
 

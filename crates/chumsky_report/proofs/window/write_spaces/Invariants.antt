@@ -1,0 +1,7 @@
+use Rattle.std.specs.Prelude.{flat_map}
+use Rattle.std.specs.Fmt.{HasWritten, IsPlainFormatter}
+use Rattle.chumsky_report.specs.Window.{below}
+use Rattle.chumsky_report.proofs.window.write_spaces.Given as goal
+
+abbrev pub invariant-loop-character : goal.invariant-loop-character
+invariant-loop-character g l = IsPlainFormatter l.fn.f → HasWritten g.W.Write.write_str_gives l.fn.f (flat_map below l.yielded) l.f
