@@ -1,6 +1,7 @@
 -- What the lemmas on founded rules ask, from what actions promise.
-use Rattle.std.proofs.Common.{◌≡◌, ◌∙◌, ℕ, ◌<◌, List, Bool, true, false, refl, sym, subst, arith}
+use Rattle.std.proofs.Common.{◌≡◌, ◌∙◌, ℕ, ◌<◌, Bool, true, false, refl, sym, subst, arith}
 use Rattle.std.proofs.lemmas.List.FromFn.{get_or-map-range_with_len}
+use Rattle.chumsky_input.specs.Layout.{Layout}
 use Rattle.chumsky_input.specs.declared.stop.Stop.{Stop}
 use Rattle.chumsky_input.specs.Outcome.{Meaning, IsAnswer, EndsAfterStart}
 use Rattle.chumsky_items.specs.Lists.{IsYes}
@@ -22,7 +23,7 @@ module _ {Tok Cx St Er V : Type 0} where
   in_place-goes m h b o k v y = (h b o k.meant (subst IsAnswer (sym y) tt), λ _. k.within v y)
 
   -- a leaf that halts, halts by what it means alone
-  pub in_place-halts : (leaf : ℕ → Meaning Tok Cx St Er V) (g : Tables) (tokens : List Tok) (s : Stop) → LeafHalts (λ n. InPlace (leaf n)) g tokens s → LeafHalts leaf g tokens s
+  pub in_place-halts : (leaf : ℕ → Meaning Tok Cx St Er V) (g : Tables) (tokens : Layout Tok) (s : Stop) → LeafHalts (λ n. InPlace (leaf n)) g tokens s → LeafHalts leaf g tokens s
   in_place-halts leaf g tokens s h = record { number = h.number; node = h.node; is = h.is; begun = h.begun; on = h.on; there = h.there; out = h.out; meant = h.meant.meant; halts = h.halts }
 
   marked_or : (f : ℕ → Bool) (m : Meaning Tok Cx St Er V) (count x : ℕ) → x < count → (f x ≡ false → Moves m) → (t : Bool) → f x ≡ t → StaysOnlyIf (IsMarked (answers_of f count) x) (InPlace m)

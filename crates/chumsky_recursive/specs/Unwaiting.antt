@@ -1,6 +1,7 @@
 -- Rules of which no node waits are refused for memory only as their leaves are, for an error of their own, or for a value.
 -- Main words: NeverWaits, CallsAsk, Asks, HaltsForMemory. Law: call-asks.
 use Rattle.std.proofs.Common.{◌≡◌, ℕ, zero, suc, ◌≤◌, List, [], ◌∷◌, map, Option, Some, None, Bool, true, false, length, slice_get, refl, sym, ◌∙◌, ap, subst, ◌⊎◌, inl, inr}
+use Rattle.chumsky_input.specs.Layout.{Layout}
 use Rattle.chumsky_input.specs.declared.error.Error as error_trait
 use Rattle.chumsky_input.specs.declared.inspector.Inspector as inspector_trait
 use Rattle.chumsky_input.specs.declared.input.Input as input_trait
@@ -66,12 +67,12 @@ module _ {Tok Cx St Er V W : Type 0} (gives : V → Option W → Type 0) where
 
 module _ {I Tok Sp Cu Er St Mk Cx V : Type 0} (source : input_trait.Ghosts I Cu Tok Sp) (errors : error_trait.Ghosts Er I Tok Sp) (states : inspector_trait.Ghosts St I Mk Tok Sp) (a : Acts Tok Cx states.Seen errors.Seen V) (g : Tables) (never : NeverWaits g) (quiet : TakesNoMemory) (pairs : (v : V × V) → a.pairs v None → quiet.pair → ⊥) (maps : (f : ℕ) (v : V) → a.maps f v None → quiet.map f → ⊥) (within : (n : ℕ) → SucceedsBy Reach Reach-refl Reach-trans (a.leaf n)) where
   -- a leaf of these rules is refused for memory on these tokens, or an error takes memory, or a value that is wanted does
-  abbrev pub Asks : List Tok → Bool → Type 0
+  abbrev pub Asks : Layout Tok → Bool → Type 0
   Asks tokens wanted = LeafHalts a.leaf g tokens Memory ⊎ (errors.takes_no_memory → ⊥) ⊎ ((wanted ≡ true) × CallsAsk g quiet)
 
   -- where it is refused for memory, somebody asked for it
   abbrev OnlyIfAsked : Meaning Tok Cx states.Seen errors.Seen V → Type 0
-  OnlyIfAsked m = (b : Beginning Tok Cx states.Seen) (o : Outcome V errors.Seen states.Seen) → b.start ≤ length b.tokens → m b o → o.verdict ≡ Halt Memory → Asks b.tokens b.wanted
+  OnlyIfAsked m = (b : Beginning Tok Cx states.Seen) (o : Outcome V errors.Seen states.Seen) → b.start ≤ length b.tokens.list → m b o → o.verdict ≡ Halt Memory → Asks b.tokens b.wanted
 
   module _ (call : ℕ → Meaning Tok Cx states.Seen errors.Seen V) (gc : (r : ℕ) → SucceedsBy Reach Reach-refl Reach-trans (call r)) (hc : (r : ℕ) → OnlyIfAsked (call r)) where
     module _ (part : ℕ → Meaning Tok Cx states.Seen errors.Seen V) (gp : (n : ℕ) → SucceedsBy Reach Reach-refl Reach-trans (part n)) (hp : (n : ℕ) → OnlyIfAsked (part n)) where
@@ -139,5 +140,5 @@ module _ {A I X V Cu Tok Sp Er St Cx Mk : Type 0} (errors : error_trait.Ghosts E
   -- function may take some
   abbrev pub HaltsForMemory : Does I Tok Sp Er St Mk Cx V → Type 0
   HaltsForMemory m =
-      (b : Beginning Tok Cx states.Seen) (o : Outcome V errors.Seen states.Seen) → b.start ≤ length b.tokens → m errors states b o → o.verdict ≡ Halt Memory
+      (b : Beginning Tok Cx states.Seen) (o : Outcome V errors.Seen states.Seen) → b.start ≤ length b.tokens.list → m errors states b o → o.verdict ≡ Halt Memory
       → LeafHalts (λ n. actions.leaf_meaning grammar.actions.now n errors states) grammar.rules.rules.now b.tokens Memory ⊎ (errors.takes_no_memory → ⊥) ⊎ ((b.wanted ≡ true) × CallsAsk grammar.rules.rules.now (actions.takes_no_memory grammar.actions.now))

@@ -127,7 +127,7 @@ pub fn emit_founded<'r, 'src, I: Input<'src>, E: ParserExtra<I>, A: Actions<'src
 ) -> PResult<A::Value>
     requires ready { ⟦<Grammar<'r, A> as Parser<'src, I, A::Value, E>>⟧.ready grammar.now }
     requires stands { HaltsOnlyAsLeaves E.Error.Error E.State.Inspector A.Actions grammar.now tokens (⟦<Grammar<'r, A> as Parser<'src, I, A::Value, E>>⟧.meaning grammar.now) }
-    requires few { length (I.cursor_tokens inp.old.cursor) ≤ tokens }
+    requires few { length (I.cursor_tokens inp.old.cursor).list ≤ tokens }
     ensures ran { Runs I.Input E.Error.Error E.State.Inspector (⟦<Grammar<'r, A> as Parser<'src, I, A::Value, E>>⟧.meaning grammar.now E.Error.Error E.State.Inspector) true inp.old inp.new (with_value result) }
     ensures refused { IfErr result (FailsAsLeaves (λ n. A.leaf_meaning grammar.now.actions.now n E.Error.Error E.State.Inspector) grammar.now.rules.rules.now (I.cursor_tokens inp.old.cursor)) }
     ensures lent { inp.new.state.ghost_name ≡ inp.old.state.ghost_name }
@@ -144,7 +144,7 @@ pub fn check_founded<'r, 'src, I: Input<'src>, E: ParserExtra<I>, A: Actions<'sr
 ) -> PResult<()>
     requires ready { ⟦<Grammar<'r, A> as Parser<'src, I, A::Value, E>>⟧.ready grammar.now }
     requires stands { HaltsOnlyAsLeaves E.Error.Error E.State.Inspector A.Actions grammar.now tokens (⟦<Grammar<'r, A> as Parser<'src, I, A::Value, E>>⟧.meaning grammar.now) }
-    requires few { length (I.cursor_tokens inp.old.cursor) ≤ tokens }
+    requires few { length (I.cursor_tokens inp.old.cursor).list ≤ tokens }
     ensures ran { Runs I.Input E.Error.Error E.State.Inspector (⟦<Grammar<'r, A> as Parser<'src, I, A::Value, E>>⟧.meaning grammar.now E.Error.Error E.State.Inspector) false inp.old inp.new (without_value result) }
     ensures refused { IfErr result (FailsAsLeaves (λ n. A.leaf_meaning grammar.now.actions.now n E.Error.Error E.State.Inspector) grammar.now.rules.rules.now (I.cursor_tokens inp.old.cursor)) }
     ensures lent { inp.new.state.ghost_name ≡ inp.old.state.ghost_name }
