@@ -1,0 +1,5 @@
+use Rattle.chumsky_pratt.proofs.ClimbedLemmas.{last_infix_tokens}
+use Rattle.chumsky_pratt.proofs.opening.take_infix.Goals as goal
+
+pub returns-clause-tokens : goal.returns-clause-tokens
+returns-clause-tokens g c = last_infix_tokens _ _ _ _ _ _ _ c.requires.may.0 _ _ _ _ _ c.pop_infix.ensures c.requires.may.1

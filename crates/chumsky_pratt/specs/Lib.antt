@@ -1,0 +1,10 @@
+pub mod Operators
+pub mod Expression
+pub mod ExpressionLaws
+pub mod Doing
+pub mod Showing
+pub mod Built
+pub mod Kinds
+pub mod Climbing
+pub mod Weight
+pub mod PrecedenceLaws

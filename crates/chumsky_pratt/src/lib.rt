@@ -1,0 +1,18 @@
+//! Operators by precedence.
+#![tactic(auto)]
+
+pub mod fixity;
+pub mod folders;
+mod kinds;
+pub mod laws;
+mod machine;
+pub mod make;
+mod opening;
+pub mod operands;
+pub mod operator;
+pub mod pratt;
+pub mod row;
+pub mod rows;
+pub mod steady;
+mod steps;
+mod way;

@@ -1,0 +1,118 @@
+//! Functions that make operators.
+ghost use Rattle.std.specs.Prelude.{◌≡◌};
+
+use crate::fixity::Associativity;
+use crate::folders::{InfixFolder, PostfixFolder, PrefixFolder};
+use crate::operator::{Infix, Postfix, Prefix};
+use std::marker::PhantomData;
+
+/// An operator before its operand, which is an expression of this power: `prefix(3, just('-'), |_, n| -n)` for `-1`. It is
+/// tried wherever an expression begins, whatever its power. Where its operand fails it is gone back from.
+#[inline]
+pub fn prefix<P, F: Fn(W, O) -> O, O, W>(power: u16, parser: P, folder: F) -> Prefix<P, F, O, W>
+    ensures power { result.power ≡ power }
+    ensures parser { result.parser ≡ parser }
+    ensures folder { result.folder ≡ folder }
+{
+    Prefix {
+        power,
+        parser,
+        folder,
+        of: PhantomData,
+    }
+}
+
+/// An operator after its operand, of this power: `postfix(4, just('!'), |n, _| factorial(n))` for `3!`.
+#[inline]
+pub fn postfix<P, F: Fn(O, W) -> O, O, W>(power: u16, parser: P, folder: F) -> Postfix<P, F, O, W>
+    ensures power { result.power ≡ power }
+    ensures parser { result.parser ≡ parser }
+    ensures folder { result.folder ≡ folder }
+{
+    Postfix {
+        power,
+        parser,
+        folder,
+        of: PhantomData,
+    }
+}
+
+/// An operator between its operands, of this associativity and its power: `infix(left(1), just('+'), |a, _, b| a + b)` for
+/// `1+2`. Where its right operand fails it is gone back from.
+#[inline]
+pub fn infix<P, F: Fn(O, W, O) -> O, O, W>(
+    associativity: Associativity,
+    parser: P,
+    folder: F,
+) -> Infix<P, F, O, W>
+    ensures associativity { result.associativity ≡ associativity }
+    ensures parser { result.parser ≡ parser }
+    ensures folder { result.folder ≡ folder }
+{
+    Infix {
+        associativity,
+        parser,
+        folder,
+        of: PhantomData,
+    }
+}
+
+/// As `prefix`, by a value of a type with an impl of `PrefixFolder`: the parser's type can then be written down, and what the folder gives
+/// is known where the parser is run.
+#[inline]
+pub fn prefix_by<P, F: PrefixFolder<O, W>, O, W>(
+    power: u16,
+    parser: P,
+    folder: F,
+) -> Prefix<P, F, O, W>
+    ensures power { result.power ≡ power }
+    ensures parser { result.parser ≡ parser }
+    ensures folder { result.folder ≡ folder }
+{
+    Prefix {
+        power,
+        parser,
+        folder,
+        of: PhantomData,
+    }
+}
+
+/// As `postfix`, by a value of a type with an impl of `PostfixFolder`: the parser's type can then be written down, and what the folder gives
+/// is known where the parser is run.
+#[inline]
+pub fn postfix_by<P, F: PostfixFolder<O, W>, O, W>(
+    power: u16,
+    parser: P,
+    folder: F,
+) -> Postfix<P, F, O, W>
+    ensures power { result.power ≡ power }
+    ensures parser { result.parser ≡ parser }
+    ensures folder { result.folder ≡ folder }
+{
+    Postfix {
+        power,
+        parser,
+        folder,
+        of: PhantomData,
+    }
+}
+
+/// As `infix`, by a value of a type with an impl of `InfixFolder`: the parser's type can then be written down, and what the folder gives
+/// is known where the parser is run.
+#[inline]
+pub fn infix_by<P, F: InfixFolder<O, W>, O, W>(
+    associativity: Associativity,
+    parser: P,
+    folder: F,
+) -> Infix<P, F, O, W>
+    ensures associativity { result.associativity ≡ associativity }
+    ensures parser { result.parser ≡ parser }
+    ensures folder { result.folder ≡ folder }
+{
+    Infix {
+        associativity,
+        parser,
+        folder,
+        of: PhantomData,
+    }
+}

@@ -1,0 +1,252 @@
+//! Operators in a row.
+ghost use Rattle.std.specs.Prelude.{◌≡◌, ◌<◌, ◌^◌, ℕ, true, false, zero, suc};
+ghost use Rattle.chumsky_input.specs.Run.{Runs, with_value, without_value};
+
+use crate::fixity::Fixity;
+use crate::operands::Operands;
+use crate::operator::{HasOutput, Operator};
+use chumsky_input::extra::ParserExtra;
+use chumsky_input::input::Input;
+use chumsky_input::input_ref::InputRef;
+use chumsky_input::stop::PResult;
+
+/// What is found of a row: which operator, and its output.
+///
+/// It stands by itself, and not in `Operators`, since it rests on the row's type alone.
+pub trait HasFound {
+    type Found: Drop;
+}
+
+/// Some operators in a row, by their index.
+pub trait Operators<'src, I: Input<'src>, O, E: ParserExtra<I>>: HasFound {
+    ghost use Rattle.chumsky_input.specs.Words.{Does};
+    ghost use Rattle.chumsky_input.specs.Outcome.{EndsAfterStart, Agreeing};
+    ghost use Rattle.chumsky_pratt.specs.declared.fixity.Fixity.{Fixity};
+    ghost use Rattle.chumsky_pratt.specs.declared.operands.Operands.{Operands};
+    ghost use Rattle.chumsky_pratt.specs.Operators.{OnlyOne};
+
+    /// That their parsers may be run, and their folders called.
+    ghost ready: { Self → Type 0 };
+    /// How many they are.
+    ghost number: { Self → ℕ };
+    /// How each stands.
+    ghost stands: { Self → ℕ → Fixity };
+    /// What reading each may do.
+    ghost reads: { Self → ℕ → Does I I.Token I.Span E.Error E.State E.State.Mark E.Context Self.Found };
+    /// What may be given for what was found and its operands.
+    ghost gives: { Self → Self.Found → Operands O → O → Type 0 };
+    /// That they answer alike each time.
+    ghost steady: { Self → Type 0 };
+    /// Which finds count as the same.
+    ghost same: { Self → Self.Found → Self.Found → Type 0 };
+
+    /// How many they are.
+    fn count(&self) -> usize
+        requires { ready self.now }
+        ensures { result ≡ number self.now };
+
+    /// How one stands.
+    fn fixity(&self, index: usize) -> Fixity
+        requires { index < number self.now }
+        ensures { result ≡ stands self.now index };
+
+    /// Reads one.
+    fn read_emit(&self, index: usize, inp: &mut InputRef<'src, '_, I, E>) -> PResult<Self::Found>
+        requires ready { ready self.now }
+        requires there { index < number self.now }
+        ensures ran { Runs I.Input E.Error.Error E.State.Inspector (reads self.now index E.Error.Error E.State.Inspector) true inp.old inp.new (with_value result) }
+        ensures lent { inp.new.state.ghost_name ≡ inp.old.state.ghost_name };
+
+    /// Reads one, without its output.
+    fn read_check(&self, index: usize, inp: &mut InputRef<'src, '_, I, E>) -> PResult<()>
+        requires ready { ready self.now }
+        requires there { index < number self.now }
+        ensures ran { Runs I.Input E.Error.Error E.State.Inspector (reads self.now index E.Error.Error E.State.Inspector) false inp.old inp.new (without_value result) }
+        ensures lent { inp.new.state.ghost_name ≡ inp.old.state.ghost_name };
+
+    /// One value of what was found and its operands.
+    fn fold(&self, found: Self::Found, operands: Operands<O>) -> O
+        requires { ready self.now }
+        ensures { gives self.now found operands result };
+
+    /// A `usize` counts them.
+    ghost counted: { (p : Self) → ready p → number p < 2 ^ 64 };
+
+    /// No answer of reading one ends before its start.
+    ghost ends_after_start: { (p : Self) (i : ℕ) → EndsAfterStart (reads p i E.Error.Error E.State.Inspector) };
+
+    /// Two answers of reading one of steady operators agree.
+    ghost agrees: { (p : Self) → steady p → (i : ℕ) → Agreeing (same p) (reads p i E.Error.Error E.State.Inspector) (reads p i E.Error.Error E.State.Inspector) };
+
+    /// Steady operators give one value for the same.
+    ghost gives_one: { (p : Self) → steady p → OnlyOne (gives p) };
+}
+
+/// What is found of an operator or of others.
+#[derive(Drop)]
+pub enum Found<A, B> {
+    Here(A),
+    There(B),
+}
+
+/// The last operator of a row.
+#[derive(Clone, Copy, Drop)]
+pub struct LastOperator<T> {
+    pub operator: T,
+}
+
+/// An operator before others.
+#[derive(Clone, Copy, Drop)]
+pub struct OperatorAnd<T, R> {
+    pub operator: T,
+    pub others: R,
+}
+
+impl<T: HasOutput> HasFound for LastOperator<T> {
+    type Found = T::Output;
+}
+
+impl<T: HasOutput, R: HasFound> HasFound for OperatorAnd<T, R> {
+    type Found = Found<T::Output, R::Found>;
+}
+
+impl<'src, I: Input<'src>, O: Drop, E: ParserExtra<I>, T: Operator<'src, I, O, E>> Operators<
+    'src,
+    I,
+    O,
+    E,
+> for LastOperator<T> {
+    ghost use Rattle.chumsky_pratt.specs.Operators.{one_counted};
+
+    ghost ready = { λ p. T.ready p.operator };
+
+    ghost number = { λ _. 1 };
+
+    ghost stands = { λ p i. T.stands p.operator };
+
+    ghost reads = { λ p i. T.reads p.operator };
+
+    ghost gives = { λ p. T.gives p.operator };
+
+    ghost steady = { λ p. T.steady p.operator };
+
+    ghost same = { λ p. T.same p.operator };
+
+    ghost counted = { λ p r. one_counted };
+
+    ghost ends_after_start = { λ p i. T.ends_after_start p.operator };
+
+    ghost agrees = { λ p s i. T.agrees p.operator s };
+
+    ghost gives_one = { λ p s. T.gives_one p.operator s };
+
+    #[inline]
+    fn count(&self) -> usize {
+        1
+    }
+
+    #[inline]
+    fn fixity(&self, _index: usize) -> Fixity {
+        self.operator.fixity()
+    }
+
+    #[inline]
+    fn read_emit(&self, _index: usize, inp: &mut InputRef<'src, '_, I, E>) -> PResult<T::Output> {
+        self.operator.read_emit(inp)
+    }
+
+    #[inline]
+    fn read_check(&self, _index: usize, inp: &mut InputRef<'src, '_, I, E>) -> PResult<()> {
+        self.operator.read_check(inp)
+    }
+
+    #[inline]
+    fn fold(&self, found: T::Output, operands: Operands<O>) -> O
+        requires { T.ready self.now.operator }
+        ensures { T.gives self.now.operator found operands result }
+    {
+        self.operator.fold(found, operands)
+    }
+}
+
+impl<
+    'src,
+    I: Input<'src>,
+    O: Drop,
+    E: ParserExtra<I>,
+    T: Operator<'src, I, O, E>,
+    R: Operators<'src, I, O, E>,
+> Operators<'src, I, O, E> for OperatorAnd<T, R> {
+    ghost use Rattle.chumsky_pratt.specs.Operators.{fixity_and, GivesAnd, SameAnd, gives_and-one, reads-ends, reads-agree};
+    ghost use Rattle.chumsky_pratt.specs.Doing.{reads_and};
+
+    ghost ready = { λ p. T.ready p.operator × R.ready p.others × (suc (R.number p.others) < 2 ^ 64) };
+
+    ghost number = { λ p. suc (R.number p.others) };
+
+    ghost stands = { λ p. fixity_and (T.stands p.operator) (R.stands p.others) };
+
+    ghost reads = { λ p. reads_and (T.reads p.operator) (R.reads p.others) };
+
+    ghost gives = { λ p. GivesAnd (T.gives p.operator) (R.gives p.others) };
+
+    ghost steady = { λ p. T.steady p.operator × R.steady p.others };
+
+    ghost same = { λ p. SameAnd (T.same p.operator) (R.same p.others) };
+
+    ghost counted = { λ p r. r.2 };
+
+    ghost ends_after_start = { λ p. reads-ends _ _ (T.ends_after_start p.operator) (R.ends_after_start p.others) };
+
+    ghost agrees = { λ p s. reads-agree (T.same p.operator) (R.same p.others) _ _ (T.agrees p.operator s.0) (R.agrees p.others s.1) };
+
+    ghost gives_one = { λ p s. gives_and-one _ _ (T.gives_one p.operator s.0) (R.gives_one p.others s.1) };
+
+    #[inline]
+    fn count(&self) -> usize {
+        self.others.count() + 1
+    }
+
+    #[inline]
+    fn fixity(&self, index: usize) -> Fixity {
+        if index == 0 {
+            self.operator.fixity()
+        } else {
+            self.others.fixity(index - 1)
+        }
+    }
+
+    #[inline]
+    fn read_emit(
+        &self,
+        index: usize,
+        inp: &mut InputRef<'src, '_, I, E>,
+    ) -> PResult<Found<T::Output, R::Found>> {
+        if index == 0 {
+            let here = self.operator.read_emit(inp)?;
+            return Ok(Found::Here(here));
+        }
+        let there = self.others.read_emit(index - 1, inp)?;
+        Ok(Found::There(there))
+    }
+
+    #[inline]
+    fn read_check(&self, index: usize, inp: &mut InputRef<'src, '_, I, E>) -> PResult<()> {
+        if index == 0 {
+            self.operator.read_check(inp)
+        } else {
+            self.others.read_check(index - 1, inp)
+        }
+    }
+
+    #[inline]
+    fn fold(&self, found: Found<T::Output, R::Found>, operands: Operands<O>) -> O
+        requires { T.ready self.now.operator × R.ready self.now.others × (suc (R.number self.now.others) < 2 ^ 64) }
+        ensures { GivesAnd (T.gives self.now.operator) (R.gives self.now.others) found operands result }
+    {
+        match found {
+            Found::Here(here) => self.operator.fold(here, operands),
+            Found::There(there) => self.others.fold(there, operands),
+        }
+    }
+}

@@ -1,0 +1,82 @@
+//! When expressions and their operators are ready, and when they are steady, each the contract of a function that does
+//! nothing. And what is known of two outputs that count as the same.
+ghost use Rattle.std.specs.Prelude.{◌<◌, ◌^◌, suc};
+ghost use Rattle.chumsky_pratt.specs.ExpressionLaws.{SameExpression};
+ghost use Rattle.chumsky_pratt.specs.Operators.{OnlyOne, GivesPrefix, GivesPostfix, GivesInfix};
+
+use crate::folders::{InfixFolder, PostfixFolder, PrefixFolder};
+use crate::operator::{Infix, Operator, Postfix, Prefix};
+use crate::pratt::Pratt;
+use crate::row::{OperatorAnd, Operators};
+use chumsky_input::extra::ParserExtra;
+use chumsky_input::input::Input;
+use chumsky_parser::parser::Parser;
+
+/// `a.pratt(..)`. Two outputs are the same where they are built alike, from atoms that are the same, by operators that are.
+pub fn pratt_is_steady<
+    'src,
+    I: Input<'src>,
+    O: Drop,
+    E: ParserExtra<I>,
+    P: Parser<'src, I, O, E>,
+    R: Operators<'src, I, O, E>,
+>(pratt: &Pratt<P, R>)
+    ensures ready { P.ready pratt.now.atom → R.ready pratt.now.operators → ⟦<Pratt<P, R> as Parser<'src, I, O, E>>⟧.ready pratt.now }
+    ensures steady { P.steady pratt.now.atom → R.steady pratt.now.operators → ⟦<Pratt<P, R> as Parser<'src, I, O, E>>⟧.steady pratt.now }
+    ensures same { (x y : O) → ⟦<Pratt<P, R> as Parser<'src, I, O, E>>⟧.same pratt.now x y → SameExpression (P.same pratt.now.atom) (R.same pratt.now.operators) (R.gives pratt.now.operators) x y }
+{}
+
+/// Operators in a row, as a tuple of them makes it.
+pub fn operators_are_steady<
+    'src,
+    I: Input<'src>,
+    O: Drop,
+    E: ParserExtra<I>,
+    T: Operator<'src, I, O, E>,
+    R: Operators<'src, I, O, E>,
+>(row: &OperatorAnd<T, R>)
+    ensures ready { T.ready row.now.operator → R.ready row.now.others → suc (R.number row.now.others) < 2 ^ 64 → ⟦<OperatorAnd<T, R> as Operators<'src, I, O, E>>⟧.ready row.now }
+    ensures steady { T.steady row.now.operator → R.steady row.now.others → ⟦<OperatorAnd<T, R> as Operators<'src, I, O, E>>⟧.steady row.now }
+{}
+
+/// `prefix(power, op, f)`, where `f` gives one output for each operator and operand.
+pub fn prefix_is_steady<
+    'src,
+    I: Input<'src>,
+    O: Drop,
+    W: Drop,
+    E: ParserExtra<I>,
+    P: Parser<'src, I, W, E>,
+    F: PrefixFolder<O, W>,
+>(prefix: &Prefix<P, F, O, W>)
+    ensures ready { P.ready prefix.now.parser → F.callable prefix.now.folder → ⟦<Prefix<P, F, O, W> as Operator<'src, I, O, E>>⟧.ready prefix.now }
+    ensures steady { P.steady prefix.now.parser → OnlyOne (GivesPrefix (F.gives prefix.now.folder)) → ⟦<Prefix<P, F, O, W> as Operator<'src, I, O, E>>⟧.steady prefix.now }
+{}
+
+/// `postfix(power, op, f)`, likewise.
+pub fn postfix_is_steady<
+    'src,
+    I: Input<'src>,
+    O: Drop,
+    W: Drop,
+    E: ParserExtra<I>,
+    P: Parser<'src, I, W, E>,
+    F: PostfixFolder<O, W>,
+>(postfix: &Postfix<P, F, O, W>)
+    ensures ready { P.ready postfix.now.parser → F.callable postfix.now.folder → ⟦<Postfix<P, F, O, W> as Operator<'src, I, O, E>>⟧.ready postfix.now }
+    ensures steady { P.steady postfix.now.parser → OnlyOne (GivesPostfix (F.gives postfix.now.folder)) → ⟦<Postfix<P, F, O, W> as Operator<'src, I, O, E>>⟧.steady postfix.now }
+{}
+
+/// `infix(associativity, op, f)`, likewise.
+pub fn infix_is_steady<
+    'src,
+    I: Input<'src>,
+    O: Drop,
+    W: Drop,
+    E: ParserExtra<I>,
+    P: Parser<'src, I, W, E>,
+    F: InfixFolder<O, W>,
+>(operator: &Infix<P, F, O, W>)
+    ensures ready { P.ready operator.now.parser → F.callable operator.now.folder → ⟦<Infix<P, F, O, W> as Operator<'src, I, O, E>>⟧.ready operator.now }
+    ensures steady { P.steady operator.now.parser → OnlyOne (GivesInfix (F.gives operator.now.folder)) → ⟦<Infix<P, F, O, W> as Operator<'src, I, O, E>>⟧.steady operator.now }
+{}
