@@ -1,0 +1,14 @@
+pub mod StrategyLaws
+pub mod Recovered
+pub mod RecoveredLaws
+pub mod Retrying
+pub mod Recovering
+pub mod Turns
+pub mod TurnsLaws
+pub mod Seeking
+pub mod SeekingLaws
+pub mod Recovery
+pub mod RecoveryLaws
+pub mod Nested
+pub mod NestedLaws
+pub mod RecoveryMoves

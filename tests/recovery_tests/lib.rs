@@ -1,0 +1,5 @@
+//! What recovering parsers answer.
+mod grammars;
+mod moves;
+mod nested;
+mod strategies;
