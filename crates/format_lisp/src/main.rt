@@ -3,7 +3,7 @@
 #![tactic(auto)]
 
 use chumsky::report::Report;
-use s_expression::{Refused, read_expressions};
+use s_expression::read_expressions;
 use std::io;
 use std::io::Read;
 use std::process::ExitCode;
@@ -14,11 +14,10 @@ fn answer(rt: &HostRuntime) -> io::Result<ExitCode> {
     rt.reader().read_to_string(&mut text)?;
     let parsed = match read_expressions(rt.alloc(), text.as_str()) {
         Ok(parsed) => parsed,
-        Err(Refused::Running(stop)) => {
+        Err(stop) => {
             println!(rt; "refused: {stop:?}")?;
             return Ok(ExitCode::from(2));
         }
-        Err(_) => return Ok(ExitCode::from(2)),
     };
     for error in parsed.errors() {
         let report = Report {

@@ -1,0 +1,6 @@
+//! Functions that call themselves, as parsers.
+#![tactic(auto)]
+
+pub mod laws;
+pub mod moving;
+pub mod recursive;
