@@ -77,6 +77,17 @@ static const struct row rows[] = {
     {"merges", 0, BY_BOTH, "no output; (((a b) c) d)"},
     {"filter", 0, BY_BOTH, "no output; 0..1 expected a something c found b"},
     {"nested", 0, BY_BOTH, "no output; 0..1 expected 1 found 2"},
+    {"recovered", 0, BY_PARSE, "ok [azzb]; 2..3 expected a b found x; 6..7 expected ; found z"},
+    {"recovered", 0, BY_CHECK, "ok (); 2..3 expected a b found x; 6..7 expected ; found z"},
+    {"recovered", 1, BY_PARSE, "ok [az]; 2..3 expected a b found x"},
+    {"recovered", 1, BY_CHECK, "ok (); 2..3 expected a b found x"},
+    {"recovered", 2, BY_PARSE, "ok [a]; 0..1 expected a b found x"},
+    {"recovered", 2, BY_CHECK, "ok (); 0..1 expected a b found x"},
+    {"delimited", 0, BY_PARSE, "ok 7"},
+    {"delimited", 0, BY_CHECK, "ok ()"},
+    {"delimited", 1, BY_PARSE, "ok z; 1..2 expected 7 found ("},
+    {"delimited", 1, BY_CHECK, "ok (); 1..2 expected 7 found ("},
+    {"delimited", 2, BY_BOTH, "no output; 1..2 expected 7 found ("},
     {"chained_items", 0, BY_PARSE, "ok [abbcc]"},
     {"chained_items", 0, BY_CHECK, "ok ()"},
     {"chained_items", 1, BY_BOTH, "no output; 0..1 expected a found b"},
@@ -122,6 +133,10 @@ static const struct row rows[] = {
     {"grammar", 7, BY_CHECK, "ok ()"},
     {"grammar", 8, BY_BOTH, "no output; 0..1 expected a found b"},
     {"recursive", 0, BY_PARSE, "rule 0, nodes 12"},
+    {"calls", 0, BY_PARSE, "ok 6"},
+    {"calls", 0, BY_CHECK, "ok ()"},
+    {"calls", 1, BY_BOTH, "no output; 7..7 expected , ] found end"},
+    {"calls", 2, BY_BOTH, "refused TooDeep"},
     {"into_owned", 0, BY_PARSE, "ok"},
     {"chk", 0, BY_PARSE, "0 ok ab|"},
     {"chk", 0, BY_CHECK, "0 ok|"},
@@ -146,6 +161,7 @@ static const struct {
 } clones[] = {
     {"clone_primitive", 10}, {"clone_sequence", 14}, {"clone_mapped", 17},
     {"clone_items", 14},     {"clone_under", 10},    {"clone_value", 14},
+    {"clone_recovered", 3},
 };
 
 /* The judge. */

@@ -98,6 +98,22 @@ pub fn sweep_clone_mapped(alloc: Global, row: usize, _check: bool, again: bool) 
     cloning.line()
 }
 
+/// Parsers with a strategy.
+pub fn sweep_clone_recovered(alloc: Global, row: usize, _check: bool, again: bool) -> Line {
+    let mut cloning = Cloning::new(alloc, again);
+    let (a, b, c) = (cloning.held(), cloning.held(), cloning.held());
+    match row {
+        0 => cloning.show(a.recover_with(via_parser(b))),
+        1 => {
+            let skipped = skip_until(b.ignored(), c.ignored(), || ());
+            cloning.show(a.ignored().recover_with(skipped));
+        }
+        2 => cloning.show(a.recover_with(skip_then_retry_until(b.ignored(), c.ignored()))),
+        _ => cloning.none(),
+    }
+    cloning.line()
+}
+
 /// Lists, and what is made of them.
 pub fn sweep_clone_items(alloc: Global, row: usize, _check: bool, again: bool) -> Line {
     let mut cloning = Cloning::new(alloc, again);

@@ -6,10 +6,12 @@
 mod chk;
 mod clones;
 mod cloning;
+mod descent;
 mod grammars;
 mod items;
 mod line;
 mod plans;
+mod recovery;
 mod rows;
 mod run;
 mod states;
@@ -55,6 +57,7 @@ fn answer_of(alloc: Global, name: &[u8], row: usize, check: bool, again: bool) -
         b"clone_sequence" => clones::sweep_clone_sequence(alloc, row, check, again),
         b"clone_mapped" => clones::sweep_clone_mapped(alloc, row, check, again),
         b"clone_items" => clones::sweep_clone_items(alloc, row, check, again),
+        b"clone_recovered" => clones::sweep_clone_recovered(alloc, row, check, again),
         b"clone_under" => clones::sweep_clone_under(alloc, row, check, again),
         b"clone_value" => clones::sweep_clone_value(alloc, row, check, again),
         b"into_owned" => clones::sweep_into_owned(alloc, row, check, again),
@@ -62,6 +65,7 @@ fn answer_of(alloc: Global, name: &[u8], row: usize, check: bool, again: bool) -
         b"well_founded" => grammars::sweep_well_founded(alloc, row, check, again),
         b"grammar" => grammars::sweep_grammar(alloc, row, check, again),
         b"recursive" => grammars::sweep_recursive(alloc, row, check, again),
+        b"calls" => descent::sweep_calls(alloc, row, check, again),
         b"chained_items" => items::sweep_chained_items(alloc, row, check, again),
         b"flatten" => items::sweep_flatten(alloc, row, check, again),
         b"collect" => items::sweep_collect(alloc, row, check, again),
@@ -70,6 +74,8 @@ fn answer_of(alloc: Global, name: &[u8], row: usize, check: bool, again: bool) -
         b"few_items" => items::sweep_few_items(alloc, row, check, again),
         b"empty_items" => items::sweep_empty_items(alloc, row, check, again),
         b"items_of_an_output" => items::sweep_items_of_an_output(alloc, row, check, again),
+        b"recovered" => recovery::sweep_recovered(alloc, row, check, again),
+        b"delimited" => recovery::sweep_delimited(alloc, row, check, again),
         b"set" => rows::sweep_set(alloc, row, check, again),
         b"filtered_merges" => rows::sweep_filtered_merges(alloc, row, check, again),
         b"merges" => rows::sweep_merges(alloc, row, check, again),

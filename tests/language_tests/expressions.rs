@@ -1,16 +1,13 @@
 //! What the s-expressions of a text are.
 use crate::printed::{assert_lines, nested, printed};
 use examples::refusal::Refusal;
-use s_expression::{Expression, Refused, read_expressions};
+use s_expression::{Expression, read_expressions};
 use std::alloc::{AllocError, Global};
 use std::test::Fail;
 
 /// What is printed of a text: each expression in a line of its own.
 fn shown(alloc: Global, text: &str) -> Result<String, AllocError> {
-    let parsed = read_expressions(alloc, text).map_err(|refused| match refused {
-        Refused::Running(stop) => Refusal::Run(stop),
-        _ => Refusal::Rules,
-    });
+    let parsed = read_expressions(alloc, text).map_err(Refusal::Run);
     printed(alloc, text, parsed, |all: &Vec<Expression>| {
         let mut lines = String::new(alloc);
         for expression in all {
@@ -102,11 +99,11 @@ fn what_is_no_expression_is_an_error_at_its_place(rt: HostRuntime) {
 fn what_is_too_deep_is_refused(rt: HostRuntime) -> Result<(), Fail> {
     let alloc = rt.alloc();
     for (opening, inside, closing) in [("(", "", ")"), ("'", "()", "")] {
-        let depth = if closing.is_empty() { 999 } else { 1000 };
+        let depth = if closing.is_empty() { 149 } else { 150 };
         let text = nested(alloc, depth, opening, inside, closing)?;
         let lines = shown(alloc, text.as_str())?;
         assert_eq!(rt; lines.as_str().trim_end(), text.as_str());
-        for depth in [1001, 100_000] {
+        for depth in [151, 100_000] {
             let text = nested(alloc, depth, opening, inside, closing)?;
             let lines = shown(alloc, text.as_str())?;
             assert_eq!(rt; lines.as_str(), "refused: TooDeep");

@@ -13,9 +13,11 @@ use guide::folding::{spanned_sum, sum};
 use guide::handed::{check_two_tokens, each};
 use guide::laws::token_past;
 use guide::mapping::percent;
+use guide::operators::sum as sum_by_operators;
 use guide::parts::{on_or_off, switch_is_steady, ticket, time_of_day};
 use guide::picking::span_past_x;
 use guide::readme::tell_level;
+use guide::recovering::{numbers, numbers_read};
 use guide::running::{keyword, one_two, pair};
 use guide::tokens::{Token, sum_of, tokens_of};
 
@@ -30,6 +32,25 @@ fn a_pair_is_taken(rt: HostRuntime) {
     ];
     for (text, line) in rows {
         assert_line(&rt, pair(rt.alloc(), text), line);
+    }
+}
+
+#[test]
+fn each_line_that_is_no_number_is_reported(rt: HostRuntime) {
+    let rows = [
+        ("1\n22\n", "ok [Some(1), Some(22)]"),
+        (
+            "1\nx\n300\n4y\n\n5\n",
+            "ok [Some(1), None, None, None, None, Some(5)]; \
+             error 2..3 expected a number below 256 found 'x'; \
+             error 4..7 expected a number below 256 found '3'; \
+             error 9..10 expected digit, '\\n' found 'y'; \
+             error 11..12 expected a number below 256 found '\\n'",
+        ),
+    ];
+    for (text, line) in rows {
+        assert_line(&rt, numbers(rt.alloc(), text), line);
+        assert_line(&rt, numbers_read(rt.alloc(), text), line);
     }
 }
 
@@ -305,5 +326,18 @@ fn each_line_holds_a_setting(rt: HostRuntime) {
     ];
     for (lines, line) in rows {
         assert_line(&rt, settings(rt.alloc(), lines), line);
+    }
+}
+
+#[test]
+fn operators_bind_by_their_powers(rt: HostRuntime) {
+    let rows = [
+        ("1 + 2 * -3", "ok -5"),
+        ("2*3 - 4*5", "ok -14"),
+        ("9 - 3 - 2", "ok 4"),
+        ("7 / 0", "error 0..5 expected a number that 64 bits hold found '7'"),
+    ];
+    for (text, line) in rows {
+        assert_line(&rt, sum_by_operators(rt.alloc(), text), line);
     }
 }

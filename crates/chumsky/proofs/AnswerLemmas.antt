@@ -1,5 +1,6 @@
 -- What a whole run answers.
 use Rattle.std.proofs.Common.{◌≡◌, ℕ, Bool, false, Option, Some, None, List, [], ◌∷◌, ◌++◌, refl, sym, ◌∙◌, ap, subst, Result, Ok, Err, option_to_list, inl, inr, map, IfOk}
+use Rattle.chumsky_input.specs.Layout.{Layout}
 use Rattle.chumsky_input.specs.declared.error.Error as error_trait
 use Rattle.chumsky_input.specs.declared.inspector.Inspector as inspector_trait
 use Rattle.chumsky_input.specs.declared.input.Input as input_trait
@@ -30,7 +31,7 @@ pub told-without : {V : Type 0} (a : Result (Unit {0}) Fault) → without_value 
 told-without (Ok v) = refl
 told-without (Err f) = refl
 
-module _ {I Tok Sp Cu Er St Mk Cx V W : Type 0} (source : input_trait.Ghosts I Cu Tok Sp) (errors : error_trait.Ghosts Er I Tok Sp) (states : inspector_trait.Ghosts St I Mk Tok Sp) (gives : W → Option V) (ts : List Tok) (before mid after : Held Tok Cx states.Seen errors.Seen) where
+module _ {I Tok Sp Cu Er St Mk Cx V W : Type 0} (source : input_trait.Ghosts I Cu Tok Sp) (errors : error_trait.Ghosts Er I Tok Sp) (states : inspector_trait.Ghosts St I Mk Tok Sp) (gives : W → Option V) (ts : Layout Tok) (before mid after : Held Tok Cx states.Seen errors.Seen) where
   -- what is made of what is settled
   abbrev pub Replies : Result (Option W) Stop → Result (ParseResult W Er) Stop → Type 0
   Replies (Ok out) r = (parsed : ParseResult W Er) × (r ≡ Ok parsed) × (parsed.output ≡ out) × (map errors.seen parsed.errors.items ≡ after.emitted)
@@ -90,7 +91,7 @@ module _ {V W : Type 0} (same : V → V → Type 0) (gives : W → Option V) whe
   answers_output (Halt z) w i = absurd i
   answers_output (Clash z) w i = absurd i
 
-module _ {I Tok Sp Cu Er St V W : Type 0} (source : input_trait.Ghosts I Cu Tok Sp) (errors : error_trait.Ghosts Er I Tok Sp) (same : V → V → Type 0) (gives : W → Option V) (ts : List Tok) where
+module _ {I Tok Sp Cu Er St V W : Type 0} (source : input_trait.Ghosts I Cu Tok Sp) (errors : error_trait.Ghosts Er I Tok Sp) (same : V → V → Type 0) (gives : W → Option V) (ts : Layout Tok) where
   -- what is reported of an outcome is reported of one that agrees
   errors_same : (u v : Verdict V errors.Seen) (other o : Outcome V errors.Seen St) (out : Option W) → SameAnswer same u v → IsAnswer u → IsOutput (λ v w. v ≡ gives w) v out → other.end ≡ o.end → other.events ≡ o.events → other.emitted ≡ o.emitted
       → reported errors.expectation source.span_between v ts o errors.merged ≡ reported errors.expectation source.span_between u ts other errors.merged
@@ -117,7 +118,7 @@ module _ {I Tok Sp Cu Er St V W : Type 0} (source : input_trait.Ghosts I Cu Tok 
       )
   reports_same other o new (Err e) h a n p = tt
 
-module _ {I Tok Sp Cu Er St Mk Cx V W : Type 0} (source : input_trait.Ghosts I Cu Tok Sp) (errors : error_trait.Ghosts Er I Tok Sp) (states : inspector_trait.Ghosts St I Mk Tok Sp) (gives : W → Option V) (ts : List Tok) (before mid after : Held Tok Cx states.Seen errors.Seen) where
+module _ {I Tok Sp Cu Er St Mk Cx V W : Type 0} (source : input_trait.Ghosts I Cu Tok Sp) (errors : error_trait.Ghosts Er I Tok Sp) (states : inspector_trait.Ghosts St I Mk Tok Sp) (gives : W → Option V) (ts : Layout Tok) (before mid after : Held Tok Cx states.Seen errors.Seen) where
   pub parses : {is_default : Cx → Type 0} {steady : Type 0} {same : V → V → Type 0} {meaning : Meaning Tok Cx states.Seen errors.Seen V} {wanted : Bool} {context : Cx} {old new : states.Seen} (a : Result W Fault) {x : Result (Option V) Fault} (s : Result (Option W) Stop) {r : Result (ParseResult W Er) Stop}
       → before ≡ record { tokens = ts; place = 0; context = context; state = old; kept = None; emitted = []; stopped = None } → is_default context
       → Ran errors.merged errors.takes_no_memory meaning wanted before mid x → x ≡ told gives a → SettlesAs errors.expectation source.span_between a mid after s → new ≡ after.state

@@ -1,6 +1,7 @@
 -- A run over a whole input is refused as its parser is, or for memory.
-use Rattle.std.proofs.Common.{◌≡◌, ℕ, ◌≤◌, Bool, false, List, length, Option, Some, None, refl, sym, ◌∙◌, ap, subst, arith, Result, Ok, Err, ◌⊎◌, inl, inr, slice_get}
+use Rattle.std.proofs.Common.{◌≡◌, ℕ, ◌≤◌, Bool, false, length, Option, Some, None, refl, sym, ◌∙◌, ap, subst, arith, Result, Ok, Err, ◌⊎◌, inl, inr, slice_get}
 use Rattle.std.specs.Prelude.{⊤, IfErr}
+use Rattle.chumsky_input.specs.Layout.{Layout}
 use Rattle.chumsky_input.specs.declared.error.Error as error_trait
 use Rattle.chumsky_input.specs.declared.inspector.Inspector as inspector_trait
 use Rattle.chumsky_input.specs.declared.input.Input as input_trait
@@ -69,7 +70,7 @@ module _ {I Tok Sp Cu Er St Mk Cx : Type 0} (source : input_trait.Ghosts I Cu To
 
   -- the end of input is refused for memory alone
   end-memory : (b : Beginning Tok Cx states.Seen) (o : Outcome (Unit {0}) errors.Seen states.Seen) (s : Stop) → o.verdict ≡ Halt s → MeansEnd source errors states b o → s ≡ Memory
-  end-memory b o s h m = elim m.by_token [ inl r ↦ refuses-memory o s h _ _ r | inr k ↦ end_at-memory (slice_get b.tokens b.start) b o s h k ]
+  end-memory b o s h m = elim m.by_token [ inl r ↦ refuses-memory o s h _ _ r | inr k ↦ end_at-memory (slice_get b.tokens.list b.start) b o s h k ]
 
   module _ {V : Type 0} where
     rest_memory : (v : Option V) (b : Beginning Tok Cx states.Seen) (q : Outcome V errors.Seen states.Seen) (s : Stop) → q.verdict ≡ Halt s → (p : Outcome (Unit {0}) errors.Seen states.Seen) → Asked false (MeansEnd source errors states) b p
@@ -90,7 +91,7 @@ module _ {I Tok Sp Cu Er St Mk Cx : Type 0} (source : input_trait.Ghosts I Cu To
 module _ {I Tok Sp Cu Er St Mk Cx V W : Type 0} (source : input_trait.Ghosts I Cu Tok Sp) (errors : error_trait.Ghosts Er I Tok Sp) (states : inspector_trait.Ghosts St I Mk Tok Sp) where
   -- where `parse` or `check` of well-founded rules is refused, that is for memory, or as a leaf is
   pub parses-refused : (leaf : ℕ → Meaning Tok Cx states.Seen errors.Seen V) (g : Tables) (tokens : ℕ) (m : Meaning Tok Cx states.Seen errors.Seen V) → IsRefusedAsLeaves leaf g tokens m
-      → (is_default : Cx → Type 0) (steady : Type 0) (same : V → V → Type 0) (gives : W → Option V) (wanted : Bool) (ts : List Tok) (old new : states.Seen) (result : Result (ParseResult W Er) Stop) → length ts ≤ tokens
+      → (is_default : Cx → Type 0) (steady : Type 0) (same : V → V → Type 0) (gives : W → Option V) (wanted : Bool) (ts : Layout Tok) (old new : states.Seen) (result : Result (ParseResult W Er) Stop) → length ts.list ≤ tokens
       → Parses source errors states is_default steady same gives (WholeRun source errors states m) wanted ts old new result → IfErr result (RefusesAsLeaves leaf g ts)
   parses-refused leaf g tokens m k is_default steady same gives wanted ts old new (Ok parsed) few p = tt
   parses-refused leaf g tokens m k is_default steady same gives wanted ts old new (Err s) few p =

@@ -19,8 +19,9 @@ mod steady;
 pub mod input {
     pub use chumsky_input::emitter::Emitter;
     pub use chumsky_input::input::{BorrowInput, Input, SliceInput, Tokens, ValueInput};
-    pub use chumsky_input::input_ref::{Checkpoint, Finished, InputRef};
+    pub use chumsky_input::input_ref::{Checkpoint, Finished, InputRef, Located};
     pub use chumsky_input::map_extra::MapExtra;
+    pub use chumsky_input::spanned_tokens::{SpannedTokens, split_spanned};
     pub use chumsky_input::stop::Failure;
     pub use chumsky_parser::input_ref_ext::InputRefExt;
 }
@@ -33,7 +34,7 @@ pub mod span {
 /// Small helpers that parsers and errors share.
 pub mod util {
     pub use chumsky_input::same::SameClone;
-    pub use chumsky_input::util::{Expectation, MaybeLabel, MaybeRef, Plain};
+    pub use chumsky_input::util::{Expectation, MaybeLabel, MaybeRef, Plain, Sole};
 }
 
 /// What errors say.
@@ -46,8 +47,10 @@ pub mod error {
 
 /// Errors as they are shown to people.
 pub mod report {
+    pub use chumsky_report::in_text::in_text;
+    pub use chumsky_report::index::{LineIndex, Source};
     pub use chumsky_report::line::{Place, place_of};
-    pub use chumsky_report::report::{ByteReport, Report};
+    pub use chumsky_report::report::{ByteReport, Report, TokenReport};
 }
 
 /// Sequences of tokens, and what items are collected into.
@@ -60,8 +63,20 @@ pub mod container {
 /// The types of a parser beside its input and its output.
 pub mod extra {
     pub use chumsky_input::extra::{
-        Context, Default, EmptyText, Err, Full, ParserExtra, RichBytes, RichText, SimpleText, State,
+        Context, Default, EmptyText, Err, Full, ParserExtra, RichBytes, RichText, RichTokens,
+        SimpleText, State,
     };
+}
+
+/// What is parsed where a parser fails, while its error is emitted.
+pub mod recovery {
+    pub use chumsky_recovery::moves::MovingStrategy;
+    pub use chumsky_recovery::nested_delimiters::{Closes, NestedDelimiters, nested_delimiters};
+    pub use chumsky_recovery::recover_with::RecoverWith;
+    pub use chumsky_recovery::skip_then_retry_until::{SkipThenRetryUntil, skip_then_retry_until};
+    pub use chumsky_recovery::skip_until::{Fallback, SkipUntil, skip_until};
+    pub use chumsky_recovery::strategy::{IsStrategy, Strategy};
+    pub use chumsky_recovery::via_parser::{ViaParser, via_parser};
 }
 
 /// States of a parser.
@@ -96,6 +111,30 @@ pub mod primitive {
     pub use chumsky_set::array::Slots;
     pub use chumsky_set::make::set;
     pub use chumsky_set::set::Set;
+}
+
+/// Operators by precedence: see `ParserExt::pratt`.
+pub mod pratt {
+    pub use chumsky_pratt::fixity::{Associativity, Fixity, left, none, right};
+    pub use chumsky_pratt::folders::{InfixFolder, PostfixFolder, PrefixFolder};
+    pub use chumsky_pratt::make::{infix, infix_by, postfix, postfix_by, prefix, prefix_by};
+    pub use chumsky_pratt::operands::Operands;
+    pub use chumsky_pratt::operator::{HasOutput, Infix, Operator, Postfix, Prefix};
+    pub use chumsky_pratt::pratt::Pratt;
+    pub use chumsky_pratt::row::{Found, HasFound, LastOperator, OperatorAnd, Operators};
+    pub use chumsky_pratt::rows::IntoRow;
+
+    /// What holds of operators, as those of `chumsky::laws`.
+    pub mod laws {
+        pub use chumsky_pratt::laws::{
+            a_weak_operator_is_passed_over, an_operator_past_the_bound_is_passed_over,
+            associativity_decides, none_does_not_chain, the_stronger_binds_first,
+        };
+        pub use chumsky_pratt::steady::{
+            infix_is_steady, operators_are_steady, postfix_is_steady, pratt_is_steady,
+            prefix_is_steady,
+        };
+    }
 }
 
 /// Parsers made of parsers.
@@ -196,10 +235,14 @@ pub mod text {
     }
 }
 
-/// Rules as data: recursive grammars, the parser that runs them, whether they are well-founded, which leaves move, and why a call
-/// on them is refused.
+/// Recursion: calls of functions that call themselves; and rules as data, the parser that runs them, whether they are well-founded,
+/// which leaves move, and why a call on them is refused.
 pub mod recursive {
     pub use crate::moving_part::run_moving;
+    pub use chumsky_descent::moving::MovingRecursion;
+    pub use chumsky_descent::recursive::{
+        Called, Recursion, RunsUnder, Unsaid, recursive, recursive_as,
+    };
     pub use chumsky_moves::moving::{MayStay, Moving, MovingItems, MovingPart};
     pub use chumsky_recursive::actions::Actions;
     pub use chumsky_recursive::closing::CloseRules;
@@ -214,6 +257,11 @@ pub mod recursive {
     pub use chumsky_rules::founded::WellFounded;
     pub use chumsky_rules::kinds::{Node, Recursive, SepCfg};
     pub use chumsky_rules::rules::Rules;
+}
+
+/// Laws of calls of functions, as those of `laws` and of `memory_laws`.
+pub mod recursion_laws {
+    pub use chumsky_descent::laws::{recursive_is_never_out_of_memory, recursive_is_steady};
 }
 
 /// Laws of grammars, each the contract of a function that does nothing, or looks at the nodes alone: how answers under limits
@@ -243,8 +291,9 @@ pub mod memory_laws {
         ignore_then_is_never_out_of_memory, just_is_never_out_of_memory,
         map_is_never_out_of_memory, one_of_is_never_out_of_memory, or_is_never_out_of_memory,
         repeated_is_never_out_of_memory, separated_by_is_never_out_of_memory,
-        then_is_never_out_of_memory, to_is_never_out_of_memory, to_slice_is_never_out_of_memory,
-        to_span_is_never_out_of_memory, try_map_is_never_out_of_memory,
+        then_is_never_out_of_memory, these_take_no_memory, to_is_never_out_of_memory,
+        to_slice_is_never_out_of_memory, to_span_is_never_out_of_memory,
+        try_map_is_never_out_of_memory,
     };
 }
 
@@ -258,6 +307,18 @@ pub mod context_laws {
         nested_in_is_steady, spanned_is_steady, then_with_ctx_is_steady, to_slice_is_steady,
         to_span_is_steady, tried_list_is_steady, try_configure_is_steady, with_ctx_is_steady,
         with_state_is_steady,
+    };
+}
+
+/// Laws of parsers that recover, as those of `laws`: what each answer of one is, and when it is ready and steady.
+pub mod recovery_laws {
+    pub use chumsky_recovery::laws::{
+        a_quiet_success_is_the_parsers, it_fails_only_where_its_parser_does,
+        recover_with_tells_each_failure, without_a_failure_it_does_as_its_parser,
+    };
+    pub use chumsky_recovery::steady::{
+        closes_is_steady, recover_with_is_steady, skip_then_retry_until_is_steady,
+        skip_until_is_steady, via_parser_is_steady,
     };
 }
 

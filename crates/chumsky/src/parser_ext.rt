@@ -14,12 +14,15 @@ use crate::input::{Emitter, Input, MapExtra, SliceInput, Tokens, ValueInput};
 use crate::inspector::Inspector;
 use crate::label::Labelled;
 use crate::primitive::any;
+use crate::recovery::{IsStrategy, RecoverWith};
 use crate::run;
 use crate::text::{Padded, Whitespace};
 use chumsky_input::stop::Stop;
 use chumsky_parser::iter::IsIterParser;
 use chumsky_parser::parser::{IsParser, Parser};
 use chumsky_parser::result::ParseResult;
+use chumsky_pratt::pratt::Pratt;
+use chumsky_pratt::rows::IntoRow;
 use std::alloc::Global;
 use std::convert::AsStr;
 use std::marker::PhantomData;
@@ -232,6 +235,24 @@ pub trait ParserExt<'src, I, O, E>: Sized {
         ToSpan {
             parser: self,
             of: PhantomData,
+        }
+    }
+
+    /// Reads an expression: outputs of this parser, the atoms, with operators before, after and between them, which bind by
+    /// their powers (`chumsky::pratt`). `digit.pratt((prefix(3, just('-'), |_, n| -n), infix(left(1), just('+'), |a, _, b|
+    /// a + b), infix(left(2), just('*'), |a, _, b| a * b)))` on `-1+2*3` gives `5`. Operators are tried in the order of the
+    /// tuple, of one to eight, but for those too weak for where they stand. One whose operand fails is gone back from, and
+    /// the expression ends before it; that failure stays. Where neither a prefix operator with its operand nor an atom
+    /// stands it fails as the atom does. An operator that takes no token may be refused (`Stop::NoProgress`). Operands nest
+    /// in memory, not on the machine's stack.
+    #[inline]
+    final fn pratt<T: IntoRow>(self, operators: T) -> Pratt<Self, T::Row>
+        ensures atom { result.atom ≡ self }
+        ensures operators { T.row_is operators result.operators }
+    {
+        Pratt {
+            atom: self,
+            operators: operators.into_row(),
         }
     }
 
@@ -762,6 +783,21 @@ pub trait ParserExt<'src, I, O, E>: Sized {
         ensures kind { result.kind ≡ kind }
     {
         Padded { parser: self, kind }
+    }
+
+    /// Where this parser fails, runs `strategy`, one of `chumsky::recovery`, from where it began. Where that succeeds, its
+    /// output stands, and the error that this parser would have reported is emitted, after what the strategy emitted:
+    /// `just('a').recover_with(via_parser(any()))` on `b` gives `'b'`, and an error at 0..1. Where that fails too, so does
+    /// the whole, by this parser's failure, and nothing is emitted. What this parser emitted before it failed is dropped.
+    #[inline]
+    final fn recover_with<S: IsStrategy<I, O, E>>(self, strategy: S) -> RecoverWith<Self, S>
+        ensures parser { result.parser ≡ self }
+        ensures strategy { result.strategy ≡ strategy }
+    {
+        RecoverWith {
+            parser: self,
+            strategy,
+        }
     }
 
     /// Puts the error of this parser's failure through `mapper`: `just('a').map_err(|e| Rich::custom(*e.span(), no_a))`

@@ -7,6 +7,7 @@ pub use chumsky_choice::make::choice;
 pub use chumsky_context::config::ConfigParser;
 pub use chumsky_context::config_iter::ConfigIterParser;
 pub use chumsky_context::map_ctx::map_ctx;
+pub use chumsky_descent::recursive::recursive;
 pub use chumsky_group::make::group;
 pub use chumsky_input::error::{EmptyErr, Error};
 pub use chumsky_input::extra;
@@ -14,6 +15,7 @@ pub use chumsky_input::input::Input;
 pub use chumsky_input::rich::Rich;
 pub use chumsky_input::simple::{Cheap, Simple};
 pub use chumsky_input::span::{SimpleSpan, Spanned};
+pub use chumsky_input::spanned_tokens::{SpannedTokens, split_spanned};
 pub use chumsky_parser::char_set::chars_of;
 pub use chumsky_parser::input_ref_ext::InputRefExt;
 pub use chumsky_parser::iter::{IsIterParser, IterParser};
@@ -22,6 +24,10 @@ pub use chumsky_parser::result::ParseResult;
 pub use chumsky_primitive::make::{
     any, any_ref, custom, custom_by, empty, end, just, none_of, one_of,
 };
+pub use chumsky_recovery::nested_delimiters::nested_delimiters;
+pub use chumsky_recovery::skip_then_retry_until::skip_then_retry_until;
+pub use chumsky_recovery::skip_until::skip_until;
+pub use chumsky_recovery::via_parser::via_parser;
 pub use chumsky_recursive::closing::CloseRules;
 pub use chumsky_recursive::founded::close_founded;
 pub use chumsky_recursive::grammar::close;
