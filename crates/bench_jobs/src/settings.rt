@@ -54,6 +54,37 @@ fn keyword<'src>() -> Choice<[Word<'src>; 12]> {
     ])
 }
 
+type Six<'src> = Choice<
+    (
+        Word<'src>,
+        Word<'src>,
+        Word<'src>,
+        Word<'src>,
+        Word<'src>,
+        Word<'src>,
+    ),
+>;
+
+fn key<'src>() -> Choice<(Six<'src>, Six<'src>)> {
+    let first = choice((
+        word("host", 1),
+        word("port", 2),
+        word("user", 3),
+        word("group", 4),
+        word("root", 5),
+        word("index", 6),
+    ));
+    let second = choice((
+        word("log", 7),
+        word("level", 8),
+        word("cache", 9),
+        word("timeout", 10),
+        word("retries", 11),
+        word("verbose", 12),
+    ));
+    choice((first, second))
+}
+
 fn switch<'src>() -> Choice<[Word<'src>; 2]> {
     choice([word("true", 1), word("false", 2)])
 }
@@ -78,27 +109,10 @@ fn settings(alloc: Global, bytes: &[u8], wanted: bool) -> u64 {
 fn keys(alloc: Global, bytes: &[u8], wanted: bool) -> u64 {
     match std::str::from_utf8(bytes) {
         Ok(text) => {
-            let first = choice((
-                word("host", 1),
-                word("port", 2),
-                word("user", 3),
-                word("group", 4),
-                word("root", 5),
-                word("index", 6),
-            ));
-            let second = choice((
-                word("log", 7),
-                word("level", 8),
-                word("cache", 9),
-                word("timeout", 10),
-                word("retries", 11),
-                word("verbose", 12),
-            ));
-            let key = choice((first, second));
             let digits = one_of('0'..='9').repeated().at_least(1).at_most(4);
             let count = digits.count().map(|count| count as u64);
             let value = choice((word("true", 1), word("false", 2))).or(count);
-            let line = group((key, just(" = "), value, just('\n'))).map(|(key, _, value, _): (
+            let line = group((key(), just(" = "), value, just('\n'))).map(|(key, _, value, _): (
                 u64,
                 &str,
                 u64,

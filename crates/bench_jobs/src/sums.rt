@@ -37,27 +37,14 @@ fn plus_or_minus(sum: u64, term: (char, u64)) -> u64 {
     }
 }
 
-/// A number of one digit or more.
-macro_rules! number {
-    () => {
-        one_of::<_, &str, EmptyText>('0'..='9')
-            .map(digit)
-            .foldl(one_of('0'..='9').map(digit).repeated(), with_digit)
-    };
-}
-
-/// Numbers, multiplied.
-macro_rules! product {
-    () => {
-        number!().foldl(just('*').ignore_then(number!()).repeated(), times)
-    };
-}
-
 fn sums(alloc: Global, bytes: &[u8], wanted: bool) -> u64 {
     match std::str::from_utf8(bytes) {
         Ok(text) => {
-            let terms = one_of("+-").then(product!()).repeated();
-            let sum = product!().foldl(terms, plus_or_minus);
+            let digit = one_of::<_, &str, EmptyText>('0'..='9').map(digit);
+            let number = (&digit).foldl((&digit).repeated(), with_digit);
+            let product = (&number).foldl(just('*').ignore_then(&number).repeated(), times);
+            let terms = one_of("+-").then(&product).repeated();
+            let sum = (&product).foldl(terms, plus_or_minus);
             again(&sum.then_ignore(just('\n')), alloc, text, wanted)
         }
         Err(_) => 0,

@@ -3,7 +3,7 @@ ghost use Rattle.std.specs.Prelude.{[], ◌||◌, ◌==◌, IfOk, ⊤};
 
 use crate::run::once;
 use chumsky::PResult;
-use chumsky::combinator::{Map, Mapper, Part, part_of, run_part};
+use chumsky::combinator::{Map, Mapper, OfPart, Part, part_of, run_part};
 use chumsky::extra::EmptyText;
 use chumsky::input::InputRef;
 use chumsky::prelude::*;
@@ -365,6 +365,19 @@ pub extern "C" fn bench_tree_check(alloc: Global, bytes: &[u8]) -> u64 {
     run_tree(alloc, bytes, false)
 }
 
+/// The leaves, in the order of their numbers.
+fn tree_leaves<'src>() -> [Either<OfPart<Leaf>, Mark<'src>>; 7] {
+    [
+        Either::Left(part_of(Leaf::Scalar)),
+        Either::Left(part_of(Leaf::Name)),
+        Either::Right(mark_leaf(',')),
+        Either::Right(mark_leaf('[')),
+        Either::Right(mark_leaf(']')),
+        Either::Right(mark_leaf('{')),
+        Either::Right(mark_leaf('}')),
+    ]
+}
+
 fn run_tree(alloc: Global, bytes: &[u8], wanted: bool) -> u64 {
     let Ok(text) = std::str::from_utf8(bytes) else {
         return 0;
@@ -373,15 +386,7 @@ fn run_tree(alloc: Global, bytes: &[u8], wanted: bool) -> u64 {
     let Ok(start) = tree_rules(&mut rules) else {
         return 0;
     };
-    let leaves = [
-        Either::Left(part_of(Leaf::Scalar)),
-        Either::Left(part_of(Leaf::Name)),
-        Either::Right(mark_leaf(',')),
-        Either::Right(mark_leaf('[')),
-        Either::Right(mark_leaf(']')),
-        Either::Right(mark_leaf('{')),
-        Either::Right(mark_leaf('}')),
-    ];
+    let leaves = tree_leaves();
     let actions = Leaves {
         leaves: &leaves,
         values: Trees,

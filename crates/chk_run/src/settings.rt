@@ -7,13 +7,16 @@ ghost use Rattle.chk_run.specs.Settings.{InBrackets, Printed, ReadsNumber};
 use crate::grammar::{Answer, Command, run_parser};
 use crate::show::Refusal;
 use chumsky::Stop;
+use chumsky::combinator::{Map, Mapper, Repeated, To, ToSlice};
 use chumsky::extra::RichText;
 use chumsky::prelude::*;
+use chumsky::primitive::{Just, OneOf};
 use chumsky::recursive::{BuildError, Leaves, Moving, Node, RecursiveError, SepCfg, Values};
 use either::Either;
 use std::alloc::{AllocError, Global};
 use std::borrow::CowStr;
 use std::marker::PhantomData;
+use std::ops::RangeInclusive;
 
 /// The leaves, by number.
 const NAME: usize = 0;
@@ -190,6 +193,41 @@ fn settings(rules: &mut Rules) -> Result<Recursive, RecursiveError> {
     Ok(settings)
 }
 
+/// The slice of a name or of digits, as a text to print.
+#[derive(Clone, Copy)]
+struct Taken;
+
+impl<'src> Mapper<&'src str, CowStr<'src>> for Taken {
+    fn apply(&self, slice: &'src str) -> CowStr<'src> {
+        CowStr::Borrowed(slice)
+    }
+}
+
+type Characters<'src> = OneOf<RangeInclusive<char>, &'src str, RichText>;
+
+type Word<'src> = Map<
+    ToSlice<Repeated<Characters<'src>, char, &'src str, RichText>, ()>,
+    &'src str,
+    Taken,
+    CowStr<'src>,
+>;
+
+/// One of these characters or more.
+fn word<'src>(characters: RangeInclusive<char>) -> Word<'src> {
+    one_of(characters)
+        .repeated()
+        .at_least(1)
+        .to_slice()
+        .map_by(Taken)
+}
+
+type Mark<'src> = To<Just<char, &'src str, RichText>, char, CowStr<'src>>;
+
+/// A character that says no more than that it is there.
+fn mark<'src>(mark: char) -> Mark<'src> {
+    just(mark).to(CowStr::Borrowed(""))
+}
+
 /// The settings of the text, by these leaves.
 fn run_over<'src, P: Moving<'src, &'src str, CowStr<'src>, RichText>>(
     rules: &Rules,
@@ -221,17 +259,14 @@ pub fn run_settings<'src>(
     let Ok(start) = settings(&mut rules) else {
         return Err(Refusal::Run(Stop::Memory));
     };
-    let letters = one_of::<_, _, RichText>('a'..='z');
-    let digits = one_of('0'..='9');
-    let taken = |slice| CowStr::Borrowed(slice);
     let leaves = [
-        Either::Left(letters.repeated().at_least(1).to_slice().map(taken)),
-        Either::Left(digits.repeated().at_least(1).to_slice().map(taken)),
-        Either::Right(just('=').to(CowStr::Borrowed(""))),
-        Either::Right(just('\n').to(CowStr::Borrowed(""))),
-        Either::Right(just('[').to(CowStr::Borrowed(""))),
-        Either::Right(just(',').to(CowStr::Borrowed(""))),
-        Either::Right(just(']').to(CowStr::Borrowed(""))),
+        Either::Left(word('a'..='z')),
+        Either::Left(word('0'..='9')),
+        Either::Right(mark('=')),
+        Either::Right(mark('\n')),
+        Either::Right(mark('[')),
+        Either::Right(mark(',')),
+        Either::Right(mark(']')),
     ];
     run_over(&rules, start, &leaves, alloc, command, text)
 }
