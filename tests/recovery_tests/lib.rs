@@ -1,5 +1,10 @@
 //! What recovering parsers answer.
+mod blocks;
+mod brainfuck;
 mod grammars;
+mod json;
+mod labels;
 mod moves;
 mod nested;
 mod strategies;
+mod wide;
