@@ -11,6 +11,7 @@ mod grammars;
 mod items;
 mod line;
 mod plans;
+mod pratt;
 mod recovery;
 mod rows;
 mod run;
@@ -74,6 +75,8 @@ fn answer_of(alloc: Global, name: &[u8], row: usize, check: bool, again: bool) -
         b"few_items" => items::sweep_few_items(alloc, row, check, again),
         b"empty_items" => items::sweep_empty_items(alloc, row, check, again),
         b"items_of_an_output" => items::sweep_items_of_an_output(alloc, row, check, again),
+        b"operators" => pratt::sweep_operators(alloc, row, check, again),
+        b"kept_operators" => pratt::sweep_kept_operators(alloc, row, check, again),
         b"recovered" => recovery::sweep_recovered(alloc, row, check, again),
         b"delimited" => recovery::sweep_delimited(alloc, row, check, again),
         b"set" => rows::sweep_set(alloc, row, check, again),
