@@ -56,6 +56,7 @@ fn answer_of(alloc: Global, name: &[u8], row: usize, check: bool, again: bool) -
         b"chk" => chk::sweep_chk(alloc, row, check, again),
         b"clone_primitive" => clones::sweep_clone_primitive(alloc, row, check, again),
         b"clone_sequence" => clones::sweep_clone_sequence(alloc, row, check, again),
+        b"clone_operators" => clones::sweep_clone_operators(alloc, row, check, again),
         b"clone_mapped" => clones::sweep_clone_mapped(alloc, row, check, again),
         b"clone_items" => clones::sweep_clone_items(alloc, row, check, again),
         b"clone_recovered" => clones::sweep_clone_recovered(alloc, row, check, again),
