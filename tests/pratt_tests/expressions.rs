@@ -197,7 +197,7 @@ fn what_would_go_on_for_ever_is_refused(rt: HostRuntime) {
     assert_answers(&rt, &joined, &[("1", "ok 1"), ("123", "ok -7")]);
 }
 
-/// How many operators nest: more than the machine's stack has room for, and few enough for runs that check each access.
+/// How many operators nest: few enough for runs that check each access.
 const NESTED: usize = 10_000;
 
 /// A text, so many times.
