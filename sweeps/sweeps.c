@@ -88,6 +88,13 @@ static const struct row rows[] = {
     {"delimited", 1, BY_PARSE, "ok z; 1..2 expected 7 found ("},
     {"delimited", 1, BY_CHECK, "ok (); 1..2 expected 7 found ("},
     {"delimited", 2, BY_BOTH, "no output; 1..2 expected 7 found ("},
+    {"operators", 0, BY_PARSE, "ok 127"},
+    {"operators", 0, BY_CHECK, "ok ()"},
+    {"operators", 1, BY_BOTH, "no output; 3..3 expected - 1 found end"},
+    {"operators", 2, BY_BOTH, "no output; 5..6 expected ! ^ + end found <"},
+    {"kept_operators", 0, BY_PARSE, "ok [1]"},
+    {"kept_operators", 0, BY_CHECK, "ok ()"},
+    {"kept_operators", 1, BY_BOTH, "no output; 6..6 expected - 1 found end"},
     {"chained_items", 0, BY_PARSE, "ok [abbcc]"},
     {"chained_items", 0, BY_CHECK, "ok ()"},
     {"chained_items", 1, BY_BOTH, "no output; 0..1 expected a found b"},
@@ -161,7 +168,7 @@ static const struct {
 } clones[] = {
     {"clone_primitive", 10}, {"clone_sequence", 14}, {"clone_mapped", 17},
     {"clone_items", 14},     {"clone_under", 10},    {"clone_value", 14},
-    {"clone_recovered", 3},
+    {"clone_recovered", 3},  {"clone_operators", 4},
 };
 
 /* The judge. */

@@ -5,6 +5,7 @@ use arrayvec::ArrayVec;
 use chumsky::combinator::RepeatedCfg;
 use chumsky::extra::RichText;
 use chumsky::inspector::{RollbackState, SimpleState, TruncateState};
+use chumsky::pratt::{infix, left, postfix, prefix};
 use chumsky::prelude::*;
 use chumsky::primitive::{select, select_ref};
 use chumsky::recursive::{BuildError, CloseError, DefineError, SepCfg};
@@ -63,6 +64,26 @@ pub fn sweep_clone_sequence(alloc: Global, row: usize, _check: bool, again: bool
         11 => cloning.show(a.not()),
         12 => cloning.show(a.rewind()),
         13 => cloning.show(a.lazy()),
+        _ => cloning.none(),
+    }
+    cloning.line()
+}
+
+/// Expressions of operators.
+pub fn sweep_clone_operators(alloc: Global, row: usize, _check: bool, again: bool) -> Line {
+    let mut cloning = Cloning::new(alloc, again);
+    let (a, b) = (cloning.held(), cloning.held());
+    match row {
+        0 => cloning.show(a.pratt((prefix(1, b, |_: String, x: String| x),))),
+        1 => cloning.show(a.pratt((postfix(1, b, |x: String, _: String| x),))),
+        2 => cloning.show(a.pratt((infix(left(1), b, |x: String, _: String, _: String| x),))),
+        3 => {
+            let c = cloning.held();
+            cloning.show(a.pratt((
+                prefix(2, b, |_: String, x: String| x),
+                infix(left(1), c, |x: String, _: String, _: String| x),
+            )));
+        }
         _ => cloning.none(),
     }
     cloning.line()

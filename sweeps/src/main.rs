@@ -11,6 +11,7 @@ mod grammars;
 mod items;
 mod line;
 mod plans;
+mod pratt;
 mod recovery;
 mod rows;
 mod run;
@@ -55,6 +56,7 @@ fn answer_of(alloc: Global, name: &[u8], row: usize, check: bool, again: bool) -
         b"chk" => chk::sweep_chk(alloc, row, check, again),
         b"clone_primitive" => clones::sweep_clone_primitive(alloc, row, check, again),
         b"clone_sequence" => clones::sweep_clone_sequence(alloc, row, check, again),
+        b"clone_operators" => clones::sweep_clone_operators(alloc, row, check, again),
         b"clone_mapped" => clones::sweep_clone_mapped(alloc, row, check, again),
         b"clone_items" => clones::sweep_clone_items(alloc, row, check, again),
         b"clone_recovered" => clones::sweep_clone_recovered(alloc, row, check, again),
@@ -74,6 +76,8 @@ fn answer_of(alloc: Global, name: &[u8], row: usize, check: bool, again: bool) -
         b"few_items" => items::sweep_few_items(alloc, row, check, again),
         b"empty_items" => items::sweep_empty_items(alloc, row, check, again),
         b"items_of_an_output" => items::sweep_items_of_an_output(alloc, row, check, again),
+        b"operators" => pratt::sweep_operators(alloc, row, check, again),
+        b"kept_operators" => pratt::sweep_kept_operators(alloc, row, check, again),
         b"recovered" => recovery::sweep_recovered(alloc, row, check, again),
         b"delimited" => recovery::sweep_delimited(alloc, row, check, again),
         b"set" => rows::sweep_set(alloc, row, check, again),

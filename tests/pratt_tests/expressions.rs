@@ -7,6 +7,7 @@ use chumsky::pratt::{
     right,
 };
 use chumsky::prelude::*;
+use std::alloc::AllocError;
 
 /// A digit, as what it counts.
 macro_rules! digit {
@@ -196,24 +197,48 @@ fn what_would_go_on_for_ever_is_refused(rt: HostRuntime) {
     assert_answers(&rt, &joined, &[("1", "ok 1"), ("123", "ok -7")]);
 }
 
-/// Prefix operators before one digit, and right operands each in the one before it, to a depth.
+/// How many operators nest: few enough for runs that check each access.
+const NESTED: usize = 10_000;
+
+/// A text, so many times.
+fn add_times(text: &mut String, part: &str) -> Result<(), AllocError> {
+    for _ in 0..NESTED {
+        text.push_str(part)?;
+    }
+    Ok(())
+}
+
 #[test]
-fn nesting_is_not_bounded_by_the_machine_stack(rt: HostRuntime) {
-    let bare = one_of::<_, &str, extra::EmptyText>('0'..='9').pratt((
-        prefix(2, just('-'), |_: char, a: char| a),
-        infix(right(1), just('^'), |a: char, _: char, _b: char| a),
-    ));
+fn prefix_operators_do_not_nest_on_the_stack(rt: HostRuntime) {
+    let turned = one_of::<_, &str, extra::EmptyText>('0'..='9')
+        .to(0u32)
+        .pratt((prefix(2, just('-'), |_: char, count: u32| count.wrapping_add(1)),));
     let mut text = String::new(rt.alloc());
-    for _ in 0..10_000 {
-        text.push('-').expect(&rt, "want of memory");
-    }
+    add_times(&mut text, "-").expect(&rt, "want of memory");
+    let open = turned.parse(rt.alloc(), text.as_str()).expect(&rt, "a refusal");
+    assert!(rt; open.has_errors());
     text.push('1').expect(&rt, "want of memory");
-    for _ in 0..10_000 {
-        text.push('^').expect(&rt, "want of memory");
-        text.push('0').expect(&rt, "want of memory");
-    }
-    let result = bare.check(rt.alloc(), text.as_str()).expect(&rt, "a refusal");
-    assert!(rt; !result.has_errors());
-    let result = bare.parse(rt.alloc(), text.as_str()).expect(&rt, "a refusal");
-    assert!(rt; !result.has_errors());
+    let parsed = turned.parse(rt.alloc(), text.as_str()).expect(&rt, "a refusal");
+    assert!(rt; !parsed.has_errors());
+    assert!(rt; parsed.output() == Some(&10_000));
+    let checked = turned.check(rt.alloc(), text.as_str()).expect(&rt, "a refusal");
+    assert!(rt; !checked.has_errors());
+}
+
+#[test]
+fn right_operands_do_not_nest_on_the_stack(rt: HostRuntime) {
+    let towers = one_of::<_, &str, extra::EmptyText>('0'..='9')
+        .to(0u32)
+        .pratt((infix(right(1), just('^'), |_: u32, _: char, after: u32| after.wrapping_add(1)),));
+    let mut text = String::new(rt.alloc());
+    text.push('1').expect(&rt, "want of memory");
+    add_times(&mut text, "^0").expect(&rt, "want of memory");
+    let parsed = towers.parse(rt.alloc(), text.as_str()).expect(&rt, "a refusal");
+    assert!(rt; !parsed.has_errors());
+    assert!(rt; parsed.output() == Some(&10_000));
+    let checked = towers.check(rt.alloc(), text.as_str()).expect(&rt, "a refusal");
+    assert!(rt; !checked.has_errors());
+    text.push('^').expect(&rt, "want of memory");
+    let open = towers.parse(rt.alloc(), text.as_str()).expect(&rt, "a refusal");
+    assert!(rt; open.has_errors());
 }
