@@ -5,6 +5,7 @@ use chumsky::extra::RichText;
 use chumsky::input::InputRef;
 use chumsky::prelude::*;
 use chumsky::{PResult, Stop};
+use std::alloc::{AllocError, Global};
 
 /// Any number of brackets, one after another and within one another: how deep they go.
 pub fn brackets<'src>(
@@ -52,6 +53,38 @@ fn one_call_more_than_the_limit_is_too_deep(rt: HostRuntime) {
         let few = recursive::<_, _, _, RichText>(brackets, least - 1);
         assert_answers(&rt, &few, &[(text, "refused TooDeep")]);
     }
+}
+
+/// Openings, each of which stands within the one before.
+fn openings<'src>(
+    inp: &mut InputRef<'src, '_, &'src str, RichText>,
+    wanted: bool,
+    depth: usize,
+) -> PResult<Option<()>> {
+    let inside = just('[').ignore_then(recursive(openings, depth));
+    run_part(&inside.or_not().ignored(), wanted, inp)
+}
+
+/// So many openings.
+fn openings_of(alloc: Global, count: usize) -> Result<String, AllocError> {
+    let mut text = String::new(alloc);
+    for _opening in 0..count {
+        text.push('[')?;
+    }
+    Ok(text)
+}
+
+/// The stack suffices that `scripts/tests` asks for.
+#[test]
+fn a_hundred_thousand_calls_may_be_open(rt: HostRuntime) {
+    let limit = 100_000;
+    let call = recursive::<_, _, _, RichText>(openings, limit);
+    let text = openings_of(rt.alloc(), limit - 1).expect(&rt, "want of memory");
+    let checked = call.check(rt.alloc(), text.as_str()).expect(&rt, "refused");
+    assert!(rt; checked.has_output());
+    let text = openings_of(rt.alloc(), limit).expect(&rt, "want of memory");
+    let checked = call.check(rt.alloc(), text.as_str());
+    assert!(rt; matches!(checked, Err(Stop::TooDeep)));
 }
 
 /// A sum that begins with a sum: on every text it calls itself until no depth is left.
