@@ -83,7 +83,7 @@ struct Arguments {
 
 /// Expressions in brackets, with a `,` between them and perhaps one at the end.
 #[cycle(program)]
-fn arguments<'src>(
+fn argument_list<'src>(
     inp: &mut Run<'src, '_>,
     wanted: bool,
     depth: usize,
@@ -133,7 +133,7 @@ fn call<'src>(inp: &mut Run<'src, '_>, wanted: bool, depth: usize) -> PResult<Op
 {
     let alloc = inp.alloc();
     let call = recursive(atom, depth).foldl(
-        recursive(arguments, depth).repeated(),
+        recursive(argument_list, depth).repeated(),
         |callee: Tree, arguments: Arguments| called(alloc, callee, arguments),
     );
     run_part(&call, wanted, inp)
