@@ -143,7 +143,7 @@ fn what_is_emitted_of_a_labelled_part_points_at_its_token(rt: HostRuntime) {
     let all = single.repeated().collect::<Vec<_>>();
     let rows = [(
         split_spanned(&tokens, end),
-        "ok [false, true, false] error 3..6 a b, and not a c error 18..21 a b, and not a c",
+        "ok [false, true, false]; error 3..6 \"a b, and not a c\"; error 18..21 \"a b, and not a c\"",
     )];
     assert_answers(&rt, &all, &rows);
 }

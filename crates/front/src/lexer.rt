@@ -156,12 +156,7 @@ impl<'src> Part<'src, &'src str, Option<Spanned<Token, SimpleSpan>>, RichText> f
         wanted: bool,
         inp: &mut InputRef<'src, '_, &'src str, RichText>,
     ) -> PResult<Option<Option<Spanned<Token, SimpleSpan>>>> {
-        let token = part_of(AnyToken).map_with(|inner, extra| {
-            Some(Spanned {
-                inner,
-                span: extra.span(),
-            })
-        });
+        let token = part_of(AnyToken).spanned().map(Some);
         let other = any().validate(|_, extra, emitter| {
             emitter.emit(problem(
                 extra.alloc(),
