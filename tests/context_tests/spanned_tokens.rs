@@ -4,7 +4,8 @@ use answers::asserts::assert_answers;
 use chumsky::extra::RichTokens;
 use chumsky::input::Tokens;
 use chumsky::prelude::*;
-use chumsky::primitive::Select;
+use chumsky::primitive::{Select, SelectRef};
+use std::alloc::{AllocError, Global};
 use std::process::Abort;
 
 /// A character that takes three bytes from an offset on.
@@ -122,4 +123,73 @@ fn a_part_of_the_tokens_is_an_input(rt: HostRuntime) {
     let nested = just('a').ignore_then(inner.nested_in(outer));
     let rows = [(split_spanned(&tokens, END), "error 13..16 expected end of input found 'c'")];
     assert_answers(&rt, &nested, &rows);
+}
+
+#[test]
+fn what_is_emitted_of_a_labelled_part_points_at_its_token(rt: HostRuntime) {
+    let tokens = [at('a', 0), at('c', 3), at('a', 9), at('b', 12), at('a', 15), at('c', 18)];
+    let end = SimpleSpan { start: 21, end: 21 };
+    let single = just::<_, Chars, RichTokens<char>>('a')
+        .ignore_then(one_of(['b', 'c']).spanned())
+        .validate(|read: Spanned<char, SimpleSpan>, extra, emitter| {
+            if read.inner == 'c' {
+                if let Ok(error) = Rich::custom_in(extra.alloc(), read.span, "a b, and not a c") {
+                    emitter.emit(error);
+                }
+            }
+            read.inner == 'b'
+        })
+        .labelled("single");
+    let all = single.repeated().collect::<Vec<_>>();
+    let rows = [(
+        split_spanned(&tokens, end),
+        "ok [false, true, false]; error 3..6 \"a b, and not a c\"; error 18..21 \"a b, and not a c\"",
+    )];
+    assert_answers(&rt, &all, &rows);
+}
+
+/// A character, or the tokens between two brackets and the span of the bracket that closes them.
+#[derive(Drop)]
+enum Tree {
+    Token(char),
+    Group(Vec<Spanned<Tree, SimpleSpan>>, SimpleSpan),
+}
+
+type Trees<'src> = SpannedTokens<'src, Tree>;
+
+/// The tokens `a ( b )`, of which the last is left out where it is told so.
+fn group(alloc: Global, whole: bool) -> Result<[Spanned<Tree, SimpleSpan>; 2], AllocError> {
+    let mut inside = Vec::new(alloc);
+    if whole {
+        inside.push(spanned(Tree::Token('b'), 10, 11))?;
+    }
+    let end = SimpleSpan { start: 12, end: 13 };
+    Ok([spanned(Tree::Token('a'), 2, 3), spanned(Tree::Group(inside, end), 8, 13)])
+}
+
+fn spanned(inner: Tree, start: usize, end: usize) -> Spanned<Tree, SimpleSpan> {
+    Spanned {
+        inner,
+        span: SimpleSpan { start, end },
+    }
+}
+
+#[test]
+fn the_errors_within_a_group_of_tokens_point_into_the_text(rt: HostRuntime) {
+    let character: SelectRef<_, Trees, char, extra::Err<Cheap>> = select_ref! {
+        Tree::Token(character) => *character,
+    };
+    let inside: SelectRef<_, Trees, Trees, extra::Err<Cheap>> = select_ref! {
+        Tree::Group(tokens, end) => split_spanned(tokens.as_slice(), *end),
+    };
+    let call = (&character).then((&character).then_ignore(end()).nested_in(inside));
+    let whole = group(rt.alloc(), true).expect(&rt, "memory");
+    let empty = group(rt.alloc(), false).expect(&rt, "memory");
+    let rows = [
+        (split_spanned(&whole, END), "ok ('a', 'b')"),
+        (split_spanned(&empty, END), "error 12..13"),
+        (split_spanned(&whole[..1], END), "error 20..20"),
+        (split_spanned(&whole[1..], END), "error 8..13"),
+    ];
+    assert_answers(&rt, &call, &rows);
 }
