@@ -10,6 +10,7 @@ use guide::contexts::{declared, prefixed, settings};
 use guide::extras::Plain;
 use guide::flattening::{all_letters, number_plate};
 use guide::folding::{spanned_sum, sum};
+use guide::forms::{range, word_of};
 use guide::handed::{check_two_tokens, each};
 use guide::laws::token_past;
 use guide::mapping::percent;
@@ -52,6 +53,14 @@ fn each_line_that_is_no_number_is_reported(rt: HostRuntime) {
         assert_line(&rt, numbers(rt.alloc(), text), line);
         assert_line(&rt, numbers_read(rt.alloc(), text), line);
     }
+}
+
+#[test]
+fn a_parser_stands_in_two_places_and_words_borrow_from_their_text(rt: HostRuntime) {
+    assert_line(&rt, range(rt.alloc(), "1-9"), "ok ('1', '9')");
+    assert_line(&rt, range(rt.alloc(), "1-a"), "error 2..3 expected '0'..='9' found 'a'");
+    assert_line(&rt, word_of(rt.alloc(), "12"), "ok Number(\"12\")");
+    assert_line(&rt, word_of(rt.alloc(), "ab"), "ok Name(\"ab\")");
 }
 
 #[test]

@@ -12,6 +12,7 @@ pub mod descent;
 pub mod extras;
 pub mod flattening;
 pub mod folding;
+pub mod forms;
 pub mod handed;
 pub mod laws;
 pub mod mapping;
