@@ -3,7 +3,7 @@
 #![tactic(auto)]
 
 use arithmetic::{Refused, parse_arithmetic};
-use chumsky::report::Report;
+use chumsky::report::{LineIndex, Report};
 use std::io;
 use std::io::Read;
 use std::process::ExitCode;
@@ -20,10 +20,11 @@ fn answer(rt: &HostRuntime) -> io::Result<ExitCode> {
         }
         Err(_) => return Ok(ExitCode::from(2)),
     };
+    let lines = LineIndex::new(rt.alloc(), text.as_str())?;
     for error in parsed.errors() {
         let report = Report {
             name: "input",
-            text: text.as_str(),
+            text: &lines,
             error,
         };
         println!(rt; "{report}")?;

@@ -6,8 +6,8 @@ use crate::log_lines::{LogText, parse_log};
 use crate::refusal::Refusal;
 use chumsky::Stop;
 use chumsky::error::Rich;
-use chumsky::report::Report;
-use std::alloc::Global;
+use chumsky::report::{LineIndex, Report};
+use std::alloc::{AllocError, Global};
 use std::fmt::Display;
 use std::io::{ErrorKind, Read, Write};
 
@@ -39,6 +39,12 @@ enum Failure {
 impl From<Refusal> for Failure {
     fn from(refusal: Refusal) -> Failure {
         Failure::Refused(refusal)
+    }
+}
+
+impl From<AllocError> for Failure {
+    fn from(_error: AllocError) -> Failure {
+        Failure::Refused(Refusal::Run(Stop::Memory))
     }
 }
 
@@ -143,14 +149,14 @@ fn tell<W: Write>(
             if let Some(ini) = parsed.output() {
                 print(out, IniText(ini))?;
             }
-            report(out, text, parsed.errors.as_slice())
+            report(alloc, out, text, parsed.errors.as_slice())
         }
         Language::Log => {
             let parsed = parse_log(alloc, text)?;
             if let Some(lines) = parsed.output() {
                 print(out, LogText(lines.as_slice()))?;
             }
-            report(out, text, parsed.errors.as_slice())
+            report(alloc, out, text, parsed.errors.as_slice())
         }
     }
 }
@@ -161,11 +167,17 @@ fn print<D: Display + Drop, W: Write>(out: &mut W, value: D) -> Result<(), Failu
 }
 
 /// Prints the errors of a text. Says whether there is none.
-fn report<W: Write>(out: &mut W, text: &str, errors: &[Rich<char>]) -> Result<bool, Failure> {
+fn report<W: Write>(
+    alloc: Global,
+    out: &mut W,
+    text: &str,
+    errors: &[Rich<char>],
+) -> Result<bool, Failure> {
+    let lines = LineIndex::new(alloc, text)?;
     for error in errors {
         let report = Report {
             name: "input",
-            text,
+            text: &lines,
             error,
         };
         writeln!(out, "{report}").map_err(|_| Failure::Unwritable)?;

@@ -2,7 +2,7 @@
 //! The exit status is 0 for JSON, 1 for a text that is none, and 2 where there is no answer.
 #![tactic(auto)]
 
-use chumsky::report::Report;
+use chumsky::report::{LineIndex, Report};
 use json_tree::{JsonText, Refused, read_json};
 use std::alloc::Global;
 use std::io::Read;
@@ -33,10 +33,11 @@ fn answer(rt: &HostRuntime, indented: bool) -> io::Result<ExitCode> {
         }
         Err(_) => return Ok(ExitCode::from(2)),
     };
+    let lines = LineIndex::new(rt.alloc(), text.as_str())?;
     for error in parsed.errors() {
         let report = Report {
             name: "input",
-            text: text.as_str(),
+            text: &lines,
             error,
         };
         println!(rt; "{report}")?;

@@ -2,7 +2,7 @@
 //! status is 0 for s-expressions, 1 for a text that has none, and 2 where there is no answer.
 #![tactic(auto)]
 
-use chumsky::report::Report;
+use chumsky::report::{LineIndex, Report};
 use s_expression::read_expressions;
 use std::io;
 use std::io::Read;
@@ -19,10 +19,11 @@ fn answer(rt: &HostRuntime) -> io::Result<ExitCode> {
             return Ok(ExitCode::from(2));
         }
     };
+    let lines = LineIndex::new(rt.alloc(), text.as_str())?;
     for error in parsed.errors() {
         let report = Report {
             name: "input",
-            text: text.as_str(),
+            text: &lines,
             error,
         };
         println!(rt; "{report}")?;
