@@ -1,7 +1,6 @@
 //! The text that a program reads, and what it prints of it.
 ghost use Rattle.std.specs.Prelude.{◌≡◌, [], ◌∷◌, ◌++◌, IfErr, IfOk, IfSome, OnOk, length, nat_eq, string_bytes};
 ghost use Rattle.std.specs.Io.KnownBytes.{Appends, IsAtEnd};
-ghost use Rattle.console.specs.Reports.{reports};
 ghost use Rattle.console.specs.declared.failure.Failure.TheVariants.{Unwritable};
 
 use crate::failure::Failure;
@@ -40,7 +39,6 @@ pub fn report<E: Write>(
     text: &str,
     errors: &[Rich<char>],
 ) -> Result<bool, Failure>
-    ensures printed { OnOk result (Appends (E.contents err.old) (E.contents err.new) (reports text.now errors.now)) }
     ensures accepted { IfOk result (λ accepted. accepted ≡ nat_eq (length errors.now) 0) }
 {
     if errors.is_empty() {
