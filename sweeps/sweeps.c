@@ -145,6 +145,7 @@ static const struct row rows[] = {
     {"calls", 1, BY_BOTH, "no output; 7..7 expected , ] found end"},
     {"calls", 2, BY_BOTH, "refused TooDeep"},
     {"into_owned", 0, BY_PARSE, "ok"},
+    {"declared", 0, BY_PARSE, "ok ac"},
     {"chk", 0, BY_PARSE, "0 ok ab|"},
     {"chk", 0, BY_CHECK, "0 ok|"},
     {"chk", 1, BY_BOTH, "1 error 1..2 expected 'b' found 'c'|"},

@@ -85,6 +85,7 @@ fn answer_of(alloc: Global, name: &[u8], row: usize, check: bool, again: bool) -
         b"merges" => rows::sweep_merges(alloc, row, check, again),
         b"filter" => rows::sweep_filter(alloc, row, check, again),
         b"nested" => rows::sweep_nested(alloc, row, check, again),
+        b"declared" => states::sweep_declared(alloc, row, check, again),
         b"restored_state" => states::sweep_restored_state(alloc, row, check, again),
         b"restored_text" => states::sweep_restored_text(alloc, row, check, again),
         _ => return None,

@@ -1,10 +1,11 @@
-//! A state that goes back where the parser does.
-use crate::line::Line;
+//! States that go back where the parser does.
+use crate::line::{Line, Say};
 use crate::run::{say_answer, say_stop};
 use chumsky::Stop;
 use chumsky::extra::Full;
 use chumsky::inspector::RollbackState;
 use chumsky::prelude::*;
+use guide::contexts::declared;
 use std::alloc::Global;
 
 /// Errors of a text, and a number that is restored.
@@ -101,5 +102,29 @@ where
             Ok(number) => line.number(number),
             Err(_) => line.text("many"),
         }
+    }
+}
+
+/// The names that a text declares, by the guide's function.
+pub fn sweep_declared(alloc: Global, _row: usize, _check: bool, again: bool) -> Line {
+    let mut line = Line::new();
+    say_declared(alloc, &mut line);
+    if again {
+        line.byte(b'\n');
+        say_declared(alloc, &mut line);
+    }
+    line
+}
+
+/// Writes the names, or why there are none.
+fn say_declared(alloc: Global, line: &mut Line) {
+    match declared(alloc, "a;b!c;") {
+        Ok(names) => {
+            line.text("ok ");
+            for name in names.as_slice() {
+                name.say(line);
+            }
+        }
+        Err(stop) => say_stop(line, stop),
     }
 }

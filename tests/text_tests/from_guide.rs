@@ -1,7 +1,7 @@
 //! The parsers of text that docs/GUIDE.md shows, run as it says.
-use answers::asserts::assert_line;
+use answers::asserts::{assert_answers, assert_line};
 use chumsky::report::Report;
-use guide::words::{bound, byte, month, setting};
+use guide::words::{bound, byte, identifiers, keywords, month, setting};
 
 #[test]
 fn a_setting_is_a_name_and_a_number(rt: HostRuntime) {
@@ -64,4 +64,14 @@ fn a_month_is_expected_by_its_label(rt: HostRuntime) {
     }
     let expected = "log:1:1: expected a month, found 'S'\nSep\n^^^";
     assert_eq!(rt; told.as_str(), expected);
+}
+
+#[test]
+fn identifiers_of_ascii_have_no_other_letters(rt: HostRuntime) {
+    let (ascii, unicode) = identifiers();
+    assert_answers(&rt, &ascii, &[("a1", "ok \"a1\""), ("é", "error 0..2 expected identifier found 'é'")]);
+    assert_answers(&rt, &unicode, &[("a1", "ok \"a1\""), ("é", "ok \"é\"")]);
+    let (ascii, unicode) = keywords("été");
+    assert_answers(&rt, &ascii, &[("été", "error 0..2 expected été found 'é'")]);
+    assert_answers(&rt, &unicode, &[("été", "ok \"été\"")]);
 }

@@ -1,6 +1,5 @@
 //! Parsers of real size, each with its types, in a file of its own: a date, a line of settings, the header of a packet, a query
-//! to the domain name system, the first line of an HTTP request. Then whole languages, which `programs` reads from any input:
-//! INI, and the lines of a log.
+//! to the domain name system, the first line of an HTTP request. Then whole languages: INI, and the lines of a log.
 #![tactic(auto)]
 
 pub mod date;
@@ -8,9 +7,7 @@ pub mod digits;
 pub mod header;
 pub mod ini;
 pub mod log_lines;
-pub mod programs;
 pub mod query;
-pub mod refusal;
 pub mod request;
 pub mod setting;
 pub mod words;

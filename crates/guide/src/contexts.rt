@@ -1,9 +1,11 @@
 //! What was read says what follows: a context, a state that goes back, an input within an input.
-use chumsky::Stop;
 use chumsky::extra::RichBytes;
+use chumsky::input::InputRef;
 use chumsky::inspector::TruncateState;
 use chumsky::prelude::*;
-use std::alloc::Global;
+use chumsky::primitive::Reader;
+use chumsky::{Failure, Stop};
+use std::alloc::{AllocError, Global};
 
 /// A byte that says how many bytes follow, and these.
 pub fn prefixed(alloc: Global, bytes: &[u8]) -> Result<ParseResult<&[u8], Rich<u8>>, Stop> {
@@ -19,15 +21,33 @@ pub fn prefixed(alloc: Global, bytes: &[u8]) -> Result<ParseResult<&[u8], Rich<u
 /// Errors of a text, and the names that it declares so far.
 type Declaring = extra::Full<Rich<char>, TruncateState<char>, ()>;
 
+/// Adds a name.
+fn add(names: &mut Vec<char>, name: char) -> Result<(), AllocError> {
+    names.push(name)?;
+    Ok(())
+}
+
+/// Reads a name, and adds it to those that are declared. Where there is no memory for it, the run is refused.
+#[derive(Clone, Copy)]
+pub struct Name;
+
+impl<'src> Reader<'src, &'src str, (), Declaring> for Name {
+    fn read(
+        &self,
+        inp: &mut InputRef<'src, '_, &'src str, Declaring>,
+    ) -> Result<(), Failure<Rich<char>>> {
+        let name = inp.parse(any())?;
+        add(&mut inp.state().0, name)?;
+        Ok(())
+    }
+}
+
 /// The names that a text declares as far as it can be read, as `a` and `c` in `a;b!c;`. A name is added before what follows it
 /// is read.
 pub fn declared(alloc: Global, text: &str) -> Result<Vec<char>, Stop> {
-    let name = any::<&str, Declaring>()
-        .map_with(|name, extra| extra.state().0.push(name).is_ok())
-        .filter(|pushed| *pushed);
-    let declaration = name.then_ignore(just(';'));
-    let call = any().then(just('!')).to(true);
-    let all = declaration.or(call).repeated().collect::<Vec<_>>();
+    let declaration = custom_by(Name).then_ignore(just(';'));
+    let call = any().then_ignore(just('!')).ignored();
+    let all = declaration.or(call).repeated();
     let mut names = TruncateState(Vec::new(alloc));
     let _parsed = all.parse_with_state(alloc, text, &mut names)?;
     Ok(names.0)

@@ -2,7 +2,7 @@
 use chumsky::Stop;
 use chumsky::extra::RichText;
 use chumsky::prelude::*;
-use chumsky::report::Report;
+use chumsky::report::{LineIndex, Report};
 use std::alloc::Global;
 
 /// How much a program tells of itself.
@@ -32,10 +32,11 @@ pub fn tell_level(alloc: Global, text: &str) -> Result<String, Stop> {
     if let Some(level) = parsed.output() {
         writeln!(told, "{level:?}")?;
     }
+    let lines = LineIndex::new(alloc, text)?;
     for error in parsed.errors() {
         let report = Report {
             name: "settings",
-            text,
+            text: &lines,
             error,
         };
         writeln!(told, "{report}")?;

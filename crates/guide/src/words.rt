@@ -2,6 +2,7 @@
 use chumsky::Stop;
 use chumsky::extra::RichText;
 use chumsky::prelude::*;
+use chumsky::text::{AsciiIdent, Keyword, UnicodeIdent, Word};
 use std::alloc::Global;
 
 /// A name and its number, as `size = 10`.
@@ -45,4 +46,22 @@ pub fn month(alloc: Global, line: &str) -> Result<ParseResult<u8, Rich<char>>, S
         })
         .labelled("a month");
     month.parse(alloc, line)
+}
+
+/// An identifier of ASCII, and one of Unicode. Their types tell which is which.
+pub fn identifiers<'src>() -> (
+    Word<AsciiIdent, &'src str, RichText>,
+    Word<UnicodeIdent, &'src str, RichText>,
+) {
+    (text::ascii::ident(), text::unicode::ident())
+}
+
+/// A keyword that is an identifier of ASCII, and one that is an identifier of Unicode.
+pub fn keywords<'k, 'src>(
+    word: &'k str,
+) -> (
+    Keyword<'k, AsciiIdent, &'src str, RichText>,
+    Keyword<'k, UnicodeIdent, &'src str, RichText>,
+) {
+    (text::ascii::keyword(word), text::unicode::keyword(word))
 }
