@@ -1,5 +1,7 @@
 //! Parsers of real size, each with its types, in a file of its own: a date, a line of settings, the header of a packet, a query
-//! to the domain name system, the first line of an HTTP request. Then whole languages: INI, and the lines of a log.
+//! to the domain name system, the first line of an HTTP request. Then whole languages, of which
+//! each line that is wrong is reported in one run: statements, and INI and the lines of a log, which `programs` reads from any
+//! input.
 #![tactic(auto)]
 
 pub mod date;
@@ -10,4 +12,5 @@ pub mod log_lines;
 pub mod query;
 pub mod request;
 pub mod setting;
+pub mod statements;
 pub mod words;
