@@ -8,6 +8,7 @@ use answers::leaves::{any_char, just_char, just_text};
 use arrayvec::ArrayVec;
 use chumsky::combinator::{Part, part_of, run_part};
 use chumsky::input::InputRef;
+use chumsky::pratt::{infix, left, prefix};
 use chumsky::prelude::*;
 use chumsky::primitive::{any_ref, select, select_ref};
 use chumsky::recursive::{MayStay, Moving, MovingItems, MovingPart, run_moving};
@@ -260,6 +261,21 @@ fn a_fold_moves_where_its_parser_or_its_items_do(rt: HostRuntime) {
             ("foldr, none", moves(maybe().foldr(none(), |_, n| n)), false),
             ("foldr_with", moves(maybe().foldr_with(a(), |_, n, _| n)), true),
             ("foldr_with, none", moves(maybe().foldr_with(none(), |_, n, _| n)), false),
+        ],
+    );
+}
+
+#[test]
+fn an_expression_moves_where_its_atom_does(rt: HostRuntime) {
+    let (a, none) = (|| just_char('a'), || empty().to('a'));
+    let minus = || prefix(1, just_char('-'), |_: char, operand: char| operand);
+    let joined = infix(left(1), just_text(""), |before: char, _: &str, _: char| before);
+    assert_rows(
+        &rt,
+        &[
+            ("pratt", moves(a().pratt((minus(),))), true),
+            ("pratt, an operator that takes nothing", moves(a().pratt((minus(), joined))), true),
+            ("pratt, none", moves(none().pratt((minus(),))), false),
         ],
     );
 }

@@ -127,8 +127,9 @@ pub mod pratt {
     /// What holds of operators, as those of `chumsky::laws`.
     pub mod laws {
         pub use chumsky_pratt::laws::{
-            a_weak_operator_is_passed_over, an_operator_past_the_bound_is_passed_over,
-            associativity_decides, none_does_not_chain, the_stronger_binds_first,
+            a_round_is_read_by_choice, a_value_is_read_by_choice, a_weak_operator_is_passed_over,
+            an_operator_past_the_bound_is_passed_over, associativity_decides, none_does_not_chain,
+            the_stronger_binds_first, without_operators_an_expression_is_its_atom,
         };
         pub use chumsky_pratt::steady::{
             infix_is_steady, operators_are_steady, postfix_is_steady, pratt_is_steady,

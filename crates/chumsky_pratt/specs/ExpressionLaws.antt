@@ -28,11 +28,11 @@ module _ {Tok Cx St Er V : Type 0} where
   onward-ends place m h b o (inl k) a = h b o k.1 a
   onward-ends place m h b o (inr k) a = stops-ends NoProgress b o k.1 a
 
-  waiting-ends : (m : Meaning Tok Cx St Er V) → EndsAfterStart m → EndsAfterStart (Waiting m)
+  pub waiting-ends : (m : Meaning Tok Cx St Er V) → EndsAfterStart m → EndsAfterStart (Waiting m)
   waiting-ends m h b o (inl r) a = absurd (subst IsAnswer r.1 a)
   waiting-ends m h b o (inr k) a = h b o k a
 
-  folded-ends : {F : Type 0} (gives : F → Operands V → V → Type 0) (p : Option (F × Operands V)) → EndsAfterStart (Folded {Tok = Tok} {Cx = Cx} {St = St} {Er = Er} gives p)
+  pub folded-ends : {F : Type 0} (gives : F → Operands V → V → Type 0) (p : Option (F × Operands V)) → EndsAfterStart (Folded {Tok = Tok} {Cx = Cx} {St = St} {Er = Er} gives p)
   folded-ends gives (Some p) b o m a = given-ends (Some m.0) b o m.2 a
   folded-ends gives None b o m a = given-ends None b o m a
 
@@ -91,14 +91,14 @@ module _ {Tok Cx St Mk Er F V : Type 0} (s : Syntax Tok Cx St Mk Er F V) (atom_e
         (λ k. from-ends (TryPostfix s operand start least b.start x below k) (try_postfix-ends least b.start x below k) s.number 0 (From s (TryInfix s operand start least b.start x below k) s.number 0 (Given (Some Rests)))
         (from-ends (TryInfix s operand start least b.start x below k) (try_infix-ends least b.start x below k) s.number 0 (Given (Some Rests)) (given-ends (Some Rests)))) m.run a
 
-    rounds-end : (least n below : ℕ) (x : Option V) → EndsAfterStart (Rounds s operand start least n below x)
+    pub rounds-end : (least n below : ℕ) (x : Option V) → EndsAfterStart (Rounds s operand start least n below x)
     rounds-end least zero below x b o m a = absurd m
     rounds-end least (suc n) below x b o m a = chained-ends (Round s operand start least below x) (AfterTurn x (Rounds s operand start least n)) (round-ends least below x) (after_turn-ends x (Rounds s operand start least n) (rounds-end least n)) b o m a
 
   level-ends : (operand : ℕ → Meaning Tok Cx St Er V) → ((power : ℕ) → EndsAfterStart (operand power)) → (least : ℕ) → EndsAfterStart (Level s operand least)
   level-ends operand h least b o m a = chained-ends (Head s operand b.start) (AllRounds s operand b.start least any_power) (head-ends operand h b.start) (λ x c q n z. rounds-end operand h b.start least n.rounds any_power x c q n.run z) b o m.run a
 
-  below-ends : (n least : ℕ) → EndsAfterStart (Below s n least)
+  pub below-ends : (n least : ℕ) → EndsAfterStart (Below s n least)
   below-ends zero least b o m a = absurd m
   below-ends (suc n) least b o m a = elim m [ inl k ↦ level-ends (Below s n) (below-ends n) least b o k.1 a | inr k ↦ below-ends n least b o k.1 a ]
 

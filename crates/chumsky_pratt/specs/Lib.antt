@@ -8,3 +8,8 @@ pub mod Kinds
 pub mod Climbing
 pub mod Weight
 pub mod PrecedenceLaws
+pub mod Choices
+pub mod ChoicesLaws
+pub mod Alone
+pub mod AloneLaws
+pub mod ExpressionMoves

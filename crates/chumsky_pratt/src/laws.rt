@@ -2,6 +2,8 @@
 ghost use Rattle.std.specs.Prelude.{◌≡◌, ◌<◌, ◌≤◌, ℕ};
 ghost use Rattle.chumsky_pratt.specs.Doing.{syntax_of};
 ghost use Rattle.chumsky_pratt.specs.Operators.{infix_fixity};
+ghost use Rattle.chumsky_pratt.specs.Choices.{ReadsByChoice, TurnsByChoice};
+ghost use Rattle.chumsky_pratt.specs.Alone.{AloneIsAtom};
 ghost use Rattle.chumsky_pratt.specs.PrecedenceLaws.{power_of, left_power, StaysOut, GoesIn, StaysOutAfter, PassesOver, PassesOverUnder};
 
 use crate::fixity::Associativity;
@@ -53,4 +55,44 @@ pub fn an_operator_past_the_bound_is_passed_over<
     R: Operators<'src, I, O, E>,
 >(parser: &Pratt<P, R>)
     ensures { (i below : ℕ) (a : Associativity) → R.stands parser.now.operators i ≡ infix_fixity a → below ≤ left_power a → PassesOverUnder (syntax_of (P.meaning parser.now.atom) (R.number parser.now.operators) (R.stands parser.now.operators) (R.reads parser.now.operators) (R.gives parser.now.operators) E.Error.Error E.State.Inspector) below i }
+{}
+
+/// The value that an expression begins with is read as by an ordered choice: of each prefix operator with its operand, in
+/// their order, and at last of an atom. So a failure of one stays when it is gone back from, and the next begins in the state
+/// that going back leaves.
+pub fn a_value_is_read_by_choice<
+    'src,
+    I: Input<'src>,
+    O,
+    E: ParserExtra<I>,
+    P: Parser<'src, I, O, E>,
+    R: Operators<'src, I, O, E>,
+>(parser: &Pratt<P, R>)
+    ensures { ReadsByChoice (syntax_of (P.meaning parser.now.atom) (R.number parser.now.operators) (R.stands parser.now.operators) (R.reads parser.now.operators) (R.gives parser.now.operators) E.Error.Error E.State.Inspector) }
+{}
+
+/// What follows a value is read as by an ordered choice: of each postfix operator that is strong enough, of each infix
+/// operator with its right operand that is strong enough and under the bound, and at last of nothing.
+pub fn a_round_is_read_by_choice<
+    'src,
+    I: Input<'src>,
+    O,
+    E: ParserExtra<I>,
+    P: Parser<'src, I, O, E>,
+    R: Operators<'src, I, O, E>,
+>(parser: &Pratt<P, R>)
+    ensures { TurnsByChoice (syntax_of (P.meaning parser.now.atom) (R.number parser.now.operators) (R.stands parser.now.operators) (R.reads parser.now.operators) (R.gives parser.now.operators) E.Error.Error E.State.Inspector) }
+{}
+
+/// Where no operator is found in the text, an answer of an expression is that of its atom, with its value, its end, the errors
+/// that it emitted and its failures; before and after these stand those of the operators that were tried.
+pub fn without_operators_an_expression_is_its_atom<
+    'src,
+    I: Input<'src>,
+    O,
+    E: ParserExtra<I>,
+    P: Parser<'src, I, O, E>,
+    R: Operators<'src, I, O, E>,
+>(parser: &Pratt<P, R>)
+    ensures { AloneIsAtom (syntax_of (P.meaning parser.now.atom) (R.number parser.now.operators) (R.stands parser.now.operators) (R.reads parser.now.operators) (R.gives parser.now.operators) E.Error.Error E.State.Inspector) 0 }
 {}

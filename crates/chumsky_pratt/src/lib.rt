@@ -7,6 +7,7 @@ mod kinds;
 pub mod laws;
 mod machine;
 pub mod make;
+pub mod moves;
 mod opening;
 pub mod operands;
 pub mod operator;
