@@ -1,7 +1,6 @@
 //! What sums come to.
-use crate::printed::{assert_lines, nested, printed};
+use crate::printed::{Refusal, assert_lines, nested, printed};
 use arithmetic::{Refused, parse_arithmetic};
-use examples::refusal::Refusal;
 use std::alloc::{AllocError, Global};
 use std::test::Fail;
 

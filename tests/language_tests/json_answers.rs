@@ -1,6 +1,5 @@
 //! What JSON is, on texts whose answers are known from outside.
-use crate::printed::{assert_lines, nested, printed};
-use examples::refusal::Refusal;
+use crate::printed::{Refusal, assert_lines, nested, printed};
 use json_tree::{Json, JsonText, Refused, read_json};
 use std::alloc::{AllocError, Global};
 use std::test::Fail;

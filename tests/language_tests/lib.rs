@@ -6,8 +6,6 @@ mod arithmetic_answers;
 #[cfg(test)]
 mod expressions;
 #[cfg(test)]
-mod front_ends;
-#[cfg(test)]
 mod json_answers;
 #[cfg(test)]
 mod json_oracle;

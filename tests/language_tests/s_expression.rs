@@ -1,11 +1,11 @@
 //! S-expressions with texts as JSON has them, and texts of a length that stands before them.
+use crate::printed::Refusal;
 use chumsky::PResult;
 use chumsky::combinator::{Part, part_of, run_part};
 use chumsky::extra::RichText;
 use chumsky::input::InputRef;
 use chumsky::prelude::*;
 use chumsky::recursive::{Leaves, MayStay, RecursiveError, Values};
-use examples::refusal::Refusal;
 use json_tree::leaves::Quoted;
 use json_tree::tree::QuotedText;
 use std::alloc::{AllocError, Global};

@@ -58,7 +58,7 @@ fn each_line_that_is_no_number_is_reported(rt: HostRuntime) {
 #[test]
 fn a_parser_stands_in_two_places_and_words_borrow_from_their_text(rt: HostRuntime) {
     assert_line(&rt, range(rt.alloc(), "1-9"), "ok ('1', '9')");
-    assert_line(&rt, range(rt.alloc(), "1-a"), "error 2..3 expected '0'..='9' found 'a'");
+    assert_line(&rt, range(rt.alloc(), "1-a"), "error 2..3 expected '0', '1', '2', '3', '4', '5', '6', '7', '8', '9' found 'a'");
     assert_line(&rt, word_of(rt.alloc(), "12"), "ok Number(\"12\")");
     assert_line(&rt, word_of(rt.alloc(), "ab"), "ok Name(\"ab\")");
 }

@@ -1,8 +1,8 @@
 //! What the programs of a text are, read in two stages.
-use crate::printed::{assert_lines, nested};
 use chumsky::report::Report;
-use front::read::read_program;
-use std::alloc::{AllocError, Global};
+use crate::read::read_program;
+use std::alloc::{AllocError, AllocGlobal, Global};
+use std::process::Abort;
 
 /// What is printed of a text: a report of each error, and then each item in a line of its own.
 fn shown(alloc: Global, text: &str) -> Result<String, AllocError> {
@@ -24,6 +24,37 @@ fn shown(alloc: Global, text: &str) -> Result<String, AllocError> {
         }
     }
     Ok(all)
+}
+
+/// Asserts what is printed of each text.
+fn assert_lines<R: Abort + AllocGlobal, F: Fn(Global, &str) -> Result<String, AllocError>>(
+    rt: &R,
+    shown: F,
+    rows: &[(&str, &str)],
+) {
+    for (text, expected) in rows {
+        let lines = shown(rt.alloc(), *text).expect(rt, "want of memory");
+        assert_eq!(rt; lines.as_str(), *expected, "of {text}");
+    }
+}
+
+/// So many times `opening`, then `inside`, then as many times `closing`.
+fn nested(
+    alloc: Global,
+    depth: usize,
+    opening: &str,
+    inside: &str,
+    closing: &str,
+) -> Result<String, AllocError> {
+    let mut text = String::new(alloc);
+    for _level in 0..depth {
+        text.push_str(opening)?;
+    }
+    text.push_str(inside)?;
+    for _level in 0..depth {
+        text.push_str(closing)?;
+    }
+    Ok(text)
 }
 
 #[test]
