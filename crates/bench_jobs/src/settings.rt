@@ -1,7 +1,9 @@
 //! A setting on each line, as `port = 8080` or `verbose = true`.
 use crate::run::again;
-use chumsky::combinator::To;
+use chumsky::PResult;
+use chumsky::combinator::{Part, To, part_of, run_part};
 use chumsky::extra::EmptyText;
+use chumsky::input::InputRef;
 use chumsky::prelude::*;
 use chumsky::primitive::{Choice, Just};
 use std::alloc::Global;
@@ -54,35 +56,36 @@ fn keyword<'src>() -> Choice<[Word<'src>; 12]> {
     ])
 }
 
-type Six<'src> = Choice<
-    (
-        Word<'src>,
-        Word<'src>,
-        Word<'src>,
-        Word<'src>,
-        Word<'src>,
-        Word<'src>,
-    ),
->;
+/// A keyword, as its number, by tuples.
+#[derive(Clone, Copy)]
+struct Key;
 
-fn key<'src>() -> Choice<(Six<'src>, Six<'src>)> {
-    let first = choice((
-        word("host", 1),
-        word("port", 2),
-        word("user", 3),
-        word("group", 4),
-        word("root", 5),
-        word("index", 6),
-    ));
-    let second = choice((
-        word("log", 7),
-        word("level", 8),
-        word("cache", 9),
-        word("timeout", 10),
-        word("retries", 11),
-        word("verbose", 12),
-    ));
-    choice((first, second))
+impl<'src> IsParser<&'src str, u64, EmptyText> for Key {}
+
+impl<'src> Part<'src, &'src str, u64, EmptyText> for Key {
+    fn run(
+        &self,
+        wanted: bool,
+        inp: &mut InputRef<'src, '_, &'src str, EmptyText>,
+    ) -> PResult<Option<u64>> {
+        let first = choice((
+            word("host", 1),
+            word("port", 2),
+            word("user", 3),
+            word("group", 4),
+            word("root", 5),
+            word("index", 6),
+        ));
+        let second = choice((
+            word("log", 7),
+            word("level", 8),
+            word("cache", 9),
+            word("timeout", 10),
+            word("retries", 11),
+            word("verbose", 12),
+        ));
+        run_part(&choice((first, second)), wanted, inp)
+    }
 }
 
 fn switch<'src>() -> Choice<[Word<'src>; 2]> {
@@ -112,12 +115,12 @@ fn keys(alloc: Global, bytes: &[u8], wanted: bool) -> u64 {
             let digits = one_of('0'..='9').repeated().at_least(1).at_most(4);
             let count = digits.count().map(|count| count as u64);
             let value = choice((word("true", 1), word("false", 2))).or(count);
-            let line = group((key(), just(" = "), value, just('\n'))).map(|(key, _, value, _): (
-                u64,
-                &str,
-                u64,
-                char,
-            )| key.wrapping_mul(value));
+            let line = group((part_of(Key), just(" = "), value, just('\n'))).map(|(
+                key,
+                _,
+                value,
+                _,
+            ): (u64, &str, u64, char)| key.wrapping_mul(value));
             again(&line, alloc, text, wanted)
         }
         Err(_) => 0,

@@ -1,6 +1,9 @@
 //! A sum of products on each line, as `12+3*45-6`.
 use crate::run::again;
+use chumsky::PResult;
+use chumsky::combinator::{Part, part_of, run_part};
 use chumsky::extra::EmptyText;
+use chumsky::input::InputRef;
 use chumsky::prelude::*;
 use std::alloc::Global;
 
@@ -37,14 +40,49 @@ fn plus_or_minus(sum: u64, term: (char, u64)) -> u64 {
     }
 }
 
+/// A number of one digit or more.
+#[derive(Clone, Copy)]
+struct Number;
+
+impl<'src> IsParser<&'src str, u64, EmptyText> for Number {}
+
+impl<'src> Part<'src, &'src str, u64, EmptyText> for Number {
+    fn run(
+        &self,
+        wanted: bool,
+        inp: &mut InputRef<'src, '_, &'src str, EmptyText>,
+    ) -> PResult<Option<u64>> {
+        let number = one_of('0'..='9')
+            .map(digit)
+            .foldl(one_of('0'..='9').map(digit).repeated(), with_digit);
+        run_part(&number, wanted, inp)
+    }
+}
+
+/// Numbers, multiplied.
+#[derive(Clone, Copy)]
+struct Product;
+
+impl<'src> IsParser<&'src str, u64, EmptyText> for Product {}
+
+impl<'src> Part<'src, &'src str, u64, EmptyText> for Product {
+    fn run(
+        &self,
+        wanted: bool,
+        inp: &mut InputRef<'src, '_, &'src str, EmptyText>,
+    ) -> PResult<Option<u64>> {
+        let factors = just('*').ignore_then(part_of(Number)).repeated();
+        run_part(&part_of(Number).foldl(factors, times), wanted, inp)
+    }
+}
+
 fn sums(alloc: Global, bytes: &[u8], wanted: bool) -> u64 {
     match std::str::from_utf8(bytes) {
         Ok(text) => {
-            let digit = one_of::<_, &str, EmptyText>('0'..='9').map(digit);
-            let number = (&digit).foldl((&digit).repeated(), with_digit);
-            let product = (&number).foldl(just('*').ignore_then(&number).repeated(), times);
-            let terms = one_of("+-").then(&product).repeated();
-            let sum = (&product).foldl(terms, plus_or_minus);
+            let terms = one_of::<_, &str, EmptyText>("+-")
+                .then(part_of(Product))
+                .repeated();
+            let sum = part_of(Product).foldl(terms, plus_or_minus);
             again(&sum.then_ignore(just('\n')), alloc, text, wanted)
         }
         Err(_) => 0,

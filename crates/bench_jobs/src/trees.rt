@@ -3,13 +3,13 @@ ghost use Rattle.std.specs.Prelude.{[], ◌||◌, ◌==◌, IfOk, ⊤};
 
 use crate::run::once;
 use chumsky::PResult;
-use chumsky::combinator::{Map, Mapper, OfPart, Part, part_of, run_part};
+use chumsky::combinator::{OfPart, Part, part_of, run_part};
 use chumsky::extra::EmptyText;
 use chumsky::input::InputRef;
 use chumsky::prelude::*;
-use chumsky::primitive::{Just, Select};
+use chumsky::primitive::Select;
 use chumsky::recursive::{BuildError, Leaves, MayStay, Node, RecursiveError, SepCfg, Values};
-use chumsky::text::{Kind, Padded};
+use chumsky::text::Kind;
 use chumsky::util::Plain;
 use either::Either;
 use std::alloc::{AllocError, Global};
@@ -202,23 +202,24 @@ impl<'src> Part<'src, &'src str, Value, EmptyText> for Leaf {
 
 impl MayStay for Leaf {}
 
-/// A comma or a bracket as a value.
+/// A comma or a bracket, with what is blank around it.
 #[derive(Clone, Copy)]
-struct ToMark;
+struct Mark(char);
 
-impl Mapper<char, Value> for ToMark {
-    #[inline]
-    fn apply(&self, _mark: char) -> Value {
-        Value::Mark
+impl<'src> IsParser<&'src str, Value, EmptyText> for Mark {}
+
+impl<'src> Part<'src, &'src str, Value, EmptyText> for Mark {
+    fn run(
+        &self,
+        wanted: bool,
+        inp: &mut InputRef<'src, '_, &'src str, EmptyText>,
+    ) -> PResult<Option<Value>> {
+        let mark = just(self.0).map(|_| Value::Mark);
+        run_part(&mark.padded_with(Blank), wanted, inp)
     }
 }
 
-type Mark<'src> = Map<Padded<Just<char, &'src str, EmptyText>, Blank>, char, ToMark, Value>;
-
-/// A comma or a bracket.
-fn mark_leaf<'src>(mark: char) -> Mark<'src> {
-    just(mark).padded_with(Blank).map_by(ToMark)
-}
+impl MayStay for Mark {}
 
 /// The leaves, by number.
 const SCALAR: usize = 0;
@@ -366,15 +367,15 @@ pub extern "C" fn bench_tree_check(alloc: Global, bytes: &[u8]) -> u64 {
 }
 
 /// The leaves, in the order of their numbers.
-fn tree_leaves<'src>() -> [Either<OfPart<Leaf>, Mark<'src>>; 7] {
+fn tree_leaves() -> [Either<OfPart<Leaf>, OfPart<Mark>>; 7] {
     [
         Either::Left(part_of(Leaf::Scalar)),
         Either::Left(part_of(Leaf::Name)),
-        Either::Right(mark_leaf(',')),
-        Either::Right(mark_leaf('[')),
-        Either::Right(mark_leaf(']')),
-        Either::Right(mark_leaf('{')),
-        Either::Right(mark_leaf('}')),
+        Either::Right(part_of(Mark(','))),
+        Either::Right(part_of(Mark('['))),
+        Either::Right(part_of(Mark(']'))),
+        Either::Right(part_of(Mark('{'))),
+        Either::Right(part_of(Mark('}'))),
     ]
 }
 
