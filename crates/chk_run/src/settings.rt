@@ -229,15 +229,19 @@ fn mark<'src>(mark: char) -> Mark<'src> {
 }
 
 /// The settings of the text, by these leaves.
-fn run_over<'src, P: Moving<'src, &'src str, CowStr<'src>, RichText>>(
+fn run_over<
+    'src,
+    P: Moving<'src, &'src str, CowStr<'src>, RichText>,
+    Q: Moving<'src, &'src str, CowStr<'src>, RichText>,
+>(
     rules: &Rules,
     start: Recursive,
-    leaves: &[P],
+    leaves: &[Either<P, Q>],
     alloc: Global,
     command: Command,
     text: &'src str,
 ) -> Result<Answer<CowStr<'src>>, Refusal>
-    requires { All P.ready leaves.now }
+    requires { All ⟦<Either<P, Q> as Parser<'src, &'src str, CowStr<'src>, RichText>>⟧.ready leaves.now }
 {
     let actions = Leaves {
         leaves,
