@@ -5,7 +5,6 @@ use examples::header::parse_header;
 use examples::query::parse_query;
 use examples::request::parse_request;
 use examples::setting::parse_setting;
-use examples::statements::parse_statements;
 
 #[test]
 fn a_date_has_a_month_and_a_day(rt: HostRuntime) {
@@ -52,38 +51,6 @@ fn a_setting_has_a_key_and_a_value(rt: HostRuntime) {
     ];
     for (text, line) in rows {
         assert_line(&rt, parse_setting(rt.alloc(), text), line);
-    }
-}
-
-#[test]
-fn each_statement_that_is_wrong_has_an_error_of_its_own(rt: HostRuntime) {
-    let rows = [
-        ("", "ok []"),
-        (
-            " let size = 12;\nprint size;\n",
-            "ok [Let(\"size\", 12), Print(\"size\")]",
-        ),
-        (
-            "let a = 1; lte b = 2; print a; print 3; let c = 5000000000; print c;",
-            "ok [Let(\"a\", 1), Print(\"a\"), Print(\"c\")]; \
-             error 11..14 expected a statement found 'l'; error 37..38 expected a name found '3'; \
-             error 48..58 expected a number below 2^32 found '5'",
-        ),
-        (
-            "let a = 1 print a; print a;",
-            "ok [Print(\"a\")]; error 10..11 expected ';' found 'p'",
-        ),
-        (
-            ";; print a;",
-            "ok [Print(\"a\")]; error 0..1 expected a statement found ';'; error 1..2 expected a statement found ';'",
-        ),
-        (
-            "x; print a",
-            "error 0..1 expected a statement found 'x'; error 10..10 expected ';' found end",
-        ),
-    ];
-    for (text, line) in rows {
-        assert_line(&rt, parse_statements(rt.alloc(), text), line);
     }
 }
 

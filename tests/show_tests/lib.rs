@@ -1,4 +1,4 @@
-//! What the programs `show`, `calc`, `format_json` and `format_lisp` print, word for word, and their statuses.
+//! What the program `show` prints, word for word.
 
 #[cfg(test)]
 mod ini;

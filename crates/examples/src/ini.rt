@@ -1,7 +1,7 @@
-//! Settings in sections, as INI files have them. A line that can't be read is an error of its own, and the lines after it are read.
+//! Settings in sections, as INI files have them.
 ghost use Rattle.std.specs.Prelude.{◌≡◌, [], IfOk, IsTrue, is_some};
 
-use crate::words::{LeftOut, Trimmed};
+use crate::words::Trimmed;
 use chumsky::combinator::{Part, part_of, run_part};
 use chumsky::extra::RichText;
 use chumsky::input::InputRef;
@@ -83,90 +83,27 @@ impl<'src> Part<'src, &'src str, (&'src str, &'src str), RichText> for Entry {
     }
 }
 
-/// The rest of a line that is left out, and the gap after it.
-#[derive(Clone, Copy)]
-struct Rest;
-
-impl<'src> IsParser<&'src str, (), RichText> for Rest {}
-
-impl<'src> Part<'src, &'src str, (), RichText> for Rest {
-    fn run(
-        &self,
-        wanted: bool,
-        inp: &mut InputRef<'src, '_, &'src str, RichText>,
-    ) -> PResult<Option<()>> {
-        let rest = none_of("\n").repeated().then(part_of(Gap));
-        run_part(&rest.ignored(), wanted, inp)
-    }
-}
-
-/// The name of a section in brackets. Nothing, and an error, of another line that begins with a bracket.
-#[derive(Clone, Copy)]
-struct Head;
-
-impl<'src> IsParser<&'src str, Option<&'src str>, RichText> for Head {}
-
-impl<'src> Part<'src, &'src str, Option<&'src str>, RichText> for Head {
-    fn run(
-        &self,
-        wanted: bool,
-        inp: &mut InputRef<'src, '_, &'src str, RichText>,
-    ) -> PResult<Option<Option<&'src str>>> {
-        let head = part_of(Name)
-            .delimited_by(just('[').labelled("a section"), just(']'))
-            .then_ignore(part_of(Gap));
-        let other = just('[').ignore_then(part_of(Rest));
-        let head = head
-            .map(Some)
-            .recover_with(via_parser(other.map_by(LeftOut)));
-        run_part(&head, wanted, inp)
-    }
-}
-
-/// The entries of a section. An error of each other line that doesn't begin with a bracket.
-#[derive(Clone, Copy)]
-struct Entries;
-
-impl<'src> IsParser<&'src str, Section<'src>, RichText> for Entries {}
-
-impl<'src> Part<'src, &'src str, Section<'src>, RichText> for Entries {
-    fn run(
-        &self,
-        wanted: bool,
-        inp: &mut InputRef<'src, '_, &'src str, RichText>,
-    ) -> PResult<Option<Section<'src>>> {
-        let other = none_of("[").ignore_then(part_of(Rest));
-        let entry = part_of(Entry)
-            .map(Some)
-            .recover_with(via_parser(other.map_by(LeftOut)));
-        let entries = entry.repeated().flatten().collect::<Section<'src>>();
-        run_part(&entries, wanted, inp)
-    }
-}
-
-/// A section by its name. Nothing, and an error, of one whose name can't be read, and of a line before the first section.
+/// The name of a section in brackets, and its entries.
 #[derive(Clone, Copy)]
 struct Headed;
 
-impl<'src> IsParser<&'src str, Option<(&'src str, Section<'src>)>, RichText> for Headed {}
+impl<'src> IsParser<&'src str, (&'src str, Section<'src>), RichText> for Headed {}
 
-impl<'src> Part<'src, &'src str, Option<(&'src str, Section<'src>)>, RichText> for Headed {
+impl<'src> Part<'src, &'src str, (&'src str, Section<'src>), RichText> for Headed {
     fn run(
         &self,
         wanted: bool,
         inp: &mut InputRef<'src, '_, &'src str, RichText>,
-    ) -> PResult<Option<Option<(&'src str, Section<'src>)>>> {
-        let headed = part_of(Head).then(part_of(Entries));
-        let other = none_of("[").ignore_then(part_of(Rest));
-        let headed = headed
-            .map(|(name, entries)| name.map(|name| (name, entries)))
-            .recover_with(via_parser(other.map_by(LeftOut)));
-        run_part(&headed, wanted, inp)
+    ) -> PResult<Option<(&'src str, Section<'src>)>> {
+        let head = part_of(Name)
+            .delimited_by(just('[').labelled("a section"), just(']'))
+            .then_ignore(part_of(Gap));
+        let entries = part_of(Entry).repeated().collect::<Section<'src>>();
+        run_part(&head.then(entries), wanted, inp)
     }
 }
 
-/// Sections by name, each a map of names to values. Of two sections of one name, and of two values, the later stands. Each line
-/// that is wrong is left out, with an error.
+/// Sections by name, each a map of names to values. Of two sections of one name, and of two values, the later stands.
 pub fn parse_ini<'src>(
     alloc: Global,
     text: &'src str,
@@ -174,7 +111,7 @@ pub fn parse_ini<'src>(
     ensures { IfOk result (λ parsed. parsed.errors.items ≡ [] → IsTrue (is_some parsed.output)) }
 {
     part_of(Gap)
-        .ignore_then(part_of(Headed).repeated().flatten().collect::<Ini<'src>>())
+        .ignore_then(part_of(Headed).repeated().collect::<Ini<'src>>())
         .parse(alloc, text)
 }
 

@@ -1,7 +1,6 @@
 //! Parsers of real size, each with its types, in a file of its own: a date, a line of settings, the header of a packet, a query
-//! to the domain name system, the first line of an HTTP request. Then whole languages, of which
-//! each line that is wrong is reported in one run: statements, and INI and the lines of a log, which `programs` reads from any
-//! input.
+//! to the domain name system, the first line of an HTTP request. Then whole languages, which `programs` reads from any input:
+//! INI, and the lines of a log.
 #![tactic(auto)]
 
 pub mod date;
@@ -9,8 +8,9 @@ pub mod digits;
 pub mod header;
 pub mod ini;
 pub mod log_lines;
+pub mod programs;
 pub mod query;
+pub mod refusal;
 pub mod request;
 pub mod setting;
-pub mod statements;
 pub mod words;

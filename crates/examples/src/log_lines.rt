@@ -2,12 +2,13 @@
 ghost use Rattle.std.specs.Prelude.{◌≡◌, [], IfOk, IsTrue, is_some};
 
 use crate::digits::TwoDigits;
-use crate::words::{LeftOut, Trimmed};
+use crate::words::Trimmed;
 use chumsky::combinator::{Part, Picker, part_of, run_part};
 use chumsky::extra::RichText;
 use chumsky::input::InputRef;
 use chumsky::prelude::*;
-use chumsky::{PResult, Stop};
+use chumsky::primitive::Reader;
+use chumsky::{Failure, PResult, Stop};
 use std::alloc::Global;
 use std::fmt;
 use std::fmt::{Display, Formatter};
@@ -128,6 +129,27 @@ impl<'src> Part<'src, &'src str, Line<'src>, RichText> for WholeLine {
     }
 }
 
+/// A line. One that isn't right is emitted as an error and left out, with all that stands on it.
+#[derive(Clone, Copy)]
+struct AnyLine;
+
+impl<'src> Reader<'src, &'src str, Option<Line<'src>>, RichText> for AnyLine {
+    fn read(
+        &self,
+        inp: &mut InputRef<'src, '_, &'src str, RichText>,
+    ) -> Result<Option<Line<'src>>, Failure<Rich<char>>> {
+        match inp.parse(part_of(WholeLine)) {
+            Ok(line) => Ok(Some(line)),
+            Err(Failure::Error(error)) => {
+                inp.check(none_of("\r\n").repeated())?;
+                inp.emit(error)?;
+                Ok(None)
+            }
+            Err(Failure::Stop(stop)) => Err(Failure::Stop(stop)),
+        }
+    }
+}
+
 /// The lines that are right, and an error for each other line. Lines that are empty are passed over.
 pub fn parse_log<'src>(
     alloc: Global,
@@ -135,10 +157,9 @@ pub fn parse_log<'src>(
 ) -> Result<ParseResult<Vec<Line<'src>>, Rich<char>>, Stop>
     ensures { IfOk result (λ parsed. parsed.errors.items ≡ [] → IsTrue (is_some parsed.output)) }
 {
-    let other = none_of("\r\n").repeated().at_least(1);
-    let line = part_of(WholeLine)
-        .map(Some)
-        .recover_with(via_parser(other.map_by(LeftOut)))
+    let line = none_of("\r\n")
+        .rewind()
+        .ignore_then(custom_by(AnyLine))
         .or_not()
         .map(|line: Option<Option<Line>>| line.flatten());
     line.separated_by(text::newline())

@@ -21,13 +21,3 @@ impl<'src> Mapper<&'src str, &'src str> for Trimmed {
         text.trim()
     }
 }
-
-/// Nothing, in the place of what is left out.
-#[derive(Clone, Copy)]
-pub struct LeftOut;
-
-impl<O> Mapper<(), Option<O>> for LeftOut {
-    fn apply(&self, _left_out: ()) -> Option<O> {
-        None
-    }
-}
