@@ -5,7 +5,7 @@ use Rattle.chumsky_input.specs.Held.{Held}
 use Rattle.chumsky_input.specs.Outcome.{Meaning}
 use Rattle.chumsky_input.specs.Run.{Ran}
 use Rattle.chumsky_combinator.specs.Part.{Onward}
-use Rattle.chumsky_moves.specs.Moves.{Moves}
+use Rattle.chumsky_parser.specs.Progress.{Moves}
 use Rattle.chumsky.specs.Values.{Taking}
 
 module _ {Tok Cx St Er V : Type 0} (merged : Er → Er → Er) (safe : Type 0) (m : Meaning Tok Cx St Er V) where

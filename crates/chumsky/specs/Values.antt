@@ -1,7 +1,7 @@
 -- What a part of a grammar gives, and that it takes a token.
 use Rattle.std.specs.Prelude.{◌≡◌, ◌<◌, Some}
 use Rattle.chumsky_input.specs.Outcome.{Meaning, Beginning, Outcome, Yes}
-use Rattle.chumsky_items.specs.Lists.{IsYes}
+use Rattle.chumsky_parser.specs.Progress.{IsYes}
 
 -- any outcome, so long as its value, where it has one, is as said
 abbrev pub GivesOnly : {Tok Cx St Er V : Type 0} → (V → Type 0) → Meaning Tok Cx St Er V

@@ -10,8 +10,8 @@ use Rattle.chumsky_input.specs.Outcome.{Meaning, Beginning, Outcome, Verdict, Ye
 use Rattle.chumsky_parser.specs.Chained.{Asked}
 use Rattle.chumsky_primitive.specs.End.{MeansEnd}
 use Rattle.chumsky_parse_iter.specs.Settled.{RefusesBy}
-use Rattle.chumsky_memory.specs.Memory.{IsNotMemory, SparesMemory, NeverOutOfMemory}
-use Rattle.chumsky_memory.specs.MemoryLaws.{chained-spares, asked-spares, given-spares}
+use Rattle.chumsky_parser.specs.Memory.{IsNotMemory, SparesMemory, NeverOutOfMemory}
+use Rattle.chumsky_parser.specs.MemoryLaws.{chained-spares, asked-spares, given-spares}
 use Rattle.chumsky_memory.specs.PrimitivesSpare.{end-spares}
 use Rattle.chumsky.specs.Answer.{WholeRun}
 

@@ -11,6 +11,7 @@ impl<I, O, E, A: IsParser<I, O, E>> IsParser<I, O, E> for Choice<&[A]> {}
 
 impl<'src, I: Input<'src>, O, E: ParserExtra<I>, A: Parser<'src, I, O, E>> Parser<'src, I, O, E>
     for Choice<&[A]> {
+    ghost use Rattle.chumsky_parser.specs.Language.{of_unsaid};
     ghost use Rattle.std.specs.Prelude.{map, All};
     ghost use Rattle.chumsky_choice.specs.Among.{SameByAny};
     ghost use Rattle.chumsky_choice.specs.Alternatives.{DoesAmong};
@@ -28,6 +29,8 @@ impl<'src, I: Input<'src>, O, E: ParserExtra<I>, A: Parser<'src, I, O, E>> Parse
 
     ghost agrees = { λ p s. first_among-agrees _ _ _ _ A.steady A.same A.agrees p.parsers.now s };
 
+    ghost accepts = { λ _. of_unsaid };
+
     #[inline]
     fn go_emit(&self, inp: &mut InputRef<'src, '_, I, E>) -> PResult<O> {
         emit_among(self.parsers, inp)
@@ -43,6 +46,7 @@ impl<I, O, E, A: IsParser<I, O, E>> IsParser<I, O, E> for Choice<Vec<A>> {}
 
 impl<'src, I: Input<'src>, O, E: ParserExtra<I>, A: Parser<'src, I, O, E>> Parser<'src, I, O, E>
     for Choice<Vec<A>> {
+    ghost use Rattle.chumsky_parser.specs.Language.{of_unsaid};
     ghost use Rattle.std.specs.Prelude.{map, All};
     ghost use Rattle.chumsky_choice.specs.Among.{SameByAny};
     ghost use Rattle.chumsky_choice.specs.Alternatives.{DoesAmong};
@@ -59,6 +63,8 @@ impl<'src, I: Input<'src>, O, E: ParserExtra<I>, A: Parser<'src, I, O, E>> Parse
     ghost ends_after_start = { λ p. first_among-ends _ _ _ _ A.ends_after_start p.parsers.items };
 
     ghost agrees = { λ p s. first_among-agrees _ _ _ _ A.steady A.same A.agrees p.parsers.items s };
+
+    ghost accepts = { λ _. of_unsaid };
 
     #[inline]
     fn go_emit(&self, inp: &mut InputRef<'src, '_, I, E>) -> PResult<O> {
@@ -79,6 +85,7 @@ impl<'src, I: Input<'src>, O, E: ParserExtra<I>, A: Parser<'src, I, O, E>, const
     O,
     E,
 > for Choice<[A; N]> {
+    ghost use Rattle.chumsky_parser.specs.Language.{of_unsaid};
     ghost use Rattle.std.specs.Prelude.{map, All};
     ghost use Rattle.chumsky_choice.specs.Among.{SameByAny};
     ghost use Rattle.chumsky_choice.specs.Alternatives.{DoesAmong};
@@ -95,6 +102,8 @@ impl<'src, I: Input<'src>, O, E: ParserExtra<I>, A: Parser<'src, I, O, E>, const
     ghost ends_after_start = { λ p. first_among-ends _ _ _ _ A.ends_after_start p.parsers };
 
     ghost agrees = { λ p s. first_among-agrees _ _ _ _ A.steady A.same A.agrees p.parsers s };
+
+    ghost accepts = { λ _. of_unsaid };
 
     #[inline]
     fn go_emit(&self, inp: &mut InputRef<'src, '_, I, E>) -> PResult<O> {

@@ -11,6 +11,8 @@ impl<I, O, E, A: IsParser<I, O, E>> IsParser<I, O, E> for Choice<(A,)> {}
 
 impl<'src, I: Input<'src>, O, E: ParserExtra<I>, A: Parser<'src, I, O, E>> Parser<'src, I, O, E>
     for Choice<(A,)> {
+    ghost use Rattle.chumsky_parser.specs.Language.{of_unsaid};
+
     ghost ready = { λ p. A.ready p.parsers.0 };
 
     ghost meaning = { λ p errors states. A.meaning p.parsers.0 errors states };
@@ -22,6 +24,8 @@ impl<'src, I: Input<'src>, O, E: ParserExtra<I>, A: Parser<'src, I, O, E>> Parse
     ghost ends_after_start = { λ p. A.ends_after_start p.parsers.0 };
 
     ghost agrees = { λ p s. A.agrees p.parsers.0 s };
+
+    ghost accepts = { λ _. of_unsaid };
 
     #[inline(always)]
     fn go_emit(&self, inp: &mut InputRef<'src, '_, I, E>) -> PResult<O> {
@@ -44,6 +48,7 @@ impl<
     A: Parser<'src, I, O, E>,
     B: Parser<'src, I, O, E>,
 > Parser<'src, I, O, E> for Choice<(A, B)> {
+    ghost use Rattle.chumsky_parser.specs.Language.{of_unsaid};
     ghost use Rattle.std.specs.Prelude.{[], ◌∷◌};
     ghost use Rattle.chumsky_parser.specs.Choice.{SameByOne};
     ghost use Rattle.chumsky_parser.specs.ChoiceLaws.{first_of-ends, first_of-agrees, none-end, and-ends, none-agree, and-agrees};
@@ -64,6 +69,8 @@ impl<
     ghost agrees = { λ p s. let t = p.parsers in
         first_of-agrees _ _ _ (A.same t.0) (B.same t.1 ∷ []) _ _ (and-agrees (A.agrees t.0 s.0)
         (and-agrees (B.agrees t.1 s.1) none-agree)) };
+
+    ghost accepts = { λ _. of_unsaid };
 
     #[inline(always)]
     fn go_emit(&self, inp: &mut InputRef<'src, '_, I, E>) -> PResult<O> {
@@ -92,6 +99,7 @@ impl<
     B: Parser<'src, I, O, E>,
     C: Parser<'src, I, O, E>,
 > Parser<'src, I, O, E> for Choice<(A, B, C)> {
+    ghost use Rattle.chumsky_parser.specs.Language.{of_unsaid};
     ghost use Rattle.std.specs.Prelude.{[], ◌∷◌};
     ghost use Rattle.chumsky_parser.specs.Choice.{SameByOne};
     ghost use Rattle.chumsky_parser.specs.ChoiceLaws.{first_of-ends, first_of-agrees, none-end, and-ends, none-agree, and-agrees};
@@ -114,6 +122,8 @@ impl<
         first_of-agrees _ _ _ (A.same t.0) (B.same t.1 ∷ C.same t.2 ∷ []) _ _
         (and-agrees (A.agrees t.0 s.0) (and-agrees (B.agrees t.1 s.1)
         (and-agrees (C.agrees t.2 s.2) none-agree))) };
+
+    ghost accepts = { λ _. of_unsaid };
 
     #[inline(always)]
     fn go_emit(&self, inp: &mut InputRef<'src, '_, I, E>) -> PResult<O> {
@@ -152,6 +162,7 @@ impl<
     C: Parser<'src, I, O, E>,
     D: Parser<'src, I, O, E>,
 > Parser<'src, I, O, E> for Choice<(A, B, C, D)> {
+    ghost use Rattle.chumsky_parser.specs.Language.{of_unsaid};
     ghost use Rattle.std.specs.Prelude.{[], ◌∷◌};
     ghost use Rattle.chumsky_parser.specs.Choice.{SameByOne};
     ghost use Rattle.chumsky_parser.specs.ChoiceLaws.{first_of-ends, first_of-agrees, none-end, and-ends, none-agree, and-agrees};
@@ -178,6 +189,8 @@ impl<
         first_of-agrees _ _ _ (A.same t.0) (B.same t.1 ∷ C.same t.2 ∷ D.same t.3 ∷ []) _ _
         (and-agrees (A.agrees t.0 s.0) (and-agrees (B.agrees t.1 s.1)
         (and-agrees (C.agrees t.2 s.2) (and-agrees (D.agrees t.3 s.3) none-agree)))) };
+
+    ghost accepts = { λ _. of_unsaid };
 
     #[inline(always)]
     fn go_emit(&self, inp: &mut InputRef<'src, '_, I, E>) -> PResult<O> {
@@ -220,6 +233,7 @@ impl<
     D: Parser<'src, I, O, E>,
     F: Parser<'src, I, O, E>,
 > Parser<'src, I, O, E> for Choice<(A, B, C, D, F)> {
+    ghost use Rattle.chumsky_parser.specs.Language.{of_unsaid};
     ghost use Rattle.std.specs.Prelude.{[], ◌∷◌};
     ghost use Rattle.chumsky_parser.specs.Choice.{SameByOne};
     ghost use Rattle.chumsky_parser.specs.ChoiceLaws.{first_of-ends, first_of-agrees, none-end, and-ends, none-agree, and-agrees};
@@ -248,6 +262,8 @@ impl<
         []) _ _ (and-agrees (A.agrees t.0 s.0) (and-agrees (B.agrees t.1 s.1)
         (and-agrees (C.agrees t.2 s.2) (and-agrees (D.agrees t.3 s.3)
         (and-agrees (F.agrees t.4 s.4) none-agree))))) };
+
+    ghost accepts = { λ _. of_unsaid };
 
     #[inline(always)]
     fn go_emit(&self, inp: &mut InputRef<'src, '_, I, E>) -> PResult<O> {
@@ -294,6 +310,7 @@ impl<
     F: Parser<'src, I, O, E>,
     G: Parser<'src, I, O, E>,
 > Parser<'src, I, O, E> for Choice<(A, B, C, D, F, G)> {
+    ghost use Rattle.chumsky_parser.specs.Language.{of_unsaid};
     ghost use Rattle.std.specs.Prelude.{[], ◌∷◌};
     ghost use Rattle.chumsky_parser.specs.Choice.{SameByOne};
     ghost use Rattle.chumsky_parser.specs.ChoiceLaws.{first_of-ends, first_of-agrees, none-end, and-ends, none-agree, and-agrees};
@@ -324,6 +341,8 @@ impl<
         G.same t.5 ∷ []) _ _ (and-agrees (A.agrees t.0 s.0) (and-agrees (B.agrees t.1 s.1)
         (and-agrees (C.agrees t.2 s.2) (and-agrees (D.agrees t.3 s.3)
         (and-agrees (F.agrees t.4 s.4) (and-agrees (G.agrees t.5 s.5) none-agree)))))) };
+
+    ghost accepts = { λ _. of_unsaid };
 
     #[inline(always)]
     fn go_emit(&self, inp: &mut InputRef<'src, '_, I, E>) -> PResult<O> {
@@ -374,6 +393,7 @@ impl<
     G: Parser<'src, I, O, E>,
     H: Parser<'src, I, O, E>,
 > Parser<'src, I, O, E> for Choice<(A, B, C, D, F, G, H)> {
+    ghost use Rattle.chumsky_parser.specs.Language.{of_unsaid};
     ghost use Rattle.std.specs.Prelude.{[], ◌∷◌};
     ghost use Rattle.chumsky_parser.specs.Choice.{SameByOne};
     ghost use Rattle.chumsky_parser.specs.ChoiceLaws.{first_of-ends, first_of-agrees, none-end, and-ends, none-agree, and-agrees};
@@ -407,6 +427,8 @@ impl<
         (and-agrees (B.agrees t.1 s.1) (and-agrees (C.agrees t.2 s.2)
         (and-agrees (D.agrees t.3 s.3) (and-agrees (F.agrees t.4 s.4)
         (and-agrees (G.agrees t.5 s.5) (and-agrees (H.agrees t.6 s.6) none-agree))))))) };
+
+    ghost accepts = { λ _. of_unsaid };
 
     #[inline(always)]
     fn go_emit(&self, inp: &mut InputRef<'src, '_, I, E>) -> PResult<O> {
@@ -461,6 +483,7 @@ impl<
     H: Parser<'src, I, O, E>,
     J: Parser<'src, I, O, E>,
 > Parser<'src, I, O, E> for Choice<(A, B, C, D, F, G, H, J)> {
+    ghost use Rattle.chumsky_parser.specs.Language.{of_unsaid};
     ghost use Rattle.std.specs.Prelude.{[], ◌∷◌};
     ghost use Rattle.chumsky_parser.specs.Choice.{SameByOne};
     ghost use Rattle.chumsky_parser.specs.ChoiceLaws.{first_of-ends, first_of-agrees, none-end, and-ends, none-agree, and-agrees};
@@ -496,6 +519,8 @@ impl<
         (and-agrees (D.agrees t.3 s.3) (and-agrees (F.agrees t.4 s.4)
         (and-agrees (G.agrees t.5 s.5) (and-agrees (H.agrees t.6 s.6)
         (and-agrees (J.agrees t.7 s.7) none-agree)))))))) };
+
+    ghost accepts = { λ _. of_unsaid };
 
     #[inline(always)]
     fn go_emit(&self, inp: &mut InputRef<'src, '_, I, E>) -> PResult<O> {

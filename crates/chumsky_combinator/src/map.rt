@@ -66,6 +66,7 @@ impl<
     A: Parser<'src, I, O, E>,
     F: Mapper<O, U>,
 > Parser<'src, I, U, E> for Map<A, O, F, U> {
+    ghost use Rattle.chumsky_parser.specs.Language.{of_unsaid};
     ghost use Rattle.chumsky_combinator.specs.Mapped.{Mapped, IsFunction, SameMapped};
     ghost use Rattle.chumsky_combinator.specs.MappedLaws.{mapped-ends, mapped-agrees};
 
@@ -80,6 +81,8 @@ impl<
     ghost ends_after_start = { λ p. mapped-ends (F.gives p.mapper) _ (A.ends_after_start p.parser) };
 
     ghost agrees = { λ p s. mapped-agrees (F.gives p.mapper) _ (A.same p.parser) (A.agrees p.parser s.0) };
+
+    ghost accepts = { λ _. of_unsaid };
 
     #[inline(always)]
     fn go_emit(&self, inp: &mut InputRef<'src, '_, I, E>) -> PResult<U> {

@@ -22,6 +22,7 @@ impl<
     A: Parser<'src, I, O, E>,
     B: Parser<'src, I, O, E>,
 > Parser<'src, I, O, E> for Or<A, B> {
+    ghost use Rattle.chumsky_parser.specs.Language.{of_unsaid};
     ghost use Rattle.chumsky_parser.specs.Choice.{OrElse, SameEither};
     ghost use Rattle.chumsky_parser.specs.ChoiceLaws.{or_else-ends, or_else-agrees};
 
@@ -36,6 +37,8 @@ impl<
     ghost ends_after_start = { λ p. or_else-ends _ _ _ _ _ (A.ends_after_start p.first) (B.ends_after_start p.second) };
 
     ghost agrees = { λ p s. or_else-agrees _ _ _ _ _ (A.same p.first) (B.same p.second) (A.agrees p.first s.0) (B.agrees p.second s.1) };
+
+    ghost accepts = { λ _. of_unsaid };
 
     #[inline(always)]
     fn go_emit(&self, inp: &mut InputRef<'src, '_, I, E>) -> PResult<O> {

@@ -19,6 +19,7 @@ impl<'src, I: Input<'src>, O, E: ParserExtra<I>, A: Parser<'src, I, O, E>> Parse
     Option<O>,
     E,
 > for OrNot<A> {
+    ghost use Rattle.chumsky_parser.specs.Language.{of_unsaid};
     ghost use Rattle.chumsky_combinator.specs.Optional.{OrNone, SameOption};
     ghost use Rattle.chumsky_combinator.specs.OptionalLaws.{or_none-ends, or_none-agrees};
 
@@ -33,6 +34,8 @@ impl<'src, I: Input<'src>, O, E: ParserExtra<I>, A: Parser<'src, I, O, E>> Parse
     ghost ends_after_start = { λ p. or_none-ends _ _ _ _ (A.ends_after_start p.parser) };
 
     ghost agrees = { λ p s. or_none-agrees _ _ _ _ (A.same p.parser) (A.agrees p.parser s) };
+
+    ghost accepts = { λ _. of_unsaid };
 
     #[inline(always)]
     fn go_emit(&self, inp: &mut InputRef<'src, '_, I, E>) -> PResult<Option<O>> {

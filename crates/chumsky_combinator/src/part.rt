@@ -76,6 +76,7 @@ impl<I, O, E, P: IsParser<I, O, E>> IsParser<I, O, E> for OfPart<P> {}
 
 impl<'src, I: Input<'src>, O: Drop, E: ParserExtra<I>, P: Part<'src, I, O, E>> Parser<'src, I, O, E>
     for OfPart<P> {
+    ghost use Rattle.chumsky_parser.specs.Language.{of_unsaid};
     ghost use Rattle.chumsky_input.specs.Outcome.{Agreeing};
     ghost use Rattle.chumsky_combinator.specs.PartLaws.{onward-ends, onward-agrees};
 
@@ -90,6 +91,8 @@ impl<'src, I: Input<'src>, O: Drop, E: ParserExtra<I>, P: Part<'src, I, O, E>> P
     ghost ends_after_start = { λ p. onward-ends _ };
 
     ghost agrees = { λ p s. onward-agrees _ _ s };
+
+    ghost accepts = { λ _. of_unsaid };
 
     #[inline]
     fn go_emit(&self, inp: &mut InputRef<'src, '_, I, E>) -> PResult<O> {

@@ -27,6 +27,7 @@ impl<
     A: Parser<'src, I, O, E>,
     B: Parser<'src, I, U, E>,
 > Parser<'src, I, (O, U), E> for Then<A, B, O, U> {
+    ghost use Rattle.chumsky_parser.specs.Language.{of_unsaid};
     ghost use Rattle.chumsky_parser.specs.Chained.{Sequence, SamePair};
     ghost use Rattle.chumsky_parser.specs.Laws.{sequence-ends, sequence-agrees};
 
@@ -41,6 +42,8 @@ impl<
     ghost ends_after_start = { λ p. sequence-ends _ _ (A.ends_after_start p.first) (B.ends_after_start p.second) };
 
     ghost agrees = { λ p s. sequence-agrees _ _ (A.same p.first) (B.same p.second) (A.agrees p.first s.0) (B.agrees p.second s.1) };
+
+    ghost accepts = { λ _. of_unsaid };
 
     #[inline(always)]
     fn go_emit(&self, inp: &mut InputRef<'src, '_, I, E>) -> PResult<(O, U)> {

@@ -27,6 +27,7 @@ impl<
     A: Parser<'src, I, O, E>,
     B: Parser<'src, I, U, E>,
 > Parser<'src, I, O, E> for ThenIgnore<A, B, U> {
+    ghost use Rattle.chumsky_parser.specs.Language.{of_unsaid};
     ghost use Rattle.chumsky_parser.specs.Ignoring.{IgnoringSecond};
     ghost use Rattle.chumsky_parser.specs.IgnoringLaws.{ignoring_second-ends, ignoring_second-agrees};
 
@@ -41,6 +42,8 @@ impl<
     ghost ends_after_start = { λ p. ignoring_second-ends _ _ (A.ends_after_start p.first) (B.ends_after_start p.second) };
 
     ghost agrees = { λ p s. ignoring_second-agrees _ _ (A.same p.first) (B.same p.second) (A.agrees p.first s.0) (B.agrees p.second s.1) };
+
+    ghost accepts = { λ _. of_unsaid };
 
     #[inline(always)]
     fn go_emit(&self, inp: &mut InputRef<'src, '_, I, E>) -> PResult<O> {

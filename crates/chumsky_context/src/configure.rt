@@ -23,6 +23,7 @@ where
     A: ConfigParser<'src, I, O, E>,
     F: Configurer<A::Config, E::Context>,
 {
+    ghost use Rattle.chumsky_parser.specs.Language.{of_unsaid};
     ghost use Rattle.chumsky_context.specs.Configured.{Configured, Sets, IsDeterministic, SameByConfig};
     ghost use Rattle.chumsky_context.specs.ConfiguredLaws.{configured-ends, configured-agrees};
 
@@ -37,6 +38,8 @@ where
     ghost ends_after_start = { λ p. configured-ends _ _ (A.ends_after_start p.parser) };
 
     ghost agrees = { λ p s. configured-agrees _ _ s.1 (A.same p.parser) (A.agrees p.parser s.0) };
+
+    ghost accepts = { λ _. of_unsaid };
 
     #[inline(always)]
     fn go_emit(&self, inp: &mut InputRef<'src, '_, I, E>) -> PResult<O> {

@@ -30,6 +30,7 @@ where
     X: ParserExtra<I, Error = E::Error, State = E::State, Context = O>,
     B: Parser<'src, I, U, X>,
 {
+    ghost use Rattle.chumsky_parser.specs.Language.{of_unsaid};
     ghost use Rattle.chumsky_context.specs.Under.{IgnoringUnder, SameAreEqual};
     ghost use Rattle.chumsky_context.specs.UnderLaws.{ignoring_under-ends, ignoring_under-agrees};
 
@@ -44,6 +45,8 @@ where
     ghost ends_after_start = { λ p. ignoring_under-ends _ _ (A.ends_after_start p.parser) (B.ends_after_start p.then) };
 
     ghost agrees = { λ p s. ignoring_under-agrees _ _ (A.same p.parser) (B.same p.then) s.2 (A.agrees p.parser s.0) (B.agrees p.then s.1) };
+
+    ghost accepts = { λ _. of_unsaid };
 
     #[inline]
     fn go_emit(&self, inp: &mut InputRef<'src, '_, I, E>) -> PResult<U> {

@@ -57,6 +57,7 @@ where
     A: Parser<'src, I, O, X>,
     F: ContextMapper<E::Context, X::Context>,
 {
+    ghost use Rattle.chumsky_parser.specs.Language.{of_unsaid};
     ghost use Rattle.chumsky_context.specs.Configured.{IsDeterministic};
     ghost use Rattle.chumsky_context.specs.Under.{UnderMade};
     ghost use Rattle.chumsky_context.specs.UnderLaws.{under_made-ends, under_made-agrees};
@@ -72,6 +73,8 @@ where
     ghost ends_after_start = { λ p. under_made-ends _ (F.gives p.mapper) (A.ends_after_start p.parser) };
 
     ghost agrees = { λ p s. under_made-agrees _ (F.gives p.mapper) s.1 (A.same p.parser) (A.agrees p.parser s.0) };
+
+    ghost accepts = { λ _. of_unsaid };
 
     #[inline]
     fn go_emit(&self, inp: &mut InputRef<'src, '_, I, E>) -> PResult<O> {

@@ -46,6 +46,7 @@ where
     A: Parser<'src, J, U, Full<E::Error, E::State, E::Context>>,
     B: Parser<'src, I, J, E>,
 {
+    ghost use Rattle.chumsky_parser.specs.Language.{of_unsaid};
     ghost use Rattle.chumsky_parser.specs.FailureLaws.{SameUnit};
     ghost use Rattle.chumsky_parser.specs.IgnoringLaws.{ignoring_second-agrees};
     ghost use Rattle.chumsky_primitive.specs.EndLaws.{end-agrees};
@@ -63,6 +64,8 @@ where
     ghost ends_after_start = { λ p. nested_in-ends _ _ _ _ _ _ _ (B.ends_after_start p.outer) };
 
     ghost agrees = { λ p s. nested_in-agrees _ _ _ _ _ _ _ (A.same p.parser) (B.same p.outer) s.2 (ignoring_second-agrees _ _ (A.same p.parser) SameUnit (A.agrees p.parser s.0) (end-agrees _ _ _)) (B.agrees p.outer s.1) };
+
+    ghost accepts = { λ _. of_unsaid };
 
     fn go_emit(&self, inp: &mut InputRef<'src, '_, I, E>) -> PResult<U> {
         let place = I::place(&inp.cursor);

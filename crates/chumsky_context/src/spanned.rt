@@ -24,6 +24,7 @@ impl<'src, I: Input<'src>, O, E: ParserExtra<I>, A: Parser<'src, I, O, E>> Parse
     SpannedOutput<O, I::Span>,
     E,
 > for Spanned<A, O> {
+    ghost use Rattle.chumsky_parser.specs.Language.{of_unsaid};
     ghost use Rattle.chumsky_context.specs.Covered.{WithSpan, SameSpanned};
     ghost use Rattle.chumsky_context.specs.CoveredLaws.{with_span-ends, with_span-agree};
 
@@ -38,6 +39,8 @@ impl<'src, I: Input<'src>, O, E: ParserExtra<I>, A: Parser<'src, I, O, E>> Parse
     ghost ends_after_start = { λ p. with_span-ends _ _ (A.ends_after_start p.parser) };
 
     ghost agrees = { λ p s. with_span-agree _ _ (A.same p.parser) (A.agrees p.parser s) };
+
+    ghost accepts = { λ _. of_unsaid };
 
     #[inline(always)]
     fn go_emit(&self, inp: &mut InputRef<'src, '_, I, E>) -> PResult<SpannedOutput<O, I::Span>> {

@@ -30,6 +30,7 @@ where
     X: ParserExtra<I, Error = E::Error, State = E::State, Context = O>,
     B: Parser<'src, I, U, X>,
 {
+    ghost use Rattle.chumsky_parser.specs.Language.{of_unsaid};
     ghost use Rattle.chumsky_parser.specs.Chained.{SamePair};
     ghost use Rattle.chumsky_context.specs.Under.{SequenceUnder, SameAreEqual};
     ghost use Rattle.chumsky_context.specs.UnderLaws.{sequence_under-ends, sequence_under-agrees};
@@ -45,6 +46,8 @@ where
     ghost ends_after_start = { λ p. sequence_under-ends _ _ (A.ends_after_start p.parser) (B.ends_after_start p.then) };
 
     ghost agrees = { λ p s. sequence_under-agrees _ _ (A.same p.parser) (B.same p.then) s.2 (A.agrees p.parser s.0) (B.agrees p.then s.1) };
+
+    ghost accepts = { λ _. of_unsaid };
 
     #[inline]
     fn go_emit(&self, inp: &mut InputRef<'src, '_, I, E>) -> PResult<(O, U)> {

@@ -23,6 +23,7 @@ impl<'src, I: SliceInput<'src>, O, E: ParserExtra<I>, A: Parser<'src, I, O, E>> 
     I::Slice,
     E,
 > for ToSlice<A, O> {
+    ghost use Rattle.chumsky_parser.specs.Language.{of_unsaid};
     ghost use Rattle.std.specs.Prelude.{◌≡◌};
     ghost use Rattle.chumsky_context.specs.Covered.{Covers};
     ghost use Rattle.chumsky_context.specs.CoveredLaws.{covers-ends, covers-agree};
@@ -38,6 +39,8 @@ impl<'src, I: SliceInput<'src>, O, E: ParserExtra<I>, A: Parser<'src, I, O, E>> 
     ghost ends_after_start = { λ p. covers-ends _ _ (A.ends_after_start p.parser) };
 
     ghost agrees = { λ p s. covers-agree _ _ (A.same p.parser) (λ v w. I.slice_seen v ≡ I.slice_seen w) (λ ts i j v w e d. Prim.search (e, d)) (A.agrees p.parser s) };
+
+    ghost accepts = { λ _. of_unsaid };
 
     #[inline(always)]
     fn go_emit(&self, inp: &mut InputRef<'src, '_, I, E>) -> PResult<I::Slice> {

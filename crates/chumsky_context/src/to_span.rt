@@ -22,6 +22,7 @@ impl<'src, I: Input<'src>, O, E: ParserExtra<I>, A: Parser<'src, I, O, E>> Parse
     I::Span,
     E,
 > for ToSpan<A, O> {
+    ghost use Rattle.chumsky_parser.specs.Language.{of_unsaid};
     ghost use Rattle.std.specs.Prelude.{◌≡◌};
     ghost use Rattle.chumsky_context.specs.Covered.{Covers};
     ghost use Rattle.chumsky_context.specs.CoveredLaws.{covers-ends, covers-agree};
@@ -37,6 +38,8 @@ impl<'src, I: Input<'src>, O, E: ParserExtra<I>, A: Parser<'src, I, O, E>> Parse
     ghost ends_after_start = { λ p. covers-ends _ _ (A.ends_after_start p.parser) };
 
     ghost agrees = { λ p s. covers-agree _ _ (A.same p.parser) (λ v w. v ≡ w) (λ ts i j v w e d. Prim.search (e, d)) (A.agrees p.parser s) };
+
+    ghost accepts = { λ _. of_unsaid };
 
     #[inline(always)]
     fn go_emit(&self, inp: &mut InputRef<'src, '_, I, E>) -> PResult<I::Span> {

@@ -106,6 +106,7 @@ where
     A: ConfigIterParser<'src, I, O, E>,
     F: TryConfigurer<A::Config, E::Context, I::Span, E::Error>,
 {
+    ghost use Rattle.chumsky_parser.specs.Language.{of_unsaid};
     ghost use Rattle.std.specs.Prelude.{false};
     ghost use Rattle.chumsky_parser.specs.FailureLaws.{SameUnit};
     ghost use Rattle.chumsky_parser.specs.Ignoring.{Gives, IgnoringFirst};
@@ -127,6 +128,8 @@ where
     ghost ends_after_start = { λ p. ignoring_first-ends _ _ (passes-ends _ _ (Unit {0}) (tried-end _ _ _ _ _ (A.IterParser.ends_after_start p.parser (record { nonconsumption_is_ok = false })).begin (A.ends_after_start_cfg p.parser (record { nonconsumption_is_ok = false })))) (gives-ends tt) };
 
     ghost agrees = { λ p s. ignoring_first-agrees _ _ SameUnit SameUnit (passes-agree _ _ (A.same p.parser) (AlikeBeside (A.alike p.parser)) SameUnit (tried-agree _ _ _ _ _ s.1 (A.same p.parser) (A.alike p.parser) (A.IterParser.agrees p.parser s.0 (record { nonconsumption_is_ok = false })).begin (A.agrees_cfg p.parser s.0 (record { nonconsumption_is_ok = false })))) (gives-agrees tt SameUnit tt) };
+
+    ghost accepts = { λ _. of_unsaid };
 
     #[inline(always)]
     fn go_emit(&self, inp: &mut InputRef<'src, '_, I, E>) -> PResult<()> {

@@ -26,6 +26,7 @@ where
     E: ParserExtra<I>,
     A: Parser<'src, I, O, Full<E::Error, E::State, X>>,
 {
+    ghost use Rattle.chumsky_parser.specs.Language.{of_unsaid};
     ghost use Rattle.std.specs.Prelude.{◌≡◌, Some, refl};
     ghost use Rattle.chumsky_context.specs.Under.{UnderValue};
     ghost use Rattle.chumsky_context.specs.UnderLaws.{under-ends, under-agrees};
@@ -41,6 +42,8 @@ where
     ghost ends_after_start = { λ p. under-ends _ (A.ends_after_start p.parser) (Some p.ctx) };
 
     ghost agrees = { λ p s. under-agrees _ _ (λ x y. x ≡ y) (A.same p.parser) (λ x y e. e) (A.agrees p.parser s) (Some p.ctx) (Some p.ctx) refl };
+
+    ghost accepts = { λ _. of_unsaid };
 
     #[inline]
     fn go_emit(&self, inp: &mut InputRef<'src, '_, I, E>) -> PResult<O> {

@@ -35,6 +35,7 @@ where
     S: Inspector<I> + Clone + Drop,
     A: Parser<'src, I, O, Full<E::Error, S, E::Context>>,
 {
+    ghost use Rattle.chumsky_parser.specs.Language.{of_unsaid};
     ghost use Rattle.chumsky_context.specs.OnState.{OnCopy, CopiesCount};
     ghost use Rattle.chumsky_context.specs.OnStateLaws.{on_copy-ends, on_copy-agrees};
 
@@ -49,6 +50,8 @@ where
     ghost ends_after_start = { λ p. on_copy-ends _ _ _ _ (A.ends_after_start p.parser) };
 
     ghost agrees = { λ p s. on_copy-agrees _ _ _ _ s.1 (A.same p.parser) (A.agrees p.parser s.0) };
+
+    ghost accepts = { λ _. of_unsaid };
 
     #[inline]
     fn go_emit(&self, inp: &mut InputRef<'src, '_, I, E>) -> PResult<O> {

@@ -3,9 +3,9 @@
 use Rattle.std.proofs.Common.{ℕ, zero, suc, subst}
 use Rattle.chumsky_input.specs.Outcome.{Meaning, EndsAfterStart}
 use Rattle.chumsky_combinator.specs.Part.{Onward}
-use Rattle.chumsky_items.specs.Lists.{IsYes}
-use Rattle.chumsky_memory.specs.Memory.{NeverOutOfMemory}
-use Rattle.chumsky_moves.specs.Moves.{Moves}
+use Rattle.chumsky_parser.specs.Progress.{IsYes}
+use Rattle.chumsky_parser.specs.Memory.{NeverOutOfMemory}
+use Rattle.chumsky_parser.specs.Progress.{Moves}
 use Rattle.chumsky_moves.specs.PartsMove.{onward-moves}
 use Rattle.chumsky_descent.specs.CallLaws.{does_call-ends}
 use Rattle.chumsky_descent.specs.Calls.{IsTooDeep, Said, Nothing, Means, Steady, Together, DoesCall, DoesUnder}

@@ -33,7 +33,7 @@ impl<
     E: ParserExtra<I>,
     R: MayStay + Recursion<'src, I, O, E>,
 > MovingRecursion<'src, I, O, E> for R {
-    ghost use Rattle.chumsky_moves.specs.MovesLaws.{never};
+    ghost use Rattle.chumsky_parser.specs.ProgressLaws.{never};
 
     ghost moved = { never };
 

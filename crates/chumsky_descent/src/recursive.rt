@@ -71,6 +71,7 @@ where
     R: Recursion<'src, I, O, E>,
     F: Fn(&mut InputRef<'src, '_, I, E>, bool, usize) -> PResult<Option<O>>,
 {
+    ghost use Rattle.chumsky_parser.specs.Language.{of_unsaid};
     ghost use Rattle.chumsky_descent.specs.Calls.{same_of, IsSteady};
     ghost use Rattle.chumsky_descent.specs.CallLaws.{does_call-ends, does_call-agrees};
 
@@ -85,6 +86,8 @@ where
     ghost ends_after_start = { λ p. does_call-ends (R.says _ _) p.depth };
 
     ghost agrees = { λ p s. does_call-agrees (R.says _ _) s p.depth };
+
+    ghost accepts = { λ _. of_unsaid };
 
     #[inline]
     fn go_emit(&self, inp: &mut InputRef<'src, '_, I, E>) -> PResult<O> {

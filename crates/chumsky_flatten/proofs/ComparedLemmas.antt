@@ -10,7 +10,7 @@ use Rattle.chumsky_parser.specs.Failure.{Stops, wanting}
 use Rattle.chumsky_parser.specs.Items.{Next, More, End, AfterStep, FromMade}
 use Rattle.chumsky_parser.specs.Steps.{AllSteps, listed, unlisted}
 use Rattle.chumsky_items.specs.Consumers.{Appends, Collected, Collects}
-use Rattle.chumsky_items.specs.Lists.{IsYes}
+use Rattle.chumsky_parser.specs.Progress.{IsYes}
 use Rattle.chumsky_flatten.specs.Collections.{CollectionHas}
 use Rattle.chumsky_flatten.specs.Compared.{HaveItems, GivesItemsOf}
 use Rattle.chumsky_flatten.specs.Flattening.{BeginsInside, FirstElse, Inside, InHandOrNext, Flattens}

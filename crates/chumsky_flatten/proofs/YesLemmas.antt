@@ -5,7 +5,7 @@ use Rattle.chumsky_parser.specs.Chained.{Chained, Follows, Given, from, after}
 use Rattle.chumsky_parser.specs.Choice.{ElseFrom, OrElse}
 use Rattle.chumsky_parser.specs.Failure.{SaysNo}
 use Rattle.chumsky_items.specs.Consumers.{Appends, HoldsAll, Collected}
-use Rattle.chumsky_items.specs.Lists.{IsYes}
+use Rattle.chumsky_parser.specs.Progress.{IsYes}
 
 abbrev value_in : {V : Type 0} → V → Option V → V
 value_in d (Some v) = v

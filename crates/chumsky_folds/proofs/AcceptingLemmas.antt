@@ -10,7 +10,7 @@ use Rattle.chumsky_parser.specs.Items.{Next, More, End, AfterStep, FromMade}
 use Rattle.chumsky_parser.specs.Steps.{AllSteps, listed, unlisted}
 use Rattle.chumsky_parser.specs.Showing.{GivesShown, GivenSince, shown_since}
 use Rattle.chumsky_parser.proofs.ChainedLemmas.{chained-weaker}
-use Rattle.chumsky_items.specs.Lists.{IsYes}
+use Rattle.chumsky_parser.specs.Progress.{IsYes}
 use Rattle.chumsky_folds.specs.FoldingShown.{TakesAll, TakesShown, FoldsShown}
 use Rattle.chumsky_folds.specs.FoldingTried.{TakenOrRefused, TriesSince, TakesTried, where_wanted, FoldsTrying, FoldsTried}
 use Rattle.chumsky_folds.specs.Placed.{PairedWith, Placed}

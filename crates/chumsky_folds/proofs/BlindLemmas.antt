@@ -12,7 +12,7 @@ use Rattle.chumsky_parser.specs.Items.{Next, More, End, AfterStep, FromMade, Ite
 use Rattle.chumsky_parser.specs.Steps.{AllSteps, listed, unlisted}
 use Rattle.chumsky_parser.specs.Showing.{GivesShown, GivenSince, shown_since}
 use Rattle.chumsky_items.specs.Consumers.{Appends, Collected}
-use Rattle.chumsky_items.specs.Lists.{IsYes}
+use Rattle.chumsky_parser.specs.Progress.{IsYes}
 use Rattle.chumsky_folds.specs.Folding.{FoldsLeft, FoldsFrom, FoldsItems, FoldsFromPart}
 use Rattle.chumsky_folds.specs.FoldingLaws.{folds_left-more, appends-given}
 use Rattle.chumsky_folds.specs.FoldingShown.{TakesAll, TakesShown, FoldsShown}

@@ -10,7 +10,7 @@ use Rattle.chumsky_parser.specs.Failure.{IsWanted, Stops, wanting}
 use Rattle.chumsky_parser.specs.Items.{Next, More, End, AfterStep, FromMade}
 use Rattle.chumsky_parser.specs.Steps.{AllSteps, listed, unlisted}
 use Rattle.chumsky_items.specs.Consumers.{Appends, HoldsAll, Collected, Collects}
-use Rattle.chumsky_items.specs.Lists.{IsYes}
+use Rattle.chumsky_parser.specs.Progress.{IsYes}
 use Rattle.chumsky_folds.specs.Folding.{FoldsLeft, FoldsFrom, FoldsItems, FoldsFromCopy, FoldsFromPart}
 use Rattle.chumsky_folds.specs.FoldingBack.{FoldsRight, FoldsHeld, FoldedBack, FoldsBack}
 use Rattle.chumsky_folds.specs.Compared.{FoldsCollected}

@@ -9,7 +9,7 @@ use Rattle.chumsky_parser.specs.Failure.{Stops, wanting}
 use Rattle.chumsky_parser.specs.Items.{Next, More, End, AfterStep, FromMade}
 use Rattle.chumsky_parser.specs.Steps.{AllSteps, unlisted}
 use Rattle.chumsky_items.specs.Consumers.{Appends, HoldsAll, Collected, Collects}
-use Rattle.chumsky_items.specs.Lists.{IsYes}
+use Rattle.chumsky_parser.specs.Progress.{IsYes}
 use Rattle.chumsky_items.specs.Repeating.{fits}
 use Rattle.chumsky_folds.specs.Enumerating.{BeginsAtZero, Numbered, Enumerates}
 use Rattle.chumsky_folds.specs.Compared.{NumberedFrom, NumbersFromZero}

@@ -16,7 +16,7 @@ use Rattle.chumsky_parser.specs.Items.{Next, More, End, AfterStep, FromMade, Ite
 use Rattle.chumsky_parser.specs.Steps.{AllSteps, listed, unlisted}
 use Rattle.chumsky_parser.specs.Showing.{GivesShown, shown_since}
 use Rattle.chumsky_items.specs.Consumers.{Appends, HoldsAll, Collected, Collects}
-use Rattle.chumsky_items.specs.Lists.{IsYes}
+use Rattle.chumsky_parser.specs.Progress.{IsYes}
 use Rattle.chumsky_folds.specs.Compared.{IsBlind, EndsWhere, StandsFrom, SameOutcomesFrom}
 use Rattle.chumsky_folds.specs.FoldingBack.{FoldsRight, FoldsHeld, FoldedBack, FoldsBack}
 use Rattle.chumsky_folds.specs.FoldingBackShown.{FoldsRightShown, FoldedBackShown, FoldsBackShown}

@@ -6,7 +6,7 @@ use Rattle.chumsky_input.specs.Outcome.{Meaning, Beginning, Outcome, Yes}
 use Rattle.chumsky_parser.specs.Chained.{retold}
 use Rattle.chumsky_parser.specs.Items.{Next}
 use Rattle.chumsky_parser.specs.Showing.{GivesShown}
-use Rattle.chumsky_items.specs.Lists.{IsYes}
+use Rattle.chumsky_parser.specs.Progress.{IsYes}
 
 module _ {Tok Cx St Er L C A : Type 0} where
   -- where a value is wanted: each yes of the whole is the fold of what is collected when it succeeds in the same way; and

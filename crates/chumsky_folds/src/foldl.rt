@@ -35,6 +35,7 @@ impl<
     B: IterParser<'src, I, U, E>,
     F: Folder<O, U>,
 > Parser<'src, I, O, E> for Foldl<F, A, B, U> {
+    ghost use Rattle.chumsky_parser.specs.Language.{of_unsaid};
     ghost use Rattle.chumsky_folds.specs.Folding.{FoldsFromPart, IsFunctionOfTwo, SameFolded};
     ghost use Rattle.chumsky_folds.specs.FoldingLaws.{folds_part-ends, folds_part-agree};
 
@@ -49,6 +50,8 @@ impl<
     ghost ends_after_start = { λ p. folds_part-ends _ _ (F.gives p.folder) _ (B.ends_after_start p.items (record { nonconsumption_is_ok = false })) (A.ends_after_start p.parser) };
 
     ghost agrees = { λ p s. folds_part-agree _ _ (F.gives p.folder) _ (A.same p.parser) (B.same p.items) (B.alike p.items) (B.agrees p.items s.1 (record { nonconsumption_is_ok = false })) (A.agrees p.parser s.0) };
+
+    ghost accepts = { λ _. of_unsaid };
 
     #[inline(always)]
     fn go_emit(&self, inp: &mut InputRef<'src, '_, I, E>) -> PResult<O> {

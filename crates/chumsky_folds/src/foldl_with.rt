@@ -38,6 +38,7 @@ impl<
     B: IterParser<'src, I, U, E>,
     F: FolderWith<'src, I, O, U, E>,
 > Parser<'src, I, O, E> for FoldlWith<F, A, B, U> {
+    ghost use Rattle.chumsky_parser.specs.Language.{of_unsaid};
     ghost use Rattle.chumsky_parser.specs.Showing.{OnlyAnswers};
     ghost use Rattle.chumsky_folds.specs.Folding.{SameFolded};
     ghost use Rattle.chumsky_folds.specs.FoldingShown.{FoldsShown, StepsShown, SameTaken};
@@ -54,6 +55,8 @@ impl<
     ghost ends_after_start = { λ p. folds_shown-ends _ _ _ _ (B.ends_after_start p.items (record { nonconsumption_is_ok = false })) (A.ends_after_start p.parser) };
 
     ghost agrees = { λ p s. folds_shown-agree _ _ _ _ s.2 (A.same p.parser) (B.same p.items) (B.alike p.items) (B.agrees p.items s.1 (record { nonconsumption_is_ok = false })) (A.agrees p.parser s.0) };
+
+    ghost accepts = { λ _. of_unsaid };
 
     #[inline(always)]
     fn go_emit(&self, inp: &mut InputRef<'src, '_, I, E>) -> PResult<O> {

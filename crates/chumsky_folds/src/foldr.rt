@@ -36,6 +36,7 @@ impl<
     B: Parser<'src, I, U, E>,
     F: RightFolder<O, U>,
 > Parser<'src, I, U, E> for Foldr<F, A, B, O> {
+    ghost use Rattle.chumsky_parser.specs.Language.{of_unsaid};
     ghost use Rattle.chumsky_folds.specs.Folding.{IsFunctionOfTwo};
     ghost use Rattle.chumsky_folds.specs.FoldingBack.{FoldsBack, SameFoldedBack};
     ghost use Rattle.chumsky_folds.specs.FoldingBackLaws.{folds_back-ends, folds_back-agree};
@@ -51,6 +52,8 @@ impl<
     ghost ends_after_start = { λ p. folds_back-ends _ _ ⟦<Vec<O> as Container<O>>⟧.holds ⟦<Vec<O> as Container<O>>⟧.takes_no_memory _ (F.gives p.folder) (A.ends_after_start p.items.parser (record { nonconsumption_is_ok = false })) (B.ends_after_start p.parser) };
 
     ghost agrees = { λ p s. folds_back-agree _ _ ⟦<Vec<O> as Container<O>>⟧.holds ⟦<Vec<O> as Container<O>>⟧.takes_no_memory _ (F.gives p.folder) (λ xs ys v e d. sym e ∙ d) (A.same p.items.parser) (B.same p.parser) (A.alike p.items.parser) (A.agrees p.items.parser s.0 (record { nonconsumption_is_ok = false })) (B.agrees p.parser s.1) };
+
+    ghost accepts = { λ _. of_unsaid };
 
     #[inline(always)]
     fn go_emit(&self, inp: &mut InputRef<'src, '_, I, E>) -> PResult<U> {

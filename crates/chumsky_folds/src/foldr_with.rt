@@ -39,6 +39,7 @@ impl<
     B: Parser<'src, I, U, E>,
     F: RightFolderWith<'src, I, O, U, E>,
 > Parser<'src, I, U, E> for FoldrWith<F, A, B, O> {
+    ghost use Rattle.chumsky_parser.specs.Language.{of_unsaid};
     ghost use Rattle.std.proofs.Common.{sym, ◌∙◌};
     ghost use Rattle.chumsky_parser.specs.Showing.{OnlyAnswers};
     ghost use Rattle.chumsky_folds.specs.FoldingBack.{SameFoldedBack};
@@ -57,6 +58,8 @@ impl<
     ghost ends_after_start = { λ p. folds_back_shown-ends _ _ _ _ _ (A.ends_after_start p.items (record { nonconsumption_is_ok = false })) (B.ends_after_start p.parser) };
 
     ghost agrees = { λ p s. folds_back_shown-agree _ _ _ _ _ (λ xs ys v e d. sym e ∙ d) s.2 (A.same p.items) (B.same p.parser) (A.alike p.items) (A.agrees p.items s.0 (record { nonconsumption_is_ok = false })) (B.agrees p.parser s.1) };
+
+    ghost accepts = { λ _. of_unsaid };
 
     #[inline(always)]
     fn go_emit(&self, inp: &mut InputRef<'src, '_, I, E>) -> PResult<U> {

@@ -39,6 +39,7 @@ impl<
     B: IterParser<'src, I, U, E>,
     F: TryFolder<'src, I, O, U, E>,
 > Parser<'src, I, O, E> for TryFoldl<F, A, B, U> {
+    ghost use Rattle.chumsky_parser.specs.Language.{of_unsaid};
     ghost use Rattle.chumsky_folds.specs.Folding.{SameFolded};
     ghost use Rattle.chumsky_folds.specs.FoldingShown.{SameTaken};
     ghost use Rattle.chumsky_folds.specs.FoldingTried.{FoldsTried, StepsTried, TakesAlike};
@@ -55,6 +56,8 @@ impl<
     ghost ends_after_start = { λ p. folds_tried-ends _ _ _ _ _ (B.ends_after_start p.items (record { nonconsumption_is_ok = false })) (A.ends_after_start p.parser) };
 
     ghost agrees = { λ p s. folds_tried-agree _ _ _ _ _ (A.same p.parser) (B.same p.items) (B.alike p.items) s.2 (B.agrees p.items s.1 (record { nonconsumption_is_ok = false })) (A.agrees p.parser s.0) };
+
+    ghost accepts = { λ _. of_unsaid };
 
     #[inline]
     fn go_emit(&self, inp: &mut InputRef<'src, '_, I, E>) -> PResult<O> {

@@ -20,6 +20,7 @@ impl<
     P: Parser<'src, I, O, E>,
     const N: usize,
 > Parser<'src, I, ArrayVec<O, N>, E> for Group<[P; N]> {
+    ghost use Rattle.chumsky_parser.specs.Language.{of_unsaid};
     ghost use Rattle.std.specs.Prelude.{map};
     ghost use Rattle.std.specs.List.{All};
     ghost use Rattle.chumsky_parser.specs.ChoiceLaws.{each-ends, each-agrees};
@@ -37,6 +38,8 @@ impl<
     ghost ends_after_start = { λ p. in_turn-ends _ (each-ends _ P.ends_after_start p.parsers) };
 
     ghost agrees = { λ p s. in_turn-agrees _ _ (each-agrees _ P.steady P.same P.agrees p.parsers s) };
+
+    ghost accepts = { λ _. of_unsaid };
 
     #[inline]
     fn go_emit(&self, inp: &mut InputRef<'src, '_, I, E>) -> PResult<ArrayVec<O, N>> {

@@ -15,6 +15,7 @@ impl<'src, I: Input<'src>, OA, E: ParserExtra<I>, A: Parser<'src, I, OA, E>> Par
     (OA,),
     E,
 > for Group<(A,)> {
+    ghost use Rattle.chumsky_parser.specs.Language.{of_unsaid};
     ghost use Rattle.chumsky_group.specs.Regrouped.{one_of_pairs, Grouped};
     ghost use Rattle.chumsky_group.specs.RegroupedLaws.{first-agrees, regrouped-ends, regrouped-agrees};
 
@@ -29,6 +30,8 @@ impl<'src, I: Input<'src>, OA, E: ParserExtra<I>, A: Parser<'src, I, OA, E>> Par
     ghost ends_after_start = { λ p. regrouped-ends _ _ (A.ends_after_start p.parsers.0) };
 
     ghost agrees = { λ p s. regrouped-agrees _ _ _ (λ v w t. t) (first-agrees (A.agrees p.parsers.0 s)) };
+
+    ghost accepts = { λ _. of_unsaid };
 
     #[inline(always)]
     fn go_emit(&self, inp: &mut InputRef<'src, '_, I, E>) -> PResult<(OA,)> {
@@ -54,6 +57,7 @@ impl<
     A: Parser<'src, I, OA, E>,
     B: Parser<'src, I, OB, E>,
 > Parser<'src, I, (OA, OB), E> for Group<(A, B)> {
+    ghost use Rattle.chumsky_parser.specs.Language.{of_unsaid};
     ghost use Rattle.chumsky_parser.specs.Chained.{SamePair};
     ghost use Rattle.chumsky_parser.specs.Laws.{sequence-ends, sequence-agrees};
     ghost use Rattle.chumsky_group.specs.Regrouped.{And};
@@ -71,6 +75,8 @@ impl<
 
     ghost agrees = { λ p s. let t = p.parsers in
         sequence-agrees _ _ (A.same t.0) (B.same t.1) (A.agrees t.0 s.0) (B.agrees t.1 s.1) };
+
+    ghost accepts = { λ _. of_unsaid };
 
     #[inline(always)]
     fn go_emit(&self, inp: &mut InputRef<'src, '_, I, E>) -> PResult<(OA, OB)> {
@@ -107,6 +113,7 @@ impl<
     B: Parser<'src, I, OB, E>,
     C: Parser<'src, I, OC, E>,
 > Parser<'src, I, (OA, OB, OC), E> for Group<(A, B, C)> {
+    ghost use Rattle.chumsky_parser.specs.Language.{of_unsaid};
     ghost use Rattle.chumsky_parser.specs.Laws.{sequence-ends};
     ghost use Rattle.chumsky_group.specs.Regrouped.{three_of_pairs, And, Grouped};
     ghost use Rattle.chumsky_group.specs.RegroupedLaws.{first-agrees, and-agrees, regrouped-ends, regrouped-agrees};
@@ -128,6 +135,8 @@ impl<
     ghost agrees = { λ p s. let t = p.parsers in
         regrouped-agrees _ _ _ (λ _ _ r. three_of_pairs r) (and-agrees (and-agrees
         (first-agrees (A.agrees t.0 s.0)) (B.agrees t.1 s.1)) (C.agrees t.2 s.2)) };
+
+    ghost accepts = { λ _. of_unsaid };
 
     #[inline(always)]
     fn go_emit(&self, inp: &mut InputRef<'src, '_, I, E>) -> PResult<(OA, OB, OC)> {
@@ -173,6 +182,7 @@ impl<
     C: Parser<'src, I, OC, E>,
     D: Parser<'src, I, OD, E>,
 > Parser<'src, I, (OA, OB, OC, OD), E> for Group<(A, B, C, D)> {
+    ghost use Rattle.chumsky_parser.specs.Language.{of_unsaid};
     ghost use Rattle.chumsky_parser.specs.Laws.{sequence-ends};
     ghost use Rattle.chumsky_group.specs.Regrouped.{four_of_pairs, And, Grouped};
     ghost use Rattle.chumsky_group.specs.RegroupedLaws.{first-agrees, and-agrees, regrouped-ends, regrouped-agrees};
@@ -199,6 +209,8 @@ impl<
         regrouped-agrees _ _ _ (λ _ _ r. four_of_pairs r) (and-agrees (and-agrees (and-agrees
         (first-agrees (A.agrees t.0 s.0)) (B.agrees t.1 s.1)) (C.agrees t.2 s.2))
         (D.agrees t.3 s.3)) };
+
+    ghost accepts = { λ _. of_unsaid };
 
     #[inline(always)]
     fn go_emit(&self, inp: &mut InputRef<'src, '_, I, E>) -> PResult<(OA, OB, OC, OD)> {
@@ -250,6 +262,7 @@ impl<
     D: Parser<'src, I, OD, E>,
     F: Parser<'src, I, OF, E>,
 > Parser<'src, I, (OA, OB, OC, OD, OF), E> for Group<(A, B, C, D, F)> {
+    ghost use Rattle.chumsky_parser.specs.Language.{of_unsaid};
     ghost use Rattle.chumsky_parser.specs.Laws.{sequence-ends};
     ghost use Rattle.chumsky_group.specs.Regrouped.{five_of_pairs, And, Grouped};
     ghost use Rattle.chumsky_group.specs.RegroupedLaws.{first-agrees, and-agrees, regrouped-ends, regrouped-agrees};
@@ -277,6 +290,8 @@ impl<
         regrouped-agrees _ _ _ (λ _ _ r. five_of_pairs r) (and-agrees (and-agrees (and-agrees
         (and-agrees (first-agrees (A.agrees t.0 s.0)) (B.agrees t.1 s.1)) (C.agrees t.2 s.2))
         (D.agrees t.3 s.3)) (F.agrees t.4 s.4)) };
+
+    ghost accepts = { λ _. of_unsaid };
 
     #[inline(always)]
     fn go_emit(&self, inp: &mut InputRef<'src, '_, I, E>) -> PResult<(OA, OB, OC, OD, OF)> {
@@ -334,6 +349,7 @@ impl<
     F: Parser<'src, I, OF, E>,
     G: Parser<'src, I, OG, E>,
 > Parser<'src, I, (OA, OB, OC, OD, OF, OG), E> for Group<(A, B, C, D, F, G)> {
+    ghost use Rattle.chumsky_parser.specs.Language.{of_unsaid};
     ghost use Rattle.chumsky_parser.specs.Laws.{sequence-ends};
     ghost use Rattle.chumsky_group.specs.Regrouped.{six_of_pairs, And, Grouped};
     ghost use Rattle.chumsky_group.specs.RegroupedLaws.{first-agrees, and-agrees, regrouped-ends, regrouped-agrees};
@@ -362,6 +378,8 @@ impl<
         regrouped-agrees _ _ _ (λ _ _ r. six_of_pairs r) (and-agrees (and-agrees (and-agrees
         (and-agrees (and-agrees (first-agrees (A.agrees t.0 s.0)) (B.agrees t.1 s.1))
         (C.agrees t.2 s.2)) (D.agrees t.3 s.3)) (F.agrees t.4 s.4)) (G.agrees t.5 s.5)) };
+
+    ghost accepts = { λ _. of_unsaid };
 
     #[inline(always)]
     fn go_emit(&self, inp: &mut InputRef<'src, '_, I, E>) -> PResult<(OA, OB, OC, OD, OF, OG)> {
@@ -425,6 +443,7 @@ impl<
     G: Parser<'src, I, OG, E>,
     H: Parser<'src, I, OH, E>,
 > Parser<'src, I, (OA, OB, OC, OD, OF, OG, OH), E> for Group<(A, B, C, D, F, G, H)> {
+    ghost use Rattle.chumsky_parser.specs.Language.{of_unsaid};
     ghost use Rattle.chumsky_parser.specs.Laws.{sequence-ends};
     ghost use Rattle.chumsky_group.specs.Regrouped.{seven_of_pairs, And, Grouped};
     ghost use Rattle.chumsky_group.specs.RegroupedLaws.{first-agrees, and-agrees, regrouped-ends, regrouped-agrees};
@@ -456,6 +475,8 @@ impl<
         (and-agrees (and-agrees (and-agrees (first-agrees (A.agrees t.0 s.0))
         (B.agrees t.1 s.1)) (C.agrees t.2 s.2)) (D.agrees t.3 s.3)) (F.agrees t.4 s.4))
         (G.agrees t.5 s.5)) (H.agrees t.6 s.6)) };
+
+    ghost accepts = { λ _. of_unsaid };
 
     #[inline(always)]
     fn go_emit(&self, inp: &mut InputRef<'src, '_, I, E>) -> PResult<(OA, OB, OC, OD, OF, OG, OH)> {
@@ -525,6 +546,7 @@ impl<
     H: Parser<'src, I, OH, E>,
     J: Parser<'src, I, OJ, E>,
 > Parser<'src, I, (OA, OB, OC, OD, OF, OG, OH, OJ), E> for Group<(A, B, C, D, F, G, H, J)> {
+    ghost use Rattle.chumsky_parser.specs.Language.{of_unsaid};
     ghost use Rattle.chumsky_parser.specs.Laws.{sequence-ends};
     ghost use Rattle.chumsky_group.specs.Regrouped.{eight_of_pairs, And, Grouped};
     ghost use Rattle.chumsky_group.specs.RegroupedLaws.{first-agrees, and-agrees, regrouped-ends, regrouped-agrees};
@@ -558,6 +580,8 @@ impl<
         (and-agrees (and-agrees (and-agrees (and-agrees (first-agrees (A.agrees t.0 s.0))
         (B.agrees t.1 s.1)) (C.agrees t.2 s.2)) (D.agrees t.3 s.3)) (F.agrees t.4 s.4))
         (G.agrees t.5 s.5)) (H.agrees t.6 s.6)) (J.agrees t.7 s.7)) };
+
+    ghost accepts = { λ _. of_unsaid };
 
     #[inline(always)]
     fn go_emit(

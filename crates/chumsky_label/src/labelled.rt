@@ -29,6 +29,7 @@ where
     E::Error: LabelError<I, L>,
     A: Parser<'src, I, O, E>,
 {
+    ghost use Rattle.chumsky_parser.specs.Language.{of_unsaid};
     ghost use Rattle.chumsky_shield.specs.MapErr.{MapsOnce};
     ghost use Rattle.chumsky_label.specs.Labelled.{MeansLabelled};
     ghost use Rattle.chumsky_label.specs.LabelledLaws.{labelled-ends, labelled-agrees};
@@ -44,6 +45,8 @@ where
     ghost ends_after_start = { λ p. labelled-ends _ _ _ _ (A.ends_after_start p.parser) };
 
     ghost agrees = { λ p s. labelled-agrees _ _ _ _ (A.same p.parser) s.1 (A.agrees p.parser s.0) };
+
+    ghost accepts = { λ _. of_unsaid };
 
     #[inline]
     fn go_emit(&self, inp: &mut InputRef<'src, '_, I, E>) -> PResult<O> {

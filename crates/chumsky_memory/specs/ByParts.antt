@@ -12,7 +12,7 @@ use Rattle.chumsky_parser.specs.declared.iter.IterParserDebug.{IterParserDebug}
 use Rattle.chumsky_parser.specs.Items.{Next}
 use Rattle.chumsky_group.specs.Parts.{Part, part}
 use Rattle.chumsky_items.specs.declared.separated_by.SeparatedBy.{SeparatedBy}
-use Rattle.chumsky_memory.specs.Memory.{NeverOutOfMemory, ItemsNeverOutOfMemory, AnswersWithoutMemory}
+use Rattle.chumsky_parser.specs.Memory.{NeverOutOfMemory, ItemsNeverOutOfMemory, AnswersWithoutMemory}
 
 module _ {I Tok Sp Er St Mk Cx A B O U X F V W : Type 0} where
   -- the parts of a list: its items and its separators

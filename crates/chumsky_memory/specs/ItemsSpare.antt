@@ -11,8 +11,8 @@ use Rattle.chumsky_parser.specs.Steps.{AllSteps, unlisted}
 use Rattle.chumsky_items.specs.Consumers.{Skips, CountsUp, Passes, Counts}
 use Rattle.chumsky_items.specs.Repeating.{Settled, Settles, Counted, EndsUnlessFew, Uncapped, Repeats, is_stuck, fits, asks, at_cap}
 use Rattle.chumsky_items.specs.Separating.{Bounds, Perhaps, Lead, Last, Staying, Round, Unfilled, Separates, asks_after, stays, trails}
-use Rattle.chumsky_memory.specs.Memory.{NeverOutOfMemory, ItemsNeverOutOfMemory}
-use Rattle.chumsky_memory.specs.MemoryLaws.{given-spares, no-spares, stops-spares, asked-spares, chained-spares, or_else-spares}
+use Rattle.chumsky_parser.specs.Memory.{NeverOutOfMemory, ItemsNeverOutOfMemory}
+use Rattle.chumsky_parser.specs.MemoryLaws.{given-spares, no-spares, stops-spares, asked-spares, chained-spares, or_else-spares}
 
 module _ {Tok Cx St Er S V W : Type 0} where
   after_step-spares : (on : Option V → S → Meaning Tok Cx St Er W) (ended : Meaning Tok Cx St Er W) → ((v : Option V) (s : S) → NeverOutOfMemory (on v s)) → NeverOutOfMemory ended → (x : Option (Next S V)) → NeverOutOfMemory (AfterStep on ended x)

@@ -1,4 +1,3 @@
-pub mod Memory
 pub mod MemoryLaws
 pub mod PrimitivesSpare
 pub mod ItemsSpare

@@ -16,9 +16,9 @@ use Rattle.chumsky_choice.specs.Among.{FirstAmong}
 use Rattle.chumsky_choice.specs.Alternatives.{TriesInOrder}
 use Rattle.chumsky_group.specs.InTurn.{InTurn, item_before}
 use Rattle.chumsky_group.specs.Parts.{Part, part, AnyStops, StopsOnlyByAny}
-use Rattle.chumsky_memory.specs.Memory.{IsNotMemory, SparesMemory, NeverOutOfMemory}
+use Rattle.chumsky_parser.specs.Memory.{IsNotMemory, SparesMemory, NeverOutOfMemory}
 use Rattle.chumsky_memory.specs.ByParts.{NoneOut, OutOnlyBy}
-use Rattle.chumsky_memory.specs.MemoryLaws.{given-spares, misses-spares, chained-spares}
+use Rattle.chumsky_parser.specs.MemoryLaws.{given-spares, misses-spares, chained-spares}
 
 module _ {Tok Cx St Er V : Type 0} where
   -- none of a list is

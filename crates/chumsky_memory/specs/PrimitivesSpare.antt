@@ -14,8 +14,8 @@ use Rattle.chumsky_primitive.specs.End.{MeansEndAt, MeansEnd}
 use Rattle.chumsky_primitive.specs.Just.{MeansMemberFound, MeansMember, MeansMembers, MeansJust, is_member}
 use Rattle.chumsky_primitive.specs.OneOf.{MeansTested, passes}
 use Rattle.chumsky_primitive.specs.OneOf as one_of
-use Rattle.chumsky_memory.specs.Memory.{SparesMemory, NeverOutOfMemory}
-use Rattle.chumsky_memory.specs.MemoryLaws.{misses-spares, given-spares, copy-spares, chained-spares}
+use Rattle.chumsky_parser.specs.Memory.{SparesMemory, NeverOutOfMemory}
+use Rattle.chumsky_parser.specs.MemoryLaws.{misses-spares, given-spares, copy-spares, chained-spares}
 
 module _ {Tok Cx St Er : Type 0} where
   pub empty-spares : NeverOutOfMemory (MeansEmpty {Tok = Tok} {Cx = Cx} {St = St} {Er = Er})

@@ -5,8 +5,8 @@ use Rattle.chumsky_input.specs.Outcome.{Meaning, Beginning, Outcome, Verdict, Ye
 use Rattle.chumsky_parser.specs.Chained.{Asked}
 use Rattle.chumsky_shield.specs.Shielded.{OrClash, OrLacks, OfYes, OfNo, ByVerdict, Shielded}
 use Rattle.chumsky_shield.specs.Vetted.{Vets, OnRuling, Vetting, Vetted}
-use Rattle.chumsky_memory.specs.Memory.{IsNotMemory, SparesMemory, NeverOutOfMemory}
-use Rattle.chumsky_memory.specs.MemoryLaws.{asked-spares}
+use Rattle.chumsky_parser.specs.Memory.{IsNotMemory, SparesMemory, NeverOutOfMemory}
+use Rattle.chumsky_parser.specs.MemoryLaws.{asked-spares}
 
 module _ {V Er St : Type 0} where
   or_clash-spares : (whole o : Outcome V Er St) → SparesMemory whole.verdict → OrClash whole o → SparesMemory o.verdict

@@ -9,9 +9,9 @@ use Rattle.chumsky_input.specs.declared.input.Input as input_trait
 use Rattle.chumsky_input.specs.Outcome.{Meaning, Beginning, Outcome, Verdict, Yes, No, Halt, Clash}
 use Rattle.chumsky_parser.specs.Choice.{ElseFrom, Stands, FirstOf, OneOrFirst, OrElse}
 use Rattle.chumsky_choice.specs.Among.{NoneOrFirst, FirstAmong}
-use Rattle.chumsky_items.specs.Lists.{IsYes}
-use Rattle.chumsky_moves.specs.Moves.{Moves}
-use Rattle.chumsky_moves.specs.MovesLaws.{both-true, misses-no}
+use Rattle.chumsky_parser.specs.Progress.{IsYes}
+use Rattle.chumsky_parser.specs.Progress.{Moves}
+use Rattle.chumsky_parser.specs.ProgressLaws.{both-true, misses-no}
 
 module _ {Tok Cx St Er V : Type 0} where
   -- each of these moves

@@ -30,8 +30,9 @@ use Rattle.chumsky_folds.specs.Placed.{PairedWith, Placed}
 use Rattle.chumsky_folds.specs.PlacedLaws.{placed-end}
 use Rattle.chumsky_items.specs.ConsumersLaws.{collects-ends}
 use Rattle.chumsky_items.specs.Repeating.{fits}
-use Rattle.chumsky_moves.specs.Moves.{Moves, ItemsMove}
-use Rattle.chumsky_moves.specs.MovesLaws.{either-true, asked-moves, chained-first, chained-second}
+use Rattle.chumsky_moves.specs.Moves.{ItemsMove}
+use Rattle.chumsky_parser.specs.Progress.{Moves}
+use Rattle.chumsky_parser.specs.ProgressLaws.{either-true, asked-moves, chained-first, chained-second}
 use Rattle.chumsky_moves.specs.ItemsMove.{remade-items, held-items, made-move, collects-move}
 
 module _ {Tok Cx St Er S V W : Type 0} where

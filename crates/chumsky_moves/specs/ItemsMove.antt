@@ -16,8 +16,9 @@ use Rattle.chumsky_items.specs.Consumers.{Skips, CountsUp, Appends, Collected, P
 use Rattle.chumsky_items.specs.Exactly.{and_one, JustSo, JustSoMade, CollectsExactly}
 use Rattle.chumsky_items.specs.Repeating.{Settled, Settles, Counted, Uncapped, Repeats, asks, at_cap, is_stuck, fits}
 use Rattle.chumsky_items.specs.Separating.{Bounds, asks_after, stays, Lead, Staying, Round, Unfilled, Separates}
-use Rattle.chumsky_moves.specs.Moves.{Moves, ItemsMove, has_an_item}
-use Rattle.chumsky_moves.specs.MovesLaws.{both-true, no-moves, asked-moves, chained-first, chained-second, chained-after}
+use Rattle.chumsky_moves.specs.Moves.{ItemsMove, has_an_item}
+use Rattle.chumsky_parser.specs.Progress.{Moves}
+use Rattle.chumsky_parser.specs.ProgressLaws.{both-true, no-moves, asked-moves, chained-first, chained-second, chained-after}
 use Rattle.chumsky_moves.specs.ChoicesMove.{or_else-moves}
 
 not-true : (b : Bool) → not b ≡ true → b ≡ false

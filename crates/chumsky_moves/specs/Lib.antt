@@ -1,5 +1,4 @@
 pub mod Moves
-pub mod MovesLaws
 pub mod ChoicesMove
 pub mod PrimitivesMove
 pub mod PartsMove

@@ -5,12 +5,8 @@ use Rattle.either.specs.declared.Either.{Either}
 use Rattle.either.specs.declared.Either.TheVariants.{Left, Right}
 use Rattle.chumsky_input.specs.Outcome.{Meaning, Beginning, Outcome, Yes}
 use Rattle.chumsky_parser.specs.Items.{Next}
-use Rattle.chumsky_items.specs.Lists.{IsYes}
+use Rattle.chumsky_parser.specs.Progress.{IsYes}
 use Rattle.chumsky_items.specs.Repeating.{at_cap}
-
--- each yes ends past its start
-abbrev pub Moves : {Tok Cx St Er V : Type 0} → Meaning Tok Cx St Er V → Type 0
-Moves {Tok} {Cx} {St} {Er} {V} m = (b : Beginning Tok Cx St) (o : Outcome V Er St) → m b o → IsYes o.verdict → b.start < o.end
 
 -- making an iteration moves, or the first step of each that was made does
 pub record ItemsMove {Tok Cx St Er S V : Type 0} (begins : Meaning Tok Cx St Er S) (gives : S → Meaning Tok Cx St Er (Next S V)) : Type 0 where

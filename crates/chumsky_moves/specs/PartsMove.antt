@@ -21,14 +21,15 @@ use Rattle.chumsky_combinator.specs.Part.{Onward}
 use Rattle.chumsky_group.specs.InTurn.{InTurn, item_before}
 use Rattle.chumsky_group.specs.InTurnLaws.{in_turn-ends}
 use Rattle.chumsky_group.specs.Regrouped.{Regrouped}
-use Rattle.chumsky_items.specs.Lists.{IsYes}
+use Rattle.chumsky_parser.specs.Progress.{IsYes}
 use Rattle.chumsky_shield.specs.AndIs.{GivenAt, LooksFrom, MeansAndIs}
 use Rattle.chumsky_shield.specs.MapErr.{ErrMaps, YesAsOne, MappedAs, NoMapped, MeansMapErr}
 use Rattle.chumsky_shield.specs.Shielded.{OrClash, OrLacks, OfYes, OfNo, ByVerdict, Shielded, NoAsOne}
 use Rattle.chumsky_shield.specs.Validated.{Emits, EmitsAll, Validated, MeansValidate}
 use Rattle.chumsky_shield.specs.Vetted.{Vets, OnRuling, Vetting, Vetted}
-use Rattle.chumsky_moves.specs.Moves.{Moves, of_either}
-use Rattle.chumsky_moves.specs.MovesLaws.{either-true, no-moves, asked-moves, chained-first, chained-second, sequence-moves}
+use Rattle.chumsky_moves.specs.Moves.{of_either}
+use Rattle.chumsky_parser.specs.Progress.{Moves}
+use Rattle.chumsky_parser.specs.ProgressLaws.{either-true, no-moves, asked-moves, chained-first, chained-second, sequence-moves}
 use Rattle.chumsky_moves.specs.ChoicesMove.{or_else-moves}
 
 module _ {Tok Cx St Er : Type 0} where

@@ -14,9 +14,10 @@ use Rattle.chumsky_primitive.specs.OneOf as one_of
 use Rattle.chumsky_primitive.specs.OneOf.{MeansTested}
 use Rattle.chumsky_primitive.specs.Just.{past, is_member, MeansMemberFound, MeansMember, MeansMembers, MeansJust}
 use Rattle.chumsky_primitive.specs.Select.{Picks, MeansAnswer, MeansSelect, MeansSelectAt}
-use Rattle.chumsky_items.specs.Lists.{IsYes}
-use Rattle.chumsky_moves.specs.Moves.{Moves, has_members}
-use Rattle.chumsky_moves.specs.MovesLaws.{misses-no, chained-first}
+use Rattle.chumsky_parser.specs.Progress.{IsYes}
+use Rattle.chumsky_moves.specs.Moves.{has_members}
+use Rattle.chumsky_parser.specs.Progress.{Moves}
+use Rattle.chumsky_parser.specs.ProgressLaws.{misses-no, chained-first}
 
 module _ {I Tok Sp Cu Er St Mk Cx V : Type 0} (source : input_trait.Ghosts I Cu Tok Sp) (IsOf : Tok → V → Type 0) (safe : Tok → Type 0) (errors : error_trait.Ghosts Er I Tok Sp) (states : inspector_trait.Ghosts St I Mk Tok Sp) where
   any_moves : (t : Option Tok) (b : Beginning Tok Cx states.Seen) (o : Outcome V errors.Seen states.Seen) → MeansAnyAt source IsOf safe errors states t b o → IsYes o.verdict → b.start < o.end

@@ -8,12 +8,12 @@ use Rattle.chumsky_input.specs.Outcome.{Meaning, Beginning, Outcome, Yes, No, En
 use Rattle.chumsky_parser.specs.Chained.{Asked, Given}
 use Rattle.chumsky_parser.specs.Laws.{chained-ends, given-ends}
 use Rattle.chumsky_context.specs.Covered.{Cover, Covers, AddsSpan, WithSpan}
-use Rattle.chumsky_items.specs.Lists.{IsYes}
+use Rattle.chumsky_parser.specs.Progress.{IsYes}
 use Rattle.chumsky_label.specs.Labelled.{LabelledAs, MeansLabelled}
 use Rattle.chumsky_text.specs.TextRun.{SkipsRun, MeansPadded}
 use Rattle.chumsky_text.specs.TextRunLaws.{NoOrMoves}
-use Rattle.chumsky_moves.specs.Moves.{Moves}
-use Rattle.chumsky_moves.specs.MovesLaws.{yes-answers, asked-moves, chained-first, chained-second}
+use Rattle.chumsky_parser.specs.Progress.{Moves}
+use Rattle.chumsky_parser.specs.ProgressLaws.{yes-answers, asked-moves, chained-first, chained-second}
 use Rattle.chumsky_moves.specs.PartsMove.{clash-yes, shielded-moves}
 
 module _ {Tok Cx St Er V W : Type 0} (part : Meaning Tok Cx St Er V) where

@@ -27,7 +27,7 @@ impl<
     A: Moving<'src, I, O, E>,
     B: Moving<'src, I, U, E>,
 > Moving<'src, I, (O, U), E> for Then<A, B, O, U> {
-    ghost use Rattle.chumsky_moves.specs.MovesLaws.{sequence-moves};
+    ghost use Rattle.chumsky_parser.specs.ProgressLaws.{sequence-moves};
 
     ghost moves = { λ p. A.moves p.first || B.moves p.second };
 
@@ -104,7 +104,7 @@ impl<
     A: Moving<'src, I, O, E>,
     B: Moving<'src, I, U, E>,
 > Moving<'src, I, U, E> for IgnoreThen<A, B, O> {
-    ghost use Rattle.chumsky_moves.specs.MovesLaws.{ignoring_first-moves};
+    ghost use Rattle.chumsky_parser.specs.ProgressLaws.{ignoring_first-moves};
 
     ghost moves = { λ p. A.moves p.first || B.moves p.second };
 
@@ -124,7 +124,7 @@ impl<
     A: Moving<'src, I, O, E>,
     B: Moving<'src, I, U, E>,
 > Moving<'src, I, O, E> for ThenIgnore<A, B, U> {
-    ghost use Rattle.chumsky_moves.specs.MovesLaws.{ignoring_second-moves};
+    ghost use Rattle.chumsky_parser.specs.ProgressLaws.{ignoring_second-moves};
 
     ghost moves = { λ p. A.moves p.first || B.moves p.second };
 
@@ -146,7 +146,7 @@ impl<
     B: Moving<'src, I, U, E>,
     C: Moving<'src, I, V, E>,
 > Moving<'src, I, O, E> for DelimitedBy<A, B, C, U, V> {
-    ghost use Rattle.chumsky_moves.specs.MovesLaws.{between-moves};
+    ghost use Rattle.chumsky_parser.specs.ProgressLaws.{between-moves};
 
     ghost moves = { λ p. B.moves p.opening || (A.moves p.parser || C.moves p.closing) };
 
@@ -166,7 +166,7 @@ impl<
     A: Moving<'src, I, O, E>,
     B: Moving<'src, I, U, E>,
 > Moving<'src, I, O, E> for PaddedBy<A, B, U> {
-    ghost use Rattle.chumsky_moves.specs.MovesLaws.{between-moves};
+    ghost use Rattle.chumsky_parser.specs.ProgressLaws.{between-moves};
 
     ghost moves = { λ p. B.moves p.padding || (A.moves p.parser || B.moves p.padding) };
 
@@ -180,7 +180,7 @@ impl<
 impl<'src, I: Input<'src>, O, E: ParserExtra<I>, A: Moving<'src, I, O, E>> Moving<'src, I, (), E>
     for Ignored<A, O> {
     ghost use Rattle.chumsky_parser.specs.IgnoringLaws.{gives-ends};
-    ghost use Rattle.chumsky_moves.specs.MovesLaws.{chained-first, asked-moves};
+    ghost use Rattle.chumsky_parser.specs.ProgressLaws.{chained-first, asked-moves};
 
     ghost moves = { λ p. A.moves p.parser };
 
@@ -198,7 +198,7 @@ impl<'src, I: Input<'src>, O, U: Clone, E: ParserExtra<I>, A: Moving<'src, I, O,
     E,
 > for To<A, O, U> {
     ghost use Rattle.chumsky_parser.specs.IgnoringLaws.{copy-ends};
-    ghost use Rattle.chumsky_moves.specs.MovesLaws.{chained-first, asked-moves};
+    ghost use Rattle.chumsky_parser.specs.ProgressLaws.{chained-first, asked-moves};
 
     ghost moves = { λ p. A.moves p.parser };
 

@@ -35,7 +35,7 @@ impl<
     A: Moving<'src, I, OA, E>,
     B: Moving<'src, I, OB, E>,
 > Moving<'src, I, (OA, OB), E> for Group<(A, B)> {
-    ghost use Rattle.chumsky_moves.specs.MovesLaws.{sequence-moves};
+    ghost use Rattle.chumsky_parser.specs.ProgressLaws.{sequence-moves};
 
     ghost moves = { λ p. A.moves p.parsers.0 || B.moves p.parsers.1 };
 

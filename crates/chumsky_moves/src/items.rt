@@ -1,7 +1,7 @@
 //! Items whose first step moves, and parsers made of items, which move where that step does.
 ghost use Rattle.std.specs.Prelude.{◌≡◌, true, false, ◌&&◌};
 ghost use Rattle.chumsky_moves.specs.Moves.{has_an_item};
-ghost use Rattle.chumsky_moves.specs.MovesLaws.{both-true};
+ghost use Rattle.chumsky_parser.specs.ProgressLaws.{both-true};
 
 use crate::moving::{Moving, MovingItems};
 use chumsky_combinator::map::{Map, Mapper};
@@ -171,7 +171,7 @@ impl<'src, I: Input<'src>, O: IntoIterator, E: ParserExtra<I>, A: Moving<'src, I
     E,
 > for IntoIter<A, O> {
     ghost use Rattle.chumsky_parser.specs.IgnoringLaws.{gives-ends};
-    ghost use Rattle.chumsky_moves.specs.MovesLaws.{chained-first, asked-moves};
+    ghost use Rattle.chumsky_parser.specs.ProgressLaws.{chained-first, asked-moves};
 
     ghost moves = { λ p. A.moves p.parser };
 
@@ -192,7 +192,7 @@ impl<'src, I: Input<'src>, O: Drop, E: ParserExtra<I>, A: Moving<'src, I, O, E>>
     ghost use Rattle.chumsky_parser.specs.IgnoringLaws.{gives-ends};
     ghost use Rattle.chumsky_items.specs.RepeatingLaws.{repeats-end};
     ghost use Rattle.chumsky_moves.specs.ItemsMove.{repeats-move, passes-move};
-    ghost use Rattle.chumsky_moves.specs.MovesLaws.{chained-first, asked-moves};
+    ghost use Rattle.chumsky_parser.specs.ProgressLaws.{chained-first, asked-moves};
 
     ghost moves = { λ p. has_an_item p.at_least p.at_most && A.moves p.parser };
 
@@ -216,7 +216,7 @@ impl<
     ghost use Rattle.chumsky_parser.specs.IgnoringLaws.{gives-ends};
     ghost use Rattle.chumsky_items.specs.SeparatingLaws.{separates-end};
     ghost use Rattle.chumsky_moves.specs.ItemsMove.{separates-move, passes-move};
-    ghost use Rattle.chumsky_moves.specs.MovesLaws.{chained-first, asked-moves};
+    ghost use Rattle.chumsky_parser.specs.ProgressLaws.{chained-first, asked-moves};
 
     ghost moves = { λ p. has_an_item p.at_least p.at_most && A.moves p.parser };
 

@@ -12,7 +12,7 @@ use chumsky_parser::parser::Parser;
 ///
 /// A parser type of one's own that may be a leaf of a grammar says `impl MayStay for MyParser {}` and is done.
 pub trait Moving<'src, I: Input<'src>, O, E: ParserExtra<I>>: Parser<'src, I, O, E> {
-    ghost use Rattle.chumsky_moves.specs.Moves.{Moves};
+    ghost use Rattle.chumsky_parser.specs.Progress.{Moves};
 
     /// That each success ends past its start.
     ghost moves: { Self → Bool } = { λ _. false };
@@ -27,7 +27,7 @@ pub trait Moving<'src, I: Input<'src>, O, E: ParserExtra<I>>: Parser<'src, I, O,
 
 /// Whether a part of a grammar moves wherever it succeeds; see `Moving`.
 pub trait MovingPart<'src, I: Input<'src>, O, E: ParserExtra<I>>: Part<'src, I, O, E> {
-    ghost use Rattle.chumsky_moves.specs.Moves.{Moves};
+    ghost use Rattle.chumsky_parser.specs.Progress.{Moves};
 
     /// That each success ends past its start.
     ghost moves: { Self → Bool } = { λ _. false };
@@ -84,7 +84,7 @@ impl<'src, I: Input<'src>, O, E: ParserExtra<I>, P: MayStay + Parser<'src, I, O,
     O,
     E,
 > for P {
-    ghost use Rattle.chumsky_moves.specs.MovesLaws.{never};
+    ghost use Rattle.chumsky_parser.specs.ProgressLaws.{never};
 
     ghost moved = { λ _. never };
 
@@ -99,7 +99,7 @@ impl<'src, I: Input<'src>, O, E: ParserExtra<I>, P: MayStay + Part<'src, I, O, E
     O,
     E,
 > for P {
-    ghost use Rattle.chumsky_moves.specs.MovesLaws.{never};
+    ghost use Rattle.chumsky_parser.specs.ProgressLaws.{never};
 
     ghost moved = { λ _. never };
 
@@ -115,7 +115,7 @@ impl<
     E: ParserExtra<I>,
     P: MayStay + IterParser<'src, I, O, E>,
 > MovingItems<'src, I, O, E> for P {
-    ghost use Rattle.chumsky_moves.specs.MovesLaws.{never};
+    ghost use Rattle.chumsky_parser.specs.ProgressLaws.{never};
 
     ghost first_moved = { λ _. never };
 

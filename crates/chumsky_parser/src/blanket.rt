@@ -18,9 +18,13 @@ impl<'src, I: Input<'src>, O, E: ParserExtra<I>, P: Parser<'src, I, O, E>> Parse
 
     ghost same = { λ p. P.same p.now };
 
+    ghost language = { λ p. P.language p.now };
+
     ghost ends_after_start = { λ p. P.ends_after_start p.now };
 
     ghost agrees = { λ p. P.agrees p.now };
+
+    ghost accepts = { λ p. P.accepts p.now };
 
     #[inline]
     fn go_emit(&self, inp: &mut InputRef<'src, '_, I, E>) -> PResult<O> {
@@ -45,9 +49,13 @@ impl<'src, I: Input<'src>, O, E: ParserExtra<I>, P: Parser<'src, I, O, E>> Parse
 
     ghost same = { λ p. P.same p.value };
 
+    ghost language = { λ p. P.language p.value };
+
     ghost ends_after_start = { λ p. P.ends_after_start p.value };
 
     ghost agrees = { λ p. P.agrees p.value };
+
+    ghost accepts = { λ p. P.accepts p.value };
 
     #[inline]
     fn go_emit(&self, inp: &mut InputRef<'src, '_, I, E>) -> PResult<O> {
@@ -74,9 +82,13 @@ impl<'src, I: Input<'src>, O, E: ParserExtra<I>, P: Parser<'src, I, O, E>> Parse
 
     ghost same = { λ p. P.same (rc_value p) };
 
+    ghost language = { λ p. P.language (rc_value p) };
+
     ghost ends_after_start = { λ p. P.ends_after_start (rc_value p) };
 
     ghost agrees = { λ p. P.agrees (rc_value p) };
+
+    ghost accepts = { λ p. P.accepts (rc_value p) };
 
     #[inline]
     fn go_emit(&self, inp: &mut InputRef<'src, '_, I, E>) -> PResult<O> {

@@ -19,6 +19,8 @@ impl<
     A: Parser<'src, I, O, E>,
     B: Parser<'src, I, O, E>,
 > Parser<'src, I, O, E> for Either<A, B> {
+    ghost use Rattle.chumsky_parser.specs.Language.{of_unsaid};
+
     ghost ready = { λ p. MatchEither p A.ready B.ready };
 
     ghost meaning = { λ p errors states b o. MatchEither p (λ x. A.meaning x errors states b o) (λ y. B.meaning y errors states b o) };
@@ -30,6 +32,8 @@ impl<
     ghost ends_after_start = { λ p. either-ends _ _ A.ends_after_start B.ends_after_start p };
 
     ghost agrees = { λ p s. either-agrees _ _ A.steady B.steady A.same B.same A.agrees B.agrees p s };
+
+    ghost accepts = { λ _. of_unsaid };
 
     #[inline]
     fn go_emit(&self, inp: &mut InputRef<'src, '_, I, E>) -> PResult<O> {

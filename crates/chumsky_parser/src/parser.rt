@@ -21,6 +21,7 @@ pub trait IsParser<I, O, E> {}
 pub trait Parser<'src, I: Input<'src>, O, E: ParserExtra<I>> {
     ghost use Rattle.chumsky_input.specs.Words.{Does};
     ghost use Rattle.chumsky_input.specs.Outcome.{EndsAfterStart, Agreeing};
+    ghost use Rattle.chumsky_parser.specs.Language.{Language, Accepts, unsaid};
 
     /// That the parser may be run: its closures may be called.
     ghost ready: { Self → Type 0 };
@@ -30,6 +31,8 @@ pub trait Parser<'src, I: Input<'src>, O, E: ParserExtra<I>> {
     ghost steady: { Self → Type 0 };
     /// Which outputs count as the same.
     ghost same: { Self → O → O → Type 0 };
+    /// Which texts it accepts, and with which values; by default nothing is said.
+    ghost language: { Self → Language I.Token O } = { λ _. unsaid };
 
     /// Runs the parser for its output. On failure the errors are with `inp`, and its cursor is where the parser left it.
     fn go_emit(&self, inp: &mut InputRef<'src, '_, I, E>) -> PResult<O>
@@ -48,4 +51,7 @@ pub trait Parser<'src, I: Input<'src>, O, E: ParserExtra<I>> {
 
     /// Two answers of a steady parser agree, with an output or without.
     ghost agrees: { (p : Self) → steady p → Agreeing (same p) (meaning p E.Error.Error E.State.Inspector) (meaning p E.Error.Error E.State.Inspector) };
+
+    /// What is said of its language holds.
+    ghost accepts: { (p : Self) → Accepts (meaning p E.Error.Error E.State.Inspector) (language p) (E.Error.takes_no_memory × E.State.takes_no_memory) };
 }

@@ -5,9 +5,9 @@ use Rattle.chumsky_input.specs.Outcome.{Meaning, Beginning, Outcome, Verdict, Ye
 use Rattle.chumsky_parser.specs.Chained.{Chained, Follows, from}
 use Rattle.chumsky_parser.specs.Choice.{ElseFrom}
 use Rattle.chumsky_parser.specs.Laws.{chained-ends}
-use Rattle.chumsky_items.specs.Lists.{IsYes}
-use Rattle.chumsky_moves.specs.Moves.{Moves}
-use Rattle.chumsky_moves.specs.MovesLaws.{yes-answers}
+use Rattle.chumsky_parser.specs.Progress.{IsYes}
+use Rattle.chumsky_parser.specs.Progress.{Moves}
+use Rattle.chumsky_parser.specs.ProgressLaws.{yes-answers}
 use Rattle.chumsky_pratt.specs.declared.fixity.Fixity.{Fixity}
 use Rattle.chumsky_pratt.specs.declared.fixity.Fixity.TheVariants.{Prefix, Postfix, Infix}
 use Rattle.chumsky_pratt.specs.declared.operands.Operands.TheVariants.{After}

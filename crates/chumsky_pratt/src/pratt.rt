@@ -25,6 +25,7 @@ impl<
     P: Parser<'src, I, O, E>,
     R: Operators<'src, I, O, E>,
 > Parser<'src, I, O, E> for Pratt<P, R> {
+    ghost use Rattle.chumsky_parser.specs.Language.{of_unsaid};
     ghost use Rattle.chumsky_pratt.specs.Doing.{DoesExpression};
     ghost use Rattle.chumsky_pratt.specs.ExpressionLaws.{SameExpression, expression-end, expression-agree};
 
@@ -39,6 +40,8 @@ impl<
     ghost ends_after_start = { λ p. expression-end _ (P.ends_after_start p.atom) (R.ends_after_start p.operators) 0 };
 
     ghost agrees = { λ p s. expression-agree _ (P.same p.atom) (R.same p.operators) (P.agrees p.atom s.0) (R.agrees p.operators s.1) 0 };
+
+    ghost accepts = { λ _. of_unsaid };
 
     #[inline]
     fn go_emit(&self, inp: &mut InputRef<'src, '_, I, E>) -> PResult<O> {

@@ -17,6 +17,7 @@ pub struct Any<I, E> {
 impl<I: Tokens, E> IsParser<I, I::Token, E> for Any<I, E> {}
 
 impl<'src, I: ValueInput<'src>, E: ParserExtra<I>> Parser<'src, I, I::Token, E> for Any<I, E> {
+    ghost use Rattle.chumsky_parser.specs.Language.{of_unsaid};
     ghost use Rattle.std.specs.Prelude.{◌≡◌, ⊤};
     ghost use Rattle.chumsky_primitive.specs.Any.{MeansAny, CountsAs};
     ghost use Rattle.chumsky_primitive.specs.AnyLaws.{any-ends, any-agrees, counts-same};
@@ -32,6 +33,8 @@ impl<'src, I: ValueInput<'src>, E: ParserExtra<I>> Parser<'src, I, I::Token, E> 
     ghost ends_after_start = { λ _. any-ends _ _ _ _ _ };
 
     ghost agrees = { λ _ _. any-agrees _ _ _ _ _ _ (counts-same I.seen) };
+
+    ghost accepts = { λ _. of_unsaid };
 
     #[inline(always)]
     fn go_emit(&self, inp: &mut InputRef<'src, '_, I, E>) -> PResult<I::Token> {

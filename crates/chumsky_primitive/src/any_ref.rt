@@ -18,6 +18,7 @@ impl<'src, I: BorrowInput<'src>, E> IsParser<I, &'src I::Token, E> for AnyRef<I,
 
 impl<'src, I: BorrowInput<'src>, E: ParserExtra<I>> Parser<'src, I, &'src I::Token, E>
     for AnyRef<I, E> {
+    ghost use Rattle.chumsky_parser.specs.Language.{of_unsaid};
     ghost use Rattle.std.specs.Prelude.{◌≡◌, ⊤};
     ghost use Rattle.chumsky_primitive.specs.Any.{MeansAny, PointsTo};
     ghost use Rattle.chumsky_primitive.specs.AnyLaws.{any-ends, any-agrees, points-same};
@@ -33,6 +34,8 @@ impl<'src, I: BorrowInput<'src>, E: ParserExtra<I>> Parser<'src, I, &'src I::Tok
     ghost ends_after_start = { λ _. any-ends _ _ _ _ _ };
 
     ghost agrees = { λ _ _. any-agrees _ _ _ _ _ _ points-same };
+
+    ghost accepts = { λ _. of_unsaid };
 
     #[inline(always)]
     fn go_emit(&self, inp: &mut InputRef<'src, '_, I, E>) -> PResult<&'src I::Token> {

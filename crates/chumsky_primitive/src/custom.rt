@@ -88,6 +88,7 @@ where
     E: ParserExtra<I>,
     F: Reader<'src, I, O, E>,
 {
+    ghost use Rattle.chumsky_parser.specs.Language.{of_unsaid};
     ghost use Rattle.chumsky_primitive.specs.Custom.{IsSteady, SameCalled};
     ghost use Rattle.chumsky_primitive.specs.CustomLaws.{custom-ends, custom-agrees};
 
@@ -102,6 +103,8 @@ where
     ghost ends_after_start = { λ p. custom-ends _ _ };
 
     ghost agrees = { λ p s. custom-agrees _ _ s };
+
+    ghost accepts = { λ _. of_unsaid };
 
     #[inline]
     fn go_emit(&self, inp: &mut InputRef<'src, '_, I, E>) -> PResult<O> {

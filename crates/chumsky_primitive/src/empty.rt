@@ -16,6 +16,7 @@ pub struct Empty<I, E> {
 impl<I, E> IsParser<I, (), E> for Empty<I, E> {}
 
 impl<'src, I: Input<'src>, E: ParserExtra<I>> Parser<'src, I, (), E> for Empty<I, E> {
+    ghost use Rattle.chumsky_parser.specs.Language.{of_unsaid};
     ghost use Rattle.std.specs.Prelude.{⊤};
     ghost use Rattle.chumsky_parser.specs.FailureLaws.{SameUnit};
     ghost use Rattle.chumsky_primitive.specs.Empty.{MeansEmpty};
@@ -32,6 +33,8 @@ impl<'src, I: Input<'src>, E: ParserExtra<I>> Parser<'src, I, (), E> for Empty<I
     ghost ends_after_start = { λ _. empty-ends };
 
     ghost agrees = { λ _ _. empty-agrees };
+
+    ghost accepts = { λ _. of_unsaid };
 
     #[inline]
     fn go_emit(&self, inp: &mut InputRef<'src, '_, I, E>) -> PResult<()> {

@@ -17,6 +17,7 @@ pub struct End<I, E> {
 impl<I, E> IsParser<I, (), E> for End<I, E> {}
 
 impl<'src, I: Input<'src>, E: ParserExtra<I>> Parser<'src, I, (), E> for End<I, E> {
+    ghost use Rattle.chumsky_parser.specs.Language.{of_unsaid};
     ghost use Rattle.std.specs.Prelude.{⊤};
     ghost use Rattle.chumsky_parser.specs.FailureLaws.{SameUnit};
     ghost use Rattle.chumsky_primitive.specs.End.{MeansEnd};
@@ -33,6 +34,8 @@ impl<'src, I: Input<'src>, E: ParserExtra<I>> Parser<'src, I, (), E> for End<I, 
     ghost ends_after_start = { λ _. end-ends _ _ _ };
 
     ghost agrees = { λ _ _. end-agrees _ _ _ };
+
+    ghost accepts = { λ _. of_unsaid };
 
     #[inline]
     fn go_emit(&self, inp: &mut InputRef<'src, '_, I, E>) -> PResult<()> {

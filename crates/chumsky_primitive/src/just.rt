@@ -28,6 +28,7 @@ impl<'src, T: OrderedSeq<I::Token> + Clone, I: Input<'src>, E: ParserExtra<I>> P
 where
     I::Token: PartialEq,
 {
+    ghost use Rattle.chumsky_parser.specs.Language.{of_unsaid};
     ghost use Rattle.std.specs.Prelude.{⊤};
     ghost use Rattle.chumsky_parser.specs.Copied.{BothCopies};
     ghost use Rattle.chumsky_primitive.specs.Just.{MeansJust};
@@ -44,6 +45,8 @@ where
     ghost ends_after_start = { λ p. just-ends _ _ _ _ _ _ (T.members p.seq) };
 
     ghost agrees = { λ p _. just-agrees _ _ _ _ _ _ (T.members p.seq) };
+
+    ghost accepts = { λ _. of_unsaid };
 
     #[inline(always)]
     fn go_emit(&self, inp: &mut InputRef<'src, '_, I, E>) -> PResult<T> {

@@ -32,6 +32,7 @@ impl<'src, S: Seq<I::Token>, I: ValueInput<'src>, E: ParserExtra<I>> Parser<'src
 where
     I::Token: PartialEq,
 {
+    ghost use Rattle.chumsky_parser.specs.Language.{of_unsaid};
     ghost use Rattle.std.specs.Prelude.{⊤};
     ghost use Rattle.chumsky_primitive.specs.OneOf.{MeansNoneOf};
     ghost use Rattle.chumsky_primitive.specs.OneOfLaws.{tested-ends, tested-agrees};
@@ -47,6 +48,8 @@ where
     ghost ends_after_start = { λ p. tested-ends _ _ _ _ _ (wanted.SomethingElse ∷ []) (outside I.Token.eq (S.members p.seq)) };
 
     ghost agrees = { λ p _. tested-agrees _ _ _ _ _ (wanted.SomethingElse ∷ []) (outside I.Token.eq (S.members p.seq)) };
+
+    ghost accepts = { λ _. of_unsaid };
 
     #[inline(always)]
     fn go_emit(&self, inp: &mut InputRef<'src, '_, I, E>) -> PResult<I::Token> {

@@ -33,6 +33,7 @@ where
     E: ParserExtra<I>,
     F: Fn(I::Token, &mut MapExtra<'src, '_, I, E>) -> Option<O>,
 {
+    ghost use Rattle.chumsky_parser.specs.Language.{of_unsaid};
     ghost use Rattle.chumsky_primitive.specs.Select.{PicksAlike, SamePicked};
     ghost use Rattle.chumsky_primitive.specs.SelectLaws.{select-ends, select-agrees};
 
@@ -47,6 +48,8 @@ where
     ghost ends_after_start = { λ p. select-ends _ _ _ _ _ };
 
     ghost agrees = { λ p s. select-agrees _ _ _ _ _ s };
+
+    ghost accepts = { λ _. of_unsaid };
 
     #[inline]
     fn go_emit(&self, inp: &mut InputRef<'src, '_, I, E>) -> PResult<O> {

@@ -13,11 +13,11 @@ use Rattle.chumsky_parser.specs.Ignoring.{Gives, IgnoringFirst}
 use Rattle.chumsky_parser.specs.IgnoringLaws.{gives-ends}
 use Rattle.chumsky_parser.specs.Laws.{given-ends}
 use Rattle.chumsky_primitive.specs.Just.{past, told}
-use Rattle.chumsky_items.specs.Lists.{IsYes}
+use Rattle.chumsky_parser.specs.Progress.{IsYes}
 use Rattle.chumsky_shield.specs.MapErr.{YesAsOne}
 use Rattle.chumsky_shield.specs.Shielded.{NoAsOne}
-use Rattle.chumsky_moves.specs.Moves.{Moves}
-use Rattle.chumsky_moves.specs.MovesLaws.{yes-answers, misses-no, asked-moves, chained-first}
+use Rattle.chumsky_parser.specs.Progress.{Moves}
+use Rattle.chumsky_parser.specs.ProgressLaws.{yes-answers, misses-no, asked-moves, chained-first}
 use Rattle.chumsky_moves.specs.ChoicesMove.{or_else-moves}
 use Rattle.chumsky_moves.specs.PartsMove.{clash-yes, shielded-moves}
 use Rattle.chumsky_recovery.specs.Recovered.{Final, Helped, ElseHelp, OrHelp, MarkedOrHelp, MeansRecovered}

@@ -22,7 +22,7 @@ pub trait MovingStrategy<'src, I: Input<'src>, O, E: ParserExtra<I>, A>: Strateg
     A,
 > {
     ghost use Rattle.std.specs.Prelude.{◌≡◌, Bool, true, false};
-    ghost use Rattle.chumsky_moves.specs.Moves.{Moves};
+    ghost use Rattle.chumsky_parser.specs.Progress.{Moves};
 
     /// That each success ends past its start, in the place of this parser.
     ghost moves: { Self → A → Bool } = { λ _ _. false };
@@ -101,7 +101,7 @@ impl<
     A: Moving<'src, I, O, E>,
     S: MovingStrategy<'src, I, O, E, A>,
 > Moving<'src, I, O, E> for RecoverWith<A, S> {
-    ghost use Rattle.chumsky_moves.specs.MovesLaws.{both-true};
+    ghost use Rattle.chumsky_parser.specs.ProgressLaws.{both-true};
     ghost use Rattle.chumsky_recovery.specs.RecoveryMoves.{recovered-moves};
 
     ghost moves = { λ p. A.moves p.parser && S.moves p.strategy p.parser };

@@ -101,6 +101,7 @@ where
     T: Seq<I::Token> + Copy,
     I::Token: PartialEq,
 {
+    ghost use Rattle.chumsky_parser.specs.Language.{of_unsaid};
     ghost use Rattle.std.specs.Prelude.{⊤, ◌∷◌};
     ghost use Rattle.chumsky_parser.specs.FailureLaws.{SameUnit};
     ghost use Rattle.chumsky_parser.specs.Ignoring.{Gives, IgnoringFirst};
@@ -119,6 +120,8 @@ where
     ghost ends_after_start = { λ p. ignoring_first-ends _ _ (nested-ends _ _ _ _ _ _ p.end) (gives-ends tt) };
 
     ghost agrees = { λ p _. ignoring_first-agrees _ _ SameUnit SameUnit (nested-agrees _ _ _ _ _ _ p.end) (gives-agrees tt SameUnit tt) };
+
+    ghost accepts = { λ _. of_unsaid };
 
     #[inline]
     fn go_emit(&self, inp: &mut InputRef<'src, '_, I, E>) -> PResult<()> {

@@ -40,6 +40,7 @@ where
     A: Parser<'src, I, O, E>,
     S: Strategy<'src, I, O, E, A>,
 {
+    ghost use Rattle.chumsky_parser.specs.Language.{of_unsaid};
     ghost use Rattle.chumsky_input.specs.Run.{final_error};
     ghost use Rattle.chumsky_parser.specs.Choice.{SameEither};
     ghost use Rattle.chumsky_recovery.specs.Recovered.{MeansRecovered};
@@ -57,6 +58,8 @@ where
     ghost ends_after_start = { λ p. recovered-ends _ _ _ _ _ _ _ (A.ends_after_start p.parser) (S.ends_after_start p.strategy p.parser) };
 
     ghost agrees = { λ p s. recovered-agrees _ _ _ _ _ _ _ (SameEither (A.same p.parser) (S.same p.strategy p.parser)) (agreeing-either (A.same p.parser) (S.same p.strategy p.parser) _ (A.agrees p.parser s.0)) (agreeing-or (A.same p.parser) (S.same p.strategy p.parser) _ (S.agrees p.strategy p.parser s.1)) };
+
+    ghost accepts = { λ _. of_unsaid };
 
     #[inline]
     fn go_emit(&self, inp: &mut InputRef<'src, '_, I, E>) -> PResult<O> {

@@ -4,8 +4,8 @@ use Rattle.std.proofs.lemmas.List.FromFn.{get_or-map-range_with_len}
 use Rattle.chumsky_input.specs.Layout.{Layout}
 use Rattle.chumsky_input.specs.declared.stop.Stop.{Stop}
 use Rattle.chumsky_input.specs.Outcome.{Meaning, IsAnswer, EndsAfterStart}
-use Rattle.chumsky_items.specs.Lists.{IsYes}
-use Rattle.chumsky_moves.specs.Moves.{Moves}
+use Rattle.chumsky_parser.specs.Progress.{IsYes}
+use Rattle.chumsky_parser.specs.Progress.{Moves}
 use Rattle.chumsky_rules.specs.declared.kinds.NodeKind.TheVariants.{Leaf}
 use Rattle.chumsky_rules.specs.Tables.{Tables}
 use Rattle.chumsky_rules.specs.Closed.{IsKnown}

@@ -103,6 +103,7 @@ impl<
 where
     [Option<O>; N]: Slots,
 {
+    ghost use Rattle.chumsky_parser.specs.Language.{of_unsaid};
     ghost use Rattle.chumsky_set.specs.Doing.{DoesSetStored};
     ghost use Rattle.chumsky_set.specs.Lists.{Each};
     ghost use Rattle.chumsky_set.specs.ListsLaws.{set_stored-ends, set_stored-agrees};
@@ -118,6 +119,8 @@ where
     ghost ends_after_start = { λ p. set_stored-ends _ _ _ _ _ p.parsers (λ x. P.ends_after_start x) };
 
     ghost agrees = { λ p s. set_stored-agrees _ _ _ _ _ p.parsers P.steady P.same (λ x k. P.agrees x k) s };
+
+    ghost accepts = { λ _. of_unsaid };
 
     #[inline]
     fn go_emit(&self, inp: &mut InputRef<'src, '_, I, E>) -> PResult<ArrayVec<O, N>> {

@@ -17,6 +17,7 @@ impl<'src, I: Input<'src>, O: Drop, E: ParserExtra<I>, P: Parser<'src, I, O, E>>
     Vec<O>,
     E,
 > for Set<Vec<P>> {
+    ghost use Rattle.chumsky_parser.specs.Language.{of_unsaid};
     ghost use Rattle.std.specs.List.{All};
     ghost use Rattle.chumsky_set.specs.Doing.{DoesSetEach};
     ghost use Rattle.chumsky_set.specs.Lists.{Each};
@@ -33,6 +34,8 @@ impl<'src, I: Input<'src>, O: Drop, E: ParserExtra<I>, P: Parser<'src, I, O, E>>
     ghost ends_after_start = { λ p. set_each-ends _ _ _ _ _ p.parsers.items (λ x. P.ends_after_start x) };
 
     ghost agrees = { λ p s. set_each-agrees _ _ _ _ _ p.parsers.items P.steady P.same (λ x k. P.agrees x k) s };
+
+    ghost accepts = { λ _. of_unsaid };
 
     #[inline]
     fn go_emit(&self, inp: &mut InputRef<'src, '_, I, E>) -> PResult<Vec<O>> {

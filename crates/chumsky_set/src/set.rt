@@ -22,6 +22,7 @@ impl<'src, I: Input<'src>, O0: Drop, E: ParserExtra<I>, P0: Parser<'src, I, O0, 
     (O0,),
     E,
 > for Set<(P0,)> {
+    ghost use Rattle.chumsky_parser.specs.Language.{of_unsaid};
     ghost use Rattle.chumsky_set.specs.Doing.{DoesSet1};
     ghost use Rattle.chumsky_set.specs.Tuples.{Same1};
     ghost use Rattle.chumsky_set.specs.TuplesLaws.{set_1-ends, set_1-agrees};
@@ -37,6 +38,8 @@ impl<'src, I: Input<'src>, O0: Drop, E: ParserExtra<I>, P0: Parser<'src, I, O0, 
     ghost ends_after_start = { λ p. set_1-ends _ _ _ _ (P0.ends_after_start p.parsers.0) };
 
     ghost agrees = { λ p s. set_1-agrees _ _ _ _ (P0.same p.parsers.0) (P0.agrees p.parsers.0 s) };
+
+    ghost accepts = { λ _. of_unsaid };
 
     #[inline]
     fn go_emit(&self, inp: &mut InputRef<'src, '_, I, E>) -> PResult<(O0,)> {
@@ -75,6 +78,7 @@ impl<
     P0: Parser<'src, I, O0, E>,
     P1: Parser<'src, I, O1, E>,
 > Parser<'src, I, (O0, O1), E> for Set<(P0, P1)> {
+    ghost use Rattle.chumsky_parser.specs.Language.{of_unsaid};
     ghost use Rattle.chumsky_set.specs.Doing.{DoesSet2};
     ghost use Rattle.chumsky_set.specs.Tuples.{Same2};
     ghost use Rattle.chumsky_set.specs.TuplesLaws.{set_2-ends, set_2-agrees};
@@ -93,6 +97,8 @@ impl<
     ghost agrees = { λ p s. let t = p.parsers in
         set_2-agrees _ _ _ _ _ (P0.same t.0) (P1.same t.1) (P0.agrees t.0 s.0)
         (P1.agrees t.1 s.1) };
+
+    ghost accepts = { λ _. of_unsaid };
 
     #[inline]
     fn go_emit(&self, inp: &mut InputRef<'src, '_, I, E>) -> PResult<(O0, O1)> {
@@ -151,6 +157,7 @@ impl<
     P1: Parser<'src, I, O1, E>,
     P2: Parser<'src, I, O2, E>,
 > Parser<'src, I, (O0, O1, O2), E> for Set<(P0, P1, P2)> {
+    ghost use Rattle.chumsky_parser.specs.Language.{of_unsaid};
     ghost use Rattle.chumsky_set.specs.Doing.{DoesSet3};
     ghost use Rattle.chumsky_set.specs.Tuples.{Same3};
     ghost use Rattle.chumsky_set.specs.TuplesLaws.{set_3-ends, set_3-agrees};
@@ -171,6 +178,8 @@ impl<
     ghost agrees = { λ p s. let t = p.parsers in
         set_3-agrees _ _ _ _ _ _ (P0.same t.0) (P1.same t.1) (P2.same t.2) (P0.agrees t.0 s.0)
         (P1.agrees t.1 s.1) (P2.agrees t.2 s.2) };
+
+    ghost accepts = { λ _. of_unsaid };
 
     #[inline]
     fn go_emit(&self, inp: &mut InputRef<'src, '_, I, E>) -> PResult<(O0, O1, O2)> {
@@ -243,6 +252,7 @@ impl<
     P2: Parser<'src, I, O2, E>,
     P3: Parser<'src, I, O3, E>,
 > Parser<'src, I, (O0, O1, O2, O3), E> for Set<(P0, P1, P2, P3)> {
+    ghost use Rattle.chumsky_parser.specs.Language.{of_unsaid};
     ghost use Rattle.chumsky_set.specs.Doing.{DoesSet4};
     ghost use Rattle.chumsky_set.specs.Tuples.{Same4};
     ghost use Rattle.chumsky_set.specs.TuplesLaws.{set_4-ends, set_4-agrees};
@@ -266,6 +276,8 @@ impl<
     ghost agrees = { λ p s. let t = p.parsers in
         set_4-agrees _ _ _ _ _ _ _ (P0.same t.0) (P1.same t.1) (P2.same t.2) (P3.same t.3)
         (P0.agrees t.0 s.0) (P1.agrees t.1 s.1) (P2.agrees t.2 s.2) (P3.agrees t.3 s.3) };
+
+    ghost accepts = { λ _. of_unsaid };
 
     #[inline]
     fn go_emit(&self, inp: &mut InputRef<'src, '_, I, E>) -> PResult<(O0, O1, O2, O3)> {

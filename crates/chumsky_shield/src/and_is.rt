@@ -25,6 +25,7 @@ where
     A: Parser<'src, I, O, E>,
     B: Parser<'src, I, U, E>,
 {
+    ghost use Rattle.chumsky_parser.specs.Language.{of_unsaid};
     ghost use Rattle.chumsky_shield.specs.AndIs.{MeansAndIs};
     ghost use Rattle.chumsky_shield.specs.AndIsLaws.{and_is-ends, and_is-agrees};
 
@@ -39,6 +40,8 @@ where
     ghost ends_after_start = { λ p. and_is-ends _ _ _ _ _ (A.ends_after_start p.parser) (B.ends_after_start p.other) };
 
     ghost agrees = { λ p s. and_is-agrees _ _ _ _ _ (A.same p.parser) (B.same p.other) (A.agrees p.parser s.0) (B.agrees p.other s.1) };
+
+    ghost accepts = { λ _. of_unsaid };
 
     #[inline]
     fn go_emit(&self, inp: &mut InputRef<'src, '_, I, E>) -> PResult<O> {

@@ -68,6 +68,7 @@ impl<
     A: Parser<'src, I, O, E>,
     F: Tester<O>,
 > Parser<'src, I, O, E> for Filter<A, F> {
+    ghost use Rattle.chumsky_parser.specs.Language.{of_unsaid};
     ghost use Rattle.chumsky_shield.specs.Vetted.{TestsAlike};
     ghost use Rattle.chumsky_shield.specs.VettedLaws.{vetted-ends, vetted-agrees, tests-alike};
 
@@ -82,6 +83,8 @@ impl<
     ghost ends_after_start = { λ p. vetted-ends _ _ _ _ (A.ends_after_start p.parser) };
 
     ghost agrees = { λ p s. vetted-agrees _ _ _ _ (A.same p.parser) (A.same p.parser) (A.agrees p.parser s.0) (tests-alike _ _ (A.same p.parser) (F.gives p.tester) s.1) };
+
+    ghost accepts = { λ _. of_unsaid };
 
     #[inline]
     fn go_emit(&self, inp: &mut InputRef<'src, '_, I, E>) -> PResult<O> {

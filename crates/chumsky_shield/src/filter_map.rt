@@ -72,6 +72,7 @@ where
     A: Parser<'src, I, O, E>,
     F: Picker<O, U>,
 {
+    ghost use Rattle.chumsky_parser.specs.Language.{of_unsaid};
     ghost use Rattle.chumsky_shield.specs.Tried.{FilterMapsAlike, SameFilterMapped};
     ghost use Rattle.chumsky_shield.specs.TriedLaws.{picks-alike};
     ghost use Rattle.chumsky_shield.specs.VettedLaws.{vetted-ends, vetted-agrees};
@@ -87,6 +88,8 @@ where
     ghost ends_after_start = { λ p. vetted-ends _ _ _ _ (A.ends_after_start p.parser) };
 
     ghost agrees = { λ p s. vetted-agrees _ _ _ _ (A.same p.parser) _ (A.agrees p.parser s.0) (picks-alike _ _ (A.same p.parser) (F.gives p.picker) s.1) };
+
+    ghost accepts = { λ _. of_unsaid };
 
     #[inline]
     fn go_emit(&self, inp: &mut InputRef<'src, '_, I, E>) -> PResult<U> {

@@ -28,6 +28,7 @@ where
     A: Parser<'src, I, O, E>,
     F: Fn(E::Error, I::Span, &mut E::State) -> E::Error,
 {
+    ghost use Rattle.chumsky_parser.specs.Language.{of_unsaid};
     ghost use Rattle.chumsky_shield.specs.MapErr.{MapsOnceFrom, MeansMapErr};
     ghost use Rattle.chumsky_shield.specs.MapErrLaws.{map_err-ends, map_err-agrees, spanned-once};
 
@@ -42,6 +43,8 @@ where
     ghost ends_after_start = { λ p. map_err-ends _ _ _ (A.ends_after_start p.parser) };
 
     ghost agrees = { λ p s. map_err-agrees _ _ _ (A.same p.parser) (spanned-once I.span_between s.1) (A.agrees p.parser s.0) };
+
+    ghost accepts = { λ _. of_unsaid };
 
     #[inline]
     fn go_emit(&self, inp: &mut InputRef<'src, '_, I, E>) -> PResult<O> {

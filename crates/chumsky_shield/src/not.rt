@@ -25,6 +25,7 @@ impl<I, O, E, A: IsParser<I, O, E>> IsParser<I, (), E> for Not<A, O> {}
 
 impl<'src, I: Input<'src>, O, E: ParserExtra<I>, A: Parser<'src, I, O, E>> Parser<'src, I, (), E>
     for Not<A, O> {
+    ghost use Rattle.chumsky_parser.specs.Language.{of_unsaid};
     ghost use Rattle.chumsky_parser.specs.FailureLaws.{SameUnit};
     ghost use Rattle.chumsky_shield.specs.NotLaws.{not-ends, not-agrees};
 
@@ -39,6 +40,8 @@ impl<'src, I: Input<'src>, O, E: ParserExtra<I>, A: Parser<'src, I, O, E>> Parse
     ghost ends_after_start = { λ p. not-ends _ _ _ _ (A.ends_after_start p.parser) };
 
     ghost agrees = { λ p s. not-agrees _ _ _ _ (A.same p.parser) (A.agrees p.parser s) };
+
+    ghost accepts = { λ _. of_unsaid };
 
     #[inline]
     fn go_emit(&self, inp: &mut InputRef<'src, '_, I, E>) -> PResult<()> {

@@ -20,6 +20,7 @@ impl<'src, I: Input<'src>, O: Drop, E: ParserExtra<I>, A: Parser<'src, I, O, E>>
     O,
     E,
 > for Rewind<A> {
+    ghost use Rattle.chumsky_parser.specs.Language.{of_unsaid};
     ghost use Rattle.chumsky_shield.specs.AndIs.{MeansRewind};
     ghost use Rattle.chumsky_shield.specs.AndIsLaws.{rewind-ends, rewind-agrees};
 
@@ -34,6 +35,8 @@ impl<'src, I: Input<'src>, O: Drop, E: ParserExtra<I>, A: Parser<'src, I, O, E>>
     ghost ends_after_start = { λ p. rewind-ends _ _ (A.ends_after_start p.parser) };
 
     ghost agrees = { λ p s. rewind-agrees _ _ (A.same p.parser) (A.agrees p.parser s) };
+
+    ghost accepts = { λ _. of_unsaid };
 
     #[inline]
     fn go_emit(&self, inp: &mut InputRef<'src, '_, I, E>) -> PResult<O> {

@@ -59,6 +59,7 @@ where
     A: Parser<'src, I, O, E>,
     F: TryMapper<O, I::Span, U, E::Error>,
 {
+    ghost use Rattle.chumsky_parser.specs.Language.{of_unsaid};
     ghost use Rattle.chumsky_shield.specs.Tried.{TriesAlike, SameTryMapped};
     ghost use Rattle.chumsky_shield.specs.TriedLaws.{tries-alike};
     ghost use Rattle.chumsky_shield.specs.VettedLaws.{vetted-ends, vetted-agrees};
@@ -74,6 +75,8 @@ where
     ghost ends_after_start = { λ p. vetted-ends _ _ _ _ (A.ends_after_start p.parser) };
 
     ghost agrees = { λ p s. vetted-agrees _ _ _ _ (A.same p.parser) _ (A.agrees p.parser s.0) (tries-alike _ _ (A.same p.parser) (F.gives p.mapper) s.1) };
+
+    ghost accepts = { λ _. of_unsaid };
 
     #[inline]
     fn go_emit(&self, inp: &mut InputRef<'src, '_, I, E>) -> PResult<U> {

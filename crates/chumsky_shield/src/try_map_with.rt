@@ -35,6 +35,7 @@ where
     A: Parser<'src, I, O, E>,
     F: Fn(O, &mut MapExtra<'src, '_, I, E>) -> Result<U, E::Error>,
 {
+    ghost use Rattle.chumsky_parser.specs.Language.{of_unsaid};
     ghost use Rattle.chumsky_shield.specs.TriedWith.{TriesWithAlike, SameTriedWith};
     ghost use Rattle.chumsky_shield.specs.TriedWithLaws.{tries_with-alike};
     ghost use Rattle.chumsky_shield.specs.VettedLaws.{vetted-ends, vetted-agrees};
@@ -50,6 +51,8 @@ where
     ghost ends_after_start = { λ p. vetted-ends _ _ _ _ (A.ends_after_start p.parser) };
 
     ghost agrees = { λ p s. vetted-agrees _ _ _ _ (A.same p.parser) _ (A.agrees p.parser s.0) (tries_with-alike _ _ (A.same p.parser) s.1) };
+
+    ghost accepts = { λ _. of_unsaid };
 
     #[inline]
     fn go_emit(&self, inp: &mut InputRef<'src, '_, I, E>) -> PResult<U> {

@@ -25,6 +25,7 @@ impl<'src, I: Input<'src>, O, E: ParserExtra<I>, A: Parser<'src, I, Option<O>, E
     O,
     E,
 > for Unwrapped<A, Option<O>> {
+    ghost use Rattle.chumsky_parser.specs.Language.{of_unsaid};
     ghost use Rattle.std.specs.Option.{IsSome};
     ghost use Rattle.chumsky_combinator.specs.Mapped.{Mapped, SameMapped};
     ghost use Rattle.chumsky_combinator.specs.MappedLaws.{mapped-ends, mapped-agrees};
@@ -41,6 +42,8 @@ impl<'src, I: Input<'src>, O, E: ParserExtra<I>, A: Parser<'src, I, Option<O>, E
     ghost ends_after_start = { λ p. mapped-ends InSome _ (A.ends_after_start p.parser) };
 
     ghost agrees = { λ p s. mapped-agrees InSome _ (A.same p.parser) (A.agrees p.parser s) };
+
+    ghost accepts = { λ _. of_unsaid };
 
     #[inline(always)]
     fn go_emit(&self, inp: &mut InputRef<'src, '_, I, E>) -> PResult<O> {
@@ -61,6 +64,7 @@ where
     E: ParserExtra<I>,
     A: Parser<'src, I, Result<O, X>, E>,
 {
+    ghost use Rattle.chumsky_parser.specs.Language.{of_unsaid};
     ghost use Rattle.std.specs.Prelude.{IsOk};
     ghost use Rattle.chumsky_combinator.specs.Mapped.{Mapped, SameMapped};
     ghost use Rattle.chumsky_combinator.specs.MappedLaws.{mapped-ends, mapped-agrees};
@@ -77,6 +81,8 @@ where
     ghost ends_after_start = { λ p. mapped-ends InOk _ (A.ends_after_start p.parser) };
 
     ghost agrees = { λ p s. mapped-agrees InOk _ (A.same p.parser) (A.agrees p.parser s) };
+
+    ghost accepts = { λ _. of_unsaid };
 
     #[inline(always)]
     fn go_emit(&self, inp: &mut InputRef<'src, '_, I, E>) -> PResult<O> {

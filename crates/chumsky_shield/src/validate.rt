@@ -37,6 +37,7 @@ where
     A: Parser<'src, I, O, E>,
     F: Fn(O, &mut MapExtra<'src, '_, I, E>, &mut Emitter<E::Error>) -> U,
 {
+    ghost use Rattle.chumsky_parser.specs.Language.{of_unsaid};
     ghost use Rattle.chumsky_shield.specs.Validated.{EmitsAlike, SameValidated};
     ghost use Rattle.chumsky_shield.specs.ValidatedLaws.{validated-ends, validated-agrees};
 
@@ -51,6 +52,8 @@ where
     ghost ends_after_start = { λ p. validated-ends _ _ (A.ends_after_start p.parser) };
 
     ghost agrees = { λ p s. validated-agrees _ _ (A.same p.parser) (A.agrees p.parser s.0) s.1 };
+
+    ghost accepts = { λ _. of_unsaid };
 
     #[inline]
     fn go_emit(&self, inp: &mut InputRef<'src, '_, I, E>) -> PResult<U> {

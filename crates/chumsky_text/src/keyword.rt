@@ -29,6 +29,7 @@ impl<'src, 'k, K: Lexeme<I::Token>, I: TextInput<'src>, E: ParserExtra<I>> Parse
     I::Slice,
     E,
 > for Keyword<'k, K, I, E> {
+    ghost use Rattle.chumsky_parser.specs.Language.{of_unsaid};
     ghost use Rattle.std.specs.Prelude.{⊤, [], ◌∷◌};
     ghost use Rattle.chumsky_text.specs.TextRun.{MeansKeyword};
     ghost use Rattle.chumsky_text.specs.TextRunLaws.{keyword-ends, keyword-agrees};
@@ -44,6 +45,8 @@ impl<'src, 'k, K: Lexeme<I::Token>, I: TextInput<'src>, E: ParserExtra<I>> Parse
     ghost ends_after_start = { λ p. keyword-ends _ _ _ _ (I.spells p.word.now) (K.holds p.kind) (λ t. K.Rest.holds (K.rest_after p.kind t)) (Label p.word.now ∷ []) };
 
     ghost agrees = { λ p _. keyword-agrees _ _ _ _ (λ v w. I.slice_seen v ≡ I.slice_seen w) (λ ts i j v w e d. Prim.search (e, d)) (I.spells p.word.now) (K.holds p.kind) (λ t. K.Rest.holds (K.rest_after p.kind t)) (Label p.word.now ∷ []) };
+
+    ghost accepts = { λ _. of_unsaid };
 
     #[inline]
     fn go_emit(&self, inp: &mut InputRef<'src, '_, I, E>) -> PResult<I::Slice> {

@@ -20,6 +20,7 @@ impl<'src, K, I: SliceInput<'src>, E> IsParser<I, I::Slice, E> for Run<K, I, E> 
 
 impl<'src, K: Kind<I::Token>, I: SliceInput<'src>, E: ParserExtra<I>> Parser<'src, I, I::Slice, E>
     for Run<K, I, E> {
+    ghost use Rattle.chumsky_parser.specs.Language.{of_unsaid};
     ghost use Rattle.std.specs.Prelude.{◌≡◌, ⊤};
     ghost use Rattle.chumsky_text.specs.TextRun.{MeansRun};
     ghost use Rattle.chumsky_text.specs.TextRunLaws.{run-ends, run-agrees};
@@ -35,6 +36,8 @@ impl<'src, K: Kind<I::Token>, I: SliceInput<'src>, E: ParserExtra<I>> Parser<'sr
     ghost ends_after_start = { λ p. run-ends _ _ _ _ (K.holds p.kind) (K.wants p.kind) };
 
     ghost agrees = { λ p _. run-agrees _ _ _ _ (λ v w. I.slice_seen v ≡ I.slice_seen w) (λ ts i j v w e d. Prim.search (e, d)) (K.holds p.kind) (K.wants p.kind) };
+
+    ghost accepts = { λ _. of_unsaid };
 
     #[inline(always)]
     fn go_emit(&self, inp: &mut InputRef<'src, '_, I, E>) -> PResult<I::Slice> {

@@ -1,4 +1,4 @@
-use Rattle.chumsky_memory.specs.MemoryLaws.{run-spares}
+use Rattle.chumsky_parser.specs.MemoryLaws.{run-spares}
 use Rattle.chumsky_memory.proofs.laws.a_run_is_never_out_of_memory.Goals as goal
 
 pub returns : goal.returns

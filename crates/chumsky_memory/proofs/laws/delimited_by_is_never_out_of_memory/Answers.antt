@@ -1,4 +1,4 @@
-use Rattle.chumsky_memory.specs.MemoryLaws.{between-spares}
+use Rattle.chumsky_parser.specs.MemoryLaws.{between-spares}
 use Rattle.chumsky_memory.proofs.laws.delimited_by_is_never_out_of_memory.Goals as goal
 
 pub returns-clause-delimited : goal.returns-clause-delimited

@@ -1,4 +1,4 @@
-use Rattle.chumsky_memory.specs.MemoryLaws.{given-spares, gives-spares, ignoring_first-spares}
+use Rattle.chumsky_parser.specs.MemoryLaws.{given-spares, gives-spares, ignoring_first-spares}
 use Rattle.chumsky_memory.specs.ItemsSpare.{separates-spare, passes-spare}
 use Rattle.chumsky_memory.proofs.laws.separated_by_is_never_out_of_memory.Goals as goal
 

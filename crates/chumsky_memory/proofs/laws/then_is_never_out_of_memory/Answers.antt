@@ -1,4 +1,4 @@
-use Rattle.chumsky_memory.specs.MemoryLaws.{sequence-spares, ignoring_second-spares}
+use Rattle.chumsky_parser.specs.MemoryLaws.{sequence-spares, ignoring_second-spares}
 use Rattle.chumsky_memory.proofs.laws.then_is_never_out_of_memory.Goals as goal
 
 pub returns-clause-then : goal.returns-clause-then

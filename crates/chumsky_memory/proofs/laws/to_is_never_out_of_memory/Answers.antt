@@ -1,4 +1,4 @@
-use Rattle.chumsky_memory.specs.MemoryLaws.{ignoring_first-spares, copy-spares, gives-spares}
+use Rattle.chumsky_parser.specs.MemoryLaws.{ignoring_first-spares, copy-spares, gives-spares}
 use Rattle.chumsky_memory.proofs.laws.to_is_never_out_of_memory.Goals as goal
 
 pub returns-clause-to : goal.returns-clause-to

@@ -1,5 +1,5 @@
 -- What is never refused for memory.
--- Main words: NeverOutOfMemory, ItemsNeverOutOfMemory. Laws: MemoryLaws.antt, PrimitivesSpare.antt, ItemsSpare.antt.
+-- Main words: NeverOutOfMemory, ItemsNeverOutOfMemory. Laws: MemoryLaws.antt.
 use Rattle.std.specs.Prelude.{⊤, Result, Ok, Err}
 use Rattle.chumsky_input.specs.declared.stop.Stop.{Stop}
 use Rattle.chumsky_input.specs.declared.stop.Stop.TheVariants.{Memory, NoProgress, TooDeep, CountTooLarge}

@@ -1,5 +1,5 @@
 -- What moves where it succeeds, since one part does: parts one after another.
--- Main laws: chained-first, chained-second, sequence-moves. Read first: Moves.antt.
+-- Main laws: chained-first, chained-second, sequence-moves. Read first: Progress.antt.
 use Rattle.std.proofs.Common.{◌≡◌, ℕ, ◌≤◌, ◌<◌, Bool, true, false, ◌&&◌, ◌||◌, Option, List, ◌⊎◌, inl, inr, refl, ap, subst, arith}
 use Rattle.chumsky_input.specs.Outcome.{Event, Meaning, Beginning, Outcome, Verdict, Yes, No, Halt, Clash, IsAnswer, EndsAfterStart}
 use Rattle.chumsky_parser.specs.Chained.{from, Follows, Chained, Asked, Sequence, both}
@@ -7,8 +7,8 @@ use Rattle.chumsky_parser.specs.Failure.{FailsAt, Misses, SaysNo}
 use Rattle.chumsky_parser.specs.Ignoring.{IgnoringFirst, IgnoringSecond, Between}
 use Rattle.chumsky_parser.specs.IgnoringLaws.{ignoring_second-ends}
 use Rattle.chumsky_parser.specs.Laws.{chained-ends, given-ends, asked-ends}
-use Rattle.chumsky_items.specs.Lists.{IsYes}
-use Rattle.chumsky_moves.specs.Moves.{Moves}
+use Rattle.chumsky_parser.specs.Progress.{IsYes}
+use Rattle.chumsky_parser.specs.Progress.{Moves}
 
 -- what says nothing promises nothing
 pub never : {P : Type 0} → false ≡ true → P
