@@ -1,5 +1,5 @@
 //! Inputs: lists of tokens with offsets.
-ghost use Rattle.std.specs.Prelude.{◌≡◌, ℕ, ◌+◌, ◌≤◌, ◌<◌, List, length, slice_get, slice_range, Option, Some, None, MatchOption, MatchResult, option_map, ⊤, Ok};
+ghost use Rattle.std.specs.Prelude.{◌≡◌, ℕ, ◌+◌, ◌^◌, ◌≤◌, ◌<◌, List, length, slice_get, slice_range, Option, Some, None, MatchOption, MatchResult, option_map, ⊤, Ok};
 ghost use Rattle.std.specs.Str.{chars, encode_utf8_all, IsUtf8, IsCharBoundary};
 ghost use Rattle.chumsky_input.specs.Text.{text_place};
 ghost use Rattle.chumsky_input.specs.Maybe.{maybe_value, ref_value};
@@ -30,10 +30,11 @@ pub trait Input<'src>: Tokens {
     /// The span from one place to another.
     ghost span_between: { Layout Self.Token → ℕ → ℕ → Self.Span };
 
-    /// The cursor before the first token.
+    /// The cursor before the first token. The tokens can be counted.
     fn begin(self) -> Self::Cursor
         ensures tokens { cursor_tokens result ≡ tokens self }
-        ensures start { place result ≡ 0 };
+        ensures start { place result ≡ 0 }
+        ensures count { length (tokens self).list < 2 ^ 64 };
 
     /// The token at a cursor, which moves past it; at the end none, and the cursor stays.
     fn next_maybe(cursor: &mut Self::Cursor) -> Option<MaybeRef<'src, Self::Token>>
@@ -141,7 +142,7 @@ impl<'src> Input<'src> for &'src str {
 
     #[inline]
     fn begin(self) -> TextCursor<'src> {
-        let _bytes = self.as_bytes();
+        let _count = self.as_bytes().len();
         TextCursor {
             text: self,
             at: 0,

@@ -1,5 +1,5 @@
 //! What a parser is lent: where its run stands, and what it holds.
-ghost use Rattle.std.specs.Prelude.{◌≡◌, ◌∷◌, [], option_map, option_to_list, MatchResult, None, ◌≤◌, IsTrue, is_some, IfOk, List, OnErr};
+ghost use Rattle.std.specs.Prelude.{◌≡◌, ◌<◌, ◌^◌, length, ◌∷◌, [], option_map, option_to_list, MatchResult, None, ◌≤◌, IsTrue, is_some, IfOk, List, OnErr};
 ghost use Rattle.chumsky_input.specs.declared.stop.Failure.TheVariants as failure;
 ghost use Rattle.std.specs.Borrow.{sem};
 ghost use Rattle.std.specs.Iterator.{YieldsFirstBy, item_count, IsFinite};
@@ -378,6 +378,7 @@ impl<'src, 'p, I: Input<'src>, E: ParserExtra<I>> InputRef<'src, 'p, I, E> {
         context: &'p E::Context,
     ) -> InputRef<'src, 'p, I, E>
         ensures begins { held I.Input E.Error.Error E.State.Inspector result ≡ begun_at (I.tokens input) 0 context.now (E.State.seen state.entry.now) }
+        ensures count { length (I.tokens input).list < 2 ^ 64 }
         ensures lent { result.state.ghost_name ≡ state.entry.ghost_name }
     {
         InputRef {

@@ -51,6 +51,7 @@ impl<'src, T: Drop> Input<'src> for &'src [T] {
 
     #[inline]
     fn begin(self) -> SliceCursor<'src, T> {
+        let _count = self.len();
         SliceCursor {
             tokens: self,
             place: 0,

@@ -73,6 +73,7 @@ impl<'src, T: Drop> Input<'src> for SpannedTokens<'src, T> {
 
     #[inline]
     fn begin(self) -> SpannedCursor<'src, T> {
+        let _count = self.tokens.len();
         SpannedCursor {
             tokens: self.tokens,
             end: self.end,
