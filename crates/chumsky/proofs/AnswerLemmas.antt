@@ -11,7 +11,9 @@ use Rattle.chumsky_input.specs.Held.{Held}
 use Rattle.chumsky_input.specs.Outcome.{Event, Meaning, Outcome, Verdict, Yes, No, Halt, Clash, HasEventAt, Agreeing, Agree, SameValue, SameAnswer, IsAnswer}
 use Rattle.chumsky_input.specs.Primary.{primary}
 use Rattle.chumsky_input.specs.Run.{Ran, LeavesBy, begin, answer, with_value, without_value, final_error}
+use Rattle.chumsky_parser.specs.Language.{Language}
 use Rattle.chumsky_parser.specs.declared.result.ParseResult.{ParseResult}
+use Rattle.chumsky.specs.Accepted.{AnswersText}
 use Rattle.chumsky.specs.Answer.{IsOutput, Reports, Answers, Parses, WholeRun}
 use Rattle.chumsky_parse_iter.specs.Settled.{SettlesAs, reported}
 use Rattle.chumsky_parser.specs.FailureLaws.{SameUnit}
@@ -119,12 +121,13 @@ module _ {I Tok Sp Cu Er St V W : Type 0} (source : input_trait.Ghosts I Cu Tok 
   reports_same other o new (Err e) h a n p = tt
 
 module _ {I Tok Sp Cu Er St Mk Cx V W : Type 0} (source : input_trait.Ghosts I Cu Tok Sp) (errors : error_trait.Ghosts Er I Tok Sp) (states : inspector_trait.Ghosts St I Mk Tok Sp) (gives : W → Option V) (ts : Layout Tok) (before mid after : Held Tok Cx states.Seen errors.Seen) where
-  pub parses : {is_default : Cx → Type 0} {steady : Type 0} {same : V → V → Type 0} {meaning : Meaning Tok Cx states.Seen errors.Seen V} {wanted : Bool} {context : Cx} {old new : states.Seen} (a : Result W Fault) {x : Result (Option V) Fault} (s : Result (Option W) Stop) {r : Result (ParseResult W Er) Stop}
+  pub parses : {is_default : Cx → Type 0} {steady : Type 0} {same : V → V → Type 0} {language : Language Tok V} {meaning : Meaning Tok Cx states.Seen errors.Seen V} {wanted : Bool} {context : Cx} {old new : states.Seen} (a : Result W Fault) {x : Result (Option V) Fault} (s : Result (Option W) Stop) {r : Result (ParseResult W Er) Stop}
       → before ≡ record { tokens = ts; place = 0; context = context; state = old; kept = None; emitted = []; stopped = None } → is_default context
       → Ran errors.merged errors.takes_no_memory meaning wanted before mid x → x ≡ told gives a → SettlesAs errors.expectation source.span_between a mid after s → new ≡ after.state
       → Replies source errors states gives ts before mid after s r → (steady → Agreeing same meaning meaning)
-      → Parses source errors states is_default steady same gives meaning wanted ts old new r
-  parses {is_default} {steady} {same} {meaning} {wanted} {context} {old} {new} a {x} s {r} b d h e t n p ag =
+      → ((o : Outcome V errors.Seen states.Seen) → meaning (record { wanted = wanted; tokens = ts; start = 0; context = context; state = old }) o → Answers source errors (λ v w. v ≡ gives w) ts o r → language.said ≡ true → AnswersText gives language ts.list (errors.takes_no_memory × states.takes_no_memory) r)
+      → Parses source errors states is_default steady same language gives meaning wanted ts old new r
+  parses {is_default} {steady} {same} {language} {meaning} {wanted} {context} {old} {new} a {x} s {r} b d h e t n p ag reads =
       let o = h.outcome in
       let begun : begin wanted before ≡ record { wanted = wanted; tokens = ts; start = 0; context = context; state = old } = ap (begin wanted) b in
       let meant : meaning (record { wanted = wanted; tokens = ts; start = 0; context = context; state = old }) o = subst (λ z. meaning z o) begun h.meant in
@@ -139,6 +142,7 @@ module _ {I Tok Sp Cu Er St Mk Cx V W : Type 0} (source : input_trait.Ghosts I C
         meant = meant;
         state = state;
         answered = answered;
+        reads = reads o meant answered;
         agreed = λ y w other m z. reports_same source errors same gives ts other o new r (λ q. ag y _ _ other o (record { tokens = refl; start = refl; context = refl; state = refl }) m meant z q) z state answered;
       }
 

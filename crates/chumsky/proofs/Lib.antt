@@ -1,3 +1,4 @@
 pub mod AnswerLemmas
 mod Refusing
 mod Taking
+mod AcceptedLemmas

@@ -91,10 +91,10 @@ module _ {I Tok Sp Cu Er St Mk Cx : Type 0} (source : input_trait.Ghosts I Cu To
 module _ {I Tok Sp Cu Er St Mk Cx V W : Type 0} (source : input_trait.Ghosts I Cu Tok Sp) (errors : error_trait.Ghosts Er I Tok Sp) (states : inspector_trait.Ghosts St I Mk Tok Sp) where
   -- where `parse` or `check` of well-founded rules is refused, that is for memory, or as a leaf is
   pub parses-refused : (leaf : ℕ → Meaning Tok Cx states.Seen errors.Seen V) (g : Tables) (tokens : ℕ) (m : Meaning Tok Cx states.Seen errors.Seen V) → IsRefusedAsLeaves leaf g tokens m
-      → (is_default : Cx → Type 0) (steady : Type 0) (same : V → V → Type 0) (gives : W → Option V) (wanted : Bool) (ts : Layout Tok) (old new : states.Seen) (result : Result (ParseResult W Er) Stop) → length ts.list ≤ tokens
-      → Parses source errors states is_default steady same gives (WholeRun source errors states m) wanted ts old new result → IfErr result (RefusesAsLeaves leaf g ts)
-  parses-refused leaf g tokens m k is_default steady same gives wanted ts old new (Ok parsed) few p = tt
-  parses-refused leaf g tokens m k is_default steady same gives wanted ts old new (Err s) few p =
+      → (is_default : Cx → Type 0) (steady : Type 0) (same : V → V → Type 0) (language : Language Tok V) (gives : W → Option V) (wanted : Bool) (ts : Layout Tok) (old new : states.Seen) (result : Result (ParseResult W Er) Stop) → length ts.list ≤ tokens
+      → Parses source errors states is_default steady same language gives (WholeRun source errors states m) wanted ts old new result → IfErr result (RefusesAsLeaves leaf g ts)
+  parses-refused leaf g tokens m k is_default steady same language gives wanted ts old new (Ok parsed) few p = tt
+  parses-refused leaf g tokens m k is_default steady same language gives wanted ts old new (Err s) few p =
       let b : Beginning Tok Cx states.Seen = record { wanted = wanted; tokens = ts; start = 0; context = p.context; state = old } in
       elim (by_verdict errors.takes_no_memory p.outcome.verdict p.outcome s p.answered) [
         | inl e ↦ inl e

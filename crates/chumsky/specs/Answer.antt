@@ -9,6 +9,7 @@ use Rattle.chumsky_input.specs.declared.stop.Stop.TheVariants.{Memory}
 use Rattle.chumsky_input.specs.Outcome.{Meaning, Beginning, Outcome, Verdict, Yes, No, Halt, Clash, IsAnswer, SameValue}
 use Rattle.chumsky_input.specs.Words.{Does}
 use Rattle.chumsky_parser.specs.Chained.{Chained, Given, Asked}
+use Rattle.chumsky_parser.specs.Language.{Language}
 use Rattle.chumsky_primitive.specs.End.{MeansEnd}
 use Rattle.chumsky_parse_iter.specs.Settled.{reported, RefusesBy}
 use Rattle.chumsky_parser.specs.declared.parser.Parser as parser_trait
@@ -16,6 +17,7 @@ use Rattle.chumsky_parser.specs.declared.result.ParseResult.{ParseResult}
 use Rattle.chumsky_recursive.specs.declared.actions.Actions as actions_trait
 use Rattle.chumsky_recursive.specs.declared.grammar.Grammar.{Grammar}
 use Rattle.chumsky_recursive.specs.Refused.{RefusesAsLeaves}
+use Rattle.chumsky.specs.Accepted.{AnswersText}
 
 module _ {I Tok Sp Cu Er St Mk Cx V : Type 0} (source : input_trait.Ghosts I Cu Tok Sp) (errors : error_trait.Ghosts Er I Tok Sp) (states : inspector_trait.Ghosts St I Mk Tok Sp) where
   -- the parser, and then the end of input
@@ -45,25 +47,27 @@ module _ {I Tok Sp Cu Er V W : Type 0} (source : input_trait.Ghosts I Cu Tok Sp)
 
 module _ {I Tok Sp Cu Er St Mk Cx V W : Type 0} (source : input_trait.Ghosts I Cu Tok Sp) (errors : error_trait.Ghosts Er I Tok Sp) (states : inspector_trait.Ghosts St I Mk Tok Sp) where
   -- one run from the start of the tokens in that state, under a context that `default` gives: it answers an outcome of the meaning,
-  -- and for a steady parser what it reports is reported of every answer from there, whether a value is wanted or not
-  pub record Parses (is_default : Cx → Type 0) (steady : Type 0) (same : V → V → Type 0) (gives : W → Option V) (meaning : Meaning Tok Cx states.Seen errors.Seen V) (wanted : Bool) (ts : Layout Tok) (old new : states.Seen) (result : Result (ParseResult W Er) Stop) : Type 0 where
+  -- and what the parser's language says of the tokens; and for a steady parser what it reports is reported of every answer from
+  -- there, whether a value is wanted or not
+  pub record Parses (is_default : Cx → Type 0) (steady : Type 0) (same : V → V → Type 0) (language : Language Tok V) (gives : W → Option V) (meaning : Meaning Tok Cx states.Seen errors.Seen V) (wanted : Bool) (ts : Layout Tok) (old new : states.Seen) (result : Result (ParseResult W Er) Stop) : Type 0 where
     pub context : Cx
     pub context_is : is_default context
     pub outcome : Outcome V errors.Seen states.Seen
     pub meant : meaning (record { wanted = wanted; tokens = ts; start = 0; context = context; state = old }) outcome
     pub state : new ≡ outcome.state
     pub answered : Answers source errors (λ v w. v ≡ gives w) ts outcome result
+    pub reads : language.said ≡ true → AnswersText gives language ts.list (errors.takes_no_memory × states.takes_no_memory) result
     pub agreed : steady → (w : Bool) (other : Outcome V errors.Seen states.Seen) → meaning (record { wanted = w; tokens = ts; start = 0; context = context; state = old }) other → IsAnswer other.verdict
         → IfOk result (λ parsed. Reports source errors (λ v w. SameValue same v (gives w)) ts other parsed × (new ≡ other.state))
 
 module _ {P I V X Cu Tok Sp Er St Cx Mk : Type 0} (source : input_trait.Ghosts I Cu Tok Sp) (errors : error_trait.Ghosts Er I Tok Sp) (states : inspector_trait.Ghosts St I Mk Tok Sp) (is_default : Cx → Type 0) (parsers : parser_trait.Ghosts P I V X Cu Tok Sp Er St Cx Mk) (parser : P) where
   -- `parse` runs the parser and then the end of input, for a value: what it answers of these tokens, from one state to another
   abbrev pub ParseGives : Layout Tok → states.Seen → states.Seen → Result (ParseResult V Er) Stop → Type 0
-  ParseGives ts old new result = Parses source errors states is_default (parsers.steady parser) (parsers.same parser) Some (WholeRun source errors states (parsers.meaning parser errors states)) true ts old new result
+  ParseGives ts old new result = Parses source errors states is_default (parsers.steady parser) (parsers.same parser) (parsers.language parser) Some (WholeRun source errors states (parsers.meaning parser errors states)) true ts old new result
 
   -- `check` runs both for no value
   abbrev pub CheckGives : Layout Tok → states.Seen → states.Seen → Result (ParseResult (Unit {0}) Er) Stop → Type 0
-  CheckGives ts old new result = Parses source errors states is_default (parsers.steady parser) (parsers.same parser) (λ _. None) (WholeRun source errors states (parsers.meaning parser errors states)) false ts old new result
+  CheckGives ts old new result = Parses source errors states is_default (parsers.steady parser) (parsers.same parser) (parsers.language parser) (λ _. None) (WholeRun source errors states (parsers.meaning parser errors states)) false ts old new result
 
 -- a run from a default state to some other
 abbrev pub FromDefault : {St Seen : Type 0} → (St → Type 0) → (St → Seen) → (Seen → Seen → Type 0) → Type 0

@@ -1,3 +1,4 @@
+pub mod Accepted
 pub mod Answer
 pub use Rattle.chumsky_recursive.specs.Calls
 pub mod Values

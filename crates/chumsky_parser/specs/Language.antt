@@ -28,9 +28,13 @@ pub record TakesEach {Tok : Type 0} (f : Ender Tok) (P fits : List Tok → Type 
 abbrev pub EndsFurther : {Tok : Type 0} → Ender Tok → Type 0
 EndsFurther {Tok} f = (ts rest : List Tok) → f ts ≡ At rest → length rest < length ts
 
+-- of each text it is known whether this ends
+abbrev pub NeverRefused : {Tok : Type 0} → Ender Tok → Type 0
+NeverRefused {Tok} f = (ts : List Tok) → f ts ≡ Refused → ⊥
+
 -- what is said of a parser
 pub record Language (Tok V : Type 0) : Type 1 where
-  -- that its language is said, which the next six words are
+  -- that its language is said, which the next seven words are
   pub said : Bool
   -- where it ends, and which values it may give, of the tokens that are left
   pub ends : Ender Tok
@@ -42,6 +46,8 @@ pub record Language (Tok V : Type 0) : Type 1 where
   pub follow : List Tok → Type 0
   -- that no word is cut short, or taken for another: by what follows it, or by an alternative that comes first
   pub unambiguous : Type 0
+  -- that it may be refused for something else than memory, as a function that calls itself too deep
+  pub refuses : Bool
   -- that it takes a token wherever it succeeds
   pub moves : Bool
   -- what has to take no memory, besides errors and states
@@ -54,6 +60,7 @@ module _ {Tok Cx St Er V : Type 0} (m : Meaning Tok Cx St Er V) (l : Language To
     pub only : TakesOnly l.ends l.word
     pub given : GivesOnly l.ends l.value l.stands_for
     pub each : l.unambiguous → TakesEach l.ends l.word l.follow
+    pub decided : l.refuses ≡ false → NeverRefused l.ends
     pub further : l.moves ≡ true → EndsFurther l.ends
 
   -- what is said of a parser holds, where errors and states take no memory if this does
@@ -64,7 +71,7 @@ module _ {Tok Cx St Er V : Type 0} (m : Meaning Tok Cx St Er V) (l : Language To
 
 -- nothing is said
 abbrev pub unsaid : {Tok V : Type 0} → Language Tok V
-unsaid = record { said = false; ends = λ _. Refused; value = λ _ _. ⊤; word = λ _. ⊤; stands_for = λ _ _. ⊤; follow = λ _. ⊥; unambiguous = ⊥; moves = false; takes_no_memory = ⊥ }
+unsaid = record { said = false; ends = λ _. Refused; value = λ _ _. ⊤; word = λ _. ⊤; stands_for = λ _ _. ⊤; follow = λ _. ⊥; unambiguous = ⊥; refuses = true; moves = false; takes_no_memory = ⊥ }
 
 pub of_unsaid : {Tok Cx St Er V : Type 0} {m : Meaning Tok Cx St Er V} {spare : Type 0} → Accepts m unsaid spare
 of_unsaid = record { described = λ s. absurd (cc s); moving = λ s. absurd (cc s); sparing = λ _ x. absurd x }
