@@ -1,4 +1,5 @@
 pub mod Accepted
+pub mod AcceptedLaws
 pub mod Answer
 pub use Rattle.chumsky_recursive.specs.Calls
 pub mod Values
