@@ -1,0 +1,162 @@
+-- Which words sequences and choices take, from those of their parts, and which values they give.
+-- Main laws: then-takes_only, then-gives_only, then-takes_each, or-takes_only, or-gives_only, or-takes_each, keeps_tokens. Read first: Words.antt.
+use Rattle.std.proofs.Common.{◌≡◌, ◌+◌, ◌-◌, ◌≤◌, List, [], ◌∷◌, ◌++◌, length, refl, sym, ◌∙◌, ap, subst, arith, append_assoc, ◌⊎◌, inl, inr}
+use Rattle.std.specs.Prelude.{⊤}
+use Rattle.std.proofs.lemmas.List.{append-nil}
+use Rattle.std.proofs.Math.Seq.{take-append_seam}
+use Rattle.chumsky_parser.specs.Ending.{Ending, At, Nowhere, Refused, Ender, and_then, or_else, Ends}
+use Rattle.chumsky_parser.specs.Language.{Begins, TakesOnly, GivesOnly, TakesEach}
+use Rattle.chumsky_parser.specs.Words.{then_ends, either_ends, ElseValue, TakesAll, Joined, taken_of}
+
+-- what is said of where a part ends, where that is known
+pub ends_at : {X : Type 0} (x : Ending X) (y : X) (P : X → Type 0) → x ≡ At y → Ends x P → P y
+ends_at x y P e h = rw e at h
+
+-- words of parts that ran one after another
+pub joined : {Tok : Type 0} (f g : Ender Tok) (P Q : List Tok → Type 0) (ts rest : List Tok) → then_ends f g ts ≡ At rest
+    → ((mid : List Tok) → f ts ≡ At mid → Begins P ts mid) → ((mid : List Tok) → f ts ≡ At mid → g mid ≡ At rest → Begins Q mid rest) → Begins (Joined P Q) ts rest
+joined {Tok} f g P Q ts rest e p q = by_first (f ts) refl e
+  where
+    by_first : (x : Ending (List Tok)) → f ts ≡ x → and_then g x ≡ At rest → Begins (Joined P Q) ts rest
+    by_first Nowhere d h = absurd (cc h)
+    by_first Refused d h = absurd (cc h)
+    by_first (At mid) d h =
+        let a = p mid d in
+        let b = q mid d h in
+        let z : a.word ++ (b.word ++ rest) ≡ (a.word ++ b.word) ++ rest = sym (append_assoc a.word b.word rest) in
+        record { word = a.word ++ b.word; all = a.all ∙ ap (λ t. a.word ++ t) b.all ∙ z; is = record { first = a.word; second = b.word; all = refl; is_first = a.is; is_second = b.is } }
+
+module _ {Tok : Type 0} (f g : Ender Tok) (P Q : List Tok → Type 0) (h : TakesOnly f P) (k : TakesOnly g Q) where
+  -- `then` and its kin
+  pub then-takes_only : TakesOnly (then_ends f g) (Joined P Q)
+  then-takes_only = record { taken = λ ts rest e. joined f g P Q ts rest e (λ mid d. h.taken ts mid d) (λ mid d c. k.taken mid rest c) }
+
+  -- `or`
+  pub or-takes_only : TakesOnly (either_ends f g) (λ w. P w ⊎ Q w)
+  or-takes_only = record { taken = λ ts rest e. by_first ts rest (f ts) refl e }
+    where
+      by_first : (ts rest : List Tok) (x : Ending (List Tok)) → f ts ≡ x → or_else x (g ts) ≡ At rest → Begins (λ w. P w ⊎ Q w) ts rest
+      by_first ts rest Nowhere d e = let b = k.taken ts rest e in record { word = b.word; all = b.all; is = inr b.is }
+      by_first ts rest Refused d e = absurd (cc e)
+      by_first ts rest (At r) d e = let b = h.taken ts rest (d ∙ e) in record { word = b.word; all = b.all; is = inl b.is }
+
+module _ {Tok V W : Type 0} (f g : Ender Tok) (va : List Tok → V → Type 0) (vb : List Tok → W → Type 0) where
+  -- `first.then(second)`
+  pub then-gives_only : (ma : List Tok → V → Type 0) (mb : List Tok → W → Type 0) → GivesOnly f va ma → GivesOnly g vb mb
+      → GivesOnly {V = V × W} (then_ends f g) (λ ts v. va ts v.0 × Ends (f ts) (λ rest. vb rest v.1)) (λ w v. Joined (λ u. ma u v.0) (λ u. mb u v.1) w)
+  then-gives_only ma mb h k = record {
+    given = λ ts rest v e i. joined f g (λ u. ma u v.0) (λ u. mb u v.1) ts rest e (λ mid d. h.given ts mid v.0 d i.0) (λ mid d c. k.given mid rest v.1 c (ends_at (f ts) mid (λ r. vb r v.1) d i.1))
+  }
+
+  -- `first.ignore_then(second)`
+  pub ignore_then-gives_only : (P : List Tok → Type 0) (mb : List Tok → W → Type 0) → TakesOnly f P → GivesOnly g vb mb
+      → GivesOnly (then_ends f g) (λ ts v. Ends (f ts) (λ rest. vb rest v)) (λ w v. Joined P (λ u. mb u v) w)
+  ignore_then-gives_only P mb h k = record {
+    given = λ ts rest v e i. joined f g P (λ u. mb u v) ts rest e (λ mid d. h.taken ts mid d) (λ mid d c. k.given mid rest v c (ends_at (f ts) mid (λ r. vb r v) d i))
+  }
+
+  -- `first.then_ignore(second)`
+  pub then_ignore-gives_only : (ma : List Tok → V → Type 0) (Q : List Tok → Type 0) → GivesOnly f va ma → TakesOnly g Q
+      → GivesOnly (then_ends f g) va (λ w v. Joined (λ u. ma u v) Q w)
+  then_ignore-gives_only ma Q h k = record {
+    given = λ ts rest v e i. joined f g (λ u. ma u v) Q ts rest e (λ mid d. h.given ts mid v d i) (λ mid d c. k.taken mid rest c)
+  }
+
+module _ {Tok V : Type 0} (f g : Ender Tok) (va vb ma mb : List Tok → V → Type 0) (h : GivesOnly f va ma) (k : GivesOnly g vb mb) where
+  -- `or`
+  pub or-gives_only : GivesOnly (either_ends f g) (λ ts v. ElseValue (f ts) (va ts v) (vb ts v)) (λ w v. ma w v ⊎ mb w v)
+  or-gives_only = record { given = λ ts rest v e i. by_first ts rest v (f ts) refl e i }
+    where
+      by_first : (ts rest : List Tok) (v : V) (x : Ending (List Tok)) → f ts ≡ x → or_else x (g ts) ≡ At rest → ElseValue x (va ts v) (vb ts v) → Begins (λ w. ma w v ⊎ mb w v) ts rest
+      by_first ts rest v Nowhere d e i = let b = k.given ts rest v e i in record { word = b.word; all = b.all; is = inr b.is }
+      by_first ts rest v Refused d e i = absurd i
+      by_first ts rest v (At r) d e i = let b = h.given ts rest v (d ∙ e) i in record { word = b.word; all = b.all; is = inl b.is }
+
+module _ {Tok W : Type 0} (f : Ender Tok) (P : List Tok → Type 0) (h : TakesOnly f P) where
+  -- a value that has nothing to do with the tokens: `to`
+  pub to-gives_only : (copies : W → Type 0) → GivesOnly f (λ ts. copies) (λ w v. P w × copies v)
+  to-gives_only copies = record { given = λ ts rest v e i. let b = h.taken ts rest e in record { word = b.word; all = b.all; is = (b.is, i) } }
+
+module _ {Tok V W : Type 0} (f : Ender Tok) (va ma : List Tok → V → Type 0) (h : GivesOnly f va ma) where
+  -- a value made of the value: `map`
+  pub map-gives_only : (maps : V → W → Type 0) → GivesOnly f (λ ts w. (v : V) × va ts v × maps v w) (λ u w. (v : V) × ma u v × maps v w)
+  map-gives_only maps = record { given = λ ts rest w e i. let b = h.given ts rest i.0 e i.1 in record { word = b.word; all = b.all; is = (i.0, b.is, i.2) } }
+
+  -- another shape of the value
+  pub regrouped-gives_only : (g : W → V) → GivesOnly f (λ ts w. va ts (g w)) (λ u w. ma u (g w))
+  regrouped-gives_only g = record { given = λ ts rest w e i. let b = h.given ts rest (g w) e i in record { word = b.word; all = b.all; is = b.is } }
+
+-- one word after another is taken, where the second fits after the first
+pub then-takes_each : {Tok : Type 0} (f g : Ender Tok) (P Q ff fg : List Tok → Type 0) → TakesEach f P ff → TakesEach g Q fg → ((w rest : List Tok) → Q w → fg rest → ff (w ++ rest)) → TakesEach (then_ends f g) (Joined P Q) fg
+then-takes_each f g P Q ff fg h k c = record {
+  each = λ w rest i j.
+    let e : w ++ rest ≡ i.first ++ (i.second ++ rest) = ap (λ u. u ++ rest) i.all ∙ append_assoc i.first i.second rest in
+    let a : f (i.first ++ (i.second ++ rest)) ≡ At (i.second ++ rest) = h.each i.first (i.second ++ rest) i.is_first (c i.second rest i.is_second j) in
+    let b : g (i.second ++ rest) ≡ At rest = k.each i.second rest i.is_second j in
+    rw (e, a) b
+}
+
+-- a word of the first, or one of the second that the first leaves
+pub or-takes_each : {Tok : Type 0} (f g : Ender Tok) (P Q ff fg : List Tok → Type 0) → TakesEach f P ff → TakesEach g Q fg → ((w rest : List Tok) → Q w → fg rest → f (w ++ rest) ≡ Nowhere)
+    → TakesEach (either_ends f g) (λ w. P w ⊎ Q w) (λ rest. ff rest × fg rest)
+or-takes_each f g P Q ff fg h k c = record {
+  each = λ w rest i j. elim i [
+    | inl p ↦ let e = h.each w rest p j.0 in rw e refl
+    | inr q ↦ let e = c w rest q j.1 in let d = k.each w rest q j.1 in rw e d
+  ]
+}
+
+-- a text that is taken whole is a word, and each word that nothing follows is taken whole
+nothing_left : {Tok : Type 0} (x : Ending (List Tok)) → TakesAll x → x ≡ At []
+nothing_left (At []) t = refl
+nothing_left (At (u ∷ us)) t = absurd t
+nothing_left Nowhere t = absurd t
+nothing_left Refused t = absurd t
+
+pub whole-given : {Tok V : Type 0} (f : Ender Tok) (value of : List Tok → V → Type 0) → GivesOnly f value of → (ts : List Tok) (v : V) → TakesAll (f ts) → value ts v → of ts v
+whole-given f value of h ts v t i = let b = h.given ts [] v (nothing_left (f ts) t) i in let e : ts ≡ b.word = b.all ∙ append-nil b.word in subst (λ w. of w v) (sym e) b.is
+
+pub whole-taken : {Tok : Type 0} (f : Ender Tok) (P fits : List Tok → Type 0) → TakesEach f P fits → (ts : List Tok) → P ts → fits [] → TakesAll (f ts)
+whole-taken f P fits h ts p n =
+    let e : f (ts ++ []) ≡ At [] = h.each ts [] p n in
+    let d : ts ++ [] ≡ ts = append-nil ts in
+    let z : f ts ≡ At [] = ap f (sym d) ∙ e in
+    rw z tt
+
+-- a parser that takes words gives no token back
+pub keeps_tokens : {Tok : Type 0} (f : Ender Tok) (P : List Tok → Type 0) → TakesOnly f P → (ts rest : List Tok) → f ts ≡ At rest → length rest ≤ length ts
+keeps_tokens f P h ts rest e = let b = h.taken ts rest e in let l : length ts ≡ length (b.word ++ rest) = ap length b.all in let k : length rest ≤ length (b.word ++ rest) = at_end b.word rest in omega (arith, l, k)
+  where
+    at_end : {Tok : Type 0} (ws rest : List Tok) → length rest ≤ length (ws ++ rest)
+    at_end [] rest = omega arith
+    at_end (w ∷ ws) rest = let k = at_end ws rest in omega (arith, k)
+
+-- the tokens before the rest of a word are the word
+pub taken_word : {Tok : Type 0} (ts rest word : List Tok) → ts ≡ word ++ rest → taken_of ts rest ≡ word
+taken_word ts rest word e = subst (λ t. taken_of t rest ≡ word) (sym e) (let l = front_length word rest in rw l (take-append_seam word rest))
+  where
+    front_length : {Tok : Type 0} (ws rest : List Tok) → length (ws ++ rest) - length rest ≡ length ws
+    front_length ws rest = let k = lengths ws rest in omega (arith, k)
+      where
+        lengths : {Tok : Type 0} (ws rest : List Tok) → length (ws ++ rest) ≡ length ws + length rest
+        lengths [] rest = omega arith
+        lengths (w ∷ ws) rest = let k = lengths ws rest in omega (arith, k)
+
+-- two words of one parser at the front of one text, each with a fitting rest, are one
+pub one_word : {Tok : Type 0} (f : Ender Tok) (P fits : List Tok → Type 0) → TakesEach f P fits → (w w' rest rest' : List Tok) → P w → P w' → fits rest → fits rest' → w ++ rest ≡ w' ++ rest' → (w ≡ w') × (rest ≡ rest')
+one_word {Tok} f P fits h w w' rest rest' p p' i i' e =
+    let a : f (w ++ rest) ≡ At rest = h.each w rest p i in
+    let b : f (w' ++ rest') ≡ At rest' = h.each w' rest' p' i' in
+    let c : At rest ≡ At rest' = sym a ∙ ap f e ∙ b in
+    let r : rest ≡ rest' = cc c in
+    let x : taken_of (w ++ rest) rest ≡ w = taken_word (w ++ rest) rest w refl in
+    let y : taken_of (w' ++ rest') rest' ≡ w' = taken_word (w' ++ rest') rest' w' refl in
+    let z : taken_of (w ++ rest) rest ≡ taken_of (w' ++ rest') rest' = cc (e, r) in
+    (sym x ∙ z ∙ y, r)
+
+-- nothing: it takes the empty word, whatever follows
+pub empty-takes_only : {Tok : Type 0} → TakesOnly {Tok = Tok} (λ ts. At ts) (λ w. w ≡ [])
+empty-takes_only = record { taken = λ ts rest e. let z : ts ≡ rest = cc e in record { word = []; all = z; is = refl } }
+
+pub empty-takes_each : {Tok : Type 0} → TakesEach {Tok = Tok} (λ ts. At ts) (λ w. w ≡ []) (λ rest. ⊤)
+empty-takes_each = record { each = λ w rest e i. rw e refl }
