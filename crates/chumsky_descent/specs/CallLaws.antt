@@ -4,10 +4,10 @@ use Rattle.std.proofs.Common.{ℕ, zero, suc, subst}
 use Rattle.chumsky_input.specs.Outcome.{IsAnswer, Agreeing, EndsAfterStart}
 use Rattle.chumsky_combinator.specs.Part.{Onward}
 use Rattle.chumsky_combinator.specs.PartLaws.{onward-ends, onward-agrees}
-use Rattle.chumsky_descent.specs.Calls.{Body, Bodies, IsTooDeep, CallOf, CallsOf, KeepsAgreement, KeepAgreement, Said, Nothing, Means, Steady, Together, DoesCall, same_of, IsSteady}
+use Rattle.chumsky_descent.specs.Calls.{Body, Bodies, IsTooDeep, CallOf, CallsOf, KeepsAgreement, KeepAgreement, Said, Nothing, Means, Steady, Exact, Together, DoesCall, same_of, IsSteady}
 
 module _ {Tok Cx St Er : Type 0} where
-  call-ends : {V : Type 0} (body : Body Tok Cx St Er V) (depth : ℕ) → EndsAfterStart (CallOf body depth)
+  pub call-ends : {V : Type 0} (body : Body Tok Cx St Er V) (depth : ℕ) → EndsAfterStart (CallOf body depth)
   call-ends body zero = onward-ends _
   call-ends body (suc depth) = onward-ends _
 
@@ -20,6 +20,7 @@ module _ {Tok Cx St Er : Type 0} where
   does_call-ends Nothing depth = call-ends _ depth
   does_call-ends (Means body) depth = call-ends body depth
   does_call-ends (Steady same body keeps) depth = call-ends body depth
+  does_call-ends (Exact same body keeps grammar accepts) depth = call-ends body depth
   does_call-ends (Together same bodies keep name) depth = calls-end bodies depth name
 
   -- a stop is no answer
@@ -40,4 +41,5 @@ module _ {Tok Cx St Er : Type 0} where
   does_call-agrees Nothing s depth = absurd s
   does_call-agrees (Means body) s depth = absurd s
   does_call-agrees (Steady same body keeps) s depth = call-agrees body same keeps depth
+  does_call-agrees (Exact same body keeps grammar accepts) s depth = call-agrees body same keeps depth
   does_call-agrees (Together same bodies keep name) s depth = calls-agree bodies same keep depth name

@@ -9,8 +9,9 @@ use Rattle.chumsky_input.specs.declared.input.Input as input_trait
 use Rattle.chumsky_input.specs.declared.input_ref.InputRef.{InputRef}
 use Rattle.chumsky_input.specs.declared.stop.Fault.{Fault}
 use Rattle.chumsky_input.specs.declared.stop.Stop.TheVariants.{TooDeep}
-use Rattle.chumsky_input.specs.Outcome.{Meaning, Beginning, Outcome, Halt, Agreeing}
+use Rattle.chumsky_input.specs.Outcome.{Meaning, Beginning, Outcome, Halt, Agreeing, EndsAfterStart}
 use Rattle.chumsky_input.specs.Run.{Runs}
+use Rattle.chumsky_parser.specs.Language.{Language, Accepts}
 use Rattle.chumsky_combinator.specs.Part.{Onward}
 
 -- what the body of a function may do under a depth, of what a call in it may do
@@ -47,12 +48,18 @@ module _ {Tok Cx St Er : Type 0} where
       (depth : ℕ) → ((called : Name) → Agreeing (same called) (CallsOf bodies depth called) (CallsOf bodies depth called))
       → (name : Name) → Agreeing (same name) (bodies name depth (CallsOf bodies depth)) (bodies name depth (CallsOf bodies depth))
 
--- what is said of a function: nothing; what its body may do; that it is steady too, with the outputs that count as the same; and
--- this of functions that call each other, with the name of this one
+module _ {Tok Cx St Er V : Type 0} where
+  -- where a call accepts its language, the body accepts what is made of that
+  abbrev pub KeepsLanguage : Body Tok Cx St Er V → (Language Tok V → Language Tok V) → Type 1
+  KeepsLanguage body grammar = (spare : Type 0) (depth : ℕ) (call : Language Tok V) → EndsAfterStart (CallOf body depth) → Accepts (CallOf body depth) call spare → Accepts (body depth (CallOf body depth)) (grammar call) spare
+
+-- what is said of a function: nothing; what its body may do; that it is steady too, with the outputs that count as the same; its
+-- language besides, of that of a call in it; and that it is steady of functions that call each other, with the name of this one
 pub data Said (Tok Cx St Er : Type 0) : Type 0 → Type 1 where
   Nothing : {V : Type 0} → Said Tok Cx St Er V
   Means : {V : Type 0} → Body Tok Cx St Er V → Said Tok Cx St Er V
   Steady : {V : Type 0} (same : V → V → Type 0) (body : Body Tok Cx St Er V) → KeepsAgreement same body → Said Tok Cx St Er V
+  Exact : {V : Type 0} (same : V → V → Type 0) (body : Body Tok Cx St Er V) → KeepsAgreement same body → (grammar : Language Tok V → Language Tok V) → KeepsLanguage body grammar → Said Tok Cx St Er V
   Together : {Name : Type 0} {V : Name → Type 0} (same : (name : Name) → V name → V name → Type 0) (bodies : Bodies Tok Cx St Er Name V)
       → KeepAgreement same bodies → (name : Name) → Said Tok Cx St Er (V name)
 
@@ -66,6 +73,7 @@ module _ {Tok Cx St Er : Type 0} where
   DoesCall Nothing depth = CallOf (λ depth call. Anything) depth
   DoesCall (Means body) depth = CallOf body depth
   DoesCall (Steady same body keeps) depth = CallOf body depth
+  DoesCall (Exact same body keeps grammar accepts) depth = CallOf body depth
   DoesCall (Together same bodies keep name) depth = CallsOf bodies depth name
 
   -- what the function does under a depth
@@ -73,6 +81,7 @@ module _ {Tok Cx St Er : Type 0} where
   DoesUnder Nothing depth = Anything
   DoesUnder (Means body) depth = body depth (CallOf body depth)
   DoesUnder (Steady same body keeps) depth = body depth (CallOf body depth)
+  DoesUnder (Exact same body keeps grammar accepts) depth = body depth (CallOf body depth)
   DoesUnder (Together same bodies keep name) depth = bodies name depth (CallsOf bodies depth)
 
   -- which outputs count as the same: equal ones, where nothing is said of them
@@ -80,12 +89,14 @@ module _ {Tok Cx St Er : Type 0} where
   same_of Nothing v w = v ≡ w
   same_of (Means body) v w = v ≡ w
   same_of (Steady same body keeps) v w = same v w
+  same_of (Exact same body keeps grammar accepts) v w = same v w
   same_of (Together same bodies keep name) v w = same name v w
 
   abbrev pub IsSteady : {V : Type 0} → Said Tok Cx St Er V → Type 0
   IsSteady Nothing = ⊥
   IsSteady (Means body) = ⊥
   IsSteady (Steady same body keeps) = ⊤
+  IsSteady (Exact same body keeps grammar accepts) = ⊤
   IsSteady (Together same bodies keep name) = ⊤
 
 -- what is said of a function in the words of the errors and of the states

@@ -8,7 +8,7 @@ use Rattle.chumsky_parser.specs.Memory.{NeverOutOfMemory}
 use Rattle.chumsky_parser.specs.Progress.{Moves}
 use Rattle.chumsky_moves.specs.PartsMove.{onward-moves}
 use Rattle.chumsky_descent.specs.CallLaws.{does_call-ends}
-use Rattle.chumsky_descent.specs.Calls.{IsTooDeep, Said, Nothing, Means, Steady, Together, DoesCall, DoesUnder}
+use Rattle.chumsky_descent.specs.Calls.{IsTooDeep, Said, Nothing, Means, Steady, Exact, Together, DoesCall, DoesUnder}
 
 module _ {Tok Cx St Er V : Type 0} where
   -- where a call moves, so does the function
@@ -20,7 +20,7 @@ module _ {Tok Cx St Er V : Type 0} where
   KeepsSparing said = (depth : ℕ) → NeverOutOfMemory (DoesCall said depth) → NeverOutOfMemory (DoesUnder said depth)
 
 module _ {Tok Cx St Er : Type 0} where
-  too_deep-moves : {V : Type 0} → Moves (Onward (IsTooDeep {Tok = Tok} {Cx = Cx} {St = St} {Er = Er} {V = V}))
+  pub too_deep-moves : {V : Type 0} → Moves (Onward (IsTooDeep {Tok = Tok} {Cx = Cx} {St = St} {Er = Er} {V = V}))
   too_deep-moves b o m y = absurd (subst IsYes m.means.verdict y)
 
   -- a call under no depth, and one under one more
@@ -28,12 +28,14 @@ module _ {Tok Cx St Er : Type 0} where
   none-moves Nothing = too_deep-moves
   none-moves (Means body) = too_deep-moves
   none-moves (Steady same body keeps) = too_deep-moves
+  none-moves (Exact same body keeps grammar accepts) = too_deep-moves
   none-moves (Together same bodies keep name) = too_deep-moves
 
   more-moves : {V : Type 0} (said : Said Tok Cx St Er V) (depth : ℕ) → Moves (DoesUnder said depth) → Moves (DoesCall said (suc depth))
   more-moves Nothing depth h = onward-moves _ h
   more-moves (Means body) depth h = onward-moves _ h
   more-moves (Steady same body keeps) depth h = onward-moves _ h
+  more-moves (Exact same body keeps grammar accepts) depth h = onward-moves _ h
   more-moves (Together same bodies keep name) depth h = onward-moves _ h
 
   -- each call moves, where the function does when they do
@@ -41,22 +43,24 @@ module _ {Tok Cx St Er : Type 0} where
   call-moves said keeps zero = none-moves said
   call-moves said keeps (suc depth) = more-moves said depth (keeps depth (does_call-ends said depth) (call-moves said keeps depth))
 
-  onward-spares : {V : Type 0} (m : Meaning Tok Cx St Er V) → NeverOutOfMemory m → NeverOutOfMemory (Onward m)
+  pub onward-spares : {V : Type 0} (m : Meaning Tok Cx St Er V) → NeverOutOfMemory m → NeverOutOfMemory (Onward m)
   onward-spares m h b o n = h b o n.means
 
-  too_deep-spares : {V : Type 0} → NeverOutOfMemory (Onward (IsTooDeep {Tok = Tok} {Cx = Cx} {St = St} {Er = Er} {V = V}))
+  pub too_deep-spares : {V : Type 0} → NeverOutOfMemory (Onward (IsTooDeep {Tok = Tok} {Cx = Cx} {St = St} {Er = Er} {V = V}))
   too_deep-spares b o m = rw m.means.verdict tt
 
   none-spares : {V : Type 0} (said : Said Tok Cx St Er V) → NeverOutOfMemory (DoesCall said zero)
   none-spares Nothing = too_deep-spares
   none-spares (Means body) = too_deep-spares
   none-spares (Steady same body keeps) = too_deep-spares
+  none-spares (Exact same body keeps grammar accepts) = too_deep-spares
   none-spares (Together same bodies keep name) = too_deep-spares
 
   more-spares : {V : Type 0} (said : Said Tok Cx St Er V) (depth : ℕ) → NeverOutOfMemory (DoesUnder said depth) → NeverOutOfMemory (DoesCall said (suc depth))
   more-spares Nothing depth h = onward-spares _ h
   more-spares (Means body) depth h = onward-spares _ h
   more-spares (Steady same body keeps) depth h = onward-spares _ h
+  more-spares (Exact same body keeps grammar accepts) depth h = onward-spares _ h
   more-spares (Together same bodies keep name) depth h = onward-spares _ h
 
   -- each call is never refused for memory, where the function isn't when they aren't

@@ -1,3 +1,4 @@
 pub mod Calls
 pub mod CallLaws
 pub mod Kept
+pub mod CallLanguage

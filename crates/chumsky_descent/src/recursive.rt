@@ -16,7 +16,8 @@ use std::marker::PhantomData;
 ///
 /// `Nothing` is said by `Unsaid`, and where the impl is empty. `Means (λ depth call. ..)` says what the body may do.
 /// `Steady same (λ depth call. ..) (λ depth call. ..)` says also which outputs count as the same, and that two answers of the
-/// body agree where two of the call do; then `check` is known to agree with `parse`.
+/// body agree where two of the call do; then `check` is known to agree with `parse`. `Exact` says besides which language the
+/// function has, of that of a call in it: which texts it accepts, and with which values.
 pub trait Recursion<'src, I: Input<'src>, O, E: ParserExtra<I>> {
     ghost use Rattle.chumsky_descent.specs.Calls.{Says, Nothing};
 
@@ -71,7 +72,7 @@ where
     R: Recursion<'src, I, O, E>,
     F: Fn(&mut InputRef<'src, '_, I, E>, bool, usize) -> PResult<Option<O>>,
 {
-    ghost use Rattle.chumsky_parser.specs.Language.{of_unsaid};
+    ghost use Rattle.chumsky_descent.specs.CallLanguage.{language_of, does_call-accepts};
     ghost use Rattle.chumsky_descent.specs.Calls.{same_of, IsSteady};
     ghost use Rattle.chumsky_descent.specs.CallLaws.{does_call-ends, does_call-agrees};
 
@@ -83,11 +84,13 @@ where
 
     ghost same = { λ p. same_of (R.says E.Error.Error E.State.Inspector) };
 
+    ghost language = { λ p. language_of (R.says E.Error.Error E.State.Inspector) p.depth };
+
     ghost ends_after_start = { λ p. does_call-ends (R.says _ _) p.depth };
 
     ghost agrees = { λ p s. does_call-agrees (R.says _ _) s p.depth };
 
-    ghost accepts = { λ _. of_unsaid };
+    ghost accepts = { λ p. does_call-accepts (R.says _ _) p.depth };
 
     #[inline]
     fn go_emit(&self, inp: &mut InputRef<'src, '_, I, E>) -> PResult<O> {
