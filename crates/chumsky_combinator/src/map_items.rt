@@ -22,6 +22,7 @@ impl<
     A: IterParser<'src, I, O, E>,
     F: Mapper<O, U>,
 > IterParser<'src, I, U, E> for Map<A, O, F, U> {
+    ghost use Rattle.chumsky_parser.specs.ItemsLanguage.{of_unsaid_items};
     ghost use Rattle.chumsky_combinator.specs.Mapped.{IsFunction, SameMapped};
     ghost use Rattle.chumsky_combinator.specs.MappedItems.{MapsItem};
     ghost use Rattle.chumsky_combinator.specs.MappedItemsLaws.{maps_item-end, maps_item-agree};
@@ -43,6 +44,8 @@ impl<
     ghost ends_after_start = { λ p d. maps_item-end (F.gives p.mapper) _ _ (A.ends_after_start p.parser d) };
 
     ghost agrees = { λ p s d. maps_item-agree (F.gives p.mapper) _ _ (A.same p.parser) (A.alike p.parser) (A.agrees p.parser s.0 d) };
+
+    ghost accepts = { λ _ _. of_unsaid_items };
 
     #[inline(always)]
     fn make_iter(&self, inp: &mut InputRef<'src, '_, I, E>) -> PResult<A::IterState> {

@@ -23,6 +23,7 @@ impl<
     A: IterParser<'src, I, O, E>,
     F: MapperWith<'src, I, O, U, E>,
 > IterParser<'src, I, U, E> for MapWith<A, O, F, U> {
+    ghost use Rattle.chumsky_parser.specs.ItemsLanguage.{of_unsaid_items};
     ghost use Rattle.chumsky_parser.specs.Showing.{OnlyAnswers, SameShown};
     ghost use Rattle.chumsky_combinator.specs.MappedItems.{MapsItemWith};
     ghost use Rattle.chumsky_combinator.specs.MappedItemsLaws.{maps_item_with-end, maps_item_with-agree};
@@ -44,6 +45,8 @@ impl<
     ghost ends_after_start = { λ p d. maps_item_with-end _ _ _ (A.ends_after_start p.parser d) };
 
     ghost agrees = { λ p s d. maps_item_with-agree _ _ _ s.1 (A.same p.parser) (A.alike p.parser) (A.agrees p.parser s.0 d) };
+
+    ghost accepts = { λ _ _. of_unsaid_items };
 
     #[inline(always)]
     fn make_iter(&self, inp: &mut InputRef<'src, '_, I, E>) -> PResult<A::IterState> {

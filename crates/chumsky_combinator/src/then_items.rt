@@ -31,6 +31,7 @@ impl<
     A: IterParser<'src, I, V, E>,
     B: IterParser<'src, I, V, E>,
 > IterParser<'src, I, V, E> for Then<A, B, O, U> {
+    ghost use Rattle.chumsky_parser.specs.ItemsLanguage.{of_unsaid_items};
     ghost use Rattle.chumsky_parser.specs.Choice.{SameEither};
     ghost use Rattle.chumsky_combinator.specs.ThenItems.{InStage, SameStage, BeginsFirst, GivesInTurn};
     ghost use Rattle.chumsky_combinator.specs.ThenItemsLaws.{in_turn-end, in_turn-agree};
@@ -52,6 +53,8 @@ impl<
     ghost ends_after_start = { λ p d. in_turn-end _ _ _ _ (A.ends_after_start p.first d) (B.ends_after_start p.second d) };
 
     ghost agrees = { λ p s d. in_turn-agree _ _ _ _ (A.same p.first) (B.same p.second) (A.alike p.first) (B.alike p.second) (A.agrees p.first s.0 d) (B.agrees p.second s.1 d) };
+
+    ghost accepts = { λ _ _. of_unsaid_items };
 
     #[inline(always)]
     fn make_iter(

@@ -26,6 +26,7 @@ where
     X: ParserExtra<I, Error = E::Error, State = E::State, Context = O>,
     B: IterParser<'src, I, U, X>,
 {
+    ghost use Rattle.chumsky_parser.specs.ItemsLanguage.{of_unsaid_items};
     ghost use Rattle.chumsky_context.specs.Under.{BeginsUnder, GivesUnder, AlikeUnder, SameAreEqual};
     ghost use Rattle.chumsky_context.specs.UnderLaws.{under_items-end, under_items-agree};
 
@@ -46,6 +47,8 @@ where
     ghost ends_after_start = { λ p d. under_items-end _ _ _ (A.ends_after_start p.parser) (B.ends_after_start p.then d) };
 
     ghost agrees = { λ p s d. under_items-agree _ _ _ (A.same p.parser) (B.same p.then) (B.alike p.then) s.2 (A.agrees p.parser s.0) (B.agrees p.then s.1 d) };
+
+    ghost accepts = { λ _ _. of_unsaid_items };
 
     #[inline]
     fn make_iter(&self, inp: &mut InputRef<'src, '_, I, E>) -> PResult<(O, B::IterState)> {

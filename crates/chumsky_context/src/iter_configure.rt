@@ -35,6 +35,7 @@ where
     A: ConfigIterParser<'src, I, O, E>,
     F: Configurer<A::Config, E::Context>,
 {
+    ghost use Rattle.chumsky_parser.specs.ItemsLanguage.{of_unsaid_items};
     ghost use Rattle.chumsky_context.specs.Configured.{Sets, IsDeterministic};
     ghost use Rattle.chumsky_context.specs.ConfiguredItems.{BeginsBeside, GivesBeside, AlikeBeside};
     ghost use Rattle.chumsky_context.specs.ConfiguredItemsLaws.{beside-end, beside-agree};
@@ -56,6 +57,8 @@ where
     ghost ends_after_start = { λ p d. beside-end _ _ _ (A.IterParser.ends_after_start p.parser d).begin (A.ends_after_start_cfg p.parser d) };
 
     ghost agrees = { λ p s d. beside-agree _ _ _ s.1 (A.same p.parser) (A.alike p.parser) (A.IterParser.agrees p.parser s.0 d).begin (A.agrees_cfg p.parser s.0 d) };
+
+    ghost accepts = { λ _ _. of_unsaid_items };
 
     #[inline(always)]
     fn make_iter(&self, inp: &mut InputRef<'src, '_, I, E>) -> PResult<(A::IterState, A::Config)> {

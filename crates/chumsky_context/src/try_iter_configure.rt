@@ -36,6 +36,7 @@ where
     A: ConfigIterParser<'src, I, O, E>,
     F: TryConfigurer<A::Config, E::Context, I::Span, E::Error>,
 {
+    ghost use Rattle.chumsky_parser.specs.ItemsLanguage.{of_unsaid_items};
     ghost use Rattle.chumsky_context.specs.ConfiguredItems.{GivesBeside, AlikeBeside};
     ghost use Rattle.chumsky_context.specs.TriedItems.{TrySets, OneRuling, BeginsTried};
     ghost use Rattle.chumsky_context.specs.TriedItemsLaws.{tried-end, tried-agree};
@@ -57,6 +58,8 @@ where
     ghost ends_after_start = { λ p d. tried-end _ _ _ _ _ (A.IterParser.ends_after_start p.parser d).begin (A.ends_after_start_cfg p.parser d) };
 
     ghost agrees = { λ p s d. tried-agree _ _ _ _ _ s.1 (A.same p.parser) (A.alike p.parser) (A.IterParser.agrees p.parser s.0 d).begin (A.agrees_cfg p.parser s.0 d) };
+
+    ghost accepts = { λ _ _. of_unsaid_items };
 
     fn make_iter(&self, inp: &mut InputRef<'src, '_, I, E>) -> PResult<(A::IterState, A::Config)> {
         let here = inp.cursor;

@@ -38,6 +38,7 @@ where
     E: ParserExtra<I>,
     A: IterParser<'src, I, O, E>,
 {
+    ghost use Rattle.chumsky_parser.specs.ItemsLanguage.{of_unsaid_items};
     ghost use Rattle.chumsky_flatten.specs.Collections.{MayIterate, SameItem, AsMany};
     ghost use Rattle.chumsky_flatten.specs.Flattening.{BeginsInside, Flattens, AlikeInside};
     ghost use Rattle.chumsky_flatten.specs.FlatteningLaws.{flattens-end, flattens-agree};
@@ -59,6 +60,8 @@ where
     ghost ends_after_start = { λ p d. flattens-end E.State.mark E.State.back E.State.takes_no_memory O.into_iter_gives O.IntoIter.next_gives _ _ (A.ends_after_start p.parser (record { nonconsumption_is_ok = false })) };
 
     ghost agrees = { λ p s d. flattens-agree E.State.mark E.State.back E.State.takes_no_memory O.into_iter_gives O.IntoIter.next_gives _ _ (A.same p.parser) (A.alike p.parser) s.1 (A.agrees p.parser s.0 (record { nonconsumption_is_ok = false })) };
+
+    ghost accepts = { λ _ _. of_unsaid_items };
 
     #[inline(always)]
     fn make_iter(

@@ -32,6 +32,7 @@ where
     E: ParserExtra<I>,
     A: Parser<'src, I, O, E>,
 {
+    ghost use Rattle.chumsky_parser.specs.ItemsLanguage.{of_unsaid_items};
     ghost use Rattle.chumsky_flatten.specs.Collections.{MayIterate, SameRest, SameItem, AsMany};
     ghost use Rattle.chumsky_flatten.specs.IntoItems.{BeginsOver, GivesNext};
     ghost use Rattle.chumsky_flatten.specs.IntoItemsLaws.{into_items-end, into_items-agree};
@@ -53,6 +54,8 @@ where
     ghost ends_after_start = { λ p d. into_items-end O.into_iter_gives O.IntoIter.next_gives _ (A.ends_after_start p.parser) };
 
     ghost agrees = { λ p s d. into_items-agree O.into_iter_gives O.IntoIter.next_gives _ (A.same p.parser) s.1 (A.agrees p.parser s.0) };
+
+    ghost accepts = { λ _ _. of_unsaid_items };
 
     #[inline(always)]
     fn make_iter(&self, inp: &mut InputRef<'src, '_, I, E>) -> PResult<O::IntoIter> {

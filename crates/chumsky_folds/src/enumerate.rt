@@ -27,6 +27,7 @@ impl<'src, I: Input<'src>, O: Drop, E: ParserExtra<I>, A: IterParser<'src, I, O,
     (usize, O),
     E,
 > for Enumerate<A, O> {
+    ghost use Rattle.chumsky_parser.specs.ItemsLanguage.{of_unsaid_items};
     ghost use Rattle.chumsky_folds.specs.Enumerating.{BeginsAtZero, Enumerates, SameNumbered, AlikeNumbered};
     ghost use Rattle.chumsky_folds.specs.EnumeratingLaws.{enumerates-end, enumerates-agree};
 
@@ -47,6 +48,8 @@ impl<'src, I: Input<'src>, O: Drop, E: ParserExtra<I>, A: IterParser<'src, I, O,
     ghost ends_after_start = { λ p d. enumerates-end _ _ (A.ends_after_start p.parser d) };
 
     ghost agrees = { λ p s d. enumerates-agree _ _ (A.same p.parser) (A.alike p.parser) (A.agrees p.parser s d) };
+
+    ghost accepts = { λ _ _. of_unsaid_items };
 
     #[inline(always)]
     fn make_iter(&self, inp: &mut InputRef<'src, '_, I, E>) -> PResult<(usize, A::IterState)> {

@@ -32,6 +32,7 @@ pub trait Iterates {
 pub trait IterParser<'src, I: Input<'src>, O, E: ParserExtra<I>>: Iterates {
     ghost use Rattle.chumsky_input.specs.Words.{Does};
     ghost use Rattle.chumsky_parser.specs.Items.{Next, ItemsEnd, ItemsAgree};
+    ghost use Rattle.chumsky_parser.specs.ItemsLanguage.{ItemsLanguage, AcceptsItems, unsaid_items};
     ghost use Rattle.chumsky_parser.specs.declared.iter.IterParserDebug.{IterParserDebug};
 
     /// That the parser may be run: its closures may be called.
@@ -48,6 +49,8 @@ pub trait IterParser<'src, I: Input<'src>, O, E: ParserExtra<I>>: Iterates {
     ghost same: { Self → O → O → Type 0 };
 
     ghost alike: { Self → Self.IterState → Self.IterState → Type 0 };
+    /// Which lists it accepts, and with which items. Nothing is said where this is left out.
+    ghost language: { Self → ItemsLanguage I.Token Self.IterState O } = { λ _. unsaid_items };
 
     /// Makes an iteration, for a run of either kind.
     fn make_iter(&self, inp: &mut InputRef<'src, '_, I, E>) -> PResult<Self::IterState>
@@ -85,4 +88,7 @@ pub trait IterParser<'src, I: Input<'src>, O, E: ParserExtra<I>>: Iterates {
 
     /// Two answers of a steady parser agree, with an item or without, and lead to iterations that are alike.
     ghost agrees: { (p : Self) → steady p → (d : IterParserDebug) → ItemsAgree (same p) (alike p) (begins p E.Error.Error E.State.Inspector) (λ s. gives p d s E.Error.Error E.State.Inspector) };
+
+    /// What the language says is so, of runs of either kind.
+    ghost accepts: { (p : Self) → (d : IterParserDebug) → AcceptsItems (begins p E.Error.Error E.State.Inspector) (λ s. gives p d s E.Error.Error E.State.Inspector) (language p) (E.Error.takes_no_memory × E.State.takes_no_memory) };
 }

@@ -1,0 +1,105 @@
+-- The language of a parser of items: where a step of it ends, with an item or without one; which words its items have, and the
+-- end of the list.
+-- Main words: ItemsLanguage, AcceptsItems. Laws: ItemsEndings.antt. Read first: Ending.antt, Language.antt, Items.antt.
+use Rattle.std.specs.Prelude.{◌≡◌, ℕ, suc, ◌+◌, ◌^◌, ◌<◌, Bool, true, false, List, [], ◌∷◌, ◌++◌, length, drop, ⊤}
+use Rattle.chumsky_input.specs.Outcome.{Meaning, Beginning}
+use Rattle.chumsky_parser.specs.Items.{Next, More, End}
+use Rattle.chumsky_parser.specs.Ending.{Ending, At, Nowhere, Refused, Within, IfValue, Here, Reads}
+use Rattle.chumsky_parser.specs.Language.{Begins}
+use Rattle.chumsky_parser.specs.Words.{Joined}
+use Rattle.chumsky_parser.specs.Memory.{ItemsNeverOutOfMemory}
+
+-- where a step ends: one more item ends here, or the list does
+pub data Turn (Tok : Type 0) : Type 0 where
+  One : List Tok → Turn Tok
+  Over : List Tok → Turn Tok
+
+-- where it ends, whether with an item or without
+abbrev pub place_of : {Tok : Type 0} → Turn Tok → List Tok
+place_of (One rest) = rest
+place_of (Over rest) = rest
+
+abbrev pub place : {Tok : Type 0} → Ending (Turn Tok) → Ending (List Tok)
+place (At turn) = At (place_of turn)
+place Nowhere = Nowhere
+place Refused = Refused
+
+-- an item with P and an iteration with Q, where one more item is said; and else the end
+abbrev pub IsTurn : {Tok S V : Type 0} → (V → Type 0) → (S → Type 0) → Ending (Turn Tok) → Next S V → Type 0
+IsTurn P Q (At (One rest)) (More v s) = IfValue P v × Q s
+IsTurn P Q (At (One rest)) End = ⊥
+IsTurn P Q (At (Over rest)) (More v s) = ⊥
+IsTurn P Q (At (Over rest)) End = ⊤
+IsTurn P Q Nowhere next = ⊥
+IsTurn P Q Refused next = ⊥
+
+module _ {Tok V : Type 0} (word : ℕ → List Tok → V → Type 0) (last : ℕ → List Tok → Type 0) where
+  -- the words of items with these values one after another, after k others, and of the end
+  abbrev pub ListFrom : ℕ → List V → List Tok → Type 0
+  ListFrom k [] w = last k w
+  ListFrom k (v ∷ vs) w = Joined (λ u. word k u v) (λ u. ListFrom (suc k) vs u) w
+
+-- words of the rest of a list, after k items, and of what may follow it
+pub record GoesOn {Tok : Type 0} (word : ℕ → List Tok → Type 0) (last : ℕ → List Tok → Type 0) (follow : List Tok → Type 0) (k : ℕ) (ts : List Tok) : Type 0 where
+  pub items : List (List Tok)
+  pub words : List Tok
+  pub rest : List Tok
+  pub all : ts ≡ words ++ rest
+  pub are : ListFrom (λ j w (v : List Tok). word j w) last k items words
+  pub fits : follow rest
+
+-- what is said of a parser of items; each of the middle words is of the step after so many items
+pub record ItemsLanguage (Tok S V : Type 0) : Type 1 where
+  -- that its language is said, which the next words are
+  pub said : Bool
+  -- that an iteration has given so many items
+  pub has_given : S → ℕ → Type 0
+  -- where a step ends, and which items it may give, of the tokens that are left
+  pub next : ℕ → List Tok → Ending (Turn Tok)
+  pub value : ℕ → List Tok → V → Type 0
+  -- the words that it accepts for an item, and the items that a word stands for; and the words before the end of the list
+  pub word : ℕ → List Tok → Type 0
+  pub stands_for : ℕ → List Tok → V → Type 0
+  pub last : ℕ → List Tok → Type 0
+  -- what may follow the list
+  pub follow : List Tok → Type 0
+  -- that no word is cut short, or taken for another
+  pub unambiguous : Type 0
+  -- that it may be refused for something else than memory
+  pub refuses : Bool
+  -- what has to take no memory, besides errors and states
+  pub takes_no_memory : Type 0
+
+module _ {Tok Cx St Er S V : Type 0} (begins : Meaning Tok Cx St Er S) (gives : S → Meaning Tok Cx St Er (Next S V)) (l : ItemsLanguage Tok S V) where
+  -- each outcome of a step, after k items, from a place from which so many more tokens can be counted
+  abbrev pub StepReads : ℕ → S → Beginning Tok Cx St → Type 0
+  StepReads k s b =
+      let ts : List Tok = drop b.start b.tokens.list in
+      k + length b.tokens.list < b.start + 2 ^ 64 → Here (IsTurn (l.value k ts) (λ t. l.has_given t (k + 1)) (l.next k ts)) (gives s) (place (l.next k ts)) b
+
+  -- an iteration and its steps are as the language says
+  pub record ItemsDescribed : Type 0 where
+    pub start : Reads begins (λ ts. At ts) (λ ts s. l.has_given s 0)
+    pub step : (k : ℕ) (s : S) → l.has_given s k → (b : Beginning Tok Cx St) → Within b → StepReads k s b
+    -- an item takes a token
+    pub further : (k : ℕ) (ts rest : List Tok) → l.next k ts ≡ At (One rest) → length rest < length ts
+    -- with a word of an item, or of the end
+    pub one : (k : ℕ) (ts rest : List Tok) → l.next k ts ≡ At (One rest) → Begins (l.word k) ts rest
+    pub given : (k : ℕ) (ts rest : List Tok) (v : V) → l.next k ts ≡ At (One rest) → l.value k ts v → Begins (λ w. l.stands_for k w v) ts rest
+    pub over : (k : ℕ) (ts rest : List Tok) → l.next k ts ≡ At (Over rest) → Begins (l.last k) ts rest
+    -- each such word is taken, where what follows fits
+    pub each : l.unambiguous → (k : ℕ) (w rest : List Tok) → l.word k w → GoesOn l.word l.last l.follow (suc k) rest → l.next k (w ++ rest) ≡ At (One rest)
+    pub ends : l.unambiguous → (k : ℕ) (w rest : List Tok) → l.last k w → l.follow rest → l.next k (w ++ rest) ≡ At (Over rest)
+    pub decided : l.refuses ≡ false → (k : ℕ) (ts : List Tok) → l.next k ts ≡ Refused → ⊥
+
+  -- what is said of a parser of items holds, where errors and states take no memory if this does
+  pub record AcceptsItems (spare : Type 0) : Type 0 where
+    pub described : l.said ≡ true → ItemsDescribed
+    pub sparing : spare → l.takes_no_memory → ItemsNeverOutOfMemory begins gives
+
+-- nothing is said
+abbrev pub unsaid_items : {Tok S V : Type 0} → ItemsLanguage Tok S V
+unsaid_items = record { said = false; has_given = λ _ _. ⊤; next = λ _ _. Refused; value = λ _ _ _. ⊤; word = λ _ _. ⊤; stands_for = λ _ _ _. ⊤; last = λ _ _. ⊤; follow = λ _. ⊥; unambiguous = ⊥; refuses = true; takes_no_memory = ⊥ }
+
+pub of_unsaid_items : {Tok Cx St Er S V : Type 0} {begins : Meaning Tok Cx St Er S} {gives : S → Meaning Tok Cx St Er (Next S V)} {spare : Type 0} → AcceptsItems begins gives unsaid_items spare
+of_unsaid_items = record { described = λ s. absurd (cc s); sparing = λ _ x. absurd x }
