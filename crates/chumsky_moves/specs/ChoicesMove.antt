@@ -1,13 +1,13 @@
 -- A choice moves where it succeeds, since each alternative does.
--- Main laws: or-moves, all-move, among-moves. Read first: Moves.antt, MovesLaws.antt.
-use Rattle.std.proofs.Common.{◌≡◌, ℕ, zero, suc, ◌<◌, Bool, true, ◌&&◌, List, [], ◌∷◌, inl, inr, sym, ap, subst, arith, map}
+-- Main laws: all-move, among-moves. Read first: Moves.antt, MovesLaws.antt.
+use Rattle.std.proofs.Common.{◌≡◌, ℕ, zero, suc, ◌<◌, Bool, true, ◌&&◌, List, [], ◌∷◌, inl, inr, ap, subst, arith, map}
 use Rattle.std.specs.Prelude.{⊤}
 use Rattle.std.specs.List.{list_all}
 use Rattle.chumsky_input.specs.declared.error.Error as error_trait
 use Rattle.chumsky_input.specs.declared.inspector.Inspector as inspector_trait
 use Rattle.chumsky_input.specs.declared.input.Input as input_trait
-use Rattle.chumsky_input.specs.Outcome.{Meaning, Beginning, Outcome, Verdict, Yes, No, Halt, Clash}
-use Rattle.chumsky_parser.specs.Choice.{ElseFrom, Stands, FirstOf, OneOrFirst, OrElse}
+use Rattle.chumsky_input.specs.Outcome.{Meaning, Beginning, Outcome}
+use Rattle.chumsky_parser.specs.Choice.{Stands, FirstOf, OneOrFirst}
 use Rattle.chumsky_choice.specs.Among.{NoneOrFirst, FirstAmong}
 use Rattle.chumsky_parser.specs.Progress.{IsYes}
 use Rattle.chumsky_parser.specs.Progress.{Moves}
@@ -29,25 +29,7 @@ module _ {Tok Cx St Er V : Type 0} where
   pub and-moves : {a s : Bool} {m : Meaning Tok Cx St Er V} {ms : List (Meaning Tok Cx St Er V)} → (a ≡ true → Moves m) → AllMove s ms → AllMove (a && s) (m ∷ ms)
   and-moves {a} {s} h k = record { each = λ e. (let t = both-true a s e in (h t.0, k.each t.1)) }
 
-module _ {Tok Cx St Mk Er V : Type 0} (back : St → Mk → St) (safe : Type 0) (mark : Mk) (first second : Meaning Tok Cx St Er V) where
-  else_moves : Moves first → Moves second → (v : Verdict V Er) (b : Beginning Tok Cx St) (p o : Outcome V Er St) → first b p → ElseFrom back safe mark v second b p o → IsYes o.verdict → b.start < o.end
-  else_moves hf hs (Yes v) b p o m e y = hf b o (subst (first b) (sym e) m) y
-  else_moves hf hs No b p o m (inl r) y = absurd (subst IsYes r.1 y)
-  else_moves hf hs No b p o m (inr k) y =
-      let verdict : o.verdict ≡ k.0.verdict = ap (λ (x : Outcome V Er St). x.verdict) k.2 in
-      let end : o.end ≡ k.0.end = ap (λ (x : Outcome V Er St). x.end) k.2 in
-      let after : b.start < k.0.end = hs (record b { state = back p.state mark }) k.0 k.1 (subst IsYes verdict y) in
-      omega arith
-  else_moves hf hs (Halt s) b p o m e y = hf b o (subst (first b) (sym e) m) y
-  else_moves hf hs (Clash x) b p o m e y = hf b o (subst (first b) (sym e) m) y
-
 module _ {Tok Cx St Mk Er V : Type 0} (mark : St → Mk) (back : St → Mk → St) (safe : Type 0) where
-  pub or_else-moves : (first second : Meaning Tok Cx St Er V) → Moves first → Moves second → Moves (OrElse mark back safe first second)
-  or_else-moves first second hf hs b o m y = elim m.cases [ inl r ↦ absurd (subst IsYes r.1 y) | inr t ↦ else_moves back safe (mark b.state) first second hf hs t.attempt.verdict b t.attempt o t.meant t.then_else y ]
-
-  pub or-moves : (first second : Meaning Tok Cx St Er V) (a b : Bool) → (a ≡ true → Moves first) → (b ≡ true → Moves second) → (a && b) ≡ true → Moves (OrElse mark back safe first second)
-  or-moves first second a b hf hs e = let t = both-true a b e in or_else-moves first second (hf t.0) (hs t.1)
-
   stands-moves : (k : ℕ) (m : Mk) (first : Meaning Tok Cx St Er V) (others : List (Meaning Tok Cx St Er V)) → Moves first → EachMoves others → Moves (Stands back safe m k first others)
   stands-moves zero m first others h hs b o s y = h b o s.0 y
   stands-moves (suc k) m first [] h hs b o s y = absurd s

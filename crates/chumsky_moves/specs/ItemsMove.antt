@@ -19,7 +19,7 @@ use Rattle.chumsky_items.specs.Separating.{Bounds, asks_after, stays, Lead, Stay
 use Rattle.chumsky_moves.specs.Moves.{ItemsMove, has_an_item}
 use Rattle.chumsky_parser.specs.Progress.{Moves}
 use Rattle.chumsky_parser.specs.ProgressLaws.{both-true, no-moves, asked-moves, chained-first, chained-second, chained-after}
-use Rattle.chumsky_moves.specs.ChoicesMove.{or_else-moves}
+use Rattle.chumsky_parser.specs.ProgressLaws.{or_else-moves}
 
 not-true : (b : Bool) → not b ≡ true → b ≡ false
 not-true true e = absurd (cc)

@@ -30,7 +30,7 @@ use Rattle.chumsky_shield.specs.Vetted.{Vets, OnRuling, Vetting, Vetted}
 use Rattle.chumsky_moves.specs.Moves.{of_either}
 use Rattle.chumsky_parser.specs.Progress.{Moves}
 use Rattle.chumsky_parser.specs.ProgressLaws.{either-true, no-moves, asked-moves, chained-first, chained-second, sequence-moves}
-use Rattle.chumsky_moves.specs.ChoicesMove.{or_else-moves}
+use Rattle.chumsky_parser.specs.ProgressLaws.{or_else-moves}
 
 module _ {Tok Cx St Er : Type 0} where
   pub either-moves : {A B V : Type 0} (left : A → Meaning Tok Cx St Er V) (right : B → Meaning Tok Cx St Er V) (f : A → Bool) (g : B → Bool) → ((x : A) → f x ≡ true → Moves (left x)) → ((y : B) → g y ≡ true → Moves (right y)) → (p : Either A B) → of_either f g p ≡ true

@@ -46,7 +46,7 @@ impl<
     A: Moving<'src, I, O, E>,
     B: Moving<'src, I, O, E>,
 > Moving<'src, I, O, E> for Or<A, B> {
-    ghost use Rattle.chumsky_moves.specs.ChoicesMove.{or-moves};
+    ghost use Rattle.chumsky_parser.specs.ProgressLaws.{or-moves};
 
     ghost moves = { λ p. A.moves p.first && B.moves p.second };
 

@@ -1,8 +1,8 @@
--- What takes a token wherever it ends, since a part of it does.
--- Main laws: first-further, second-further, then-further, else-further. Read first: Language.antt, Words.antt.
-use Rattle.std.proofs.Common.{◌≡◌, ◌≤◌, ◌<◌, Bool, true, ◌||◌, List, length, refl, ◌∙◌, arith, inl, inr}
+-- What takes a token wherever it ends, since a part of it does; and what is never refused, since no part of it is.
+-- Main laws: first-further, second-further, then-further, else-further, then-decided, else-decided. Read first: Language.antt, Words.antt.
+use Rattle.std.proofs.Common.{◌≡◌, ◌≤◌, ◌<◌, Bool, true, false, ◌||◌, List, length, refl, ◌∙◌, arith, inl, inr}
 use Rattle.chumsky_parser.specs.Ending.{Ending, At, Nowhere, Refused, Ender, and_then, or_else}
-use Rattle.chumsky_parser.specs.Language.{TakesOnly, EndsFurther}
+use Rattle.chumsky_parser.specs.Language.{TakesOnly, EndsFurther, NeverRefused}
 use Rattle.chumsky_parser.specs.ProgressLaws.{either-true}
 use Rattle.chumsky_parser.specs.Words.{then_ends, either_ends}
 use Rattle.chumsky_parser.specs.WordsLaws.{keeps_tokens}
@@ -35,3 +35,25 @@ else-further {Tok} f g h k = λ ts rest e. by_first ts rest (f ts) refl e
     by_first ts rest Nowhere d e = k ts rest e
     by_first ts rest Refused d e = absurd (cc e)
     by_first ts rest (At r) d e = h ts rest (d ∙ e)
+
+-- neither of two is true
+pub neither-true : (a b : Bool) → (a || b) ≡ false → (a ≡ false) × (b ≡ false)
+neither-true true b e = absurd (cc e)
+neither-true false b e = (refl, e)
+
+-- what is never refused, since its parts never are
+pub then-decided : {Tok : Type 0} (f g : Ender Tok) (a b : Bool) → (a ≡ false → NeverRefused f) → (b ≡ false → NeverRefused g) → (a || b) ≡ false → NeverRefused (then_ends f g)
+then-decided {Tok} f g a b h k e = let n = neither-true a b e in (λ ts r. by_first (h n.0) (k n.1) ts (f ts) refl r)
+  where
+    by_first : NeverRefused f → NeverRefused g → (ts : List Tok) (x : Ending (List Tok)) → f ts ≡ x → and_then g x ≡ Refused → ⊥
+    by_first hf hg ts Nowhere d r = absurd (cc r)
+    by_first hf hg ts Refused d r = hf ts d
+    by_first hf hg ts (At mid) d r = hg mid r
+
+pub else-decided : {Tok : Type 0} (f g : Ender Tok) (a b : Bool) → (a ≡ false → NeverRefused f) → (b ≡ false → NeverRefused g) → (a || b) ≡ false → NeverRefused (either_ends f g)
+else-decided {Tok} f g a b h k e = let n = neither-true a b e in (λ ts r. by_first (h n.0) (k n.1) ts (f ts) refl r)
+  where
+    by_first : NeverRefused f → NeverRefused g → (ts : List Tok) (x : Ending (List Tok)) → f ts ≡ x → or_else x (g ts) ≡ Refused → ⊥
+    by_first hf hg ts Nowhere d r = hg ts r
+    by_first hf hg ts Refused d r = hf ts d
+    by_first hf hg ts (At mid) d r = absurd (cc r)

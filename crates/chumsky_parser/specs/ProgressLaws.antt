@@ -1,8 +1,9 @@
--- What moves where it succeeds, since one part does: parts one after another.
--- Main laws: chained-first, chained-second, sequence-moves. Read first: Progress.antt.
-use Rattle.std.proofs.Common.{◌≡◌, ℕ, ◌≤◌, ◌<◌, Bool, true, false, ◌&&◌, ◌||◌, Option, List, ◌⊎◌, inl, inr, refl, ap, subst, arith}
+-- What moves where it succeeds: parts one after another, since one part does, and one part or another, since both do.
+-- Main laws: chained-first, chained-second, sequence-moves, or-moves. Read first: Progress.antt.
+use Rattle.std.proofs.Common.{◌≡◌, ℕ, ◌≤◌, ◌<◌, Bool, true, false, ◌&&◌, ◌||◌, Option, List, ◌⊎◌, inl, inr, refl, sym, ap, subst, arith}
 use Rattle.chumsky_input.specs.Outcome.{Event, Meaning, Beginning, Outcome, Verdict, Yes, No, Halt, Clash, IsAnswer, EndsAfterStart}
 use Rattle.chumsky_parser.specs.Chained.{from, Follows, Chained, Asked, Sequence, both}
+use Rattle.chumsky_parser.specs.Choice.{ElseFrom, OrElse}
 use Rattle.chumsky_parser.specs.Failure.{FailsAt, Misses, SaysNo}
 use Rattle.chumsky_parser.specs.Ignoring.{IgnoringFirst, IgnoringSecond, Between}
 use Rattle.chumsky_parser.specs.IgnoringLaws.{ignoring_second-ends}
@@ -112,3 +113,22 @@ module _ {Tok Cx St Er U V W : Type 0} (opening : Meaning Tok Cx St Er U) (part 
   pub between-moves : (a b c : Bool) → EndsAfterStart opening → EndsAfterStart part → EndsAfterStart closing → (a ≡ true → Moves opening) → (b ≡ true → Moves part) → (c ≡ true → Moves closing) → (a || (b || c)) ≡ true → Moves (Between opening part closing)
   between-moves a b c eo ep ec ho hp hc e =
       ignoring_first-moves opening (IgnoringSecond part closing) a (b || c) eo (ignoring_second-ends part closing ep ec) ho (ignoring_second-moves part closing b c ep ec hp hc) e
+
+module _ {Tok Cx St Mk Er V : Type 0} (back : St → Mk → St) (safe : Type 0) (mark : Mk) (first second : Meaning Tok Cx St Er V) where
+  else_moves : Moves first → Moves second → (v : Verdict V Er) (b : Beginning Tok Cx St) (p o : Outcome V Er St) → first b p → ElseFrom back safe mark v second b p o → IsYes o.verdict → b.start < o.end
+  else_moves hf hs (Yes v) b p o m e y = hf b o (subst (first b) (sym e) m) y
+  else_moves hf hs No b p o m (inl r) y = absurd (subst IsYes r.1 y)
+  else_moves hf hs No b p o m (inr k) y =
+      let verdict : o.verdict ≡ k.0.verdict = ap (λ (x : Outcome V Er St). x.verdict) k.2 in
+      let end : o.end ≡ k.0.end = ap (λ (x : Outcome V Er St). x.end) k.2 in
+      let after : b.start < k.0.end = hs (record b { state = back p.state mark }) k.0 k.1 (subst IsYes verdict y) in
+      omega arith
+  else_moves hf hs (Halt s) b p o m e y = hf b o (subst (first b) (sym e) m) y
+  else_moves hf hs (Clash x) b p o m e y = hf b o (subst (first b) (sym e) m) y
+
+module _ {Tok Cx St Mk Er V : Type 0} (mark : St → Mk) (back : St → Mk → St) (safe : Type 0) where
+  pub or_else-moves : (first second : Meaning Tok Cx St Er V) → Moves first → Moves second → Moves (OrElse mark back safe first second)
+  or_else-moves first second hf hs b o m y = elim m.cases [ inl r ↦ absurd (subst IsYes r.1 y) | inr t ↦ else_moves back safe (mark b.state) first second hf hs t.attempt.verdict b t.attempt o t.meant t.then_else y ]
+
+  pub or-moves : (first second : Meaning Tok Cx St Er V) (a b : Bool) → (a ≡ true → Moves first) → (b ≡ true → Moves second) → (a && b) ≡ true → Moves (OrElse mark back safe first second)
+  or-moves first second a b hf hs e = let t = both-true a b e in or_else-moves first second (hf t.0) (hs t.1)

@@ -19,7 +19,7 @@ impl<
     A: Parser<'src, I, O, E>,
     B: Parser<'src, I, O, E>,
 > Parser<'src, I, O, E> for Either<A, B> {
-    ghost use Rattle.chumsky_parser.specs.Language.{of_unsaid};
+    ghost use Rattle.chumsky_parser.specs.EitherLanguage.{either_language, of_either-accepts};
 
     ghost ready = { λ p. MatchEither p A.ready B.ready };
 
@@ -29,11 +29,13 @@ impl<
 
     ghost same = { λ p v w. MatchEither p (λ x. A.same x v w) (λ y. B.same y v w) };
 
+    ghost language = { either_language A.language B.language };
+
     ghost ends_after_start = { λ p. either-ends _ _ A.ends_after_start B.ends_after_start p };
 
     ghost agrees = { λ p s. either-agrees _ _ A.steady B.steady A.same B.same A.agrees B.agrees p s };
 
-    ghost accepts = { λ _. of_unsaid };
+    ghost accepts = { of_either-accepts _ _ A.language B.language A.accepts B.accepts };
 
     #[inline]
     fn go_emit(&self, inp: &mut InputRef<'src, '_, I, E>) -> PResult<O> {
