@@ -1,11 +1,12 @@
 -- Where parts end that run one after another, and with which values.
--- Main laws: chained-here, given-here, asked-here, weaker-here, then-by, ignore_then-by, then_ignore-by. Read first: Ending.antt, Words.antt.
+-- Main laws: chained-here, given-here, asked-here, weaker-here, refuses-by, misses-by, copy-by, then-by, ignore_then-by, then_ignore-by. Read first: Ending.antt, Words.antt.
 use Rattle.std.proofs.Common.{◌≡◌, ℕ, Bool, true, false, Option, Some, None, List, drop, refl, subst, ◌⊎◌, inl, inr}
 use Rattle.std.specs.Prelude.{option_map}
 use Rattle.chumsky_input.specs.declared.stop.Stop.TheVariants.{Memory}
-use Rattle.chumsky_input.specs.Outcome.{Meaning, Beginning, Outcome, Verdict, Yes, No, Halt, Clash}
+use Rattle.chumsky_input.specs.Outcome.{Event, Meaning, Beginning, Outcome, Verdict, Yes, No, Halt, Clash}
 use Rattle.chumsky_parser.specs.Chained.{Chained, Given, Asked, Sequence, Follows, from, both}
-use Rattle.chumsky_parser.specs.Failure.{wanting, Refuses}
+use Rattle.chumsky_parser.specs.Copied.{GivesCopy}
+use Rattle.chumsky_parser.specs.Failure.{IsWanted, wanting, Refuses, Misses}
 use Rattle.chumsky_parser.specs.Ignoring.{Gives, IgnoringFirst, IgnoringSecond}
 use Rattle.chumsky_parser.specs.Ending.{Ending, At, Nowhere, Refused, Ender, and_then, Ends, Within, IfValue, Answers, Here, Reads}
 use Rattle.chumsky_parser.specs.Words.{then_ends}
@@ -37,6 +38,18 @@ module _ {Tok St Er V : Type 0} (P : V → Type 0) (x : Ending (List Tok)) (ts :
   -- a refusal for memory, whatever is read
   pub refuses-by : {may : Type 0} {s : St} → Refuses may s o → Answers P x ts o.verdict o.end
   refuses-by r = rw r.1 (inl refl)
+
+  -- a failure, or a refusal for memory for its error, where this fails
+  pub misses-by : {safe : Type 0} {e : Event Er} {end : ℕ} {s : St} → x ≡ Nowhere → Misses safe e end s o → Answers P x ts o.verdict o.end
+  misses-by n (inl r) = refuses-by r
+  misses-by n (inr f) = elim f.by [ inl h ↦ rw h.0 n | inr h ↦ rw h.0 tt ]
+
+-- a value, where one is wanted
+pub wanted_value : {V : Type 0} (P : V → Type 0) (c : Bool) (v : Option V) → IsWanted P c v → IfValue P v
+wanted_value P true (Some v) i = i
+wanted_value P true None i = absurd i
+wanted_value P false (Some v) i = absurd i
+wanted_value P false None i = tt
 
 module _ {Tok Cx St Er V W : Type 0} (P : V → Type 0) (Q : W → Type 0) (part : Meaning Tok Cx St Er V) (next : Option V → Meaning Tok Cx St Er W) (x : Ending (List Tok)) (g : Ender Tok) where
   -- what follows a value, from where its part ended
@@ -98,6 +111,17 @@ module _ {Tok Cx St V : Type 0} (Er : Type 0) (P : V → Type 0) where
 
   pub gives-by : (v : V) → P v → Reads (Gives {Tok = Tok} {Cx = Cx} {St = St} {Er = Er} v) (λ ts. At ts) (λ ts. P)
   gives-by v i = record { here = λ b w o m. given-here Er P b w (wanting b.wanted v) (wanting_value P v i b.wanted) o m.given }
+
+-- a copy of a value, whatever is left
+pub copy-by : {Tok Cx St V : Type 0} (Er : Type 0) (copies : V → Type 0) (safe : Type 0) → Reads (GivesCopy {Tok = Tok} {Cx = Cx} {St = St} {Er = Er} copies safe) (λ ts. At ts) (λ ts. copies)
+copy-by Er copies safe = record {
+  here = λ b w o m.
+    let ts = drop b.start b.tokens.list in
+    elim m.cases [
+      | inl r ↦ refuses-by copies (At ts) b.tokens.list o r
+      | inr c ↦ given-here Er copies b w c.value (wanted_value copies b.wanted c.value c.is_value) o c.given
+    ]
+}
 
 module _ {Tok Cx St Er V W : Type 0} (part : Meaning Tok Cx St Er V) (next : Meaning Tok Cx St Er W) (f g : Ender Tok) (va : List Tok → V → Type 0) (vb : List Tok → W → Type 0) (h : Reads part f va) (k : Reads next g vb) where
   -- `first.then(second)`
