@@ -17,6 +17,7 @@ use Rattle.chumsky_parser.specs.Language.{Begins, GivesOnly, Language, Described
 use Rattle.chumsky_parser.specs.Memory.{NeverOutOfMemory}
 use Rattle.chumsky_parse_iter.specs.Settled.{RefusesBy}
 use Rattle.chumsky_primitive.specs.End.{MeansEnd}
+use Rattle.chumsky_primitive.specs.EndLanguage.{end_ends, end-reads}
 use Rattle.chumsky.specs.Answer.{WholeRun, IsOutput, Reports, Answers}
 use Rattle.chumsky.specs.Accepted.{FallsShort, IsOutputOf, IsAnswerOf, AnswersText}
 use Rattle.chumsky.specs.WantedMemory.{wanted-for_errors}
@@ -29,24 +30,19 @@ falls_short : {Tok : Type 0} (rest : List Tok) → (rest ≡ [] → ⊥) → Fal
 falls_short [] n = absurd (n refl)
 falls_short (t ∷ ts) n = tt
 
--- where the input ends
-abbrev pub at_end : {Tok : Type 0} → Ender Tok
-at_end [] = At []
-at_end (t ∷ ts) = Nowhere
-
-ends_empty : {Tok : Type 0} (ts rest : List Tok) → at_end ts ≡ At rest → ts ≡ []
+ends_empty : {Tok : Type 0} (ts rest : List Tok) → end_ends ts ≡ At rest → ts ≡ []
 ends_empty [] rest e = refl
 ends_empty (t ∷ ts) rest e = absurd (cc e)
 
-ends_not : {Tok : Type 0} (ts : List Tok) → at_end ts ≡ Nowhere → ts ≡ [] → ⊥
+ends_not : {Tok : Type 0} (ts : List Tok) → end_ends ts ≡ Nowhere → ts ≡ [] → ⊥
 ends_not [] e n = absurd (cc e)
 ends_not (t ∷ ts) e n = absurd (cc n)
 
-never_refused : {Tok : Type 0} (ts : List Tok) → at_end ts ≡ Refused → ⊥
+never_refused : {Tok : Type 0} (ts : List Tok) → end_ends ts ≡ Refused → ⊥
 never_refused [] e = absurd (cc e)
 never_refused (t ∷ ts) e = absurd (cc e)
 
-module _ {I Tok Sp Cu Er St Mk Cx V : Type 0} (source : input_trait.Ghosts I Cu Tok Sp) (errors : error_trait.Ghosts Er I Tok Sp) (states : inspector_trait.Ghosts St I Mk Tok Sp) (ended : Reads (MeansEnd {Cx = Cx} source errors states) at_end (λ _ _. ⊤))
+module _ {I Tok Sp Cu Er St Mk Cx V : Type 0} (source : input_trait.Ghosts I Cu Tok Sp) (errors : error_trait.Ghosts Er I Tok Sp) (states : inspector_trait.Ghosts St I Mk Tok Sp) 
     (part : Meaning Tok Cx states.Seen errors.Seen V) (l : Language Tok V) (h : Described part l) where
   -- a run of the whole
   abbrev WholeAs : List Tok → Verdict V errors.Seen → Type 0
@@ -59,16 +55,16 @@ module _ {I Tok Sp Cu Er St Mk Cx V : Type 0} (source : input_trait.Ghosts I Cu 
       → r.verdict ≡ u → MeansEnd source errors states (record b { wanted = false }) r → Follows u (λ _. Given v) b r q → WholeAs ts q.verdict
   end_by ts b w e v i q r (Yes z) g m k =
       let rest : List Tok = drop b.start b.tokens.list in
-      let a : AnswersAt (λ (z : Unit {0}). ⊤) {Er = errors.Seen} (at_end rest) b.tokens.list (Yes z) r.end = subst (λ u. AnswersAt (λ (z : Unit {0}). ⊤) {Er = errors.Seen} (at_end rest) b.tokens.list u r.end) g (ended.here (record b { wanted = false }) (record { start = w.start; few = w.few }) r m) in
+      let a : AnswersAt (λ (z : Unit {0}). ⊤) {Er = errors.Seen} (end_ends rest) b.tokens.list (Yes z) r.end = subst (λ u. AnswersAt (λ (z : Unit {0}). ⊤) {Er = errors.Seen} (end_ends rest) b.tokens.list u r.end) g ((end-reads source errors states).here (record b { wanted = false }) (record { start = w.start; few = w.few }) r m) in
       let e2 : l.ends ts ≡ At [] = e ∙ ap At (ends_empty rest (drop r.end b.tokens.list) a.0) in
       rw (k.2, k.1) (e2, i)
   end_by ts b w e v i q r No g m k =
       let rest : List Tok = drop b.start b.tokens.list in
-      let a : at_end rest ≡ Nowhere = subst (λ u. AnswersAt (λ (z : Unit {0}). ⊤) {Er = errors.Seen} (at_end rest) b.tokens.list u r.end) g (ended.here (record b { wanted = false }) (record { start = w.start; few = w.few }) r m) in
+      let a : end_ends rest ≡ Nowhere = subst (λ u. AnswersAt (λ (z : Unit {0}). ⊤) {Er = errors.Seen} (end_ends rest) b.tokens.list u r.end) g ((end-reads source errors states).here (record b { wanted = false }) (record { start = w.start; few = w.few }) r m) in
       rw (k, e) (falls_short rest (ends_not rest a))
   end_by ts b w e v i q r (Halt s) g m k =
       let rest : List Tok = drop b.start b.tokens.list in
-      let a : (s ≡ Memory) ⊎ (at_end rest ≡ Refused) = subst (λ u. AnswersAt (λ (z : Unit {0}). ⊤) {Er = errors.Seen} (at_end rest) b.tokens.list u r.end) g (ended.here (record b { wanted = false }) (record { start = w.start; few = w.few }) r m) in
+      let a : (s ≡ Memory) ⊎ (end_ends rest ≡ Refused) = subst (λ u. AnswersAt (λ (z : Unit {0}). ⊤) {Er = errors.Seen} (end_ends rest) b.tokens.list u r.end) g ((end-reads source errors states).here (record b { wanted = false }) (record { start = w.start; few = w.few }) r m) in
       rw k (elim a [ inl y ↦ inl y | inr y ↦ absurd (never_refused rest y) ])
   end_by ts b w e v i q r (Clash c) g m k = rw k tt
 
@@ -129,7 +125,7 @@ module _ {I Tok Sp Cu Er St Mk Cx V : Type 0} (source : input_trait.Ghosts I Cu 
         let g : FallsShort {Tok = Tok} (At []) = subst FallsShort t f in
         absurd g
 
-module _ {I Tok Sp Cu Er St Mk Cx V W : Type 0} (source : input_trait.Ghosts I Cu Tok Sp) (errors : error_trait.Ghosts Er I Tok Sp) (states : inspector_trait.Ghosts St I Mk Tok Sp) (ended : Reads (MeansEnd {Cx = Cx} source errors states) at_end (λ _ _. ⊤)) where
+module _ {I Tok Sp Cu Er St Mk Cx V W : Type 0} (source : input_trait.Ghosts I Cu Tok Sp) (errors : error_trait.Ghosts Er I Tok Sp) (states : inspector_trait.Ghosts St I Mk Tok Sp) where
   -- what is answered of a run from the start of the tokens is so of the text
   pub answers-text : {part : Meaning Tok Cx states.Seen errors.Seen V} {l : Language Tok V} (gives : W → Option V) (ts : Layout Tok) → length ts.list < 2 ^ 64 → Accepts part l (errors.takes_no_memory × states.takes_no_memory) → (wanted : Bool) (context : Cx) (old : states.Seen) (o : Outcome V errors.Seen states.Seen)
       → WholeRun source errors states part (record { wanted = wanted; tokens = ts; start = 0; context = context; state = old }) o → (result : Result (ParseResult W Er) Stop) → Answers source errors (λ v w. v ≡ gives w) ts o result
@@ -138,10 +134,10 @@ module _ {I Tok Sp Cu Er St Mk Cx V W : Type 0} (source : input_trait.Ghosts I C
       let h : Described part l = accepts.described s in
       let b : Beginning Tok Cx states.Seen = record { wanted = wanted; tokens = ts; start = 0; context = context; state = old } in
       let w : Within b = record { start = omega arith; few = few } in
-      let a : WholeAs source errors states ended part l h ts.list o.verdict = whole_by source errors states ended part l h b w o m.first m.first.verdict refl m.meant m.follows in
-      let r : IsAnswerOf gives l ts.list result = answer_by source errors states ended part l h gives ts.list ts o result a x in
+      let a : WholeAs source errors states part l h ts.list o.verdict = whole_by source errors states part l h b w o m.first m.first.verdict refl m.meant m.follows in
+      let r : IsAnswerOf gives l ts.list result = answer_by source errors states part l h gives ts.list ts o result a x in
       record {
         output = r;
         accepted = λ u f y. subst (λ q. l.ends q ≡ At []) (append-nil ts.list) ((h.each u).each ts.list [] y f);
-        answered = λ q n t. sure_by source errors states ended part l h gives ts.list q.0 q.1 (accepts.sparing q n) ts b o m a t result r x;
+        answered = λ q n t. sure_by source errors states part l h gives ts.list q.0 q.1 (accepts.sparing q n) ts b o m a t result r x;
       }

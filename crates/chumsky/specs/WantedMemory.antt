@@ -12,7 +12,7 @@ use Rattle.chumsky_primitive.specs.End.{MeansEnd}
 use Rattle.chumsky_parse_iter.specs.Settled.{RefusesBy}
 use Rattle.chumsky_parser.specs.Memory.{IsNotMemory, SparesMemory, NeverOutOfMemory}
 use Rattle.chumsky_parser.specs.MemoryLaws.{chained-spares, asked-spares, given-spares}
-use Rattle.chumsky_memory.specs.PrimitivesSpare.{end-spares}
+use Rattle.chumsky_primitive.specs.EndLanguage.{end-spares}
 use Rattle.chumsky.specs.Answer.{WholeRun}
 
 module _ {V Er St : Type 0} (quiet : Type 0) (x : quiet) where

@@ -10,7 +10,6 @@ use Rattle.chumsky_input.specs.Outcome.{Beginning, Outcome}
 use Rattle.chumsky_parser.specs.Failure.{wanting}
 use Rattle.chumsky_primitive.specs.Any.{MeansAnyAt, MeansAny, CountsAs}
 use Rattle.chumsky_primitive.specs.Empty.{MeansEmpty}
-use Rattle.chumsky_primitive.specs.End.{MeansEndAt, MeansEnd}
 use Rattle.chumsky_primitive.specs.Just.{MeansMemberFound, MeansMember, MeansMembers, MeansJust, is_member}
 use Rattle.chumsky_primitive.specs.OneOf.{MeansTested, passes}
 use Rattle.chumsky_primitive.specs.OneOf as one_of
@@ -32,14 +31,6 @@ module _ {I Tok Sp Cu Er St Mk Cx : Type 0} (source : input_trait.Ghosts I Cu To
     any-spares b o m = any_at-spares (slice_get b.tokens.list b.start) b o m.by_token
 
   module _ (still : states.takes_no_memory) where
-    end_at-spares : (found : Option Tok) (b : Beginning Tok Cx states.Seen) (o : Outcome (Unit {0}) errors.Seen states.Seen) → MeansEndAt source errors states found b o → SparesMemory o.verdict
-    end_at-spares (Some t) b o (inl r) = absurd (r.0 still)
-    end_at-spares (Some t) b o (inr m) = misses-spares quiet m
-    end_at-spares None b o m = given-spares (wanting b.wanted tt) b o m
-
-    pub end-spares : NeverOutOfMemory (MeansEnd {Cx = Cx} source errors states)
-    end-spares b o m = elim m.by_token [ inl r ↦ absurd (r.0 still) | inr k ↦ end_at-spares (slice_get b.tokens.list b.start) b o k ]
-
     module _ {S : Type 0} (seen : Tok → S) (safe : Tok → Type 0) (free : (t : Tok) → safe t) where
       found-spares : (what : List (Wanted Tok)) (found : Option Tok) (passed : Bool) (b : Beginning Tok Cx states.Seen) (o : Outcome Tok errors.Seen states.Seen) → one_of.MeansFound source seen safe errors states what found passed b o → SparesMemory o.verdict
       found-spares what found true b o m = any-spares (CountsAs seen) safe free b o m

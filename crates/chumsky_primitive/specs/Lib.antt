@@ -13,3 +13,4 @@ pub mod Select
 pub mod SelectLaws
 pub mod Custom
 pub mod CustomLaws
+pub mod EndLanguage

@@ -17,10 +17,10 @@ pub struct End<I, E> {
 impl<I, E> IsParser<I, (), E> for End<I, E> {}
 
 impl<'src, I: Input<'src>, E: ParserExtra<I>> Parser<'src, I, (), E> for End<I, E> {
-    ghost use Rattle.chumsky_parser.specs.Language.{of_unsaid};
     ghost use Rattle.std.specs.Prelude.{⊤};
     ghost use Rattle.chumsky_parser.specs.FailureLaws.{SameUnit};
     ghost use Rattle.chumsky_primitive.specs.End.{MeansEnd};
+    ghost use Rattle.chumsky_primitive.specs.EndLanguage.{end_language, end-accepts};
     ghost use Rattle.chumsky_primitive.specs.EndLaws.{end-ends, end-agrees};
 
     ghost ready = { λ _. ⊤ };
@@ -31,11 +31,13 @@ impl<'src, I: Input<'src>, E: ParserExtra<I>> Parser<'src, I, (), E> for End<I, 
 
     ghost same = { λ _. SameUnit };
 
+    ghost language = { λ _. end_language };
+
     ghost ends_after_start = { λ _. end-ends _ _ _ };
 
     ghost agrees = { λ _ _. end-agrees _ _ _ };
 
-    ghost accepts = { λ _. of_unsaid };
+    ghost accepts = { λ _. end-accepts _ _ _ };
 
     #[inline]
     fn go_emit(&self, inp: &mut InputRef<'src, '_, I, E>) -> PResult<()> {

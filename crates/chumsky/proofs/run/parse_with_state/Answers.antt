@@ -1,6 +1,5 @@
 use Rattle.std.proofs.Common.{rules, refl, Some}
 use Rattle.chumsky_input.specs.Held.{held}
-use Rattle.chumsky_primitive.specs.EndLanguage.{end-reads}
 use Rattle.chumsky.proofs.AcceptedLemmas.{answers-text}
 use Rattle.chumsky.proofs.AnswerLemmas.{parses, told-with, whole-agrees}
 use Rattle.chumsky.proofs.run.parse_with_state.Goals as goal
@@ -12,7 +11,7 @@ returns-in-Ok g c =
     c.whole_emit-answer.result c.settle-output.result c.new-inp.ensures.begins c.default-context.ensures c.whole_emit-answer.ensures.ran (told-with _) c.settle-output.ensures.settles
     (search rules) (rw c.in-Ok.is (_, refl, refl, rw c.finish-last.ensures.emitted refl))
     (λ y. whole-agrees g.I.Input g.E.Error.Error g.E.State.Inspector _ _ ((g.met.P.Parser c.lifetimes (search rules)).agrees c.args.parser.now y))
-    (λ o m x. answers-text g.I.Input g.E.Error.Error g.E.State.Inspector (end-reads g.I.Input g.E.Error.Error g.E.State.Inspector) (λ w. Some w) (g.I.Input.tokens c.args.input) c.new-inp.ensures.count
+    (λ o m x. answers-text g.I.Input g.E.Error.Error g.E.State.Inspector (λ w. Some w) (g.I.Input.tokens c.args.input) c.new-inp.ensures.count
       ((g.met.P.Parser c.lifetimes (search rules)).accepts c.args.parser.now) _ _ _ o m _ x)
 
 pub returns : goal.returns
@@ -22,5 +21,5 @@ returns g c =
     c.whole_emit-answer.result c.settle-output.result c.new-inp.ensures.begins c.default-context.ensures c.whole_emit-answer.ensures.ran (told-with _) c.settle-output.ensures.settles
     (search rules) (rw c.in-Err.is refl)
     (λ y. whole-agrees g.I.Input g.E.Error.Error g.E.State.Inspector _ _ ((g.met.P.Parser c.lifetimes (search rules)).agrees c.args.parser.now y))
-    (λ o m x. answers-text g.I.Input g.E.Error.Error g.E.State.Inspector (end-reads g.I.Input g.E.Error.Error g.E.State.Inspector) (λ w. Some w) (g.I.Input.tokens c.args.input) c.new-inp.ensures.count
+    (λ o m x. answers-text g.I.Input g.E.Error.Error g.E.State.Inspector (λ w. Some w) (g.I.Input.tokens c.args.input) c.new-inp.ensures.count
       ((g.met.P.Parser c.lifetimes (search rules)).accepts c.args.parser.now) _ _ _ o m _ x)

@@ -1,4 +1,5 @@
-use Rattle.chumsky_memory.specs.PrimitivesSpare.{end-spares, empty-spares}
+use Rattle.chumsky_memory.specs.PrimitivesSpare.{empty-spares}
+use Rattle.chumsky_primitive.specs.EndLanguage.{end-spares}
 use Rattle.chumsky_memory.proofs.laws.end_is_never_out_of_memory.Goals as goal
 
 pub returns-clause-end : goal.returns-clause-end
