@@ -1,5 +1,5 @@
 -- Primitives are never refused for memory where tokens, errors and states take none.
--- Main laws: any-spares, end-spares, tested-spares, just-spares. Read first: Memory.antt, MemoryLaws.antt.
+-- Main laws: any-spares, tested-spares, just-spares. Read first: Memory.antt, MemoryLaws.antt.
 use Rattle.std.proofs.Common.{◌≡◌, ℕ, Bool, true, false, Option, Some, None, List, [], ◌∷◌, inl, inr, ap}
 use Rattle.std.specs.Prelude.{slice_get}
 use Rattle.chumsky_input.specs.declared.error.Error as error_trait
