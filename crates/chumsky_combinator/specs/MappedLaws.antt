@@ -1,7 +1,11 @@
 -- The laws of output mappers.
-use Rattle.std.proofs.Common.{◌≤◌, Option, Some, None}
+use Rattle.std.proofs.Common.{◌≤◌, Option, Some, None, ap}
 use Rattle.chumsky_input.specs.Outcome.{Meaning, Beginning, Outcome, SameValue, Alike, Agree, EndsAfterStart, Agreeing, IsAnswer}
 use Rattle.chumsky_parser.specs.Laws.{chained-ends, chained-agrees, given-ends, given-agrees}
+use Rattle.chumsky_parser.specs.Memory.{SparesMemory, NeverOutOfMemory}
+use Rattle.chumsky_parser.specs.MemoryLaws.{chained-spares}
+use Rattle.chumsky_parser.specs.Progress.{Moves}
+use Rattle.chumsky_parser.specs.ProgressLaws.{chained-first}
 use Rattle.chumsky_combinator.specs.Mapped.{GivenAs, GivenBy, Mapped, SameMapped}
 
 module _ {Tok Cx St Er V W : Type 0} (maps : V → W → Type 0) where
@@ -27,3 +31,13 @@ module _ {Tok Cx St Er V W : Type 0} (maps : V → W → Type 0) where
 
   pub mapped-agrees : (part : Meaning Tok Cx St Er V) (same : V → V → Type 0) → Agreeing same part part → Agreeing (SameMapped same maps) (Mapped maps part) (Mapped maps part)
   mapped-agrees part same h = chained-agrees part part _ _ same (SameMapped same maps) h (given_by-agrees same)
+
+  given_as-spares : (v : Option V) (b : Beginning Tok Cx St) (o : Outcome W Er St) → GivenAs maps v b o → SparesMemory o.verdict
+  given_as-spares (Some v) b o m = rw (ap (λ (x : Outcome W Er St). x.verdict) m.2) tt
+  given_as-spares None b o m = rw (ap (λ (x : Outcome W Er St). x.verdict) m) tt
+
+  pub mapped-spares : (part : Meaning Tok Cx St Er V) → NeverOutOfMemory part → NeverOutOfMemory (Mapped maps part)
+  mapped-spares part h = chained-spares part (GivenBy maps) h (λ v b o m. given_as-spares v b o m.by_value)
+
+  pub mapped-moves : (part : Meaning Tok Cx St Er V) → Moves part → Moves (Mapped maps part)
+  mapped-moves part h = chained-first part _ h given_by-ends

@@ -5,6 +5,8 @@ use Rattle.chumsky_parser.specs.Choice.{OrElse, ElseFrom, SameEither}
 use Rattle.chumsky_parser.specs.ChoiceLaws.{agree-weaker, or_else-ends, or_else-agrees}
 use Rattle.chumsky_parser.specs.IgnoringLaws.{gives-ends, gives-agrees}
 use Rattle.chumsky_parser.specs.Laws.{chained-ends, chained-agrees, given-ends, given-agrees}
+use Rattle.chumsky_parser.specs.Memory.{NeverOutOfMemory}
+use Rattle.chumsky_parser.specs.MemoryLaws.{chained-spares, given-spares, gives-spares, or_else-spares}
 use Rattle.chumsky_combinator.specs.Optional.{OrNone, SameOption, NeverSaysNo}
 
 module _ {V : Type 0} (same : V → V → Type 0) where
@@ -43,3 +45,7 @@ module _ {Tok Cx St Mk Er V : Type 0} (mark : St → Mk) (back : St → Mk → S
 
   pub or_none-never_no : NeverSaysNo (OrNone mark back safe part)
   or_none-never_no = or_else-never_no mark back safe _ _ (λ b o m n. let given = m.given in cc)
+
+  pub or_none-spares : safe → NeverOutOfMemory part → NeverOutOfMemory (OrNone mark back safe part)
+  or_none-spares x h =
+      or_else-spares mark back safe _ _ x (chained-spares part _ h (λ v. given-spares (option_map Some v))) (gives-spares None)

@@ -33,7 +33,7 @@ impl<
     B: Parser<'src, I, U, E>,
     C: Parser<'src, I, V, E>,
 > Parser<'src, I, O, E> for DelimitedBy<A, B, C, U, V> {
-    ghost use Rattle.chumsky_parser.specs.Language.{of_unsaid};
+    ghost use Rattle.chumsky_parser.specs.SequenceLanguage.{between_language, between-accepts};
     ghost use Rattle.chumsky_parser.specs.Ignoring.{Between};
     ghost use Rattle.chumsky_parser.specs.IgnoringLaws.{between-ends, between-agrees};
 
@@ -45,11 +45,13 @@ impl<
 
     ghost same = { λ p. A.same p.parser };
 
+    ghost language = { λ p. between_language (B.language p.opening) (A.language p.parser) (C.language p.closing) };
+
     ghost ends_after_start = { λ p. between-ends _ _ _ (B.ends_after_start p.opening) (A.ends_after_start p.parser) (C.ends_after_start p.closing) };
 
     ghost agrees = { λ p s. between-agrees _ _ _ (B.same p.opening) (A.same p.parser) (C.same p.closing) (B.agrees p.opening s.1) (A.agrees p.parser s.0) (C.agrees p.closing s.2) };
 
-    ghost accepts = { λ _. of_unsaid };
+    ghost accepts = { λ p. between-accepts _ _ _ (B.ends_after_start p.opening) (A.ends_after_start p.parser) (C.ends_after_start p.closing) (B.accepts p.opening) (A.accepts p.parser) (C.accepts p.closing) };
 
     #[inline(always)]
     fn go_emit(&self, inp: &mut InputRef<'src, '_, I, E>) -> PResult<O> {

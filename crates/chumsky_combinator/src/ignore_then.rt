@@ -27,7 +27,7 @@ impl<
     A: Parser<'src, I, O, E>,
     B: Parser<'src, I, U, E>,
 > Parser<'src, I, U, E> for IgnoreThen<A, B, O> {
-    ghost use Rattle.chumsky_parser.specs.Language.{of_unsaid};
+    ghost use Rattle.chumsky_parser.specs.SequenceLanguage.{ignore_then_language, ignore_then-accepts};
     ghost use Rattle.chumsky_parser.specs.Ignoring.{IgnoringFirst};
     ghost use Rattle.chumsky_parser.specs.IgnoringLaws.{ignoring_first-ends, ignoring_first-agrees};
 
@@ -39,11 +39,13 @@ impl<
 
     ghost same = { λ p. B.same p.second };
 
+    ghost language = { λ p. ignore_then_language (A.language p.first) (B.language p.second) };
+
     ghost ends_after_start = { λ p. ignoring_first-ends _ _ (A.ends_after_start p.first) (B.ends_after_start p.second) };
 
     ghost agrees = { λ p s. ignoring_first-agrees _ _ (A.same p.first) (B.same p.second) (A.agrees p.first s.0) (B.agrees p.second s.1) };
 
-    ghost accepts = { λ _. of_unsaid };
+    ghost accepts = { λ p. ignore_then-accepts _ _ (A.ends_after_start p.first) (B.ends_after_start p.second) (A.accepts p.first) (B.accepts p.second) };
 
     #[inline(always)]
     fn go_emit(&self, inp: &mut InputRef<'src, '_, I, E>) -> PResult<U> {

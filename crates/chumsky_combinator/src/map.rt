@@ -66,7 +66,7 @@ impl<
     A: Parser<'src, I, O, E>,
     F: Mapper<O, U>,
 > Parser<'src, I, U, E> for Map<A, O, F, U> {
-    ghost use Rattle.chumsky_parser.specs.Language.{of_unsaid};
+    ghost use Rattle.chumsky_combinator.specs.MappedLanguage.{map_language, map-accepts};
     ghost use Rattle.chumsky_combinator.specs.Mapped.{Mapped, IsFunction, SameMapped};
     ghost use Rattle.chumsky_combinator.specs.MappedLaws.{mapped-ends, mapped-agrees};
 
@@ -78,11 +78,13 @@ impl<
 
     ghost same = { λ p. SameMapped (A.same p.parser) (F.gives p.mapper) };
 
+    ghost language = { λ p. map_language (F.gives p.mapper) (A.language p.parser) };
+
     ghost ends_after_start = { λ p. mapped-ends (F.gives p.mapper) _ (A.ends_after_start p.parser) };
 
     ghost agrees = { λ p s. mapped-agrees (F.gives p.mapper) _ (A.same p.parser) (A.agrees p.parser s.0) };
 
-    ghost accepts = { λ _. of_unsaid };
+    ghost accepts = { λ p. map-accepts (F.gives p.mapper) _ (A.accepts p.parser) };
 
     #[inline(always)]
     fn go_emit(&self, inp: &mut InputRef<'src, '_, I, E>) -> PResult<U> {

@@ -22,7 +22,7 @@ impl<
     A: Parser<'src, I, O, E>,
     B: Parser<'src, I, O, E>,
 > Parser<'src, I, O, E> for Or<A, B> {
-    ghost use Rattle.chumsky_parser.specs.Language.{of_unsaid};
+    ghost use Rattle.chumsky_parser.specs.ChoiceLanguage.{or_language, or-accepts};
     ghost use Rattle.chumsky_parser.specs.Choice.{OrElse, SameEither};
     ghost use Rattle.chumsky_parser.specs.ChoiceLaws.{or_else-ends, or_else-agrees};
 
@@ -34,11 +34,13 @@ impl<
 
     ghost same = { λ p. SameEither (A.same p.first) (B.same p.second) };
 
+    ghost language = { λ p. or_language (A.language p.first) (B.language p.second) };
+
     ghost ends_after_start = { λ p. or_else-ends _ _ _ _ _ (A.ends_after_start p.first) (B.ends_after_start p.second) };
 
     ghost agrees = { λ p s. or_else-agrees _ _ _ _ _ (A.same p.first) (B.same p.second) (A.agrees p.first s.0) (B.agrees p.second s.1) };
 
-    ghost accepts = { λ _. of_unsaid };
+    ghost accepts = { λ p. or-accepts _ _ (λ q. q.1) _ _ (A.accepts p.first) (B.accepts p.second) };
 
     #[inline(always)]
     fn go_emit(&self, inp: &mut InputRef<'src, '_, I, E>) -> PResult<O> {

@@ -19,7 +19,7 @@ impl<'src, I: Input<'src>, O, E: ParserExtra<I>, A: Parser<'src, I, O, E>> Parse
     Option<O>,
     E,
 > for OrNot<A> {
-    ghost use Rattle.chumsky_parser.specs.Language.{of_unsaid};
+    ghost use Rattle.chumsky_combinator.specs.OptionalLanguage.{or_not_language, or_not-accepts};
     ghost use Rattle.chumsky_combinator.specs.Optional.{OrNone, SameOption};
     ghost use Rattle.chumsky_combinator.specs.OptionalLaws.{or_none-ends, or_none-agrees};
 
@@ -31,11 +31,13 @@ impl<'src, I: Input<'src>, O, E: ParserExtra<I>, A: Parser<'src, I, O, E>> Parse
 
     ghost same = { λ p. SameOption (A.same p.parser) };
 
+    ghost language = { λ p. or_not_language (A.language p.parser) };
+
     ghost ends_after_start = { λ p. or_none-ends _ _ _ _ (A.ends_after_start p.parser) };
 
     ghost agrees = { λ p s. or_none-agrees _ _ _ _ (A.same p.parser) (A.agrees p.parser s) };
 
-    ghost accepts = { λ _. of_unsaid };
+    ghost accepts = { λ p. or_not-accepts _ _ (λ q. q.1) _ (A.accepts p.parser) };
 
     #[inline(always)]
     fn go_emit(&self, inp: &mut InputRef<'src, '_, I, E>) -> PResult<Option<O>> {

@@ -27,7 +27,7 @@ impl<
     A: Parser<'src, I, O, E>,
     B: Parser<'src, I, U, E>,
 > Parser<'src, I, O, E> for PaddedBy<A, B, U> {
-    ghost use Rattle.chumsky_parser.specs.Language.{of_unsaid};
+    ghost use Rattle.chumsky_parser.specs.SequenceLanguage.{between_language, between-accepts};
     ghost use Rattle.chumsky_parser.specs.Ignoring.{Between};
     ghost use Rattle.chumsky_parser.specs.IgnoringLaws.{between-ends, between-agrees};
 
@@ -39,11 +39,13 @@ impl<
 
     ghost same = { λ p. A.same p.parser };
 
+    ghost language = { λ p. between_language (B.language p.padding) (A.language p.parser) (B.language p.padding) };
+
     ghost ends_after_start = { λ p. between-ends _ _ _ (B.ends_after_start p.padding) (A.ends_after_start p.parser) (B.ends_after_start p.padding) };
 
     ghost agrees = { λ p s. between-agrees _ _ _ (B.same p.padding) (A.same p.parser) (B.same p.padding) (B.agrees p.padding s.1) (A.agrees p.parser s.0) (B.agrees p.padding s.1) };
 
-    ghost accepts = { λ _. of_unsaid };
+    ghost accepts = { λ p. between-accepts _ _ _ (B.ends_after_start p.padding) (A.ends_after_start p.parser) (B.ends_after_start p.padding) (B.accepts p.padding) (A.accepts p.parser) (B.accepts p.padding) };
 
     #[inline]
     fn go_emit(&self, inp: &mut InputRef<'src, '_, I, E>) -> PResult<O> {

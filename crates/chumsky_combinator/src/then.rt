@@ -27,7 +27,7 @@ impl<
     A: Parser<'src, I, O, E>,
     B: Parser<'src, I, U, E>,
 > Parser<'src, I, (O, U), E> for Then<A, B, O, U> {
-    ghost use Rattle.chumsky_parser.specs.Language.{of_unsaid};
+    ghost use Rattle.chumsky_parser.specs.SequenceLanguage.{then_language, then-accepts};
     ghost use Rattle.chumsky_parser.specs.Chained.{Sequence, SamePair};
     ghost use Rattle.chumsky_parser.specs.Laws.{sequence-ends, sequence-agrees};
 
@@ -39,11 +39,13 @@ impl<
 
     ghost same = { λ p. SamePair (A.same p.first) (B.same p.second) };
 
+    ghost language = { λ p. then_language (A.language p.first) (B.language p.second) };
+
     ghost ends_after_start = { λ p. sequence-ends _ _ (A.ends_after_start p.first) (B.ends_after_start p.second) };
 
     ghost agrees = { λ p s. sequence-agrees _ _ (A.same p.first) (B.same p.second) (A.agrees p.first s.0) (B.agrees p.second s.1) };
 
-    ghost accepts = { λ _. of_unsaid };
+    ghost accepts = { λ p. then-accepts _ _ (A.ends_after_start p.first) (B.ends_after_start p.second) (A.accepts p.first) (B.accepts p.second) };
 
     #[inline(always)]
     fn go_emit(&self, inp: &mut InputRef<'src, '_, I, E>) -> PResult<(O, U)> {

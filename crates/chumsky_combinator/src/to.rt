@@ -23,7 +23,7 @@ impl<'src, I: Input<'src>, O, U: Clone, E: ParserExtra<I>, A: Parser<'src, I, O,
     U,
     E,
 > for To<A, O, U> {
-    ghost use Rattle.chumsky_parser.specs.Language.{of_unsaid};
+    ghost use Rattle.chumsky_combinator.specs.MappedLanguage.{to_language, to-accepts};
     ghost use Rattle.chumsky_parser.specs.Copied.{GivesCopy, BothCopies};
     ghost use Rattle.chumsky_parser.specs.Ignoring.{IgnoringFirst};
     ghost use Rattle.chumsky_parser.specs.IgnoringLaws.{copy-ends, copy-agrees, ignoring_first-ends, ignoring_first-agrees};
@@ -36,11 +36,13 @@ impl<'src, I: Input<'src>, O, U: Clone, E: ParserExtra<I>, A: Parser<'src, I, O,
 
     ghost same = { λ p. BothCopies (U.is_clone p.value) };
 
+    ghost language = { λ p. to_language (U.is_clone p.value) (U.is_infallible p.value) (A.language p.parser) };
+
     ghost ends_after_start = { λ p. ignoring_first-ends _ _ (A.ends_after_start p.parser) (copy-ends (U.is_clone p.value) (U.is_infallible p.value)) };
 
     ghost agrees = { λ p s. ignoring_first-agrees _ _ (A.same p.parser) (BothCopies (U.is_clone p.value)) (A.agrees p.parser s) (copy-agrees (U.is_clone p.value) (U.is_infallible p.value)) };
 
-    ghost accepts = { λ _. of_unsaid };
+    ghost accepts = { λ p. to-accepts _ (U.is_clone p.value) (U.is_infallible p.value) (A.accepts p.parser) };
 
     #[inline(always)]
     fn go_emit(&self, inp: &mut InputRef<'src, '_, I, E>) -> PResult<U> {

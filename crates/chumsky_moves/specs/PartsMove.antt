@@ -1,5 +1,5 @@
 -- What is made of parts moves where it succeeds, since they do: mapped, judged and looked after, and groups.
--- Main laws: mapped-moves, vetted-moves, map_err-moves, and_is-moves, group-moves. Read first: Moves.antt, MovesLaws.antt.
+-- Main laws: vetted-moves, map_err-moves, and_is-moves, group-moves. Read first: Moves.antt, MovesLaws.antt.
 use Rattle.std.proofs.Common.{◌≡◌, ℕ, ◌<◌, ◌≤◌, Bool, true, ◌||◌, Option, Some, None, List, [], ◌∷◌, Result, Ok, Err, refl, ap, subst, arith, inl, inr, map}
 use Rattle.std.specs.List.{list_any}
 use Rattle.either.specs.Either.{MatchEither}
@@ -14,8 +14,6 @@ use Rattle.chumsky_parser.specs.Failure.{SaysNo}
 use Rattle.chumsky_parser.specs.Laws.{chained-ends, given-ends, sequence-ends}
 use Rattle.chumsky_parser.specs.Showing.{GivesShown, GivenShown}
 use Rattle.chumsky_parser.specs.ShowingLaws.{shown-ends}
-use Rattle.chumsky_combinator.specs.Mapped.{Mapped}
-use Rattle.chumsky_combinator.specs.MappedLaws.{given_by-ends}
 use Rattle.chumsky_combinator.specs.MappedWith.{MappedWith}
 use Rattle.chumsky_combinator.specs.Part.{Onward}
 use Rattle.chumsky_group.specs.InTurn.{InTurn, item_before}
@@ -40,9 +38,6 @@ module _ {Tok Cx St Er : Type 0} where
 
   pub onward-moves : {V : Type 0} (m : Meaning Tok Cx St Er V) → Moves m → Moves (Onward m)
   onward-moves m h b o k y = h b o k.means y
-
-  pub mapped-moves : {V W : Type 0} (maps : V → W → Type 0) (part : Meaning Tok Cx St Er V) → Moves part → Moves (Mapped maps part)
-  mapped-moves maps part h = chained-first part _ h (given_by-ends maps)
 
   pub mapped_with-moves : {V W : Type 0} (gives : GivesShown Tok Cx St V W) (part : Meaning Tok Cx St Er V) → Moves part → Moves (MappedWith gives part)
   mapped_with-moves gives part h b o m y = chained-first part (GivenShown gives b.start) h (shown-ends gives b.start) b o m.run y

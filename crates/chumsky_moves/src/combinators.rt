@@ -66,7 +66,7 @@ impl<
     A: Moving<'src, I, O, E>,
     F: Mapper<O, U>,
 > Moving<'src, I, U, E> for Map<A, O, F, U> {
-    ghost use Rattle.chumsky_moves.specs.PartsMove.{mapped-moves};
+    ghost use Rattle.chumsky_combinator.specs.MappedLaws.{mapped-moves};
 
     ghost moves = { λ p. A.moves p.parser };
 

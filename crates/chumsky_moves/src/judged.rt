@@ -119,7 +119,7 @@ where
     E: ParserExtra<I>,
     A: Moving<'src, I, Option<O>, E>,
 {
-    ghost use Rattle.chumsky_moves.specs.PartsMove.{mapped-moves};
+    ghost use Rattle.chumsky_combinator.specs.MappedLaws.{mapped-moves};
 
     ghost moves = { λ p. A.moves p.parser };
 
@@ -137,7 +137,7 @@ where
     E: ParserExtra<I>,
     A: Moving<'src, I, Result<O, X>, E>,
 {
-    ghost use Rattle.chumsky_moves.specs.PartsMove.{mapped-moves};
+    ghost use Rattle.chumsky_combinator.specs.MappedLaws.{mapped-moves};
 
     ghost moves = { λ p. A.moves p.parser };
 

@@ -1,4 +1,4 @@
-use Rattle.chumsky_memory.specs.MemoryLaws.{mapped-spares}
+use Rattle.chumsky_combinator.specs.MappedLaws.{mapped-spares}
 use Rattle.chumsky_memory.proofs.laws.map_is_never_out_of_memory.Goals as goal
 
 pub returns : goal.returns

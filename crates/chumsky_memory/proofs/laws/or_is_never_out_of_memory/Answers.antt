@@ -1,4 +1,4 @@
-use Rattle.chumsky_memory.specs.MemoryLaws.{or_none-spares}
+use Rattle.chumsky_combinator.specs.OptionalLaws.{or_none-spares}
 use Rattle.chumsky_parser.specs.MemoryLaws.{or_else-spares}
 use Rattle.chumsky_memory.proofs.laws.or_is_never_out_of_memory.Goals as goal
 
