@@ -1,7 +1,7 @@
 -- The language of a parser of items: where a step of it ends, with an item or without one; which words its items have, and the
 -- end of the list.
 -- Main words: ItemsLanguage, AcceptsItems. Laws: ItemsEndings.antt. Read first: Ending.antt, Language.antt, Items.antt.
-use Rattle.std.specs.Prelude.{◌≡◌, ℕ, suc, ◌+◌, ◌^◌, ◌<◌, Bool, true, false, List, [], ◌∷◌, ◌++◌, length, drop, ⊤}
+use Rattle.std.specs.Prelude.{◌≡◌, ℕ, zero, suc, ◌+◌, ◌^◌, ◌<◌, Bool, true, false, List, [], ◌∷◌, ◌++◌, length, drop, ⊤}
 use Rattle.chumsky_input.specs.Outcome.{Meaning, Beginning}
 use Rattle.chumsky_parser.specs.Items.{Next, More, End}
 use Rattle.chumsky_parser.specs.Ending.{Ending, At, Nowhere, Refused, Within, IfValue, Here, Reads}
@@ -10,28 +10,28 @@ use Rattle.chumsky_parser.specs.Words.{Joined}
 use Rattle.chumsky_parser.specs.Memory.{ItemsNeverOutOfMemory}
 
 -- where a step ends: one more item ends here, or the list does
-pub data Turn (Tok : Type 0) : Type 0 where
-  One : List Tok → Turn Tok
-  Over : List Tok → Turn Tok
+pub data Stepped (Tok : Type 0) : Type 0 where
+  One : List Tok → Stepped Tok
+  Over : List Tok → Stepped Tok
 
 -- where it ends, whether with an item or without
-abbrev pub place_of : {Tok : Type 0} → Turn Tok → List Tok
+abbrev pub place_of : {Tok : Type 0} → Stepped Tok → List Tok
 place_of (One rest) = rest
 place_of (Over rest) = rest
 
-abbrev pub place : {Tok : Type 0} → Ending (Turn Tok) → Ending (List Tok)
-place (At turn) = At (place_of turn)
+abbrev pub place : {Tok : Type 0} → Ending (Stepped Tok) → Ending (List Tok)
+place (At s) = At (place_of s)
 place Nowhere = Nowhere
 place Refused = Refused
 
 -- an item with P and an iteration with Q, where one more item is said; and else the end
-abbrev pub IsTurn : {Tok S V : Type 0} → (V → Type 0) → (S → Type 0) → Ending (Turn Tok) → Next S V → Type 0
-IsTurn P Q (At (One rest)) (More v s) = IfValue P v × Q s
-IsTurn P Q (At (One rest)) End = ⊥
-IsTurn P Q (At (Over rest)) (More v s) = ⊥
-IsTurn P Q (At (Over rest)) End = ⊤
-IsTurn P Q Nowhere next = ⊥
-IsTurn P Q Refused next = ⊥
+abbrev pub IsStepped : {Tok S V : Type 0} → (V → Type 0) → (S → Type 0) → Ending (Stepped Tok) → Next S V → Type 0
+IsStepped P Q (At (One rest)) (More v s) = IfValue P v × Q s
+IsStepped P Q (At (One rest)) End = ⊥
+IsStepped P Q (At (Over rest)) (More v s) = ⊥
+IsStepped P Q (At (Over rest)) End = ⊤
+IsStepped P Q Nowhere next = ⊥
+IsStepped P Q Refused next = ⊥
 
 module _ {Tok V : Type 0} (word : ℕ → List Tok → V → Type 0) (last : ℕ → List Tok → Type 0) where
   -- the words of items with these values one after another, after k others, and of the end
@@ -39,13 +39,52 @@ module _ {Tok V : Type 0} (word : ℕ → List Tok → V → Type 0) (last : ℕ
   ListFrom k [] w = last k w
   ListFrom k (v ∷ vs) w = Joined (λ u. word k u v) (λ u. ListFrom (suc k) vs u) w
 
--- words of the rest of a list, after k items, and of what may follow it
-pub record GoesOn {Tok : Type 0} (word : ℕ → List Tok → Type 0) (last : ℕ → List Tok → Type 0) (follow : List Tok → Type 0) (k : ℕ) (ts : List Tok) : Type 0 where
+-- what comes after a step: of one more item, of the end, or nothing
+abbrev pub stepped_on : {Tok : Type 0} → (List Tok → Ending (List Tok)) → Ending (Stepped Tok) → Ending (List Tok)
+stepped_on more (At (One rest)) = more rest
+stepped_on more (At (Over rest)) = At rest
+stepped_on more Nowhere = Nowhere
+stepped_on more Refused = Refused
+
+-- where a list ends that has given k items, if it gives no more than so many
+abbrev pub list_until : {Tok : Type 0} → (ℕ → List Tok → Ending (Stepped Tok)) → ℕ → ℕ → List Tok → Ending (List Tok)
+list_until next zero k ts = stepped_on (λ rest. Refused) (next k ts)
+list_until next (suc n) k ts = stepped_on (list_until next n (suc k)) (next k ts)
+
+-- where a list ends: each item takes a token
+abbrev pub list_ends : {Tok : Type 0} → (ℕ → List Tok → Ending (Stepped Tok)) → List Tok → Ending (List Tok)
+list_ends next ts = list_until next (length ts) 0 ts
+
+-- P of where an item ends, where this is one
+abbrev pub OfOne : {Tok : Type 0} → Ending (Stepped Tok) → (List Tok → Type 0) → Type 0
+OfOne (At (One rest)) P = P rest
+OfOne (At (Over rest)) P = ⊥
+OfOne Nowhere P = ⊥
+OfOne Refused P = ⊥
+
+abbrev pub IsOver : {Tok : Type 0} → Ending (Stepped Tok) → Type 0
+IsOver (At (One rest)) = ⊥
+IsOver (At (Over rest)) = ⊤
+IsOver Nowhere = ⊥
+IsOver Refused = ⊥
+
+module _ {Tok V : Type 0} (next : ℕ → List Tok → Ending (Stepped Tok)) (value : ℕ → List Tok → V → Type 0) where
+  -- these items, and no more, may be given one after another, after k others, of the tokens that are left
+  abbrev pub GivesFrom : ℕ → List V → List Tok → Type 0
+  GivesFrom k [] ts = IsOver (next k ts)
+  GivesFrom k (v ∷ vs) ts = OfOne (next k ts) (λ rest. value k ts v × GivesFrom (suc k) vs rest)
+
+-- words of some items after k others, and of the end
+pub record IsListFrom {Tok : Type 0} (word last : ℕ → List Tok → Type 0) (k : ℕ) (w : List Tok) : Type 0 where
   pub items : List (List Tok)
+  pub are : ListFrom (λ j u (v : List Tok). word j u) last k items w
+
+-- and of what may follow them
+pub record GoesOn {Tok : Type 0} (word last : ℕ → List Tok → Type 0) (follow : List Tok → Type 0) (k : ℕ) (ts : List Tok) : Type 0 where
   pub words : List Tok
   pub rest : List Tok
   pub all : ts ≡ words ++ rest
-  pub are : ListFrom (λ j w (v : List Tok). word j w) last k items words
+  pub is : IsListFrom word last k words
   pub fits : follow rest
 
 -- what is said of a parser of items; each of the middle words is of the step after so many items
@@ -55,7 +94,7 @@ pub record ItemsLanguage (Tok S V : Type 0) : Type 1 where
   -- that an iteration has given so many items
   pub has_given : S → ℕ → Type 0
   -- where a step ends, and which items it may give, of the tokens that are left
-  pub next : ℕ → List Tok → Ending (Turn Tok)
+  pub next : ℕ → List Tok → Ending (Stepped Tok)
   pub value : ℕ → List Tok → V → Type 0
   -- the words that it accepts for an item, and the items that a word stands for; and the words before the end of the list
   pub word : ℕ → List Tok → Type 0
@@ -71,11 +110,11 @@ pub record ItemsLanguage (Tok S V : Type 0) : Type 1 where
   pub takes_no_memory : Type 0
 
 module _ {Tok Cx St Er S V : Type 0} (begins : Meaning Tok Cx St Er S) (gives : S → Meaning Tok Cx St Er (Next S V)) (l : ItemsLanguage Tok S V) where
-  -- each outcome of a step, after k items, from a place from which so many more tokens can be counted
+  -- each outcome of a step after k items, where as many more can be counted as tokens are left
   abbrev pub StepReads : ℕ → S → Beginning Tok Cx St → Type 0
   StepReads k s b =
       let ts : List Tok = drop b.start b.tokens.list in
-      k + length b.tokens.list < b.start + 2 ^ 64 → Here (IsTurn (l.value k ts) (λ t. l.has_given t (k + 1)) (l.next k ts)) (gives s) (place (l.next k ts)) b
+      k + length ts < 2 ^ 64 → Here (IsStepped (l.value k ts) (λ t. l.has_given t (suc k)) (l.next k ts)) (gives s) (place (l.next k ts)) b
 
   -- an iteration and its steps are as the language says
   pub record ItemsDescribed : Type 0 where
