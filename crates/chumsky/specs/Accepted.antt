@@ -1,5 +1,5 @@
 -- What one call of `parse` or `check` answers of a text, by the language of its parser.
--- Main words: AnswersText, Exactly. Laws: AcceptedLaws.antt. Read first: Language.antt of chumsky_parser.
+-- Main words: AnswersText, Exactly, ExactlyWithin. Laws: AcceptedLaws.antt. Read first: Language.antt of chumsky_parser.
 use Rattle.std.specs.Prelude.{◌≡◌, true, Option, Some, None, List, [], ◌∷◌, ⊤, ◌⊎◌, Result, Ok, Err, IsOk}
 use Rattle.chumsky_input.specs.declared.stop.Stop.{Stop}
 use Rattle.chumsky_input.specs.declared.stop.Stop.TheVariants.{Memory}
@@ -44,6 +44,12 @@ module _ {Tok V : Type 0} (P : List Tok → V → Type 0) (ts : List Tok) where
   abbrev pub Exactly : {Er : Type 0} → Result (ParseResult V Er) Stop → Type 0
   Exactly (Ok parsed) = IsExactly parsed.output
   Exactly (Err s) = s ≡ Memory
+
+  -- the same of a parser that may be refused, as a function that calls itself under a limit: so may a text be of which there
+  -- is no value
+  abbrev pub ExactlyWithin : {Er : Type 0} → Result (ParseResult V Er) Stop → Type 0
+  ExactlyWithin (Ok parsed) = IsExactly parsed.output
+  ExactlyWithin (Err s) = (s ≡ Memory) ⊎ ((v : V) → P ts v → ⊥)
 
   -- no text of which there is a value is refused
   abbrev pub NeverRefuses : {Er : Type 0} → Result (ParseResult V Er) Stop → Type 0
