@@ -7,3 +7,4 @@ pub mod InOrderLaws
 pub mod Alternatives
 pub mod AlternativesLaws
 pub mod Repeated
+pub mod ChoiceLanguages

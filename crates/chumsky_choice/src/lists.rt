@@ -11,10 +11,10 @@ impl<I, O, E, A: IsParser<I, O, E>> IsParser<I, O, E> for Choice<&[A]> {}
 
 impl<'src, I: Input<'src>, O, E: ParserExtra<I>, A: Parser<'src, I, O, E>> Parser<'src, I, O, E>
     for Choice<&[A]> {
-    ghost use Rattle.chumsky_parser.specs.Language.{of_unsaid};
     ghost use Rattle.std.specs.Prelude.{map, All};
     ghost use Rattle.chumsky_choice.specs.Among.{SameByAny};
     ghost use Rattle.chumsky_choice.specs.Alternatives.{DoesAmong};
+    ghost use Rattle.chumsky_choice.specs.ChoiceLanguages.{among_language, among-accepts};
     ghost use Rattle.chumsky_choice.specs.AmongLaws.{first_among-ends, first_among-agrees};
 
     ghost ready = { λ p. All A.ready p.parsers.now };
@@ -25,11 +25,13 @@ impl<'src, I: Input<'src>, O, E: ParserExtra<I>, A: Parser<'src, I, O, E>> Parse
 
     ghost same = { λ p. SameByAny (map A.same p.parsers.now) };
 
+    ghost language = { λ p. among_language A.language p.parsers.now };
+
     ghost ends_after_start = { λ p. first_among-ends _ _ _ _ A.ends_after_start p.parsers.now };
 
     ghost agrees = { λ p s. first_among-agrees _ _ _ _ A.steady A.same A.agrees p.parsers.now s };
 
-    ghost accepts = { λ _. of_unsaid };
+    ghost accepts = { λ p. among-accepts _ _ _ _ A.language A.accepts p.parsers.now };
 
     #[inline]
     fn go_emit(&self, inp: &mut InputRef<'src, '_, I, E>) -> PResult<O> {
@@ -46,10 +48,10 @@ impl<I, O, E, A: IsParser<I, O, E>> IsParser<I, O, E> for Choice<Vec<A>> {}
 
 impl<'src, I: Input<'src>, O, E: ParserExtra<I>, A: Parser<'src, I, O, E>> Parser<'src, I, O, E>
     for Choice<Vec<A>> {
-    ghost use Rattle.chumsky_parser.specs.Language.{of_unsaid};
     ghost use Rattle.std.specs.Prelude.{map, All};
     ghost use Rattle.chumsky_choice.specs.Among.{SameByAny};
     ghost use Rattle.chumsky_choice.specs.Alternatives.{DoesAmong};
+    ghost use Rattle.chumsky_choice.specs.ChoiceLanguages.{among_language, among-accepts};
     ghost use Rattle.chumsky_choice.specs.AmongLaws.{first_among-ends, first_among-agrees};
 
     ghost ready = { λ p. All A.ready p.parsers.items };
@@ -60,11 +62,13 @@ impl<'src, I: Input<'src>, O, E: ParserExtra<I>, A: Parser<'src, I, O, E>> Parse
 
     ghost same = { λ p. SameByAny (map A.same p.parsers.items) };
 
+    ghost language = { λ p. among_language A.language p.parsers.items };
+
     ghost ends_after_start = { λ p. first_among-ends _ _ _ _ A.ends_after_start p.parsers.items };
 
     ghost agrees = { λ p s. first_among-agrees _ _ _ _ A.steady A.same A.agrees p.parsers.items s };
 
-    ghost accepts = { λ _. of_unsaid };
+    ghost accepts = { λ p. among-accepts _ _ _ _ A.language A.accepts p.parsers.items };
 
     #[inline]
     fn go_emit(&self, inp: &mut InputRef<'src, '_, I, E>) -> PResult<O> {
@@ -85,10 +89,10 @@ impl<'src, I: Input<'src>, O, E: ParserExtra<I>, A: Parser<'src, I, O, E>, const
     O,
     E,
 > for Choice<[A; N]> {
-    ghost use Rattle.chumsky_parser.specs.Language.{of_unsaid};
     ghost use Rattle.std.specs.Prelude.{map, All};
     ghost use Rattle.chumsky_choice.specs.Among.{SameByAny};
     ghost use Rattle.chumsky_choice.specs.Alternatives.{DoesAmong};
+    ghost use Rattle.chumsky_choice.specs.ChoiceLanguages.{among_language, among-accepts};
     ghost use Rattle.chumsky_choice.specs.AmongLaws.{first_among-ends, first_among-agrees};
 
     ghost ready = { λ p. All A.ready p.parsers };
@@ -99,11 +103,13 @@ impl<'src, I: Input<'src>, O, E: ParserExtra<I>, A: Parser<'src, I, O, E>, const
 
     ghost same = { λ p. SameByAny (map A.same p.parsers) };
 
+    ghost language = { λ p. among_language A.language p.parsers };
+
     ghost ends_after_start = { λ p. first_among-ends _ _ _ _ A.ends_after_start p.parsers };
 
     ghost agrees = { λ p s. first_among-agrees _ _ _ _ A.steady A.same A.agrees p.parsers s };
 
-    ghost accepts = { λ _. of_unsaid };
+    ghost accepts = { λ p. among-accepts _ _ _ _ A.language A.accepts p.parsers };
 
     #[inline]
     fn go_emit(&self, inp: &mut InputRef<'src, '_, I, E>) -> PResult<O> {

@@ -11,8 +11,6 @@ impl<I, O, E, A: IsParser<I, O, E>> IsParser<I, O, E> for Choice<(A,)> {}
 
 impl<'src, I: Input<'src>, O, E: ParserExtra<I>, A: Parser<'src, I, O, E>> Parser<'src, I, O, E>
     for Choice<(A,)> {
-    ghost use Rattle.chumsky_parser.specs.Language.{of_unsaid};
-
     ghost ready = { λ p. A.ready p.parsers.0 };
 
     ghost meaning = { λ p errors states. A.meaning p.parsers.0 errors states };
@@ -21,11 +19,13 @@ impl<'src, I: Input<'src>, O, E: ParserExtra<I>, A: Parser<'src, I, O, E>> Parse
 
     ghost same = { λ p. A.same p.parsers.0 };
 
+    ghost language = { λ p. A.language p.parsers.0 };
+
     ghost ends_after_start = { λ p. A.ends_after_start p.parsers.0 };
 
     ghost agrees = { λ p s. A.agrees p.parsers.0 s };
 
-    ghost accepts = { λ _. of_unsaid };
+    ghost accepts = { λ p. A.accepts p.parsers.0 };
 
     #[inline(always)]
     fn go_emit(&self, inp: &mut InputRef<'src, '_, I, E>) -> PResult<O> {
@@ -48,7 +48,7 @@ impl<
     A: Parser<'src, I, O, E>,
     B: Parser<'src, I, O, E>,
 > Parser<'src, I, O, E> for Choice<(A, B)> {
-    ghost use Rattle.chumsky_parser.specs.Language.{of_unsaid};
+    ghost use Rattle.chumsky_parser.specs.ChoiceLanguage.{or_language, last-accepts, next-accepts};
     ghost use Rattle.std.specs.Prelude.{[], ◌∷◌};
     ghost use Rattle.chumsky_parser.specs.Choice.{SameByOne};
     ghost use Rattle.chumsky_parser.specs.ChoiceLaws.{first_of-ends, first_of-agrees, none-end, and-ends, none-agree, and-agrees};
@@ -62,6 +62,9 @@ impl<
 
     ghost same = { λ p. let t = p.parsers in SameByOne (A.same t.0) (B.same t.1 ∷ []) };
 
+    ghost language = { λ p. let t = p.parsers in
+        or_language (A.language t.0) (B.language t.1) };
+
     ghost ends_after_start = { λ p. let t = p.parsers in
         first_of-ends _ _ _ _ _ (and-ends (A.ends_after_start t.0)
         (and-ends (B.ends_after_start t.1) none-end)) };
@@ -70,7 +73,9 @@ impl<
         first_of-agrees _ _ _ (A.same t.0) (B.same t.1 ∷ []) _ _ (and-agrees (A.agrees t.0 s.0)
         (and-agrees (B.agrees t.1 s.1) none-agree)) };
 
-    ghost accepts = { λ _. of_unsaid };
+    ghost accepts = { λ p. let t = p.parsers in
+        (next-accepts _ _ (λ q. q.1) _ (A.accepts t.0) _ _
+        (last-accepts _ _ (λ q. q.1) _ (B.accepts t.1))).first_of };
 
     #[inline(always)]
     fn go_emit(&self, inp: &mut InputRef<'src, '_, I, E>) -> PResult<O> {
@@ -99,7 +104,7 @@ impl<
     B: Parser<'src, I, O, E>,
     C: Parser<'src, I, O, E>,
 > Parser<'src, I, O, E> for Choice<(A, B, C)> {
-    ghost use Rattle.chumsky_parser.specs.Language.{of_unsaid};
+    ghost use Rattle.chumsky_parser.specs.ChoiceLanguage.{or_language, last-accepts, next-accepts};
     ghost use Rattle.std.specs.Prelude.{[], ◌∷◌};
     ghost use Rattle.chumsky_parser.specs.Choice.{SameByOne};
     ghost use Rattle.chumsky_parser.specs.ChoiceLaws.{first_of-ends, first_of-agrees, none-end, and-ends, none-agree, and-agrees};
@@ -114,6 +119,10 @@ impl<
 
     ghost same = { λ p. let t = p.parsers in SameByOne (A.same t.0) (B.same t.1 ∷ C.same t.2 ∷ []) };
 
+    ghost language = { λ p. let t = p.parsers in
+        or_language (A.language t.0)
+        (or_language (B.language t.1) (C.language t.2)) };
+
     ghost ends_after_start = { λ p. let t = p.parsers in
         first_of-ends _ _ _ _ _ (and-ends (A.ends_after_start t.0)
         (and-ends (B.ends_after_start t.1) (and-ends (C.ends_after_start t.2) none-end))) };
@@ -123,7 +132,10 @@ impl<
         (and-agrees (A.agrees t.0 s.0) (and-agrees (B.agrees t.1 s.1)
         (and-agrees (C.agrees t.2 s.2) none-agree))) };
 
-    ghost accepts = { λ _. of_unsaid };
+    ghost accepts = { λ p. let t = p.parsers in
+        (next-accepts _ _ (λ q. q.1) _ (A.accepts t.0) _ _
+        (next-accepts _ _ (λ q. q.1) _ (B.accepts t.1) _ _
+        (last-accepts _ _ (λ q. q.1) _ (C.accepts t.2)))).first_of };
 
     #[inline(always)]
     fn go_emit(&self, inp: &mut InputRef<'src, '_, I, E>) -> PResult<O> {
@@ -162,7 +174,7 @@ impl<
     C: Parser<'src, I, O, E>,
     D: Parser<'src, I, O, E>,
 > Parser<'src, I, O, E> for Choice<(A, B, C, D)> {
-    ghost use Rattle.chumsky_parser.specs.Language.{of_unsaid};
+    ghost use Rattle.chumsky_parser.specs.ChoiceLanguage.{or_language, last-accepts, next-accepts};
     ghost use Rattle.std.specs.Prelude.{[], ◌∷◌};
     ghost use Rattle.chumsky_parser.specs.Choice.{SameByOne};
     ghost use Rattle.chumsky_parser.specs.ChoiceLaws.{first_of-ends, first_of-agrees, none-end, and-ends, none-agree, and-agrees};
@@ -180,6 +192,11 @@ impl<
     ghost same = { λ p. let t = p.parsers in
         SameByOne (A.same t.0) (B.same t.1 ∷ C.same t.2 ∷ D.same t.3 ∷ []) };
 
+    ghost language = { λ p. let t = p.parsers in
+        or_language (A.language t.0)
+        (or_language (B.language t.1)
+        (or_language (C.language t.2) (D.language t.3))) };
+
     ghost ends_after_start = { λ p. let t = p.parsers in
         first_of-ends _ _ _ _ _ (and-ends (A.ends_after_start t.0)
         (and-ends (B.ends_after_start t.1) (and-ends (C.ends_after_start t.2)
@@ -190,7 +207,11 @@ impl<
         (and-agrees (A.agrees t.0 s.0) (and-agrees (B.agrees t.1 s.1)
         (and-agrees (C.agrees t.2 s.2) (and-agrees (D.agrees t.3 s.3) none-agree)))) };
 
-    ghost accepts = { λ _. of_unsaid };
+    ghost accepts = { λ p. let t = p.parsers in
+        (next-accepts _ _ (λ q. q.1) _ (A.accepts t.0) _ _
+        (next-accepts _ _ (λ q. q.1) _ (B.accepts t.1) _ _
+        (next-accepts _ _ (λ q. q.1) _ (C.accepts t.2) _ _
+        (last-accepts _ _ (λ q. q.1) _ (D.accepts t.3))))).first_of };
 
     #[inline(always)]
     fn go_emit(&self, inp: &mut InputRef<'src, '_, I, E>) -> PResult<O> {
@@ -233,7 +254,7 @@ impl<
     D: Parser<'src, I, O, E>,
     F: Parser<'src, I, O, E>,
 > Parser<'src, I, O, E> for Choice<(A, B, C, D, F)> {
-    ghost use Rattle.chumsky_parser.specs.Language.{of_unsaid};
+    ghost use Rattle.chumsky_parser.specs.ChoiceLanguage.{or_language, last-accepts, next-accepts};
     ghost use Rattle.std.specs.Prelude.{[], ◌∷◌};
     ghost use Rattle.chumsky_parser.specs.Choice.{SameByOne};
     ghost use Rattle.chumsky_parser.specs.ChoiceLaws.{first_of-ends, first_of-agrees, none-end, and-ends, none-agree, and-agrees};
@@ -252,6 +273,12 @@ impl<
     ghost same = { λ p. let t = p.parsers in
         SameByOne (A.same t.0) (B.same t.1 ∷ C.same t.2 ∷ D.same t.3 ∷ F.same t.4 ∷ []) };
 
+    ghost language = { λ p. let t = p.parsers in
+        or_language (A.language t.0)
+        (or_language (B.language t.1)
+        (or_language (C.language t.2)
+        (or_language (D.language t.3) (F.language t.4)))) };
+
     ghost ends_after_start = { λ p. let t = p.parsers in
         first_of-ends _ _ _ _ _ (and-ends (A.ends_after_start t.0)
         (and-ends (B.ends_after_start t.1) (and-ends (C.ends_after_start t.2)
@@ -263,7 +290,12 @@ impl<
         (and-agrees (C.agrees t.2 s.2) (and-agrees (D.agrees t.3 s.3)
         (and-agrees (F.agrees t.4 s.4) none-agree))))) };
 
-    ghost accepts = { λ _. of_unsaid };
+    ghost accepts = { λ p. let t = p.parsers in
+        (next-accepts _ _ (λ q. q.1) _ (A.accepts t.0) _ _
+        (next-accepts _ _ (λ q. q.1) _ (B.accepts t.1) _ _
+        (next-accepts _ _ (λ q. q.1) _ (C.accepts t.2) _ _
+        (next-accepts _ _ (λ q. q.1) _ (D.accepts t.3) _ _
+        (last-accepts _ _ (λ q. q.1) _ (F.accepts t.4)))))).first_of };
 
     #[inline(always)]
     fn go_emit(&self, inp: &mut InputRef<'src, '_, I, E>) -> PResult<O> {
@@ -310,7 +342,7 @@ impl<
     F: Parser<'src, I, O, E>,
     G: Parser<'src, I, O, E>,
 > Parser<'src, I, O, E> for Choice<(A, B, C, D, F, G)> {
-    ghost use Rattle.chumsky_parser.specs.Language.{of_unsaid};
+    ghost use Rattle.chumsky_parser.specs.ChoiceLanguage.{or_language, last-accepts, next-accepts};
     ghost use Rattle.std.specs.Prelude.{[], ◌∷◌};
     ghost use Rattle.chumsky_parser.specs.Choice.{SameByOne};
     ghost use Rattle.chumsky_parser.specs.ChoiceLaws.{first_of-ends, first_of-agrees, none-end, and-ends, none-agree, and-agrees};
@@ -330,6 +362,13 @@ impl<
         SameByOne (A.same t.0) (B.same t.1 ∷ C.same t.2 ∷ D.same t.3 ∷ F.same t.4 ∷ G.same t.5 ∷
         []) };
 
+    ghost language = { λ p. let t = p.parsers in
+        or_language (A.language t.0)
+        (or_language (B.language t.1)
+        (or_language (C.language t.2)
+        (or_language (D.language t.3)
+        (or_language (F.language t.4) (G.language t.5))))) };
+
     ghost ends_after_start = { λ p. let t = p.parsers in
         first_of-ends _ _ _ _ _ (and-ends (A.ends_after_start t.0)
         (and-ends (B.ends_after_start t.1) (and-ends (C.ends_after_start t.2)
@@ -342,7 +381,13 @@ impl<
         (and-agrees (C.agrees t.2 s.2) (and-agrees (D.agrees t.3 s.3)
         (and-agrees (F.agrees t.4 s.4) (and-agrees (G.agrees t.5 s.5) none-agree)))))) };
 
-    ghost accepts = { λ _. of_unsaid };
+    ghost accepts = { λ p. let t = p.parsers in
+        (next-accepts _ _ (λ q. q.1) _ (A.accepts t.0) _ _
+        (next-accepts _ _ (λ q. q.1) _ (B.accepts t.1) _ _
+        (next-accepts _ _ (λ q. q.1) _ (C.accepts t.2) _ _
+        (next-accepts _ _ (λ q. q.1) _ (D.accepts t.3) _ _
+        (next-accepts _ _ (λ q. q.1) _ (F.accepts t.4) _ _
+        (last-accepts _ _ (λ q. q.1) _ (G.accepts t.5))))))).first_of };
 
     #[inline(always)]
     fn go_emit(&self, inp: &mut InputRef<'src, '_, I, E>) -> PResult<O> {
@@ -393,7 +438,7 @@ impl<
     G: Parser<'src, I, O, E>,
     H: Parser<'src, I, O, E>,
 > Parser<'src, I, O, E> for Choice<(A, B, C, D, F, G, H)> {
-    ghost use Rattle.chumsky_parser.specs.Language.{of_unsaid};
+    ghost use Rattle.chumsky_parser.specs.ChoiceLanguage.{or_language, last-accepts, next-accepts};
     ghost use Rattle.std.specs.Prelude.{[], ◌∷◌};
     ghost use Rattle.chumsky_parser.specs.Choice.{SameByOne};
     ghost use Rattle.chumsky_parser.specs.ChoiceLaws.{first_of-ends, first_of-agrees, none-end, and-ends, none-agree, and-agrees};
@@ -415,6 +460,14 @@ impl<
         SameByOne (A.same t.0) (B.same t.1 ∷ C.same t.2 ∷ D.same t.3 ∷ F.same t.4 ∷ G.same t.5 ∷
         H.same t.6 ∷ []) };
 
+    ghost language = { λ p. let t = p.parsers in
+        or_language (A.language t.0)
+        (or_language (B.language t.1)
+        (or_language (C.language t.2)
+        (or_language (D.language t.3)
+        (or_language (F.language t.4)
+        (or_language (G.language t.5) (H.language t.6)))))) };
+
     ghost ends_after_start = { λ p. let t = p.parsers in
         first_of-ends _ _ _ _ _ (and-ends (A.ends_after_start t.0)
         (and-ends (B.ends_after_start t.1) (and-ends (C.ends_after_start t.2)
@@ -428,7 +481,14 @@ impl<
         (and-agrees (D.agrees t.3 s.3) (and-agrees (F.agrees t.4 s.4)
         (and-agrees (G.agrees t.5 s.5) (and-agrees (H.agrees t.6 s.6) none-agree))))))) };
 
-    ghost accepts = { λ _. of_unsaid };
+    ghost accepts = { λ p. let t = p.parsers in
+        (next-accepts _ _ (λ q. q.1) _ (A.accepts t.0) _ _
+        (next-accepts _ _ (λ q. q.1) _ (B.accepts t.1) _ _
+        (next-accepts _ _ (λ q. q.1) _ (C.accepts t.2) _ _
+        (next-accepts _ _ (λ q. q.1) _ (D.accepts t.3) _ _
+        (next-accepts _ _ (λ q. q.1) _ (F.accepts t.4) _ _
+        (next-accepts _ _ (λ q. q.1) _ (G.accepts t.5) _ _
+        (last-accepts _ _ (λ q. q.1) _ (H.accepts t.6)))))))).first_of };
 
     #[inline(always)]
     fn go_emit(&self, inp: &mut InputRef<'src, '_, I, E>) -> PResult<O> {
@@ -483,7 +543,7 @@ impl<
     H: Parser<'src, I, O, E>,
     J: Parser<'src, I, O, E>,
 > Parser<'src, I, O, E> for Choice<(A, B, C, D, F, G, H, J)> {
-    ghost use Rattle.chumsky_parser.specs.Language.{of_unsaid};
+    ghost use Rattle.chumsky_parser.specs.ChoiceLanguage.{or_language, last-accepts, next-accepts};
     ghost use Rattle.std.specs.Prelude.{[], ◌∷◌};
     ghost use Rattle.chumsky_parser.specs.Choice.{SameByOne};
     ghost use Rattle.chumsky_parser.specs.ChoiceLaws.{first_of-ends, first_of-agrees, none-end, and-ends, none-agree, and-agrees};
@@ -505,6 +565,15 @@ impl<
         SameByOne (A.same t.0) (B.same t.1 ∷ C.same t.2 ∷ D.same t.3 ∷ F.same t.4 ∷ G.same t.5 ∷
         H.same t.6 ∷ J.same t.7 ∷ []) };
 
+    ghost language = { λ p. let t = p.parsers in
+        or_language (A.language t.0)
+        (or_language (B.language t.1)
+        (or_language (C.language t.2)
+        (or_language (D.language t.3)
+        (or_language (F.language t.4)
+        (or_language (G.language t.5)
+        (or_language (H.language t.6) (J.language t.7))))))) };
+
     ghost ends_after_start = { λ p. let t = p.parsers in
         first_of-ends _ _ _ _ _ (and-ends (A.ends_after_start t.0)
         (and-ends (B.ends_after_start t.1) (and-ends (C.ends_after_start t.2)
@@ -520,7 +589,15 @@ impl<
         (and-agrees (G.agrees t.5 s.5) (and-agrees (H.agrees t.6 s.6)
         (and-agrees (J.agrees t.7 s.7) none-agree)))))))) };
 
-    ghost accepts = { λ _. of_unsaid };
+    ghost accepts = { λ p. let t = p.parsers in
+        (next-accepts _ _ (λ q. q.1) _ (A.accepts t.0) _ _
+        (next-accepts _ _ (λ q. q.1) _ (B.accepts t.1) _ _
+        (next-accepts _ _ (λ q. q.1) _ (C.accepts t.2) _ _
+        (next-accepts _ _ (λ q. q.1) _ (D.accepts t.3) _ _
+        (next-accepts _ _ (λ q. q.1) _ (F.accepts t.4) _ _
+        (next-accepts _ _ (λ q. q.1) _ (G.accepts t.5) _ _
+        (next-accepts _ _ (λ q. q.1) _ (H.accepts t.6) _ _
+        (last-accepts _ _ (λ q. q.1) _ (J.accepts t.7))))))))).first_of };
 
     #[inline(always)]
     fn go_emit(&self, inp: &mut InputRef<'src, '_, I, E>) -> PResult<O> {
