@@ -26,5 +26,5 @@ module _ {Tok Cx St Mk Er V : Type 0} (mark : St → Mk) (back : St → Mk → S
   of_shape-agrees true calls agree = pair-agrees 40 41 (calls false) (agree false)
   of_shape-agrees false calls agree = pair-agrees 91 93 (calls true) (agree true)
 
-  abbrev pub shapes : Bool → Said Tok Cx St Er (Unit {0})
+  abbrev pub shapes : {spare : Type 0} → Bool → Said Tok Cx St Er spare (Unit {0})
   shapes name = Together (λ _. SameUnit) (λ name depth calls. of_shape name calls) (λ depth agree name. of_shape-agrees name _ agree) name

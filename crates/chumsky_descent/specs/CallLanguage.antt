@@ -64,13 +64,13 @@ module _ {Tok Cx St Er V : Type 0} {spare : Type 0} where
     sparing = λ q x. onward-spares m (h.sparing q x);
   }
 
-  pub call-accepts : (body : Body Tok Cx St Er V) (grammar : Language Tok V → Language Tok V) → KeepsLanguage body grammar → (depth : ℕ) → Accepts (CallOf body depth) (call_language grammar depth) spare
+  pub call-accepts : (body : Body Tok Cx St Er V) (grammar : Language Tok V → Language Tok V) → KeepsLanguage spare body grammar → (depth : ℕ) → Accepts (CallOf body depth) (call_language grammar depth) spare
   call-accepts body grammar keeps zero = too_deep-accepts
-  call-accepts body grammar keeps (suc depth) = onward-accepts _ _ (keeps spare depth (call_language grammar depth) (call-ends body depth) (call-accepts body grammar keeps depth))
+  call-accepts body grammar keeps (suc depth) = onward-accepts _ _ (keeps depth (call_language grammar depth) (call-ends body depth) (call-accepts body grammar keeps depth))
 
 module _ {Tok Cx St Er : Type 0} where
   -- the language of a call of a function of which this is said
-  abbrev pub language_of : {V : Type 0} → Said Tok Cx St Er V → ℕ → Language Tok V
+  abbrev pub language_of : {spare V : Type 0} → Said Tok Cx St Er spare V → ℕ → Language Tok V
   language_of Nothing depth = unsaid
   language_of (Means body) depth = unsaid
   language_of (Steady same body keeps) depth = unsaid
@@ -78,7 +78,7 @@ module _ {Tok Cx St Er : Type 0} where
   language_of (Together same bodies keep name) depth = unsaid
 
   -- a call accepts the language that is said
-  pub does_call-accepts : {V : Type 0} {spare : Type 0} (said : Said Tok Cx St Er V) (depth : ℕ) → Accepts (DoesCall said depth) (language_of said depth) spare
+  pub does_call-accepts : {spare V : Type 0} (said : Said Tok Cx St Er spare V) (depth : ℕ) → Accepts (DoesCall said depth) (language_of said depth) spare
   does_call-accepts Nothing depth = of_unsaid
   does_call-accepts (Means body) depth = of_unsaid
   does_call-accepts (Steady same body keeps) depth = of_unsaid

@@ -16,7 +16,7 @@ module _ {Tok Cx St Er : Type 0} where
   calls-end bodies (suc depth) name = onward-ends _
 
   -- no answer of a call ends before its start
-  pub does_call-ends : {V : Type 0} (said : Said Tok Cx St Er V) (depth : ℕ) → EndsAfterStart (DoesCall said depth)
+  pub does_call-ends : {spare V : Type 0} (said : Said Tok Cx St Er spare V) (depth : ℕ) → EndsAfterStart (DoesCall said depth)
   does_call-ends Nothing depth = call-ends _ depth
   does_call-ends (Means body) depth = call-ends body depth
   does_call-ends (Steady same body keeps) depth = call-ends body depth
@@ -37,7 +37,7 @@ module _ {Tok Cx St Er : Type 0} where
   calls-agree bodies same keep (suc depth) name = onward-agrees _ (same name) (keep depth (calls-agree bodies same keep depth) name)
 
   -- two answers of a call agree, where it is said that the function is steady
-  pub does_call-agrees : {V : Type 0} (said : Said Tok Cx St Er V) → IsSteady said → (depth : ℕ) → Agreeing (same_of said) (DoesCall said depth) (DoesCall said depth)
+  pub does_call-agrees : {spare V : Type 0} (said : Said Tok Cx St Er spare V) → IsSteady said → (depth : ℕ) → Agreeing (same_of said) (DoesCall said depth) (DoesCall said depth)
   does_call-agrees Nothing s depth = absurd s
   does_call-agrees (Means body) s depth = absurd s
   does_call-agrees (Steady same body keeps) s depth = call-agrees body same keeps depth

@@ -50,18 +50,19 @@ module _ {Tok Cx St Er : Type 0} where
 
 module _ {Tok Cx St Er V : Type 0} where
   -- where a call accepts its language, the body accepts what is made of that
-  abbrev pub KeepsLanguage : Body Tok Cx St Er V → (Language Tok V → Language Tok V) → Type 1
-  KeepsLanguage body grammar = (spare : Type 0) (depth : ℕ) (call : Language Tok V) → EndsAfterStart (CallOf body depth) → Accepts (CallOf body depth) call spare → Accepts (body depth (CallOf body depth)) (grammar call) spare
+  abbrev pub KeepsLanguage : Type 0 → Body Tok Cx St Er V → (Language Tok V → Language Tok V) → Type 1
+  KeepsLanguage spare body grammar = (depth : ℕ) (call : Language Tok V) → EndsAfterStart (CallOf body depth) → Accepts (CallOf body depth) call spare → Accepts (body depth (CallOf body depth)) (grammar call) spare
 
 -- what is said of a function: nothing; what its body may do; that it is steady too, with the outputs that count as the same; its
--- language besides, of that of a call in it; and that it is steady of functions that call each other, with the name of this one
-pub data Said (Tok Cx St Er : Type 0) : Type 0 → Type 1 where
-  Nothing : {V : Type 0} → Said Tok Cx St Er V
-  Means : {V : Type 0} → Body Tok Cx St Er V → Said Tok Cx St Er V
-  Steady : {V : Type 0} (same : V → V → Type 0) (body : Body Tok Cx St Er V) → KeepsAgreement same body → Said Tok Cx St Er V
-  Exact : {V : Type 0} (same : V → V → Type 0) (body : Body Tok Cx St Er V) → KeepsAgreement same body → (grammar : Language Tok V → Language Tok V) → KeepsLanguage body grammar → Said Tok Cx St Er V
+-- language besides, of that of a call in it; and that it is steady of functions that call each other, with the name of this one.
+-- That errors and states take no memory is `spare`
+pub data Said (Tok Cx St Er spare : Type 0) : Type 0 → Type 1 where
+  Nothing : {V : Type 0} → Said Tok Cx St Er spare V
+  Means : {V : Type 0} → Body Tok Cx St Er V → Said Tok Cx St Er spare V
+  Steady : {V : Type 0} (same : V → V → Type 0) (body : Body Tok Cx St Er V) → KeepsAgreement same body → Said Tok Cx St Er spare V
+  Exact : {V : Type 0} (same : V → V → Type 0) (body : Body Tok Cx St Er V) → KeepsAgreement same body → (grammar : Language Tok V → Language Tok V) → KeepsLanguage spare body grammar → Said Tok Cx St Er spare V
   Together : {Name : Type 0} {V : Name → Type 0} (same : (name : Name) → V name → V name → Type 0) (bodies : Bodies Tok Cx St Er Name V)
-      → KeepAgreement same bodies → (name : Name) → Said Tok Cx St Er (V name)
+      → KeepAgreement same bodies → (name : Name) → Said Tok Cx St Er spare (V name)
 
 module _ {Tok Cx St Er : Type 0} where
   -- any outcome
@@ -69,7 +70,7 @@ module _ {Tok Cx St Er : Type 0} where
   Anything b o = ⊤
 
   -- what a call means: a body that may do anything, where nothing is said
-  abbrev pub DoesCall : {V : Type 0} → Said Tok Cx St Er V → ℕ → Meaning Tok Cx St Er V
+  abbrev pub DoesCall : {spare V : Type 0} → Said Tok Cx St Er spare V → ℕ → Meaning Tok Cx St Er V
   DoesCall Nothing depth = CallOf (λ depth call. Anything) depth
   DoesCall (Means body) depth = CallOf body depth
   DoesCall (Steady same body keeps) depth = CallOf body depth
@@ -77,7 +78,7 @@ module _ {Tok Cx St Er : Type 0} where
   DoesCall (Together same bodies keep name) depth = CallsOf bodies depth name
 
   -- what the function does under a depth
-  abbrev pub DoesUnder : {V : Type 0} → Said Tok Cx St Er V → ℕ → Meaning Tok Cx St Er V
+  abbrev pub DoesUnder : {spare V : Type 0} → Said Tok Cx St Er spare V → ℕ → Meaning Tok Cx St Er V
   DoesUnder Nothing depth = Anything
   DoesUnder (Means body) depth = body depth (CallOf body depth)
   DoesUnder (Steady same body keeps) depth = body depth (CallOf body depth)
@@ -85,14 +86,14 @@ module _ {Tok Cx St Er : Type 0} where
   DoesUnder (Together same bodies keep name) depth = bodies name depth (CallsOf bodies depth)
 
   -- which outputs count as the same: equal ones, where nothing is said of them
-  abbrev pub same_of : {V : Type 0} → Said Tok Cx St Er V → V → V → Type 0
+  abbrev pub same_of : {spare V : Type 0} → Said Tok Cx St Er spare V → V → V → Type 0
   same_of Nothing v w = v ≡ w
   same_of (Means body) v w = v ≡ w
   same_of (Steady same body keeps) v w = same v w
   same_of (Exact same body keeps grammar accepts) v w = same v w
   same_of (Together same bodies keep name) v w = same name v w
 
-  abbrev pub IsSteady : {V : Type 0} → Said Tok Cx St Er V → Type 0
+  abbrev pub IsSteady : {spare V : Type 0} → Said Tok Cx St Er spare V → Type 0
   IsSteady Nothing = ⊥
   IsSteady (Means body) = ⊥
   IsSteady (Steady same body keeps) = ⊤
@@ -101,7 +102,7 @@ module _ {Tok Cx St Er : Type 0} where
 
 -- what is said of a function in the words of the errors and of the states
 abbrev pub Says : (I Tok Sp Er St Mk Cx V : Type 0) → Type 1
-Says I Tok Sp Er St Mk Cx V = (errors : error_trait.Ghosts Er I Tok Sp) (states : inspector_trait.Ghosts St I Mk Tok Sp) → Said Tok Cx states.Seen errors.Seen V
+Says I Tok Sp Er St Mk Cx V = (errors : error_trait.Ghosts Er I Tok Sp) (states : inspector_trait.Ghosts St I Mk Tok Sp) → Said Tok Cx states.Seen errors.Seen (errors.takes_no_memory × states.takes_no_memory) V
 
 -- what may be said of a run under a depth, for a value or not, and of its result
 abbrev pub IsRunUnder : (I X Tok Sp Cu Er St Cx Mk V : Type 0) → Type 1
@@ -116,6 +117,6 @@ module _ {I X Tok Sp Cu Er St Cx Mk V : Type 0} (source : input_trait.Ghosts I C
 
 module _ {I X Tok Sp Cu Er St Cx Mk V F : Type 0} (source : input_trait.Ghosts I Cu Tok Sp) (errors : error_trait.Ghosts Er I Tok Sp) (states : inspector_trait.Ghosts St I Mk Tok Sp) (g : Shared F (MutBor (InputRef I X Cu Tok Sp Er St Cx Mk) × (Bool × (ℕ × Unit {0}))) (Result (Option V) Fault × (MutBor (InputRef I X Cu Tok Sp Er St Cx Mk) × Unit {0}))) (f : F) where
   -- the function may be called under each smaller depth, and does under it what is said
-  pub record MayCall (said : Said Tok Cx states.Seen errors.Seen V) (depth : ℕ) : Type 0 where
+  pub record MayCall (said : Said Tok Cx states.Seen errors.Seen (errors.takes_no_memory × states.takes_no_memory) V) (depth : ℕ) : Type 0 where
     pub may : (d : ℕ) → d < depth → (wanted : Bool) (p : MutBor (InputRef I X Cu Tok Sp Er St Cx Mk)) → g.pre f (p, (wanted, (d, tt)))
     pub runs : (d : ℕ) (wanted : Bool) (p left : MutBor (InputRef I X Cu Tok Sp Er St Cx Mk)) (r : Result (Option V) Fault) → g.post f (p, (wanted, (d, tt))) (r, (left, tt)) → RunsPart source errors states (DoesUnder said d) wanted p.now left.now r

@@ -10,13 +10,13 @@ use Rattle.chumsky_moves.specs.PartsMove.{onward-moves}
 use Rattle.chumsky_descent.specs.CallLaws.{does_call-ends}
 use Rattle.chumsky_descent.specs.Calls.{IsTooDeep, Said, Nothing, Means, Steady, Exact, Together, DoesCall, DoesUnder}
 
-module _ {Tok Cx St Er V : Type 0} where
+module _ {Tok Cx St Er spare V : Type 0} where
   -- where a call moves, so does the function
-  abbrev pub KeepsMoving : Said Tok Cx St Er V → Type 0
+  abbrev pub KeepsMoving : Said Tok Cx St Er spare V → Type 0
   KeepsMoving said = (depth : ℕ) → EndsAfterStart (DoesCall said depth) → Moves (DoesCall said depth) → Moves (DoesUnder said depth)
 
   -- where a call is never refused for memory, the function isn't
-  abbrev pub KeepsSparing : Said Tok Cx St Er V → Type 0
+  abbrev pub KeepsSparing : Said Tok Cx St Er spare V → Type 0
   KeepsSparing said = (depth : ℕ) → NeverOutOfMemory (DoesCall said depth) → NeverOutOfMemory (DoesUnder said depth)
 
 module _ {Tok Cx St Er : Type 0} where
@@ -24,14 +24,14 @@ module _ {Tok Cx St Er : Type 0} where
   too_deep-moves b o m y = absurd (subst IsYes m.means.verdict y)
 
   -- a call under no depth, and one under one more
-  none-moves : {V : Type 0} (said : Said Tok Cx St Er V) → Moves (DoesCall said zero)
+  none-moves : {spare V : Type 0} (said : Said Tok Cx St Er spare V) → Moves (DoesCall said zero)
   none-moves Nothing = too_deep-moves
   none-moves (Means body) = too_deep-moves
   none-moves (Steady same body keeps) = too_deep-moves
   none-moves (Exact same body keeps grammar accepts) = too_deep-moves
   none-moves (Together same bodies keep name) = too_deep-moves
 
-  more-moves : {V : Type 0} (said : Said Tok Cx St Er V) (depth : ℕ) → Moves (DoesUnder said depth) → Moves (DoesCall said (suc depth))
+  more-moves : {spare V : Type 0} (said : Said Tok Cx St Er spare V) (depth : ℕ) → Moves (DoesUnder said depth) → Moves (DoesCall said (suc depth))
   more-moves Nothing depth h = onward-moves _ h
   more-moves (Means body) depth h = onward-moves _ h
   more-moves (Steady same body keeps) depth h = onward-moves _ h
@@ -39,7 +39,7 @@ module _ {Tok Cx St Er : Type 0} where
   more-moves (Together same bodies keep name) depth h = onward-moves _ h
 
   -- each call moves, where the function does when they do
-  pub call-moves : {V : Type 0} (said : Said Tok Cx St Er V) → KeepsMoving said → (depth : ℕ) → Moves (DoesCall said depth)
+  pub call-moves : {spare V : Type 0} (said : Said Tok Cx St Er spare V) → KeepsMoving said → (depth : ℕ) → Moves (DoesCall said depth)
   call-moves said keeps zero = none-moves said
   call-moves said keeps (suc depth) = more-moves said depth (keeps depth (does_call-ends said depth) (call-moves said keeps depth))
 
@@ -49,14 +49,14 @@ module _ {Tok Cx St Er : Type 0} where
   pub too_deep-spares : {V : Type 0} → NeverOutOfMemory (Onward (IsTooDeep {Tok = Tok} {Cx = Cx} {St = St} {Er = Er} {V = V}))
   too_deep-spares b o m = rw m.means.verdict tt
 
-  none-spares : {V : Type 0} (said : Said Tok Cx St Er V) → NeverOutOfMemory (DoesCall said zero)
+  none-spares : {spare V : Type 0} (said : Said Tok Cx St Er spare V) → NeverOutOfMemory (DoesCall said zero)
   none-spares Nothing = too_deep-spares
   none-spares (Means body) = too_deep-spares
   none-spares (Steady same body keeps) = too_deep-spares
   none-spares (Exact same body keeps grammar accepts) = too_deep-spares
   none-spares (Together same bodies keep name) = too_deep-spares
 
-  more-spares : {V : Type 0} (said : Said Tok Cx St Er V) (depth : ℕ) → NeverOutOfMemory (DoesUnder said depth) → NeverOutOfMemory (DoesCall said (suc depth))
+  more-spares : {spare V : Type 0} (said : Said Tok Cx St Er spare V) (depth : ℕ) → NeverOutOfMemory (DoesUnder said depth) → NeverOutOfMemory (DoesCall said (suc depth))
   more-spares Nothing depth h = onward-spares _ h
   more-spares (Means body) depth h = onward-spares _ h
   more-spares (Steady same body keeps) depth h = onward-spares _ h
@@ -64,6 +64,6 @@ module _ {Tok Cx St Er : Type 0} where
   more-spares (Together same bodies keep name) depth h = onward-spares _ h
 
   -- each call is never refused for memory, where the function isn't when they aren't
-  pub call-spares : {V : Type 0} (said : Said Tok Cx St Er V) → KeepsSparing said → (depth : ℕ) → NeverOutOfMemory (DoesCall said depth)
+  pub call-spares : {spare V : Type 0} (said : Said Tok Cx St Er spare V) → KeepsSparing said → (depth : ℕ) → NeverOutOfMemory (DoesCall said depth)
   call-spares said keeps zero = none-spares said
   call-spares said keeps (suc depth) = more-spares said depth (keeps depth (call-spares said keeps depth))
