@@ -6,3 +6,4 @@ pub mod InTurnLaws
 pub mod Paired
 pub mod Parts
 pub mod PartsLaws
+pub mod GroupLanguage

@@ -42,3 +42,21 @@ seven_of_pairs v = (v.0.0.0.0.0.0, v.0.0.0.0.0.1, v.0.0.0.0.1, v.0.0.0.1, v.0.0.
 
 abbrev pub eight_of_pairs : {A B C D F G H J : Type 0} → ((((((A × B) × C) × D) × F) × G) × H) × J → A × B × C × D × F × G × H × J
 eight_of_pairs v = (v.0.0.0.0.0.0.0, v.0.0.0.0.0.0.1, v.0.0.0.0.0.1, v.0.0.0.0.1, v.0.0.0.1, v.0.0.1, v.0.1, v.1)
+
+abbrev pub one_of_one : {A : Type 0} → record { 0 : A } → A
+one_of_one v = v.0
+
+abbrev pub pairs_of_four : {A B C D : Type 0} → A × B × C × D → ((A × B) × C) × D
+pairs_of_four v = (((v.0, v.1), v.2), v.3)
+
+abbrev pub pairs_of_five : {A B C D F : Type 0} → A × B × C × D × F → (((A × B) × C) × D) × F
+pairs_of_five v = ((((v.0, v.1), v.2), v.3), v.4)
+
+abbrev pub pairs_of_six : {A B C D F G : Type 0} → A × B × C × D × F × G → ((((A × B) × C) × D) × F) × G
+pairs_of_six v = (((((v.0, v.1), v.2), v.3), v.4), v.5)
+
+abbrev pub pairs_of_seven : {A B C D F G H : Type 0} → A × B × C × D × F × G × H → (((((A × B) × C) × D) × F) × G) × H
+pairs_of_seven v = ((((((v.0, v.1), v.2), v.3), v.4), v.5), v.6)
+
+abbrev pub pairs_of_eight : {A B C D F G H J : Type 0} → A × B × C × D × F × G × H × J → ((((((A × B) × C) × D) × F) × G) × H) × J
+pairs_of_eight v = (((((((v.0, v.1), v.2), v.3), v.4), v.5), v.6), v.7)

@@ -15,8 +15,9 @@ impl<'src, I: Input<'src>, OA, E: ParserExtra<I>, A: Parser<'src, I, OA, E>> Par
     (OA,),
     E,
 > for Group<(A,)> {
-    ghost use Rattle.chumsky_parser.specs.Language.{of_unsaid};
-    ghost use Rattle.chumsky_group.specs.Regrouped.{one_of_pairs, Grouped};
+    ghost use Rattle.std.specs.Prelude.{refl};
+    ghost use Rattle.chumsky_group.specs.GroupLanguage.{regrouped_language, first-accepts, group-accepts};
+    ghost use Rattle.chumsky_group.specs.Regrouped.{one_of_pairs, one_of_one, Grouped};
     ghost use Rattle.chumsky_group.specs.RegroupedLaws.{first-agrees, regrouped-ends, regrouped-agrees};
 
     ghost ready = { λ p. A.ready p.parsers.0 };
@@ -27,11 +28,15 @@ impl<'src, I: Input<'src>, OA, E: ParserExtra<I>, A: Parser<'src, I, OA, E>> Par
 
     ghost same = { λ p v w. A.same p.parsers.0 v.0 w.0 };
 
+    ghost language = { λ p. let t = p.parsers in
+        regrouped_language one_of_one (A.language t.0) };
+
     ghost ends_after_start = { λ p. regrouped-ends _ _ (A.ends_after_start p.parsers.0) };
 
     ghost agrees = { λ p s. regrouped-agrees _ _ _ (λ v w t. t) (first-agrees (A.agrees p.parsers.0 s)) };
 
-    ghost accepts = { λ _. of_unsaid };
+    ghost accepts = { λ p. let t = p.parsers in
+        group-accepts one_of_pairs one_of_one (λ v. refl) (first-accepts (A.ends_after_start t.0) (A.accepts t.0)) };
 
     #[inline(always)]
     fn go_emit(&self, inp: &mut InputRef<'src, '_, I, E>) -> PResult<(OA,)> {
@@ -57,7 +62,7 @@ impl<
     A: Parser<'src, I, OA, E>,
     B: Parser<'src, I, OB, E>,
 > Parser<'src, I, (OA, OB), E> for Group<(A, B)> {
-    ghost use Rattle.chumsky_parser.specs.Language.{of_unsaid};
+    ghost use Rattle.chumsky_parser.specs.SequenceLanguage.{then_language, then-accepts};
     ghost use Rattle.chumsky_parser.specs.Chained.{SamePair};
     ghost use Rattle.chumsky_parser.specs.Laws.{sequence-ends, sequence-agrees};
     ghost use Rattle.chumsky_group.specs.Regrouped.{And};
@@ -70,13 +75,16 @@ impl<
 
     ghost same = { λ p. SamePair (A.same p.parsers.0) (B.same p.parsers.1) };
 
+    ghost language = { λ p. then_language (A.language p.parsers.0) (B.language p.parsers.1) };
+
     ghost ends_after_start = { λ p. let t = p.parsers in
         sequence-ends _ _ (A.ends_after_start t.0) (B.ends_after_start t.1) };
 
     ghost agrees = { λ p s. let t = p.parsers in
         sequence-agrees _ _ (A.same t.0) (B.same t.1) (A.agrees t.0 s.0) (B.agrees t.1 s.1) };
 
-    ghost accepts = { λ _. of_unsaid };
+    ghost accepts = { λ p. let t = p.parsers in
+        then-accepts _ _ (A.ends_after_start t.0) (B.ends_after_start t.1) (A.accepts t.0) (B.accepts t.1) };
 
     #[inline(always)]
     fn go_emit(&self, inp: &mut InputRef<'src, '_, I, E>) -> PResult<(OA, OB)> {
@@ -113,9 +121,11 @@ impl<
     B: Parser<'src, I, OB, E>,
     C: Parser<'src, I, OC, E>,
 > Parser<'src, I, (OA, OB, OC), E> for Group<(A, B, C)> {
-    ghost use Rattle.chumsky_parser.specs.Language.{of_unsaid};
+    ghost use Rattle.std.specs.Prelude.{refl};
+    ghost use Rattle.chumsky_group.specs.GroupLanguage.{regrouped_language, first-accepts, and-accepts, group-accepts};
+    ghost use Rattle.chumsky_parser.specs.SequenceLanguage.{then_language};
     ghost use Rattle.chumsky_parser.specs.Laws.{sequence-ends};
-    ghost use Rattle.chumsky_group.specs.Regrouped.{three_of_pairs, And, Grouped};
+    ghost use Rattle.chumsky_group.specs.Regrouped.{three_of_pairs, pairs_of_three, And, Grouped};
     ghost use Rattle.chumsky_group.specs.RegroupedLaws.{first-agrees, and-agrees, regrouped-ends, regrouped-agrees};
 
     ghost ready = { λ p. let t = p.parsers in A.ready t.0 × B.ready t.1 × C.ready t.2 };
@@ -128,6 +138,9 @@ impl<
     ghost same = { λ p v w. let t = p.parsers in
         A.same t.0 v.0 w.0 × B.same t.1 v.1 w.1 × C.same t.2 v.2 w.2 };
 
+    ghost language = { λ p. let t = p.parsers in
+        regrouped_language pairs_of_three (then_language (then_language (A.language t.0) (B.language t.1)) (C.language t.2)) };
+
     ghost ends_after_start = { λ p. let t = p.parsers in
         regrouped-ends _ _ (sequence-ends _ _ (sequence-ends _ _ (A.ends_after_start t.0)
         (B.ends_after_start t.1)) (C.ends_after_start t.2)) };
@@ -136,7 +149,10 @@ impl<
         regrouped-agrees _ _ _ (λ _ _ r. three_of_pairs r) (and-agrees (and-agrees
         (first-agrees (A.agrees t.0 s.0)) (B.agrees t.1 s.1)) (C.agrees t.2 s.2)) };
 
-    ghost accepts = { λ _. of_unsaid };
+    ghost accepts = { λ p. let t = p.parsers in
+        group-accepts three_of_pairs pairs_of_three (λ v. refl) (and-accepts (and-accepts (first-accepts (A.ends_after_start t.0) (A.accepts t.0))
+        (B.ends_after_start t.1) (B.accepts t.1))
+        (C.ends_after_start t.2) (C.accepts t.2)) };
 
     #[inline(always)]
     fn go_emit(&self, inp: &mut InputRef<'src, '_, I, E>) -> PResult<(OA, OB, OC)> {
@@ -182,9 +198,11 @@ impl<
     C: Parser<'src, I, OC, E>,
     D: Parser<'src, I, OD, E>,
 > Parser<'src, I, (OA, OB, OC, OD), E> for Group<(A, B, C, D)> {
-    ghost use Rattle.chumsky_parser.specs.Language.{of_unsaid};
+    ghost use Rattle.std.specs.Prelude.{refl};
+    ghost use Rattle.chumsky_group.specs.GroupLanguage.{regrouped_language, first-accepts, and-accepts, group-accepts};
+    ghost use Rattle.chumsky_parser.specs.SequenceLanguage.{then_language};
     ghost use Rattle.chumsky_parser.specs.Laws.{sequence-ends};
-    ghost use Rattle.chumsky_group.specs.Regrouped.{four_of_pairs, And, Grouped};
+    ghost use Rattle.chumsky_group.specs.Regrouped.{four_of_pairs, pairs_of_four, And, Grouped};
     ghost use Rattle.chumsky_group.specs.RegroupedLaws.{first-agrees, and-agrees, regrouped-ends, regrouped-agrees};
 
     ghost ready = { λ p. let t = p.parsers in
@@ -200,6 +218,9 @@ impl<
     ghost same = { λ p v w. let t = p.parsers in
         A.same t.0 v.0 w.0 × B.same t.1 v.1 w.1 × C.same t.2 v.2 w.2 × D.same t.3 v.3 w.3 };
 
+    ghost language = { λ p. let t = p.parsers in
+        regrouped_language pairs_of_four (then_language (then_language (then_language (A.language t.0) (B.language t.1)) (C.language t.2)) (D.language t.3)) };
+
     ghost ends_after_start = { λ p. let t = p.parsers in
         regrouped-ends _ _ (sequence-ends _ _ (sequence-ends _ _ (sequence-ends _ _
         (A.ends_after_start t.0) (B.ends_after_start t.1)) (C.ends_after_start t.2))
@@ -210,7 +231,11 @@ impl<
         (first-agrees (A.agrees t.0 s.0)) (B.agrees t.1 s.1)) (C.agrees t.2 s.2))
         (D.agrees t.3 s.3)) };
 
-    ghost accepts = { λ _. of_unsaid };
+    ghost accepts = { λ p. let t = p.parsers in
+        group-accepts four_of_pairs pairs_of_four (λ v. refl) (and-accepts (and-accepts (and-accepts (first-accepts (A.ends_after_start t.0) (A.accepts t.0))
+        (B.ends_after_start t.1) (B.accepts t.1))
+        (C.ends_after_start t.2) (C.accepts t.2))
+        (D.ends_after_start t.3) (D.accepts t.3)) };
 
     #[inline(always)]
     fn go_emit(&self, inp: &mut InputRef<'src, '_, I, E>) -> PResult<(OA, OB, OC, OD)> {
@@ -262,9 +287,11 @@ impl<
     D: Parser<'src, I, OD, E>,
     F: Parser<'src, I, OF, E>,
 > Parser<'src, I, (OA, OB, OC, OD, OF), E> for Group<(A, B, C, D, F)> {
-    ghost use Rattle.chumsky_parser.specs.Language.{of_unsaid};
+    ghost use Rattle.std.specs.Prelude.{refl};
+    ghost use Rattle.chumsky_group.specs.GroupLanguage.{regrouped_language, first-accepts, and-accepts, group-accepts};
+    ghost use Rattle.chumsky_parser.specs.SequenceLanguage.{then_language};
     ghost use Rattle.chumsky_parser.specs.Laws.{sequence-ends};
-    ghost use Rattle.chumsky_group.specs.Regrouped.{five_of_pairs, And, Grouped};
+    ghost use Rattle.chumsky_group.specs.Regrouped.{five_of_pairs, pairs_of_five, And, Grouped};
     ghost use Rattle.chumsky_group.specs.RegroupedLaws.{first-agrees, and-agrees, regrouped-ends, regrouped-agrees};
 
     ghost ready = { λ p. let t = p.parsers in
@@ -281,6 +308,9 @@ impl<
         A.same t.0 v.0 w.0 × B.same t.1 v.1 w.1 × C.same t.2 v.2 w.2 × D.same t.3 v.3 w.3 ×
         F.same t.4 v.4 w.4 };
 
+    ghost language = { λ p. let t = p.parsers in
+        regrouped_language pairs_of_five (then_language (then_language (then_language (then_language (A.language t.0) (B.language t.1)) (C.language t.2)) (D.language t.3)) (F.language t.4)) };
+
     ghost ends_after_start = { λ p. let t = p.parsers in
         regrouped-ends _ _ (sequence-ends _ _ (sequence-ends _ _ (sequence-ends _ _
         (sequence-ends _ _ (A.ends_after_start t.0) (B.ends_after_start t.1))
@@ -291,7 +321,12 @@ impl<
         (and-agrees (first-agrees (A.agrees t.0 s.0)) (B.agrees t.1 s.1)) (C.agrees t.2 s.2))
         (D.agrees t.3 s.3)) (F.agrees t.4 s.4)) };
 
-    ghost accepts = { λ _. of_unsaid };
+    ghost accepts = { λ p. let t = p.parsers in
+        group-accepts five_of_pairs pairs_of_five (λ v. refl) (and-accepts (and-accepts (and-accepts (and-accepts (first-accepts (A.ends_after_start t.0) (A.accepts t.0))
+        (B.ends_after_start t.1) (B.accepts t.1))
+        (C.ends_after_start t.2) (C.accepts t.2))
+        (D.ends_after_start t.3) (D.accepts t.3))
+        (F.ends_after_start t.4) (F.accepts t.4)) };
 
     #[inline(always)]
     fn go_emit(&self, inp: &mut InputRef<'src, '_, I, E>) -> PResult<(OA, OB, OC, OD, OF)> {
@@ -349,9 +384,11 @@ impl<
     F: Parser<'src, I, OF, E>,
     G: Parser<'src, I, OG, E>,
 > Parser<'src, I, (OA, OB, OC, OD, OF, OG), E> for Group<(A, B, C, D, F, G)> {
-    ghost use Rattle.chumsky_parser.specs.Language.{of_unsaid};
+    ghost use Rattle.std.specs.Prelude.{refl};
+    ghost use Rattle.chumsky_group.specs.GroupLanguage.{regrouped_language, first-accepts, and-accepts, group-accepts};
+    ghost use Rattle.chumsky_parser.specs.SequenceLanguage.{then_language};
     ghost use Rattle.chumsky_parser.specs.Laws.{sequence-ends};
-    ghost use Rattle.chumsky_group.specs.Regrouped.{six_of_pairs, And, Grouped};
+    ghost use Rattle.chumsky_group.specs.Regrouped.{six_of_pairs, pairs_of_six, And, Grouped};
     ghost use Rattle.chumsky_group.specs.RegroupedLaws.{first-agrees, and-agrees, regrouped-ends, regrouped-agrees};
 
     ghost ready = { λ p. let t = p.parsers in
@@ -368,6 +405,9 @@ impl<
         A.same t.0 v.0 w.0 × B.same t.1 v.1 w.1 × C.same t.2 v.2 w.2 × D.same t.3 v.3 w.3 ×
         F.same t.4 v.4 w.4 × G.same t.5 v.5 w.5 };
 
+    ghost language = { λ p. let t = p.parsers in
+        regrouped_language pairs_of_six (then_language (then_language (then_language (then_language (then_language (A.language t.0) (B.language t.1)) (C.language t.2)) (D.language t.3)) (F.language t.4)) (G.language t.5)) };
+
     ghost ends_after_start = { λ p. let t = p.parsers in
         regrouped-ends _ _ (sequence-ends _ _ (sequence-ends _ _ (sequence-ends _ _
         (sequence-ends _ _ (sequence-ends _ _ (A.ends_after_start t.0)
@@ -379,7 +419,13 @@ impl<
         (and-agrees (and-agrees (first-agrees (A.agrees t.0 s.0)) (B.agrees t.1 s.1))
         (C.agrees t.2 s.2)) (D.agrees t.3 s.3)) (F.agrees t.4 s.4)) (G.agrees t.5 s.5)) };
 
-    ghost accepts = { λ _. of_unsaid };
+    ghost accepts = { λ p. let t = p.parsers in
+        group-accepts six_of_pairs pairs_of_six (λ v. refl) (and-accepts (and-accepts (and-accepts (and-accepts (and-accepts (first-accepts (A.ends_after_start t.0) (A.accepts t.0))
+        (B.ends_after_start t.1) (B.accepts t.1))
+        (C.ends_after_start t.2) (C.accepts t.2))
+        (D.ends_after_start t.3) (D.accepts t.3))
+        (F.ends_after_start t.4) (F.accepts t.4))
+        (G.ends_after_start t.5) (G.accepts t.5)) };
 
     #[inline(always)]
     fn go_emit(&self, inp: &mut InputRef<'src, '_, I, E>) -> PResult<(OA, OB, OC, OD, OF, OG)> {
@@ -443,9 +489,11 @@ impl<
     G: Parser<'src, I, OG, E>,
     H: Parser<'src, I, OH, E>,
 > Parser<'src, I, (OA, OB, OC, OD, OF, OG, OH), E> for Group<(A, B, C, D, F, G, H)> {
-    ghost use Rattle.chumsky_parser.specs.Language.{of_unsaid};
+    ghost use Rattle.std.specs.Prelude.{refl};
+    ghost use Rattle.chumsky_group.specs.GroupLanguage.{regrouped_language, first-accepts, and-accepts, group-accepts};
+    ghost use Rattle.chumsky_parser.specs.SequenceLanguage.{then_language};
     ghost use Rattle.chumsky_parser.specs.Laws.{sequence-ends};
-    ghost use Rattle.chumsky_group.specs.Regrouped.{seven_of_pairs, And, Grouped};
+    ghost use Rattle.chumsky_group.specs.Regrouped.{seven_of_pairs, pairs_of_seven, And, Grouped};
     ghost use Rattle.chumsky_group.specs.RegroupedLaws.{first-agrees, and-agrees, regrouped-ends, regrouped-agrees};
 
     ghost ready = { λ p. let t = p.parsers in
@@ -464,6 +512,9 @@ impl<
         A.same t.0 v.0 w.0 × B.same t.1 v.1 w.1 × C.same t.2 v.2 w.2 × D.same t.3 v.3 w.3 ×
         F.same t.4 v.4 w.4 × G.same t.5 v.5 w.5 × H.same t.6 v.6 w.6 };
 
+    ghost language = { λ p. let t = p.parsers in
+        regrouped_language pairs_of_seven (then_language (then_language (then_language (then_language (then_language (then_language (A.language t.0) (B.language t.1)) (C.language t.2)) (D.language t.3)) (F.language t.4)) (G.language t.5)) (H.language t.6)) };
+
     ghost ends_after_start = { λ p. let t = p.parsers in
         regrouped-ends _ _ (sequence-ends _ _ (sequence-ends _ _ (sequence-ends _ _
         (sequence-ends _ _ (sequence-ends _ _ (sequence-ends _ _ (A.ends_after_start t.0)
@@ -476,7 +527,14 @@ impl<
         (B.agrees t.1 s.1)) (C.agrees t.2 s.2)) (D.agrees t.3 s.3)) (F.agrees t.4 s.4))
         (G.agrees t.5 s.5)) (H.agrees t.6 s.6)) };
 
-    ghost accepts = { λ _. of_unsaid };
+    ghost accepts = { λ p. let t = p.parsers in
+        group-accepts seven_of_pairs pairs_of_seven (λ v. refl) (and-accepts (and-accepts (and-accepts (and-accepts (and-accepts (and-accepts (first-accepts (A.ends_after_start t.0) (A.accepts t.0))
+        (B.ends_after_start t.1) (B.accepts t.1))
+        (C.ends_after_start t.2) (C.accepts t.2))
+        (D.ends_after_start t.3) (D.accepts t.3))
+        (F.ends_after_start t.4) (F.accepts t.4))
+        (G.ends_after_start t.5) (G.accepts t.5))
+        (H.ends_after_start t.6) (H.accepts t.6)) };
 
     #[inline(always)]
     fn go_emit(&self, inp: &mut InputRef<'src, '_, I, E>) -> PResult<(OA, OB, OC, OD, OF, OG, OH)> {
@@ -546,9 +604,11 @@ impl<
     H: Parser<'src, I, OH, E>,
     J: Parser<'src, I, OJ, E>,
 > Parser<'src, I, (OA, OB, OC, OD, OF, OG, OH, OJ), E> for Group<(A, B, C, D, F, G, H, J)> {
-    ghost use Rattle.chumsky_parser.specs.Language.{of_unsaid};
+    ghost use Rattle.std.specs.Prelude.{refl};
+    ghost use Rattle.chumsky_group.specs.GroupLanguage.{regrouped_language, first-accepts, and-accepts, group-accepts};
+    ghost use Rattle.chumsky_parser.specs.SequenceLanguage.{then_language};
     ghost use Rattle.chumsky_parser.specs.Laws.{sequence-ends};
-    ghost use Rattle.chumsky_group.specs.Regrouped.{eight_of_pairs, And, Grouped};
+    ghost use Rattle.chumsky_group.specs.Regrouped.{eight_of_pairs, pairs_of_eight, And, Grouped};
     ghost use Rattle.chumsky_group.specs.RegroupedLaws.{first-agrees, and-agrees, regrouped-ends, regrouped-agrees};
 
     ghost ready = { λ p. let t = p.parsers in
@@ -568,6 +628,9 @@ impl<
         A.same t.0 v.0 w.0 × B.same t.1 v.1 w.1 × C.same t.2 v.2 w.2 × D.same t.3 v.3 w.3 ×
         F.same t.4 v.4 w.4 × G.same t.5 v.5 w.5 × H.same t.6 v.6 w.6 × J.same t.7 v.7 w.7 };
 
+    ghost language = { λ p. let t = p.parsers in
+        regrouped_language pairs_of_eight (then_language (then_language (then_language (then_language (then_language (then_language (then_language (A.language t.0) (B.language t.1)) (C.language t.2)) (D.language t.3)) (F.language t.4)) (G.language t.5)) (H.language t.6)) (J.language t.7)) };
+
     ghost ends_after_start = { λ p. let t = p.parsers in
         regrouped-ends _ _ (sequence-ends _ _ (sequence-ends _ _ (sequence-ends _ _
         (sequence-ends _ _ (sequence-ends _ _ (sequence-ends _ _ (sequence-ends _ _
@@ -581,7 +644,15 @@ impl<
         (B.agrees t.1 s.1)) (C.agrees t.2 s.2)) (D.agrees t.3 s.3)) (F.agrees t.4 s.4))
         (G.agrees t.5 s.5)) (H.agrees t.6 s.6)) (J.agrees t.7 s.7)) };
 
-    ghost accepts = { λ _. of_unsaid };
+    ghost accepts = { λ p. let t = p.parsers in
+        group-accepts eight_of_pairs pairs_of_eight (λ v. refl) (and-accepts (and-accepts (and-accepts (and-accepts (and-accepts (and-accepts (and-accepts (first-accepts (A.ends_after_start t.0) (A.accepts t.0))
+        (B.ends_after_start t.1) (B.accepts t.1))
+        (C.ends_after_start t.2) (C.accepts t.2))
+        (D.ends_after_start t.3) (D.accepts t.3))
+        (F.ends_after_start t.4) (F.accepts t.4))
+        (G.ends_after_start t.5) (G.accepts t.5))
+        (H.ends_after_start t.6) (H.accepts t.6))
+        (J.ends_after_start t.7) (J.accepts t.7)) };
 
     #[inline(always)]
     fn go_emit(
