@@ -48,7 +48,7 @@ impl<'src> MovingRecursion<'src, &'src str, (), RichText> for OfPairs {
     ghost use Rattle.chumsky_primitive.specs.JustLaws.{just-ends};
     ghost use Rattle.chumsky_combinator.specs.OptionalLaws.{or_none-ends};
     ghost use Rattle.chumsky_parser.specs.ProgressLaws.{never, between-moves, ignoring_first-moves};
-    ghost use Rattle.chumsky_moves.specs.PrimitivesMove.{just-moves};
+    ghost use Rattle.chumsky_primitive.specs.PrimitivesMove.{just-moves};
 
     ghost moves = { true };
 

@@ -1,6 +1,6 @@
 -- What moves wherever it succeeds.
 -- Main words: Moves, ItemsMove. Laws: MovesLaws.antt, and a file for each kind of parsers.
-use Rattle.std.specs.Prelude.{◌≡◌, ℕ, ◌<◌, Bool, true, false, not, ◌&&◌, Option, Some, List, [], ◌∷◌, ◌⊎◌, nat_lt}
+use Rattle.std.specs.Prelude.{◌≡◌, ℕ, ◌<◌, Bool, true, false, not, ◌&&◌, Option, Some, ◌⊎◌, nat_lt}
 use Rattle.either.specs.declared.Either.{Either}
 use Rattle.either.specs.declared.Either.TheVariants.{Left, Right}
 use Rattle.chumsky_input.specs.Outcome.{Meaning, Beginning, Outcome, Yes}
@@ -11,11 +11,6 @@ use Rattle.chumsky_items.specs.Repeating.{at_cap}
 -- making an iteration moves, or the first step of each that was made does
 pub record ItemsMove {Tok Cx St Er S V : Type 0} (begins : Meaning Tok Cx St Er S) (gives : S → Meaning Tok Cx St Er (Next S V)) : Type 0 where
   pub by : Moves begins ⊎ ((b : Beginning Tok Cx St) (p : Outcome S Er St) (s : S) → begins b p → p.verdict ≡ Yes (Some s) → Moves (gives s))
-
--- there is a member
-abbrev pub has_members : {T : Type 0} → List T → Bool
-has_members [] = false
-has_members (x ∷ xs) = true
 
 -- a list with this least number of items and this cap has one at least
 abbrev pub has_an_item : ℕ → Option ℕ → Bool

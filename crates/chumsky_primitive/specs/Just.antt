@@ -19,6 +19,11 @@ abbrev pub told : {Tok St : Type 0} → (St → Tok → St) → Option Tok → S
 told after None s = s
 told after (Some t) s = after s t
 
+-- there is a member
+abbrev pub has_members : {T : Type 0} → List T → Bool
+has_members [] = false
+has_members (x ∷ xs) = true
+
 -- what was found is a token that equals the member
 abbrev pub is_member : {Tok : Type 0} → (Tok → Tok → Bool) → Tok → Option Tok → Bool
 is_member equal m None = false

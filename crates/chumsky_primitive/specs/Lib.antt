@@ -14,3 +14,7 @@ pub mod SelectLaws
 pub mod Custom
 pub mod CustomLaws
 pub mod EndLanguage
+pub mod PrimitivesMove
+pub mod PrimitivesSpare
+pub mod PrimitiveLanguage
+pub mod PrimitiveLanguageLaws

@@ -17,10 +17,12 @@ pub struct Any<I, E> {
 impl<I: Tokens, E> IsParser<I, I::Token, E> for Any<I, E> {}
 
 impl<'src, I: ValueInput<'src>, E: ParserExtra<I>> Parser<'src, I, I::Token, E> for Any<I, E> {
-    ghost use Rattle.chumsky_parser.specs.Language.{of_unsaid};
     ghost use Rattle.std.specs.Prelude.{◌≡◌, ⊤};
     ghost use Rattle.chumsky_primitive.specs.Any.{MeansAny, CountsAs};
     ghost use Rattle.chumsky_primitive.specs.AnyLaws.{any-ends, any-agrees, counts-same};
+    ghost use Rattle.std.specs.Prelude.{true};
+    ghost use Rattle.chumsky_primitive.specs.PrimitiveLanguage.{one_language};
+    ghost use Rattle.chumsky_primitive.specs.PrimitiveLanguageLaws.{any-accepts};
 
     ghost ready = { λ _. ⊤ };
 
@@ -30,11 +32,13 @@ impl<'src, I: ValueInput<'src>, E: ParserExtra<I>> Parser<'src, I, I::Token, E> 
 
     ghost same = { λ _ v w. I.seen v ≡ I.seen w };
 
+    ghost language = { λ _. one_language (λ t. true) (CountsAs I.seen) ((t : I.Token) → I.takes_no_memory t) };
+
     ghost ends_after_start = { λ _. any-ends _ _ _ _ _ };
 
     ghost agrees = { λ _ _. any-agrees _ _ _ _ _ _ (counts-same I.seen) };
 
-    ghost accepts = { λ _. of_unsaid };
+    ghost accepts = { λ _. any-accepts _ _ _ _ _ };
 
     #[inline(always)]
     fn go_emit(&self, inp: &mut InputRef<'src, '_, I, E>) -> PResult<I::Token> {

@@ -18,10 +18,12 @@ impl<'src, I: BorrowInput<'src>, E> IsParser<I, &'src I::Token, E> for AnyRef<I,
 
 impl<'src, I: BorrowInput<'src>, E: ParserExtra<I>> Parser<'src, I, &'src I::Token, E>
     for AnyRef<I, E> {
-    ghost use Rattle.chumsky_parser.specs.Language.{of_unsaid};
     ghost use Rattle.std.specs.Prelude.{◌≡◌, ⊤};
     ghost use Rattle.chumsky_primitive.specs.Any.{MeansAny, PointsTo};
     ghost use Rattle.chumsky_primitive.specs.AnyLaws.{any-ends, any-agrees, points-same};
+    ghost use Rattle.std.specs.Prelude.{true};
+    ghost use Rattle.chumsky_primitive.specs.PrimitiveLanguage.{one_language};
+    ghost use Rattle.chumsky_primitive.specs.PrimitiveLanguageLaws.{any-accepts};
 
     ghost ready = { λ _. ⊤ };
 
@@ -31,11 +33,13 @@ impl<'src, I: BorrowInput<'src>, E: ParserExtra<I>> Parser<'src, I, &'src I::Tok
 
     ghost same = { λ _ v w. v.now ≡ w.now };
 
+    ghost language = { λ _. one_language (λ t. true) PointsTo (I.Token → ⊤) };
+
     ghost ends_after_start = { λ _. any-ends _ _ _ _ _ };
 
     ghost agrees = { λ _ _. any-agrees _ _ _ _ _ _ points-same };
 
-    ghost accepts = { λ _. of_unsaid };
+    ghost accepts = { λ _. any-accepts _ _ _ _ _ };
 
     #[inline(always)]
     fn go_emit(&self, inp: &mut InputRef<'src, '_, I, E>) -> PResult<&'src I::Token> {

@@ -16,11 +16,12 @@ pub struct Empty<I, E> {
 impl<I, E> IsParser<I, (), E> for Empty<I, E> {}
 
 impl<'src, I: Input<'src>, E: ParserExtra<I>> Parser<'src, I, (), E> for Empty<I, E> {
-    ghost use Rattle.chumsky_parser.specs.Language.{of_unsaid};
     ghost use Rattle.std.specs.Prelude.{⊤};
     ghost use Rattle.chumsky_parser.specs.FailureLaws.{SameUnit};
     ghost use Rattle.chumsky_primitive.specs.Empty.{MeansEmpty};
     ghost use Rattle.chumsky_primitive.specs.EmptyLaws.{empty-ends, empty-agrees};
+    ghost use Rattle.chumsky_primitive.specs.PrimitiveLanguage.{nothing_language};
+    ghost use Rattle.chumsky_primitive.specs.PrimitiveLanguageLaws.{empty-accepts};
 
     ghost ready = { λ _. ⊤ };
 
@@ -30,11 +31,13 @@ impl<'src, I: Input<'src>, E: ParserExtra<I>> Parser<'src, I, (), E> for Empty<I
 
     ghost same = { λ _. SameUnit };
 
+    ghost language = { λ _. nothing_language };
+
     ghost ends_after_start = { λ _. empty-ends };
 
     ghost agrees = { λ _ _. empty-agrees };
 
-    ghost accepts = { λ _. of_unsaid };
+    ghost accepts = { λ _. empty-accepts };
 
     #[inline]
     fn go_emit(&self, inp: &mut InputRef<'src, '_, I, E>) -> PResult<()> {

@@ -28,11 +28,12 @@ impl<'src, T: OrderedSeq<I::Token> + Clone, I: Input<'src>, E: ParserExtra<I>> P
 where
     I::Token: PartialEq,
 {
-    ghost use Rattle.chumsky_parser.specs.Language.{of_unsaid};
     ghost use Rattle.std.specs.Prelude.{⊤};
     ghost use Rattle.chumsky_parser.specs.Copied.{BothCopies};
     ghost use Rattle.chumsky_primitive.specs.Just.{MeansJust};
     ghost use Rattle.chumsky_primitive.specs.JustLaws.{just-ends, just-agrees};
+    ghost use Rattle.chumsky_primitive.specs.PrimitiveLanguage.{literal_language};
+    ghost use Rattle.chumsky_primitive.specs.PrimitiveLanguageLaws.{just-accepts};
 
     ghost ready = { λ _. ⊤ };
 
@@ -42,11 +43,13 @@ where
 
     ghost same = { λ p. BothCopies (T.is_clone p.seq) };
 
+    ghost language = { λ p. literal_language I.Token.eq (T.members p.seq) (T.is_clone p.seq) (T.is_infallible p.seq) };
+
     ghost ends_after_start = { λ p. just-ends _ _ _ _ _ _ (T.members p.seq) };
 
     ghost agrees = { λ p _. just-agrees _ _ _ _ _ _ (T.members p.seq) };
 
-    ghost accepts = { λ _. of_unsaid };
+    ghost accepts = { λ p. just-accepts _ _ _ _ _ _ (T.members p.seq) };
 
     #[inline(always)]
     fn go_emit(&self, inp: &mut InputRef<'src, '_, I, E>) -> PResult<T> {

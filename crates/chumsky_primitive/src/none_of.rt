@@ -32,10 +32,12 @@ impl<'src, S: Seq<I::Token>, I: ValueInput<'src>, E: ParserExtra<I>> Parser<'src
 where
     I::Token: PartialEq,
 {
-    ghost use Rattle.chumsky_parser.specs.Language.{of_unsaid};
     ghost use Rattle.std.specs.Prelude.{⊤};
     ghost use Rattle.chumsky_primitive.specs.OneOf.{MeansNoneOf};
     ghost use Rattle.chumsky_primitive.specs.OneOfLaws.{tested-ends, tested-agrees};
+    ghost use Rattle.chumsky_primitive.specs.PrimitiveLanguage.{one_language};
+    ghost use Rattle.chumsky_primitive.specs.PrimitiveLanguageLaws.{tested-accepts};
+    ghost use Rattle.chumsky_primitive.specs.Any.{CountsAs};
 
     ghost ready = { λ _. ⊤ };
 
@@ -45,11 +47,13 @@ where
 
     ghost same = { λ _ v w. I.seen v ≡ I.seen w };
 
+    ghost language = { λ p. one_language (outside I.Token.eq (S.members p.seq)) (CountsAs I.seen) ((t : I.Token) → I.takes_no_memory t) };
+
     ghost ends_after_start = { λ p. tested-ends _ _ _ _ _ (wanted.SomethingElse ∷ []) (outside I.Token.eq (S.members p.seq)) };
 
     ghost agrees = { λ p _. tested-agrees _ _ _ _ _ (wanted.SomethingElse ∷ []) (outside I.Token.eq (S.members p.seq)) };
 
-    ghost accepts = { λ _. of_unsaid };
+    ghost accepts = { λ p. tested-accepts _ _ _ _ _ (outside I.Token.eq (S.members p.seq)) _ };
 
     #[inline(always)]
     fn go_emit(&self, inp: &mut InputRef<'src, '_, I, E>) -> PResult<I::Token> {

@@ -33,9 +33,10 @@ where
     E: ParserExtra<I>,
     F: Fn(&'src I::Token, &mut MapExtra<'src, '_, I, E>) -> Option<O>,
 {
-    ghost use Rattle.chumsky_parser.specs.Language.{of_unsaid};
     ghost use Rattle.chumsky_primitive.specs.Select.{PicksAlike, SamePicked};
     ghost use Rattle.chumsky_primitive.specs.SelectLaws.{select-ends, select-agrees};
+    ghost use Rattle.chumsky_primitive.specs.PrimitiveLanguage.{some_token};
+    ghost use Rattle.chumsky_primitive.specs.PrimitiveLanguageLaws.{select-accepts};
 
     ghost ready = { λ p. KeepsState I.Input E.State.Inspector F.Fn p.filter };
 
@@ -45,11 +46,13 @@ where
 
     ghost same = { λ p. SamePicked (PicksRef I.Input E.State.Inspector F.Fn p.filter) };
 
+    ghost language = { λ _. some_token (I.Token → ⊤) };
+
     ghost ends_after_start = { λ p. select-ends _ _ _ _ _ };
 
     ghost agrees = { λ p s. select-agrees _ _ _ _ _ s };
 
-    ghost accepts = { λ _. of_unsaid };
+    ghost accepts = { λ p. select-accepts _ _ _ _ _ };
 
     #[inline]
     fn go_emit(&self, inp: &mut InputRef<'src, '_, I, E>) -> PResult<O> {

@@ -1,4 +1,4 @@
-use Rattle.chumsky_memory.specs.PrimitivesSpare.{any-spares}
+use Rattle.chumsky_primitive.specs.PrimitivesSpare.{any-spares}
 use Rattle.chumsky_memory.proofs.laws.any_is_never_out_of_memory.Goals as goal
 
 pub returns : goal.returns

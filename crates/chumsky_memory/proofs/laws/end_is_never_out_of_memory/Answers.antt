@@ -1,4 +1,4 @@
-use Rattle.chumsky_memory.specs.PrimitivesSpare.{empty-spares}
+use Rattle.chumsky_primitive.specs.PrimitivesSpare.{empty-spares}
 use Rattle.chumsky_primitive.specs.EndLanguage.{end-spares}
 use Rattle.chumsky_memory.proofs.laws.end_is_never_out_of_memory.Goals as goal
 

@@ -1,4 +1,4 @@
-use Rattle.chumsky_memory.specs.PrimitivesSpare.{just-spares}
+use Rattle.chumsky_primitive.specs.PrimitivesSpare.{just-spares}
 use Rattle.chumsky_memory.proofs.laws.just_is_never_out_of_memory.Goals as goal
 
 pub returns : goal.returns

@@ -1,4 +1,4 @@
-use Rattle.chumsky_memory.specs.PrimitivesSpare.{tested-spares}
+use Rattle.chumsky_primitive.specs.PrimitivesSpare.{tested-spares}
 use Rattle.chumsky_memory.proofs.laws.one_of_is_never_out_of_memory.Goals as goal
 
 pub returns-clause-one_of : goal.returns-clause-one_of

@@ -1,6 +1,6 @@
 -- Primitives are never refused for memory where tokens, errors and states take none.
 -- Main laws: any-spares, tested-spares, just-spares. Read first: Memory.antt, MemoryLaws.antt.
-use Rattle.std.proofs.Common.{◌≡◌, ℕ, Bool, true, false, Option, Some, None, List, [], ◌∷◌, inl, inr, ap}
+use Rattle.std.proofs.Common.{Bool, true, false, Option, Some, None, List, [], ◌∷◌, inl, inr, ap}
 use Rattle.std.specs.Prelude.{slice_get}
 use Rattle.chumsky_input.specs.declared.error.Error as error_trait
 use Rattle.chumsky_input.specs.declared.inspector.Inspector as inspector_trait
@@ -13,6 +13,7 @@ use Rattle.chumsky_primitive.specs.Empty.{MeansEmpty}
 use Rattle.chumsky_primitive.specs.Just.{MeansMemberFound, MeansMember, MeansMembers, MeansJust, is_member}
 use Rattle.chumsky_primitive.specs.OneOf.{MeansTested, passes}
 use Rattle.chumsky_primitive.specs.OneOf as one_of
+use Rattle.chumsky_primitive.specs.Select.{Picks, MeansAnswer, MeansSelect, MeansSelectAt}
 use Rattle.chumsky_parser.specs.Memory.{SparesMemory, NeverOutOfMemory}
 use Rattle.chumsky_parser.specs.MemoryLaws.{misses-spares, given-spares, copy-spares, chained-spares}
 
@@ -40,6 +41,20 @@ module _ {I Tok Sp Cu Er St Mk Cx : Type 0} (source : input_trait.Ghosts I Cu To
 
       pub tested-spares : (test : Tok → Bool) (what : List (Wanted Tok)) → NeverOutOfMemory (MeansTested {Cx = Cx} source seen safe errors states test what)
       tested-spares test what b o m = found-spares what (slice_get b.tokens.list b.start) (passes test (slice_get b.tokens.list b.start)) b o m.by_token
+
+    module _ {V : Type 0} (safe : Tok → Type 0) (free : (t : Tok) → safe t) (picks : Picks Tok Cx states.Seen V) where
+      answer-spares : (t : Tok) (r : Option V) (s : states.Seen) (b : Beginning Tok Cx states.Seen) (o : Outcome V errors.Seen states.Seen) → MeansAnswer source safe errors states t r s b o → SparesMemory o.verdict
+      answer-spares t (Some v) s b o e = rw (ap (λ (z : Outcome V errors.Seen states.Seen). z.verdict) e) tt
+      answer-spares t None s b o (inl r) = absurd (r.0 still)
+      answer-spares t None s b o (inr m) = misses-spares quiet m
+
+      select_at-spares : (found : Option Tok) (b : Beginning Tok Cx states.Seen) (o : Outcome V errors.Seen states.Seen) → MeansSelectAt source safe errors states picks found b o → SparesMemory o.verdict
+      select_at-spares (Some t) b o (inl r) = absurd (r.0 (free t))
+      select_at-spares (Some t) b o (inr m) = answer-spares t m.answer m.state b o m.outcome
+      select_at-spares None b o m = misses-spares quiet m
+
+      pub select-spares : NeverOutOfMemory (MeansSelect source safe errors states picks)
+      select-spares b o m = elim m.by_token [ inl r ↦ absurd (r.0 still) | inr k ↦ select_at-spares (slice_get b.tokens.list b.start) b o k ]
 
     module _ (equal : Tok → Tok → Bool) where
       member_found-spares : (m : Tok) (found : Option Tok) (is : Bool) (b : Beginning Tok Cx states.Seen) (o : Outcome (Unit {0}) errors.Seen states.Seen) → MeansMemberFound source equal errors states m found is b o → SparesMemory o.verdict

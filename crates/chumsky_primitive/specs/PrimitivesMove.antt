@@ -1,5 +1,5 @@
 -- Primitives that move where they succeed: each takes a token.
--- Main laws: any-moves, tested-moves, select-moves, just-moves. Read first: Moves.antt, MovesLaws.antt.
+-- Main laws: any-moves, tested-moves, select-moves, just-moves. Read first: Any.antt, OneOf.antt, Select.antt, Just.antt.
 use Rattle.std.proofs.Common.{◌≡◌, ℕ, ◌≤◌, ◌<◌, Bool, true, false, Option, Some, None, List, [], ◌∷◌, ap, subst, arith, inl, inr}
 use Rattle.chumsky_input.specs.declared.error.Error as error_trait
 use Rattle.chumsky_input.specs.declared.inspector.Inspector as inspector_trait
@@ -12,11 +12,9 @@ use Rattle.chumsky_parser.specs.Laws.{chained-ends, given-ends}
 use Rattle.chumsky_primitive.specs.Any.{MeansAny, MeansAnyAt, CountsAs}
 use Rattle.chumsky_primitive.specs.OneOf as one_of
 use Rattle.chumsky_primitive.specs.OneOf.{MeansTested}
-use Rattle.chumsky_primitive.specs.Just.{past, is_member, MeansMemberFound, MeansMember, MeansMembers, MeansJust}
+use Rattle.chumsky_primitive.specs.Just.{has_members, past, is_member, MeansMemberFound, MeansMember, MeansMembers, MeansJust}
 use Rattle.chumsky_primitive.specs.Select.{Picks, MeansAnswer, MeansSelect, MeansSelectAt}
-use Rattle.chumsky_parser.specs.Progress.{IsYes}
-use Rattle.chumsky_moves.specs.Moves.{has_members}
-use Rattle.chumsky_parser.specs.Progress.{Moves}
+use Rattle.chumsky_parser.specs.Progress.{IsYes, Moves}
 use Rattle.chumsky_parser.specs.ProgressLaws.{misses-no, chained-first}
 
 module _ {I Tok Sp Cu Er St Mk Cx V : Type 0} (source : input_trait.Ghosts I Cu Tok Sp) (IsOf : Tok → V → Type 0) (safe : Tok → Type 0) (errors : error_trait.Ghosts Er I Tok Sp) (states : inspector_trait.Ghosts St I Mk Tok Sp) where
