@@ -1,4 +1,4 @@
-use Rattle.chumsky_memory.specs.ItemsSpare.{counts-spare}
+use Rattle.chumsky_items.specs.ItemsSpare.{counts-spare}
 use Rattle.chumsky_memory.proofs.laws.count_is_never_out_of_memory.Goals as goal
 
 pub returns : goal.returns

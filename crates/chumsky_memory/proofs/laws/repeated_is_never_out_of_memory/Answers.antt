@@ -1,6 +1,6 @@
 use Rattle.std.specs.Prelude.{false}
 use Rattle.chumsky_parser.specs.MemoryLaws.{given-spares, gives-spares, ignoring_first-spares}
-use Rattle.chumsky_memory.specs.ItemsSpare.{repeats-spare, passes-spare}
+use Rattle.chumsky_items.specs.ItemsSpare.{repeats-spare, passes-spare}
 use Rattle.chumsky_memory.proofs.laws.repeated_is_never_out_of_memory.Goals as goal
 
 pub returns-clause-items : goal.returns-clause-items

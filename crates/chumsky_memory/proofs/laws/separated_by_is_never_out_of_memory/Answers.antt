@@ -1,5 +1,5 @@
 use Rattle.chumsky_parser.specs.MemoryLaws.{given-spares, gives-spares, ignoring_first-spares}
-use Rattle.chumsky_memory.specs.ItemsSpare.{separates-spare, passes-spare}
+use Rattle.chumsky_items.specs.ItemsSpare.{separates-spare, passes-spare}
 use Rattle.chumsky_memory.proofs.laws.separated_by_is_never_out_of_memory.Goals as goal
 
 pub returns-clause-items : goal.returns-clause-items
