@@ -68,7 +68,7 @@ where
     A: Parser<'src, I, O, E>,
     F: MapperWith<'src, I, O, U, E>,
 {
-    ghost use Rattle.chumsky_parser.specs.Language.{of_unsaid};
+    ghost use Rattle.chumsky_combinator.specs.MappedWithLanguage.{map_with_language, map_with-accepts};
     ghost use Rattle.chumsky_parser.specs.Showing.{OnlyAnswers, SameShown};
     ghost use Rattle.chumsky_combinator.specs.MappedWith.{MappedWith};
     ghost use Rattle.chumsky_combinator.specs.MappedWithLaws.{mapped_with-ends, mapped_with-agrees};
@@ -81,11 +81,13 @@ where
 
     ghost same = { λ p. SameShown (F.gives p.mapper E.State.Inspector) (A.same p.parser) };
 
+    ghost language = { λ p. map_with_language (F.gives p.mapper E.State.Inspector) (A.language p.parser) };
+
     ghost ends_after_start = { λ p. mapped_with-ends _ _ (A.ends_after_start p.parser) };
 
     ghost agrees = { λ p s. mapped_with-agrees _ s.1 (A.same p.parser) _ (A.agrees p.parser s.0) };
 
-    ghost accepts = { λ _. of_unsaid };
+    ghost accepts = { λ p. map_with-accepts _ _ (A.accepts p.parser) };
 
     #[inline(always)]
     fn go_emit(&self, inp: &mut InputRef<'src, '_, I, E>) -> PResult<U> {

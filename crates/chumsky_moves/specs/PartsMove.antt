@@ -12,9 +12,6 @@ use Rattle.chumsky_parser.specs.Choice.{OrElse}
 use Rattle.chumsky_parser.specs.ChoiceLaws.{each-ends}
 use Rattle.chumsky_parser.specs.Failure.{SaysNo}
 use Rattle.chumsky_parser.specs.Laws.{chained-ends, given-ends, sequence-ends}
-use Rattle.chumsky_parser.specs.Showing.{GivesShown, GivenShown}
-use Rattle.chumsky_parser.specs.ShowingLaws.{shown-ends}
-use Rattle.chumsky_combinator.specs.MappedWith.{MappedWith}
 use Rattle.chumsky_combinator.specs.Part.{Onward}
 use Rattle.chumsky_group.specs.InTurn.{InTurn, item_before}
 use Rattle.chumsky_group.specs.InTurnLaws.{in_turn-ends}
@@ -38,9 +35,6 @@ module _ {Tok Cx St Er : Type 0} where
 
   pub onward-moves : {V : Type 0} (m : Meaning Tok Cx St Er V) → Moves m → Moves (Onward m)
   onward-moves m h b o k y = h b o k.means y
-
-  pub mapped_with-moves : {V W : Type 0} (gives : GivesShown Tok Cx St V W) (part : Meaning Tok Cx St Er V) → Moves part → Moves (MappedWith gives part)
-  mapped_with-moves gives part h b o m y = chained-first part (GivenShown gives b.start) h (shown-ends gives b.start) b o m.run y
 
 module _ {V Er St : Type 0} where
   pub clash-yes : {whole o : Outcome V Er St} → OrClash whole o → IsYes o.verdict → o ≡ whole

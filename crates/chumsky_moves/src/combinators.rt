@@ -84,7 +84,7 @@ where
     A: Moving<'src, I, O, E>,
     F: MapperWith<'src, I, O, U, E>,
 {
-    ghost use Rattle.chumsky_moves.specs.PartsMove.{mapped_with-moves};
+    ghost use Rattle.chumsky_combinator.specs.MappedWithLaws.{mapped_with-moves};
 
     ghost moves = { λ p. A.moves p.parser };
 

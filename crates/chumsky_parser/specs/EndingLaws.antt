@@ -1,5 +1,5 @@
 -- Where parts end that run one after another, and with which values.
--- Main laws: chained-here, given-here, asked-here, weaker-here, refuses-by, misses-by, copy-by, then-by, ignore_then-by, then_ignore-by. Read first: Ending.antt, Words.antt.
+-- Main laws: chained-here, chained-on, given-here, asked-here, weaker-here, refuses-by, misses-by, copy-by, then-by, ignore_then-by, then_ignore-by. Read first: Ending.antt, Words.antt.
 use Rattle.std.proofs.Common.{◌≡◌, ℕ, Bool, true, false, Option, Some, None, List, drop, refl, subst, ◌⊎◌, inl, inr}
 use Rattle.std.specs.Prelude.{option_map}
 use Rattle.chumsky_input.specs.declared.stop.Stop.TheVariants.{Memory}
@@ -56,11 +56,15 @@ module _ {Tok Cx St Er V W : Type 0} (P : V → Type 0) (Q : W → Type 0) (part
   abbrev pub FollowsHere : Beginning Tok Cx St → Type 0
   FollowsHere b = (v : Option V) (c : Beginning Tok Cx St) → Within c → x ≡ At (drop c.start c.tokens.list) → IfValue P v → Here Q (next v) (g (drop c.start c.tokens.list)) c
 
-  chained_by : (b : Beginning Tok Cx St) → Within b → Here P part x b → FollowsHere b → (o : Outcome W Er St) (p : Outcome V Er St) (u : Verdict V Er) → p.verdict ≡ u → part b p → Follows u next b p o
+  -- the same, where the tokens are known to be the same
+  abbrev pub FollowsOn : Beginning Tok Cx St → Type 0
+  FollowsOn b = (v : Option V) (c : Beginning Tok Cx St) → Within c → c.tokens ≡ b.tokens → x ≡ At (drop c.start c.tokens.list) → IfValue P v → Here Q (next v) (g (drop c.start c.tokens.list)) c
+
+  chained_by : (b : Beginning Tok Cx St) → Within b → Here P part x b → FollowsOn b → (o : Outcome W Er St) (p : Outcome V Er St) (u : Verdict V Er) → p.verdict ≡ u → part b p → Follows u next b p o
       → Answers Q (and_then g x) b.tokens.list o.verdict o.end
   chained_by b w h k o p (Yes v) e m f =
       let y : Answers P {Er = Er} x b.tokens.list (Yes v) p.end = subst (λ u. Answers P {Er = Er} x b.tokens.list u p.end) e (h p m) in
-      let z : Answers Q (g (drop p.end b.tokens.list)) b.tokens.list f.0.verdict f.0.end = k v (from b p) (record { start = y.2; few = w.few }) y.0 y.1 f.0 f.1 in
+      let z : Answers Q (g (drop p.end b.tokens.list)) b.tokens.list f.0.verdict f.0.end = k v (from b p) (record { start = y.2; few = w.few }) refl y.0 y.1 f.0 f.1 in
       rw (f.2, y.0) z
   chained_by b w h k o p No e m f =
       let y : x ≡ Nowhere = subst (λ u. Answers P {Er = Er} x b.tokens.list u p.end) e (h p m) in
@@ -71,9 +75,13 @@ module _ {Tok Cx St Er V W : Type 0} (P : V → Type 0) (Q : W → Type 0) (part
       rw f z
   chained_by b w h k o p (Clash c) e m f = rw f tt
 
+  -- a part, and then what follows its value, of the same tokens
+  pub chained-on : (b : Beginning Tok Cx St) → Within b → Here P part x b → FollowsOn b → Here Q (Chained part next) (and_then g x) b
+  chained-on b w h k o m = chained_by b w h k o m.first m.first.verdict refl m.meant m.follows
+
   -- a part, and then what follows its value
   pub chained-here : (b : Beginning Tok Cx St) → Within b → Here P part x b → FollowsHere b → Here Q (Chained part next) (and_then g x) b
-  chained-here b w h k o m = chained_by b w h k o m.first m.first.verdict refl m.meant m.follows
+  chained-here b w h k = chained-on b w h (λ v c y t e i. k v c y e i)
 
 pub given-here : {Tok Cx St V : Type 0} (Er : Type 0) (P : V → Type 0) (b : Beginning Tok Cx St) → Within b → (v : Option V) → IfValue P v
     → Here P {Er = Er} (Given {Tok = Tok} {Cx = Cx} {St = St} {Er = Er} v) (At (drop b.start b.tokens.list)) b
