@@ -18,3 +18,4 @@ pub mod PrimitivesMove
 pub mod PrimitivesSpare
 pub mod PrimitiveLanguage
 pub mod PrimitiveLanguageLaws
+pub mod Literals
