@@ -1,4 +1,3 @@
 pub mod MemoryLaws
 pub mod PartsSpare
-pub mod VettedSpare
 pub mod ByParts

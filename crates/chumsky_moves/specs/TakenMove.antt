@@ -14,7 +14,7 @@ use Rattle.chumsky_text.specs.TextRun.{SkipsRun, MeansPadded}
 use Rattle.chumsky_text.specs.TextRunLaws.{NoOrMoves}
 use Rattle.chumsky_parser.specs.Progress.{Moves}
 use Rattle.chumsky_parser.specs.ProgressLaws.{yes-answers, asked-moves, chained-first, chained-second}
-use Rattle.chumsky_moves.specs.PartsMove.{clash-yes, shielded-moves}
+use Rattle.chumsky_shield.specs.ShieldedMoves.{clash-yes, shielded-moves}
 
 module _ {Tok Cx St Er V W : Type 0} (part : Meaning Tok Cx St Er V) where
   pub covers-move : (is : Layout Tok → ℕ → ℕ → W → Type 0) → Moves part → Moves (Covers is part)

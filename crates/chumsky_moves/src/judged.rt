@@ -26,7 +26,7 @@ impl<
     A: Moving<'src, I, O, E>,
     F: Tester<O>,
 > Moving<'src, I, O, E> for Filter<A, F> {
-    ghost use Rattle.chumsky_moves.specs.PartsMove.{vetted-moves};
+    ghost use Rattle.chumsky_shield.specs.ShieldedMoves.{vetted-moves};
 
     ghost moves = { λ p. A.moves p.parser };
 
@@ -45,7 +45,7 @@ where
     A: Moving<'src, I, O, E>,
     F: Picker<O, U>,
 {
-    ghost use Rattle.chumsky_moves.specs.PartsMove.{vetted-moves};
+    ghost use Rattle.chumsky_shield.specs.ShieldedMoves.{vetted-moves};
 
     ghost moves = { λ p. A.moves p.parser };
 
@@ -64,7 +64,7 @@ where
     A: Moving<'src, I, O, E>,
     F: TryMapper<O, I::Span, U, E::Error>,
 {
-    ghost use Rattle.chumsky_moves.specs.PartsMove.{vetted-moves};
+    ghost use Rattle.chumsky_shield.specs.ShieldedMoves.{vetted-moves};
 
     ghost moves = { λ p. A.moves p.parser };
 
@@ -83,7 +83,7 @@ where
     A: Moving<'src, I, O, E>,
     F: Fn(O, &mut MapExtra<'src, '_, I, E>) -> Result<U, E::Error>,
 {
-    ghost use Rattle.chumsky_moves.specs.PartsMove.{vetted-moves};
+    ghost use Rattle.chumsky_shield.specs.ShieldedMoves.{vetted-moves};
 
     ghost moves = { λ p. A.moves p.parser };
 
@@ -156,7 +156,7 @@ where
     A: Moving<'src, I, O, E>,
     F: Fn(E::Error) -> E::Error,
 {
-    ghost use Rattle.chumsky_moves.specs.PartsMove.{map_err-moves};
+    ghost use Rattle.chumsky_shield.specs.ShieldedMoves.{map_err-moves};
 
     ghost moves = { λ p. A.moves p.parser };
 
@@ -175,7 +175,7 @@ where
     A: Moving<'src, I, O, E>,
     F: Fn(E::Error, &mut MapExtra<'src, '_, I, E>) -> E::Error,
 {
-    ghost use Rattle.chumsky_moves.specs.PartsMove.{map_err-moves};
+    ghost use Rattle.chumsky_shield.specs.ShieldedMoves.{map_err-moves};
 
     ghost moves = { λ p. A.moves p.parser };
 
@@ -194,7 +194,7 @@ where
     A: Moving<'src, I, O, E>,
     F: Fn(E::Error, I::Span, &mut E::State) -> E::Error,
 {
-    ghost use Rattle.chumsky_moves.specs.PartsMove.{map_err-moves};
+    ghost use Rattle.chumsky_shield.specs.ShieldedMoves.{map_err-moves};
 
     ghost moves = { λ p. A.moves p.parser };
 
@@ -214,7 +214,7 @@ where
     A: Moving<'src, I, O, E>,
     B: Parser<'src, I, U, E>,
 {
-    ghost use Rattle.chumsky_moves.specs.PartsMove.{and_is-moves};
+    ghost use Rattle.chumsky_shield.specs.ShieldedMoves.{and_is-moves};
 
     ghost moves = { λ p. A.moves p.parser };
 

@@ -19,7 +19,7 @@ use Rattle.chumsky_shield.specs.Shielded.{NoAsOne}
 use Rattle.chumsky_parser.specs.Progress.{Moves}
 use Rattle.chumsky_parser.specs.ProgressLaws.{yes-answers, misses-no, asked-moves, chained-first}
 use Rattle.chumsky_parser.specs.ProgressLaws.{or_else-moves}
-use Rattle.chumsky_moves.specs.PartsMove.{clash-yes, shielded-moves}
+use Rattle.chumsky_shield.specs.ShieldedMoves.{clash-yes, shielded-moves}
 use Rattle.chumsky_recovery.specs.Recovered.{Final, Helped, ElseHelp, OrHelp, MarkedOrHelp, MeansRecovered}
 use Rattle.chumsky_recovery.specs.Turns.{Turn, Again, Last, AfterTurn, TurnsUpTo, AllTurns}
 use Rattle.chumsky_recovery.specs.TurnsLaws.{after_turn-ends, turns-end}

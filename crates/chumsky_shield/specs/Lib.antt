@@ -20,3 +20,9 @@ pub mod ValidatedLaws
 pub mod Unwrapped
 pub mod ErrorLaws
 pub mod UnwrappedLaws
+pub mod Looking
+pub mod ShieldedMoves
+pub mod ShieldedSpares
+pub mod ShieldedEndings
+pub mod LookingLaws
+pub mod ShieldedLanguage

@@ -25,9 +25,9 @@ where
     A: Parser<'src, I, O, E>,
     B: Parser<'src, I, U, E>,
 {
-    ghost use Rattle.chumsky_parser.specs.Language.{of_unsaid};
     ghost use Rattle.chumsky_shield.specs.AndIs.{MeansAndIs};
     ghost use Rattle.chumsky_shield.specs.AndIsLaws.{and_is-ends, and_is-agrees};
+    ghost use Rattle.chumsky_shield.specs.ShieldedLanguage.{and_is_language, and_is-accepts};
 
     ghost ready = { λ p. A.ready p.parser × B.ready p.other };
 
@@ -41,7 +41,9 @@ where
 
     ghost agrees = { λ p s. and_is-agrees _ _ _ _ _ (A.same p.parser) (B.same p.other) (A.agrees p.parser s.0) (B.agrees p.other s.1) };
 
-    ghost accepts = { λ _. of_unsaid };
+    ghost language = { λ p. and_is_language (A.language p.parser) (B.language p.other) };
+
+    ghost accepts = { λ p. and_is-accepts _ _ (λ q. q.1) _ _ (A.accepts p.parser) (B.accepts p.other) };
 
     #[inline]
     fn go_emit(&self, inp: &mut InputRef<'src, '_, I, E>) -> PResult<O> {

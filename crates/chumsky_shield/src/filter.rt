@@ -68,9 +68,9 @@ impl<
     A: Parser<'src, I, O, E>,
     F: Tester<O>,
 > Parser<'src, I, O, E> for Filter<A, F> {
-    ghost use Rattle.chumsky_parser.specs.Language.{of_unsaid};
     ghost use Rattle.chumsky_shield.specs.Vetted.{TestsAlike};
     ghost use Rattle.chumsky_shield.specs.VettedLaws.{vetted-ends, vetted-agrees, tests-alike};
+    ghost use Rattle.chumsky_shield.specs.ShieldedLanguage.{unsaid_over, vetted_unsaid-accepts};
 
     ghost ready = { λ p. A.ready p.parser × F.callable p.tester };
 
@@ -84,7 +84,9 @@ impl<
 
     ghost agrees = { λ p s. vetted-agrees _ _ _ _ (A.same p.parser) (A.same p.parser) (A.agrees p.parser s.0) (tests-alike _ _ (A.same p.parser) (F.gives p.tester) s.1) };
 
-    ghost accepts = { λ _. of_unsaid };
+    ghost language = { λ p. unsaid_over (A.language p.parser) };
+
+    ghost accepts = { λ p. vetted_unsaid-accepts _ _ _ _ (λ q. q.0) (A.accepts p.parser) };
 
     #[inline]
     fn go_emit(&self, inp: &mut InputRef<'src, '_, I, E>) -> PResult<O> {

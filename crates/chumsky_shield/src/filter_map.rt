@@ -72,10 +72,10 @@ where
     A: Parser<'src, I, O, E>,
     F: Picker<O, U>,
 {
-    ghost use Rattle.chumsky_parser.specs.Language.{of_unsaid};
     ghost use Rattle.chumsky_shield.specs.Tried.{FilterMapsAlike, SameFilterMapped};
     ghost use Rattle.chumsky_shield.specs.TriedLaws.{picks-alike};
     ghost use Rattle.chumsky_shield.specs.VettedLaws.{vetted-ends, vetted-agrees};
+    ghost use Rattle.chumsky_shield.specs.ShieldedLanguage.{unsaid_over, vetted_unsaid-accepts};
 
     ghost ready = { λ p. A.ready p.parser × F.callable p.picker };
 
@@ -89,7 +89,9 @@ where
 
     ghost agrees = { λ p s. vetted-agrees _ _ _ _ (A.same p.parser) _ (A.agrees p.parser s.0) (picks-alike _ _ (A.same p.parser) (F.gives p.picker) s.1) };
 
-    ghost accepts = { λ _. of_unsaid };
+    ghost language = { λ p. unsaid_over (A.language p.parser) };
+
+    ghost accepts = { λ p. vetted_unsaid-accepts _ _ _ _ (λ q. q.0) (A.accepts p.parser) };
 
     #[inline]
     fn go_emit(&self, inp: &mut InputRef<'src, '_, I, E>) -> PResult<U> {

@@ -29,9 +29,9 @@ where
     A: Parser<'src, I, O, E>,
     F: Fn(E::Error, &mut MapExtra<'src, '_, I, E>) -> E::Error,
 {
-    ghost use Rattle.chumsky_parser.specs.Language.{of_unsaid};
     ghost use Rattle.chumsky_shield.specs.MapErr.{MapsOnceShown, MeansMapErr};
     ghost use Rattle.chumsky_shield.specs.MapErrLaws.{map_err-ends, map_err-agrees};
+    ghost use Rattle.chumsky_shield.specs.ShieldedLanguage.{map_err-accepts};
 
     ghost ready = { λ p. A.ready p.parser × KeepsState I.Input E.State.Inspector F.Fn p.mapper };
 
@@ -45,7 +45,9 @@ where
 
     ghost agrees = { λ p s. map_err-agrees _ _ _ (A.same p.parser) s.1 (A.agrees p.parser s.0) };
 
-    ghost accepts = { λ _. of_unsaid };
+    ghost language = { λ p. A.language p.parser };
+
+    ghost accepts = { λ p. map_err-accepts _ _ _ (A.accepts p.parser) };
 
     #[inline]
     fn go_emit(&self, inp: &mut InputRef<'src, '_, I, E>) -> PResult<O> {

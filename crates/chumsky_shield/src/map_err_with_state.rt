@@ -28,9 +28,9 @@ where
     A: Parser<'src, I, O, E>,
     F: Fn(E::Error, I::Span, &mut E::State) -> E::Error,
 {
-    ghost use Rattle.chumsky_parser.specs.Language.{of_unsaid};
     ghost use Rattle.chumsky_shield.specs.MapErr.{MapsOnceFrom, MeansMapErr};
     ghost use Rattle.chumsky_shield.specs.MapErrLaws.{map_err-ends, map_err-agrees, spanned-once};
+    ghost use Rattle.chumsky_shield.specs.ShieldedLanguage.{map_err-accepts};
 
     ghost ready = { λ p. A.ready p.parser × F.IsAlwaysCallable p.mapper };
 
@@ -44,7 +44,9 @@ where
 
     ghost agrees = { λ p s. map_err-agrees _ _ _ (A.same p.parser) (spanned-once I.span_between s.1) (A.agrees p.parser s.0) };
 
-    ghost accepts = { λ _. of_unsaid };
+    ghost language = { λ p. A.language p.parser };
+
+    ghost accepts = { λ p. map_err-accepts _ _ _ (A.accepts p.parser) };
 
     #[inline]
     fn go_emit(&self, inp: &mut InputRef<'src, '_, I, E>) -> PResult<O> {

@@ -25,9 +25,9 @@ impl<I, O, E, A: IsParser<I, O, E>> IsParser<I, (), E> for Not<A, O> {}
 
 impl<'src, I: Input<'src>, O, E: ParserExtra<I>, A: Parser<'src, I, O, E>> Parser<'src, I, (), E>
     for Not<A, O> {
-    ghost use Rattle.chumsky_parser.specs.Language.{of_unsaid};
     ghost use Rattle.chumsky_parser.specs.FailureLaws.{SameUnit};
     ghost use Rattle.chumsky_shield.specs.NotLaws.{not-ends, not-agrees};
+    ghost use Rattle.chumsky_shield.specs.ShieldedLanguage.{not_language, not-accepts};
 
     ghost ready = { λ p. A.ready p.parser };
 
@@ -41,7 +41,9 @@ impl<'src, I: Input<'src>, O, E: ParserExtra<I>, A: Parser<'src, I, O, E>> Parse
 
     ghost agrees = { λ p s. not-agrees _ _ _ _ (A.same p.parser) (A.agrees p.parser s) };
 
-    ghost accepts = { λ _. of_unsaid };
+    ghost language = { λ p. not_language (A.language p.parser) };
+
+    ghost accepts = { λ p. not-accepts _ _ _ _ (A.accepts p.parser) };
 
     #[inline]
     fn go_emit(&self, inp: &mut InputRef<'src, '_, I, E>) -> PResult<()> {

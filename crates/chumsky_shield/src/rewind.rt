@@ -20,9 +20,9 @@ impl<'src, I: Input<'src>, O: Drop, E: ParserExtra<I>, A: Parser<'src, I, O, E>>
     O,
     E,
 > for Rewind<A> {
-    ghost use Rattle.chumsky_parser.specs.Language.{of_unsaid};
     ghost use Rattle.chumsky_shield.specs.AndIs.{MeansRewind};
     ghost use Rattle.chumsky_shield.specs.AndIsLaws.{rewind-ends, rewind-agrees};
+    ghost use Rattle.chumsky_shield.specs.ShieldedLanguage.{rewind_language, rewind-accepts};
 
     ghost ready = { λ p. A.ready p.parser };
 
@@ -36,7 +36,9 @@ impl<'src, I: Input<'src>, O: Drop, E: ParserExtra<I>, A: Parser<'src, I, O, E>>
 
     ghost agrees = { λ p s. rewind-agrees _ _ (A.same p.parser) (A.agrees p.parser s) };
 
-    ghost accepts = { λ _. of_unsaid };
+    ghost language = { λ p. rewind_language (A.language p.parser) };
+
+    ghost accepts = { λ p. rewind-accepts _ _ (A.accepts p.parser) };
 
     #[inline]
     fn go_emit(&self, inp: &mut InputRef<'src, '_, I, E>) -> PResult<O> {

@@ -59,10 +59,10 @@ where
     A: Parser<'src, I, O, E>,
     F: TryMapper<O, I::Span, U, E::Error>,
 {
-    ghost use Rattle.chumsky_parser.specs.Language.{of_unsaid};
     ghost use Rattle.chumsky_shield.specs.Tried.{TriesAlike, SameTryMapped};
     ghost use Rattle.chumsky_shield.specs.TriedLaws.{tries-alike};
     ghost use Rattle.chumsky_shield.specs.VettedLaws.{vetted-ends, vetted-agrees};
+    ghost use Rattle.chumsky_shield.specs.ShieldedLanguage.{unsaid_over, vetted_unsaid-accepts};
 
     ghost ready = { λ p. A.ready p.parser × F.callable p.mapper };
 
@@ -76,7 +76,9 @@ where
 
     ghost agrees = { λ p s. vetted-agrees _ _ _ _ (A.same p.parser) _ (A.agrees p.parser s.0) (tries-alike _ _ (A.same p.parser) (F.gives p.mapper) s.1) };
 
-    ghost accepts = { λ _. of_unsaid };
+    ghost language = { λ p. unsaid_over (A.language p.parser) };
+
+    ghost accepts = { λ p. vetted_unsaid-accepts _ _ _ _ (λ _. tt) (A.accepts p.parser) };
 
     #[inline]
     fn go_emit(&self, inp: &mut InputRef<'src, '_, I, E>) -> PResult<U> {

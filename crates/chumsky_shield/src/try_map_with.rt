@@ -35,10 +35,10 @@ where
     A: Parser<'src, I, O, E>,
     F: Fn(O, &mut MapExtra<'src, '_, I, E>) -> Result<U, E::Error>,
 {
-    ghost use Rattle.chumsky_parser.specs.Language.{of_unsaid};
     ghost use Rattle.chumsky_shield.specs.TriedWith.{TriesWithAlike, SameTriedWith};
     ghost use Rattle.chumsky_shield.specs.TriedWithLaws.{tries_with-alike};
     ghost use Rattle.chumsky_shield.specs.VettedLaws.{vetted-ends, vetted-agrees};
+    ghost use Rattle.chumsky_shield.specs.ShieldedLanguage.{unsaid_over, vetted_unsaid-accepts};
 
     ghost ready = { λ p. A.ready p.parser × KeepsState I.Input E.State.Inspector F.Fn p.mapper };
 
@@ -52,7 +52,9 @@ where
 
     ghost agrees = { λ p s. vetted-agrees _ _ _ _ (A.same p.parser) _ (A.agrees p.parser s.0) (tries_with-alike _ _ (A.same p.parser) s.1) };
 
-    ghost accepts = { λ _. of_unsaid };
+    ghost language = { λ p. unsaid_over (A.language p.parser) };
+
+    ghost accepts = { λ p. vetted_unsaid-accepts _ _ _ _ (λ _. tt) (A.accepts p.parser) };
 
     #[inline]
     fn go_emit(&self, inp: &mut InputRef<'src, '_, I, E>) -> PResult<U> {
