@@ -29,10 +29,10 @@ where
     E::Error: LabelError<I, L>,
     A: Parser<'src, I, O, E>,
 {
-    ghost use Rattle.chumsky_parser.specs.Language.{of_unsaid};
     ghost use Rattle.chumsky_shield.specs.MapErr.{MapsOnce};
     ghost use Rattle.chumsky_label.specs.Labelled.{MeansLabelled};
     ghost use Rattle.chumsky_label.specs.LabelledLaws.{labelled-ends, labelled-agrees};
+    ghost use Rattle.chumsky_label.specs.LabelledLanguage.{labelled_language, labelled-accepts};
 
     ghost ready = { λ p. A.ready p.parser };
 
@@ -46,7 +46,9 @@ where
 
     ghost agrees = { λ p s. labelled-agrees _ _ _ _ (A.same p.parser) s.1 (A.agrees p.parser s.0) };
 
-    ghost accepts = { λ _. of_unsaid };
+    ghost language = { λ p. labelled_language E.Error.LabelError.labels_freely (A.language p.parser) };
+
+    ghost accepts = { λ p. labelled-accepts _ _ _ _ (A.accepts p.parser) };
 
     #[inline]
     fn go_emit(&self, inp: &mut InputRef<'src, '_, I, E>) -> PResult<O> {

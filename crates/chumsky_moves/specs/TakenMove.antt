@@ -1,5 +1,5 @@
--- What a part took, labelled and padded parts, and words of text, move where they succeed.
--- Main laws: covers-move, with_span-moves, labelled-moves, padded-moves, no_or-moves. Read first: Moves.antt, MovesLaws.antt.
+-- What a part took, padded parts, and words of text, move where they succeed.
+-- Main laws: covers-move, with_span-moves, padded-moves, no_or-moves. Read first: Moves.antt, MovesLaws.antt.
 use Rattle.std.proofs.Common.{ℕ, ◌<◌, Bool, false, Option, option_map, List, ap, subst, arith, inl, inr}
 use Rattle.chumsky_input.specs.Layout.{Layout}
 use Rattle.chumsky_input.specs.declared.error.Error as error_trait
@@ -9,12 +9,10 @@ use Rattle.chumsky_parser.specs.Chained.{Asked, Given}
 use Rattle.chumsky_parser.specs.Laws.{chained-ends, given-ends}
 use Rattle.chumsky_context.specs.Covered.{Cover, Covers, AddsSpan, WithSpan}
 use Rattle.chumsky_parser.specs.Progress.{IsYes}
-use Rattle.chumsky_label.specs.Labelled.{LabelledAs, MeansLabelled}
 use Rattle.chumsky_text.specs.TextRun.{SkipsRun, MeansPadded}
 use Rattle.chumsky_text.specs.TextRunLaws.{NoOrMoves}
 use Rattle.chumsky_parser.specs.Progress.{Moves}
 use Rattle.chumsky_parser.specs.ProgressLaws.{yes-answers, asked-moves, chained-first, chained-second}
-use Rattle.chumsky_shield.specs.ShieldedMoves.{clash-yes, shielded-moves}
 
 module _ {Tok Cx St Er V W : Type 0} (part : Meaning Tok Cx St Er V) where
   pub covers-move : (is : Layout Tok → ℕ → ℕ → W → Type 0) → Moves part → Moves (Covers is part)
@@ -22,21 +20,6 @@ module _ {Tok Cx St Er V W : Type 0} (part : Meaning Tok Cx St Er V) where
 
   pub with_span-moves : (with_span : Layout Tok → ℕ → ℕ → V → W) → Moves part → Moves (WithSpan with_span part)
   with_span-moves with_span h b o m y = chained-first part (AddsSpan with_span b.start) h (λ v c p n z. given-ends (option_map (with_span c.tokens b.start c.start) v) c p n.given z) b o m.run y
-
-module _ {Tok Cx St Er V : Type 0} (merged : Er → Er → Er) (maps : Er → Er → Type 0) (free : Type 0) where
-  labelled_yes-moves : (b : Beginning Tok Cx St) (v : Option V) (p o : Outcome V Er St) → b.start < p.end → LabelledAs merged maps free (Yes v) b p o → IsYes o.verdict → b.start < o.end
-  labelled_yes-moves b v p o l m y =
-      elim m.says [
-        | inl r ↦ absurd (subst IsYes r.1 y)
-        | inr k ↦ let e = ap (λ (x : Outcome V Er St). x.end) (clash-yes k.2 y) in omega (arith, l, e)
-      ]
-
-  labelled_no-no : (b : Beginning Tok Cx St) (p o : Outcome V Er St) → LabelledAs merged maps free No b p o → IsYes o.verdict → ⊥
-  labelled_no-no b p o m y = elim m.says [ inl r ↦ subst IsYes r.1 y | inr k ↦ subst IsYes (ap (λ (x : Outcome V Er St). x.verdict) (clash-yes k.2 y)) y ]
-
-  -- a part that a label names
-  pub labelled-moves : (part : Meaning Tok Cx St Er V) → Moves part → Moves (MeansLabelled merged maps free part)
-  labelled-moves part h b o m y = shielded-moves part (λ c v p q. LabelledAs merged maps free (Yes v) c p q) (λ c p q. LabelledAs merged maps free No c p q) h labelled_yes-moves labelled_no-no b o m.run y
 
 module _ {I Tok Sp Er St Mk Cx : Type 0} (errors : error_trait.Ghosts Er I Tok Sp) (states : inspector_trait.Ghosts St I Mk Tok Sp) (test : Tok → Bool) where
   skips-end : EndsAfterStart (SkipsRun {Cx = Cx} errors states test)

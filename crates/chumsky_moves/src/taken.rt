@@ -77,7 +77,7 @@ where
     E::Error: LabelError<I, L>,
     A: Moving<'src, I, O, E>,
 {
-    ghost use Rattle.chumsky_moves.specs.TakenMove.{labelled-moves};
+    ghost use Rattle.chumsky_label.specs.LabelledLanguage.{labelled-moves};
 
     ghost moves = { λ p. A.moves p.parser };
 
