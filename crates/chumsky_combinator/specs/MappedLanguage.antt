@@ -4,7 +4,7 @@ use Rattle.std.proofs.Common.{false, Option, Some, None, List, drop, subst}
 use Rattle.std.specs.Prelude.{⊤}
 use Rattle.chumsky_input.specs.Outcome.{Meaning, Beginning, Outcome}
 use Rattle.chumsky_parser.specs.Copied.{GivesCopy}
-use Rattle.chumsky_parser.specs.Ending.{At, Ender, and_then, Within, IfValue, Answers, Reads}
+use Rattle.chumsky_parser.specs.Ending.{At, Ender, and_then, Within, IfValue, Answers, Here, Reads}
 use Rattle.chumsky_parser.specs.EndingLaws.{chained-here, given-here, and_then_some, copy-by, gives-by, then_given-by}
 use Rattle.chumsky_parser.specs.Ignoring.{Gives, IgnoringFirst}
 use Rattle.chumsky_parser.specs.IgnoringLaws.{copy-ends, gives-ends}
@@ -32,19 +32,24 @@ to_language copies safe F = record (with_values F (λ ts. copies) (λ w v. F.wor
 abbrev pub ignored_language : {Tok V : Type 0} → Language Tok V → Language Tok (Unit {0})
 ignored_language F = with_values F (λ ts v. ⊤) (λ w v. F.word w)
 
+module _ {Tok Cx St Er V W : Type 0} (maps : V → W → Type 0) (value : List Tok → V → Type 0) (ts : List Tok) where
+  given_as : (v : Option V) → IfValue (value ts) v → (c : Beginning Tok Cx St) → Within c → (o : Outcome W Er St) → GivenAs maps v c o → Answers (MapsSome value maps ts) (At (drop c.start c.tokens.list)) c.tokens.list o.verdict o.end
+  given_as (Some v) i c y o m = given-here Er (MapsSome value maps ts) c y (Some m.0) (v, i, m.1) o m.2
+  given_as None i c y o m = given-here Er (MapsSome value maps ts) c y None tt o m
+
+  -- what a mapper gives, for a value of these tokens
+  pub given_by-here : (v : Option V) → IfValue (value ts) v → (c : Beginning Tok Cx St) → Within c → Here (MapsSome value maps ts) {Er = Er} (GivenBy maps v) (At (drop c.start c.tokens.list)) c
+  given_by-here v i c y o m = given_as v i c y o m.by_value
+
 module _ {Tok Cx St Er V W : Type 0} (maps : V → W → Type 0) (part : Meaning Tok Cx St Er V) where
   module _ (f : Ender Tok) (value : List Tok → V → Type 0) (h : Reads part f value) where
-    given_as : (ts : List Tok) (v : Option V) → IfValue (value ts) v → (c : Beginning Tok Cx St) → Within c → (o : Outcome W Er St) → GivenAs maps v c o → Answers (MapsSome value maps ts) (At (drop c.start c.tokens.list)) c.tokens.list o.verdict o.end
-    given_as ts (Some v) i c y o m = given-here Er (MapsSome value maps ts) c y (Some m.0) (v, i, m.1) o m.2
-    given_as ts None i c y o m = given-here Er (MapsSome value maps ts) c y None tt o m
-
     -- `map`
     pub mapped-by : Reads (Mapped maps part) f (MapsSome value maps)
     mapped-by = record {
       here = λ b w o m.
         let ts : List Tok = drop b.start b.tokens.list in
         let z : Answers (MapsSome value maps ts) (and_then (λ us. At us) (f ts)) b.tokens.list o.verdict o.end =
-        chained-here (value ts) (MapsSome value maps ts) part (GivenBy maps) (f ts) (λ us. At us) b w (h.here b w) (λ v c y e i p n. given_as ts v i c y p n.by_value) o m in
+        chained-here (value ts) (MapsSome value maps ts) part (GivenBy maps) (f ts) (λ us. At us) b w (h.here b w) (λ v c y e i. given_by-here maps value ts v i c y) o m in
         subst (λ q. Answers (MapsSome value maps ts) q b.tokens.list o.verdict o.end) (and_then_some (f ts)) z
     }
 

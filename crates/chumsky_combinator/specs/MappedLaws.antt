@@ -36,8 +36,11 @@ module _ {Tok Cx St Er V W : Type 0} (maps : V → W → Type 0) where
   given_as-spares (Some v) b o m = rw (ap (λ (x : Outcome W Er St). x.verdict) m.2) tt
   given_as-spares None b o m = rw (ap (λ (x : Outcome W Er St). x.verdict) m) tt
 
+  pub given_by-spares : (v : Option V) → NeverOutOfMemory (GivenBy {Tok = Tok} {Cx = Cx} {St = St} {Er = Er} maps v)
+  given_by-spares v b o m = given_as-spares v b o m.by_value
+
   pub mapped-spares : (part : Meaning Tok Cx St Er V) → NeverOutOfMemory part → NeverOutOfMemory (Mapped maps part)
-  mapped-spares part h = chained-spares part (GivenBy maps) h (λ v b o m. given_as-spares v b o m.by_value)
+  mapped-spares part h = chained-spares part (GivenBy maps) h given_by-spares
 
   pub mapped-moves : (part : Meaning Tok Cx St Er V) → Moves part → Moves (Mapped maps part)
   mapped-moves part h = chained-first part _ h given_by-ends

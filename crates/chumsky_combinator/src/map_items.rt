@@ -22,7 +22,7 @@ impl<
     A: IterParser<'src, I, O, E>,
     F: Mapper<O, U>,
 > IterParser<'src, I, U, E> for Map<A, O, F, U> {
-    ghost use Rattle.chumsky_parser.specs.ItemsLanguage.{of_unsaid_items};
+    ghost use Rattle.chumsky_combinator.specs.MappedItemsLanguage.{map_items_language, map_items-accepts};
     ghost use Rattle.chumsky_combinator.specs.Mapped.{IsFunction, SameMapped};
     ghost use Rattle.chumsky_combinator.specs.MappedItems.{MapsItem};
     ghost use Rattle.chumsky_combinator.specs.MappedItemsLaws.{maps_item-end, maps_item-agree};
@@ -41,11 +41,13 @@ impl<
 
     ghost alike = { λ p. A.alike p.parser };
 
+    ghost language = { λ p. map_items_language (F.gives p.mapper) (A.language p.parser) };
+
     ghost ends_after_start = { λ p d. maps_item-end (F.gives p.mapper) _ _ (A.ends_after_start p.parser d) };
 
     ghost agrees = { λ p s d. maps_item-agree (F.gives p.mapper) _ _ (A.same p.parser) (A.alike p.parser) (A.agrees p.parser s.0 d) };
 
-    ghost accepts = { λ _ _. of_unsaid_items };
+    ghost accepts = { λ p d. map_items-accepts (F.gives p.mapper) _ _ (A.accepts p.parser d) };
 
     #[inline(always)]
     fn make_iter(&self, inp: &mut InputRef<'src, '_, I, E>) -> PResult<A::IterState> {
