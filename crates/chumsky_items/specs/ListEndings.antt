@@ -80,6 +80,13 @@ later_place ts p q l m h =
     let y : length (drop p ts) ≡ length ts - p = length-drop p ts in
     omega (arith, x, y, l, m, h)
 
+-- and one from which no more is left is no earlier one
+pub earlier_place : {Tok : Type 0} (ts : List Tok) (p q : ℕ) → p ≤ length ts → q ≤ length ts → length (drop q ts) ≤ length (drop p ts) → p ≤ q
+earlier_place ts p q l m h =
+    let x : length (drop q ts) ≡ length ts - q = length-drop q ts in
+    let y : length (drop p ts) ≡ length ts - p = length-drop p ts in
+    omega (arith, x, y, l, m, h)
+
 is_later : (p q : ℕ) → p < q → nat_eq q p ≡ false
 is_later p q l = grind (arith, nat_tests)
 

@@ -105,3 +105,7 @@ MayTrail separator leading false most (suc k) w = w ≡ []
 -- and of its end
 abbrev pub SeparatedEnd : {Tok : Type 0} → (List Tok → Type 0) → Bool → Bool → ℕ → Option ℕ → ℕ → List Tok → Type 0
 SeparatedEnd separator leading trailing least most k w = Enough least most k × MayTrail separator leading trailing most k w
+
+-- neither an item nor a separator may follow
+abbrev pub SeparatedFollow : {Tok : Type 0} → Ender Tok → Ender Tok → (List Tok → Type 0) → (List Tok → Type 0) → List Tok → Type 0
+SeparatedFollow f separator fits sfits rest = fits rest × sfits rest × (separator rest ≡ Nowhere) × (f rest ≡ Nowhere)
