@@ -7,3 +7,4 @@ pub mod Paired
 pub mod Parts
 pub mod PartsLaws
 pub mod GroupLanguage
+pub mod InTurnLanguage

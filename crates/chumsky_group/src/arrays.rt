@@ -20,12 +20,12 @@ impl<
     P: Parser<'src, I, O, E>,
     const N: usize,
 > Parser<'src, I, ArrayVec<O, N>, E> for Group<[P; N]> {
-    ghost use Rattle.chumsky_parser.specs.Language.{of_unsaid};
     ghost use Rattle.std.specs.Prelude.{map};
     ghost use Rattle.std.specs.List.{All};
     ghost use Rattle.chumsky_parser.specs.ChoiceLaws.{each-ends, each-agrees};
     ghost use Rattle.chumsky_group.specs.InTurn.{InTurn, SameVectors};
     ghost use Rattle.chumsky_group.specs.InTurnLaws.{in_turn-ends, in_turn-agrees};
+    ghost use Rattle.chumsky_group.specs.InTurnLanguage.{in_turn_language, in_turn-accepts};
 
     ghost ready = { λ p. All P.ready p.parsers };
 
@@ -35,11 +35,13 @@ impl<
 
     ghost same = { λ p. SameVectors (map P.same p.parsers) };
 
+    ghost language = { λ p. in_turn_language P.language p.parsers };
+
     ghost ends_after_start = { λ p. in_turn-ends _ (each-ends _ P.ends_after_start p.parsers) };
 
     ghost agrees = { λ p s. in_turn-agrees _ _ (each-agrees _ P.steady P.same P.agrees p.parsers s) };
 
-    ghost accepts = { λ _. of_unsaid };
+    ghost accepts = { λ p. in_turn-accepts _ P.language P.ends_after_start P.accepts p.parsers };
 
     #[inline]
     fn go_emit(&self, inp: &mut InputRef<'src, '_, I, E>) -> PResult<ArrayVec<O, N>> {

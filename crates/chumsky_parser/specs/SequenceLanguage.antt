@@ -1,5 +1,5 @@
 -- The language of parts one after another: a word of the first, and then a word of the second.
--- Main words: then_language, ignore_then_language, then_ignore_language, between_language, MayFollow. Laws: then-accepts and its kin. Read first: Language.antt, Words.antt.
+-- Main words: joined_language, then_language, ignore_then_language, then_ignore_language, between_language, MayFollow. Laws: joined-accepts, then-accepts and its kin. Read first: Language.antt, Words.antt.
 use Rattle.std.proofs.Common.{◌≡◌, true, ◌&&◌, ◌||◌, List, ◌++◌}
 use Rattle.chumsky_input.specs.Outcome.{Meaning, EndsAfterStart}
 use Rattle.chumsky_parser.specs.Chained.{Sequence}
@@ -55,13 +55,13 @@ between_language opening F closing = ignore_then_language opening (then_ignore_l
 module _ {Tok Cx St Er V W : Type 0} (first : Meaning Tok Cx St Er V) (second : Meaning Tok Cx St Er W) where
   module _ (F : Language Tok V) (G : Language Tok W) {X : Type 0} (m : Meaning Tok Cx St Er X) (value stands_for : List Tok → X → Type 0) where
     -- that what is made of two parts in turn ends where they do, with these values, and moves and takes memory only as they do
-    record IsJoined : Type 0 where
-      reads : Described first F → Described second G → Reads m (then_ends F.ends G.ends) value
-      given : Described first F → Described second G → GivesOnly (then_ends F.ends G.ends) value stands_for
-      moving : (F.moves ≡ true → Moves first) → (G.moves ≡ true → Moves second) → (F.moves || G.moves) ≡ true → Moves m
-      sparing : NeverOutOfMemory first → NeverOutOfMemory second → NeverOutOfMemory m
+    pub record IsJoined : Type 0 where
+      pub reads : Described first F → Described second G → Reads m (then_ends F.ends G.ends) value
+      pub given : Described first F → Described second G → GivesOnly (then_ends F.ends G.ends) value stands_for
+      pub moving : (F.moves ≡ true → Moves first) → (G.moves ≡ true → Moves second) → (F.moves || G.moves) ≡ true → Moves m
+      pub sparing : NeverOutOfMemory first → NeverOutOfMemory second → NeverOutOfMemory m
 
-    joined-accepts : {spare : Type 0} → IsJoined → Accepts first F spare → Accepts second G spare → Accepts m (joined_language F G value stands_for) spare
+    pub joined-accepts : {spare : Type 0} → IsJoined → Accepts first F spare → Accepts second G spare → Accepts m (joined_language F G value stands_for) spare
     joined-accepts i h k = record {
       described = λ s.
         let t = both-true F.said G.said s in
