@@ -16,7 +16,7 @@ impl<A> Iterates for OrNot<A> {
 
 impl<'src, I: Input<'src>, O, E: ParserExtra<I>, A: Parser<'src, I, O, E>> IterParser<'src, I, O, E>
     for OrNot<A> {
-    ghost use Rattle.chumsky_parser.specs.ItemsLanguage.{of_unsaid_items};
+    ghost use Rattle.chumsky_combinator.specs.AtMostOneLanguage.{at_most_one_language, at_most_one-accepts};
     ghost use Rattle.std.specs.Prelude.{Some, false};
     ghost use Rattle.chumsky_parser.specs.Chained.{Given};
     ghost use Rattle.chumsky_combinator.specs.AtMostOne.{AtMostOne};
@@ -36,11 +36,13 @@ impl<'src, I: Input<'src>, O, E: ParserExtra<I>, A: Parser<'src, I, O, E>> IterP
 
     ghost alike = { λ _. SameTried };
 
+    ghost language = { λ p. at_most_one_language (A.language p.parser) };
+
     ghost ends_after_start = { λ p d. at_most_one-end _ _ _ _ (A.ends_after_start p.parser) };
 
     ghost agrees = { λ p s d. at_most_one-agree _ _ _ _ (A.same p.parser) (A.agrees p.parser s) };
 
-    ghost accepts = { λ _ _. of_unsaid_items };
+    ghost accepts = { λ p d. at_most_one-accepts _ _ (λ q. q.1) _ (A.accepts p.parser) };
 
     #[inline]
     fn make_iter(&self, _inp: &mut InputRef<'src, '_, I, E>) -> PResult<bool> {
