@@ -1,5 +1,5 @@
--- What a part took, padded parts, and words of text, move where they succeed.
--- Main laws: covers-move, with_span-moves, padded-moves, no_or-moves. Read first: Moves.antt, MovesLaws.antt.
+-- What a part took, and padded parts, move where they succeed.
+-- Main laws: covers-move, with_span-moves, padded-moves. Read first: Moves.antt, MovesLaws.antt.
 use Rattle.std.proofs.Common.{ℕ, ◌<◌, Bool, false, Option, option_map, List, ap, subst, arith, inl, inr}
 use Rattle.chumsky_input.specs.Layout.{Layout}
 use Rattle.chumsky_input.specs.declared.error.Error as error_trait
@@ -10,9 +10,8 @@ use Rattle.chumsky_parser.specs.Laws.{chained-ends, given-ends}
 use Rattle.chumsky_context.specs.Covered.{Cover, Covers, AddsSpan, WithSpan}
 use Rattle.chumsky_parser.specs.Progress.{IsYes}
 use Rattle.chumsky_text.specs.TextRun.{SkipsRun, MeansPadded}
-use Rattle.chumsky_text.specs.TextRunLaws.{NoOrMoves}
 use Rattle.chumsky_parser.specs.Progress.{Moves}
-use Rattle.chumsky_parser.specs.ProgressLaws.{yes-answers, asked-moves, chained-first, chained-second}
+use Rattle.chumsky_parser.specs.ProgressLaws.{asked-moves, chained-first, chained-second}
 
 module _ {Tok Cx St Er V W : Type 0} (part : Meaning Tok Cx St Er V) where
   pub covers-move : (is : Layout Tok → ℕ → ℕ → W → Type 0) → Moves part → Moves (Covers is part)
@@ -29,8 +28,3 @@ module _ {I Tok Sp Er St Mk Cx : Type 0} (errors : error_trait.Ghosts Er I Tok S
   pub padded-moves : {V : Type 0} (part : Meaning Tok Cx states.Seen errors.Seen V) → Moves part → Moves (MeansPadded errors states test part)
   padded-moves part h b o m y =
       chained-second (SkipsRun errors states test) _ skips-end (λ _. chained-first part _ h (λ v. chained-ends (SkipsRun errors states test) (λ _. Given v) skips-end (λ _. given-ends v))) b o m.run y
-
-module _ {Tok Cx St Er V : Type 0} (m : Meaning Tok Cx St Er V) where
-  -- each answer is no, or ends past its start
-  pub no_or-moves : NoOrMoves m → Moves m
-  no_or-moves h b o k y = elim (h b o k (yes-answers o.verdict y)) [ inl e ↦ absurd (subst IsYes e y) | inr l ↦ l ]

@@ -114,7 +114,7 @@ where
     K: Lexeme<I::Token>,
 {
     ghost use Rattle.chumsky_text.specs.TextRunLaws.{word-moves};
-    ghost use Rattle.chumsky_moves.specs.TakenMove.{no_or-moves};
+    ghost use Rattle.chumsky_text.specs.TextLanguageLaws.{no_or-moves};
 
     ghost moves = { λ _. true };
 
@@ -132,7 +132,7 @@ where
     K: Lexeme<I::Token>,
 {
     ghost use Rattle.chumsky_text.specs.TextRunLaws.{newline-moves};
-    ghost use Rattle.chumsky_moves.specs.TakenMove.{no_or-moves};
+    ghost use Rattle.chumsky_text.specs.TextLanguageLaws.{no_or-moves};
 
     ghost moves = { λ _. true };
 
@@ -150,7 +150,7 @@ where
     K: Lexeme<I::Token>,
 {
     ghost use Rattle.chumsky_text.specs.TextRunLaws.{keyword-moves};
-    ghost use Rattle.chumsky_moves.specs.TakenMove.{no_or-moves};
+    ghost use Rattle.chumsky_text.specs.TextLanguageLaws.{no_or-moves};
 
     ghost moves = { λ _. true };
 

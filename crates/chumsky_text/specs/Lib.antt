@@ -1,3 +1,5 @@
 pub mod Leading
 pub mod TextRun
 pub mod TextRunLaws
+pub mod TextLanguage
+pub mod TextLanguageLaws

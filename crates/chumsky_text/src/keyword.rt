@@ -29,10 +29,11 @@ impl<'src, 'k, K: Lexeme<I::Token>, I: TextInput<'src>, E: ParserExtra<I>> Parse
     I::Slice,
     E,
 > for Keyword<'k, K, I, E> {
-    ghost use Rattle.chumsky_parser.specs.Language.{of_unsaid};
     ghost use Rattle.std.specs.Prelude.{⊤, [], ◌∷◌};
     ghost use Rattle.chumsky_text.specs.TextRun.{MeansKeyword};
     ghost use Rattle.chumsky_text.specs.TextRunLaws.{keyword-ends, keyword-agrees};
+    ghost use Rattle.chumsky_text.specs.TextLanguage.{keyword_language};
+    ghost use Rattle.chumsky_text.specs.TextLanguageLaws.{keyword-accepts};
 
     ghost ready = { λ p. K.fits p.kind };
 
@@ -42,11 +43,13 @@ impl<'src, 'k, K: Lexeme<I::Token>, I: TextInput<'src>, E: ParserExtra<I>> Parse
 
     ghost same = { λ p v w. I.slice_seen v ≡ I.slice_seen w };
 
+    ghost language = { λ p. keyword_language (λ l i j w. I.slice_seen w ≡ I.slice_of l i j) (I.spells p.word.now) (K.holds p.kind) (λ t. K.Rest.holds (K.rest_after p.kind t)) };
+
     ghost ends_after_start = { λ p. keyword-ends _ _ _ _ (I.spells p.word.now) (K.holds p.kind) (λ t. K.Rest.holds (K.rest_after p.kind t)) (Label p.word.now ∷ []) };
 
     ghost agrees = { λ p _. keyword-agrees _ _ _ _ (λ v w. I.slice_seen v ≡ I.slice_seen w) (λ ts i j v w e d. Prim.search (e, d)) (I.spells p.word.now) (K.holds p.kind) (λ t. K.Rest.holds (K.rest_after p.kind t)) (Label p.word.now ∷ []) };
 
-    ghost accepts = { λ _. of_unsaid };
+    ghost accepts = { λ p. keyword-accepts _ _ _ _ (K.holds p.kind) (λ t. K.Rest.holds (K.rest_after p.kind t)) (Label p.word.now ∷ []) (I.spells p.word.now) };
 
     #[inline]
     fn go_emit(&self, inp: &mut InputRef<'src, '_, I, E>) -> PResult<I::Slice> {

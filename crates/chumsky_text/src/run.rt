@@ -20,10 +20,11 @@ impl<'src, K, I: SliceInput<'src>, E> IsParser<I, I::Slice, E> for Run<K, I, E> 
 
 impl<'src, K: Kind<I::Token>, I: SliceInput<'src>, E: ParserExtra<I>> Parser<'src, I, I::Slice, E>
     for Run<K, I, E> {
-    ghost use Rattle.chumsky_parser.specs.Language.{of_unsaid};
     ghost use Rattle.std.specs.Prelude.{◌≡◌, ⊤};
     ghost use Rattle.chumsky_text.specs.TextRun.{MeansRun};
     ghost use Rattle.chumsky_text.specs.TextRunLaws.{run-ends, run-agrees};
+    ghost use Rattle.chumsky_text.specs.TextLanguage.{run_language};
+    ghost use Rattle.chumsky_text.specs.TextLanguageLaws.{run-accepts};
 
     ghost ready = { λ p. K.fits p.kind };
 
@@ -33,11 +34,13 @@ impl<'src, K: Kind<I::Token>, I: SliceInput<'src>, E: ParserExtra<I>> Parser<'sr
 
     ghost same = { λ p v w. I.slice_seen v ≡ I.slice_seen w };
 
+    ghost language = { λ p. run_language (λ l i j w. I.slice_seen w ≡ I.slice_of l i j) (K.holds p.kind) };
+
     ghost ends_after_start = { λ p. run-ends _ _ _ _ (K.holds p.kind) (K.wants p.kind) };
 
     ghost agrees = { λ p _. run-agrees _ _ _ _ (λ v w. I.slice_seen v ≡ I.slice_seen w) (λ ts i j v w e d. Prim.search (e, d)) (K.holds p.kind) (K.wants p.kind) };
 
-    ghost accepts = { λ _. of_unsaid };
+    ghost accepts = { λ p. run-accepts _ _ _ _ (K.holds p.kind) (K.wants p.kind) };
 
     #[inline(always)]
     fn go_emit(&self, inp: &mut InputRef<'src, '_, I, E>) -> PResult<I::Slice> {

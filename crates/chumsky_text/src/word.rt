@@ -22,10 +22,11 @@ impl<'src, K, I: SliceInput<'src>, E> IsParser<I, I::Slice, E> for Word<K, I, E>
 
 impl<'src, K: Lexeme<I::Token>, I: SliceInput<'src>, E: ParserExtra<I>> Parser<'src, I, I::Slice, E>
     for Word<K, I, E> {
-    ghost use Rattle.chumsky_parser.specs.Language.{of_unsaid};
     ghost use Rattle.std.specs.Prelude.{⊤};
     ghost use Rattle.chumsky_text.specs.TextRun.{MeansWord};
     ghost use Rattle.chumsky_text.specs.TextRunLaws.{word-ends, word-agrees};
+    ghost use Rattle.chumsky_text.specs.TextLanguage.{word_language};
+    ghost use Rattle.chumsky_text.specs.TextLanguageLaws.{word-accepts};
 
     ghost ready = { λ p. K.fits p.kind };
 
@@ -35,11 +36,13 @@ impl<'src, K: Lexeme<I::Token>, I: SliceInput<'src>, E: ParserExtra<I>> Parser<'
 
     ghost same = { λ p v w. I.slice_seen v ≡ I.slice_seen w };
 
+    ghost language = { λ p. word_language (λ l i j w. I.slice_seen w ≡ I.slice_of l i j) (K.holds p.kind) (λ t. K.Rest.holds (K.rest_after p.kind t)) };
+
     ghost ends_after_start = { λ p. word-ends _ _ _ _ (K.holds p.kind) (λ t. K.Rest.holds (K.rest_after p.kind t)) (K.wants p.kind) (λ t. K.Rest.wants (K.rest_after p.kind t)) };
 
     ghost agrees = { λ p _. word-agrees _ _ _ _ (λ v w. I.slice_seen v ≡ I.slice_seen w) (λ ts i j v w e d. Prim.search (e, d)) (K.holds p.kind) (λ t. K.Rest.holds (K.rest_after p.kind t)) (K.wants p.kind) (λ t. K.Rest.wants (K.rest_after p.kind t)) };
 
-    ghost accepts = { λ _. of_unsaid };
+    ghost accepts = { λ p. word-accepts _ _ _ _ (K.holds p.kind) (λ t. K.Rest.holds (K.rest_after p.kind t)) (K.wants p.kind) (λ t. K.Rest.wants (K.rest_after p.kind t)) };
 
     #[inline]
     fn go_emit(&self, inp: &mut InputRef<'src, '_, I, E>) -> PResult<I::Slice> {
