@@ -17,8 +17,6 @@ impl<I, O, E, A: IsParser<I, O, E>> IsParser<I, O, E> for Contextual<A> {}
 
 impl<'src, I: Input<'src>, O, E: ParserExtra<I>, A: Parser<'src, I, O, E>> Parser<'src, I, O, E>
     for Contextual<A> {
-    ghost use Rattle.chumsky_parser.specs.Language.{of_unsaid};
-
     ghost ready = { λ p. A.ready p.inner };
 
     ghost meaning = { λ p. A.meaning p.inner };
@@ -31,7 +29,9 @@ impl<'src, I: Input<'src>, O, E: ParserExtra<I>, A: Parser<'src, I, O, E>> Parse
 
     ghost agrees = { λ p. A.agrees p.inner };
 
-    ghost accepts = { λ _. of_unsaid };
+    ghost language = { λ p. A.language p.inner };
+
+    ghost accepts = { λ p. A.accepts p.inner };
 
     #[inline(always)]
     fn go_emit(&self, inp: &mut InputRef<'src, '_, I, E>) -> PResult<O> {

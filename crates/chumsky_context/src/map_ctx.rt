@@ -57,10 +57,10 @@ where
     A: Parser<'src, I, O, X>,
     F: ContextMapper<E::Context, X::Context>,
 {
-    ghost use Rattle.chumsky_parser.specs.Language.{of_unsaid};
     ghost use Rattle.chumsky_context.specs.Configured.{IsDeterministic};
     ghost use Rattle.chumsky_context.specs.Under.{UnderMade};
     ghost use Rattle.chumsky_context.specs.UnderLaws.{under_made-ends, under_made-agrees};
+    ghost use Rattle.chumsky_context.specs.UnderLanguage.{under_made-accepts};
 
     ghost ready = { λ p. A.ready p.parser × F.callable p.mapper };
 
@@ -74,7 +74,9 @@ where
 
     ghost agrees = { λ p s. under_made-agrees _ (F.gives p.mapper) s.1 (A.same p.parser) (A.agrees p.parser s.0) };
 
-    ghost accepts = { λ _. of_unsaid };
+    ghost language = { λ p. A.language p.parser };
+
+    ghost accepts = { λ p. under_made-accepts _ (F.gives p.mapper) (A.accepts p.parser) };
 
     #[inline]
     fn go_emit(&self, inp: &mut InputRef<'src, '_, I, E>) -> PResult<O> {

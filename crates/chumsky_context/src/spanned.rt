@@ -24,9 +24,9 @@ impl<'src, I: Input<'src>, O, E: ParserExtra<I>, A: Parser<'src, I, O, E>> Parse
     SpannedOutput<O, I::Span>,
     E,
 > for Spanned<A, O> {
-    ghost use Rattle.chumsky_parser.specs.Language.{of_unsaid};
     ghost use Rattle.chumsky_context.specs.Covered.{WithSpan, SameSpanned};
     ghost use Rattle.chumsky_context.specs.CoveredLaws.{with_span-ends, with_span-agree};
+    ghost use Rattle.chumsky_context.specs.CoveredLanguage.{with_span_language, with_span-accepts};
 
     ghost ready = { λ p. A.ready p.parser };
 
@@ -40,7 +40,9 @@ impl<'src, I: Input<'src>, O, E: ParserExtra<I>, A: Parser<'src, I, O, E>> Parse
 
     ghost agrees = { λ p s. with_span-agree _ _ (A.same p.parser) (A.agrees p.parser s) };
 
-    ghost accepts = { λ _. of_unsaid };
+    ghost language = { λ p. with_span_language (λ l i j v. record { inner = v; span = I.span_between l i j }) (A.language p.parser) };
+
+    ghost accepts = { λ p. with_span-accepts _ _ (A.accepts p.parser) };
 
     #[inline(always)]
     fn go_emit(&self, inp: &mut InputRef<'src, '_, I, E>) -> PResult<SpannedOutput<O, I::Span>> {

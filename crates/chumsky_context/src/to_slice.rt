@@ -23,10 +23,10 @@ impl<'src, I: SliceInput<'src>, O, E: ParserExtra<I>, A: Parser<'src, I, O, E>> 
     I::Slice,
     E,
 > for ToSlice<A, O> {
-    ghost use Rattle.chumsky_parser.specs.Language.{of_unsaid};
     ghost use Rattle.std.specs.Prelude.{◌≡◌};
     ghost use Rattle.chumsky_context.specs.Covered.{Covers};
     ghost use Rattle.chumsky_context.specs.CoveredLaws.{covers-ends, covers-agree};
+    ghost use Rattle.chumsky_context.specs.CoveredLanguage.{covered_language, covers-accepts};
 
     ghost ready = { λ p. A.ready p.parser };
 
@@ -40,7 +40,9 @@ impl<'src, I: SliceInput<'src>, O, E: ParserExtra<I>, A: Parser<'src, I, O, E>> 
 
     ghost agrees = { λ p s. covers-agree _ _ (A.same p.parser) (λ v w. I.slice_seen v ≡ I.slice_seen w) (λ ts i j v w e d. Prim.search (e, d)) (A.agrees p.parser s) };
 
-    ghost accepts = { λ _. of_unsaid };
+    ghost language = { λ p. covered_language (λ l i j w. I.slice_seen w ≡ I.slice_of l i j) (A.language p.parser) };
+
+    ghost accepts = { λ p. covers-accepts _ _ (A.accepts p.parser) };
 
     #[inline(always)]
     fn go_emit(&self, inp: &mut InputRef<'src, '_, I, E>) -> PResult<I::Slice> {

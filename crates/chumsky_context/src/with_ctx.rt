@@ -26,10 +26,10 @@ where
     E: ParserExtra<I>,
     A: Parser<'src, I, O, Full<E::Error, E::State, X>>,
 {
-    ghost use Rattle.chumsky_parser.specs.Language.{of_unsaid};
     ghost use Rattle.std.specs.Prelude.{◌≡◌, Some, refl};
     ghost use Rattle.chumsky_context.specs.Under.{UnderValue};
     ghost use Rattle.chumsky_context.specs.UnderLaws.{under-ends, under-agrees};
+    ghost use Rattle.chumsky_context.specs.UnderLanguage.{under-accepts};
 
     ghost ready = { λ p. A.ready p.parser };
 
@@ -43,7 +43,9 @@ where
 
     ghost agrees = { λ p s. under-agrees _ _ (λ x y. x ≡ y) (A.same p.parser) (λ x y e. e) (A.agrees p.parser s) (Some p.ctx) (Some p.ctx) refl };
 
-    ghost accepts = { λ _. of_unsaid };
+    ghost language = { λ p. A.language p.parser };
+
+    ghost accepts = { λ p. under-accepts _ p.ctx (A.accepts p.parser) };
 
     #[inline]
     fn go_emit(&self, inp: &mut InputRef<'src, '_, I, E>) -> PResult<O> {

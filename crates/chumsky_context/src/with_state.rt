@@ -35,9 +35,9 @@ where
     S: Inspector<I> + Clone + Drop,
     A: Parser<'src, I, O, Full<E::Error, S, E::Context>>,
 {
-    ghost use Rattle.chumsky_parser.specs.Language.{of_unsaid};
     ghost use Rattle.chumsky_context.specs.OnState.{OnCopy, CopiesCount};
     ghost use Rattle.chumsky_context.specs.OnStateLaws.{on_copy-ends, on_copy-agrees};
+    ghost use Rattle.chumsky_context.specs.UnderLanguage.{on_copy_language, on_copy-accepts};
 
     ghost ready = { λ p. A.ready p.parser };
 
@@ -51,7 +51,9 @@ where
 
     ghost agrees = { λ p s. on_copy-agrees _ _ _ _ s.1 (A.same p.parser) (A.agrees p.parser s.0) };
 
-    ghost accepts = { λ _. of_unsaid };
+    ghost language = { λ p. on_copy_language (S.is_infallible p.state × S.takes_no_memory) (A.language p.parser) };
+
+    ghost accepts = { λ p. on_copy-accepts _ _ _ _ (A.accepts p.parser) };
 
     #[inline]
     fn go_emit(&self, inp: &mut InputRef<'src, '_, I, E>) -> PResult<O> {

@@ -1,3 +1,2 @@
-pub mod MemoryLaws
 pub mod PartsSpare
 pub mod ByParts

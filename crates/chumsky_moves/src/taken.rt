@@ -24,7 +24,7 @@ where
     E: ParserExtra<I>,
     A: Moving<'src, I, O, E>,
 {
-    ghost use Rattle.chumsky_moves.specs.TakenMove.{covers-move};
+    ghost use Rattle.chumsky_context.specs.CoveredLanguage.{covers-move};
 
     ghost moves = { λ p. A.moves p.parser };
 
@@ -41,7 +41,7 @@ where
     E: ParserExtra<I>,
     A: Moving<'src, I, O, E>,
 {
-    ghost use Rattle.chumsky_moves.specs.TakenMove.{covers-move};
+    ghost use Rattle.chumsky_context.specs.CoveredLanguage.{covers-move};
 
     ghost moves = { λ p. A.moves p.parser };
 
@@ -58,7 +58,7 @@ where
     E: ParserExtra<I>,
     A: Moving<'src, I, O, E>,
 {
-    ghost use Rattle.chumsky_moves.specs.TakenMove.{with_span-moves};
+    ghost use Rattle.chumsky_context.specs.CoveredLanguage.{with_span-moves};
 
     ghost moves = { λ p. A.moves p.parser };
 

@@ -1,4 +1,4 @@
-use Rattle.chumsky_memory.specs.MemoryLaws.{covers-spares}
+use Rattle.chumsky_context.specs.CoveredLanguage.{covers-spares}
 use Rattle.chumsky_memory.proofs.laws.to_slice_is_never_out_of_memory.Goals as goal
 
 pub returns : goal.returns
