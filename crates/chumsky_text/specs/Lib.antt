@@ -3,3 +3,4 @@ pub mod TextRun
 pub mod TextRunLaws
 pub mod TextLanguage
 pub mod TextLanguageLaws
+pub mod Names
