@@ -25,5 +25,8 @@ module _ {Tok Cx St Er V W : Type 0} (gives : GivesShown Tok Cx St V W) where
   since-spares from (Some v) b o m = rw (ap (λ (x : Outcome W Er St). x.verdict) m.3) tt
   since-spares from None b o m = rw (ap (λ (x : Outcome W Er St). x.verdict) m) tt
 
+  pub given_shown-spares : (from : ℕ) (v : Option V) → NeverOutOfMemory (GivenShown {Tok = Tok} {Cx = Cx} {St = St} {Er = Er} gives from v)
+  given_shown-spares from v b o m = since-spares from v b o m.by_value
+
   pub mapped_with-spares : (part : Meaning Tok Cx St Er V) → NeverOutOfMemory part → NeverOutOfMemory (MappedWith gives part)
-  mapped_with-spares part h b o m = chained-spares part (GivenShown gives b.start) h (λ v c p n. since-spares b.start v c p n.by_value) b o m.run
+  mapped_with-spares part h b o m = chained-spares part (GivenShown gives b.start) h (given_shown-spares b.start) b o m.run

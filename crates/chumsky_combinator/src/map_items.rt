@@ -47,7 +47,7 @@ impl<
 
     ghost agrees = { λ p s d. maps_item-agree (F.gives p.mapper) _ _ (A.same p.parser) (A.alike p.parser) (A.agrees p.parser s.0 d) };
 
-    ghost accepts = { λ p d. map_items-accepts (F.gives p.mapper) _ _ (A.accepts p.parser d) };
+    ghost accepts = { λ p d. map_items-accepts _ _ (A.accepts p.parser d) (F.gives p.mapper) };
 
     #[inline(always)]
     fn make_iter(&self, inp: &mut InputRef<'src, '_, I, E>) -> PResult<A::IterState> {

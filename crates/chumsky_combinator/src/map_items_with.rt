@@ -23,7 +23,7 @@ impl<
     A: IterParser<'src, I, O, E>,
     F: MapperWith<'src, I, O, U, E>,
 > IterParser<'src, I, U, E> for MapWith<A, O, F, U> {
-    ghost use Rattle.chumsky_parser.specs.ItemsLanguage.{of_unsaid_items};
+    ghost use Rattle.chumsky_combinator.specs.MappedItemsLanguage.{map_items_with_language, map_items_with-accepts};
     ghost use Rattle.chumsky_parser.specs.Showing.{OnlyAnswers, SameShown};
     ghost use Rattle.chumsky_combinator.specs.MappedItems.{MapsItemWith};
     ghost use Rattle.chumsky_combinator.specs.MappedItemsLaws.{maps_item_with-end, maps_item_with-agree};
@@ -42,11 +42,13 @@ impl<
 
     ghost alike = { λ p. A.alike p.parser };
 
+    ghost language = { λ p. map_items_with_language (F.gives p.mapper E.State.Inspector) (A.language p.parser) };
+
     ghost ends_after_start = { λ p d. maps_item_with-end _ _ _ (A.ends_after_start p.parser d) };
 
     ghost agrees = { λ p s d. maps_item_with-agree _ _ _ s.1 (A.same p.parser) (A.alike p.parser) (A.agrees p.parser s.0 d) };
 
-    ghost accepts = { λ _ _. of_unsaid_items };
+    ghost accepts = { λ p d. map_items_with-accepts _ _ (A.accepts p.parser d) _ };
 
     #[inline(always)]
     fn make_iter(&self, inp: &mut InputRef<'src, '_, I, E>) -> PResult<A::IterState> {
