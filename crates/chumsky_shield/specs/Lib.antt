@@ -26,3 +26,5 @@ pub mod ShieldedSpares
 pub mod ShieldedEndings
 pub mod LookingLaws
 pub mod ShieldedLanguage
+pub mod Picked
+pub mod PickedLaws

@@ -9,6 +9,7 @@ pub mod map_err;
 pub mod map_err_with;
 pub mod map_err_with_state;
 pub mod not;
+pub mod pick_by;
 mod refuse;
 pub mod rewind;
 pub mod steady;
