@@ -17,3 +17,4 @@ pub mod FoldingTriedLaws
 pub mod Running
 pub mod AsParsers
 pub mod Standing
+pub mod FoldsLanguage

@@ -33,7 +33,7 @@ impl<
     B: Clone + Drop,
     F: Folder<B, O>,
 > Parser<'src, I, B, E> for Fold<F, A, B, O> {
-    ghost use Rattle.chumsky_parser.specs.Language.{of_unsaid};
+    ghost use Rattle.chumsky_folds.specs.FoldsLanguage.{fold_language, fold-accepts};
     ghost use Rattle.chumsky_parser.specs.Copied.{BothCopies};
     ghost use Rattle.chumsky_folds.specs.Folding.{FoldsFromCopy, IsFunctionOfTwo, SameFolded};
     ghost use Rattle.chumsky_folds.specs.FoldingLaws.{folds_copy-ends, folds_copy-agree};
@@ -50,7 +50,9 @@ impl<
 
     ghost agrees = { λ p s. folds_copy-agree _ _ (F.gives p.folder) (B.is_clone p.init) (B.is_infallible p.init) (A.same p.parser) (A.alike p.parser) (A.agrees p.parser s.0 (record { nonconsumption_is_ok = false })) };
 
-    ghost accepts = { λ _. of_unsaid };
+    ghost language = { λ p. fold_language (A.language p.parser) (F.gives p.folder) (B.is_clone p.init) (B.is_infallible p.init) };
+
+    ghost accepts = { λ p. fold-accepts _ _ (F.gives p.folder) (A.language p.parser) (A.accepts p.parser (record { nonconsumption_is_ok = false })) (B.is_clone p.init) (B.is_infallible p.init) };
 
     #[inline(always)]
     fn go_emit(&self, inp: &mut InputRef<'src, '_, I, E>) -> PResult<B> {

@@ -35,7 +35,7 @@ impl<
     B: IterParser<'src, I, U, E>,
     F: Folder<O, U>,
 > Parser<'src, I, O, E> for Foldl<F, A, B, U> {
-    ghost use Rattle.chumsky_parser.specs.Language.{of_unsaid};
+    ghost use Rattle.chumsky_folds.specs.FoldsLanguage.{foldl_language, foldl-accepts};
     ghost use Rattle.chumsky_folds.specs.Folding.{FoldsFromPart, IsFunctionOfTwo, SameFolded};
     ghost use Rattle.chumsky_folds.specs.FoldingLaws.{folds_part-ends, folds_part-agree};
 
@@ -51,7 +51,9 @@ impl<
 
     ghost agrees = { λ p s. folds_part-agree _ _ (F.gives p.folder) _ (A.same p.parser) (B.same p.items) (B.alike p.items) (B.agrees p.items s.1 (record { nonconsumption_is_ok = false })) (A.agrees p.parser s.0) };
 
-    ghost accepts = { λ _. of_unsaid };
+    ghost language = { λ p. foldl_language (B.language p.items) (F.gives p.folder) (A.language p.parser) };
+
+    ghost accepts = { λ p. foldl-accepts _ _ (F.gives p.folder) (B.language p.items) (B.accepts p.items (record { nonconsumption_is_ok = false })) _ (A.language p.parser) (B.ends_after_start p.items (record { nonconsumption_is_ok = false })) (A.ends_after_start p.parser) (A.accepts p.parser) };
 
     #[inline(always)]
     fn go_emit(&self, inp: &mut InputRef<'src, '_, I, E>) -> PResult<O> {

@@ -36,7 +36,7 @@ impl<
     B: Parser<'src, I, U, E>,
     F: RightFolder<O, U>,
 > Parser<'src, I, U, E> for Foldr<F, A, B, O> {
-    ghost use Rattle.chumsky_parser.specs.Language.{of_unsaid};
+    ghost use Rattle.chumsky_folds.specs.FoldsLanguage.{foldr_language, foldr-accepts};
     ghost use Rattle.chumsky_folds.specs.Folding.{IsFunctionOfTwo};
     ghost use Rattle.chumsky_folds.specs.FoldingBack.{FoldsBack, SameFoldedBack};
     ghost use Rattle.chumsky_folds.specs.FoldingBackLaws.{folds_back-ends, folds_back-agree};
@@ -53,7 +53,9 @@ impl<
 
     ghost agrees = { λ p s. folds_back-agree _ _ ⟦<Vec<O> as Container<O>>⟧.holds ⟦<Vec<O> as Container<O>>⟧.takes_no_memory _ (F.gives p.folder) (λ xs ys v e d. sym e ∙ d) (A.same p.items.parser) (B.same p.parser) (A.alike p.items.parser) (A.agrees p.items.parser s.0 (record { nonconsumption_is_ok = false })) (B.agrees p.parser s.1) };
 
-    ghost accepts = { λ _. of_unsaid };
+    ghost language = { λ p. foldr_language (A.language p.items.parser) (F.gives p.folder) ⟦<Vec<O> as Container<O>>⟧.takes_no_memory (B.language p.parser) };
+
+    ghost accepts = { λ p. foldr-accepts _ _ ⟦<Vec<O> as Container<O>>⟧.holds ⟦<Vec<O> as Container<O>>⟧.takes_no_memory _ (F.gives p.folder) (A.language p.items.parser) (B.language p.parser) (λ xs ys v e d. sym e ∙ d) (A.ends_after_start p.items.parser (record { nonconsumption_is_ok = false })) (A.accepts p.items.parser (record { nonconsumption_is_ok = false })) (B.accepts p.parser) };
 
     #[inline(always)]
     fn go_emit(&self, inp: &mut InputRef<'src, '_, I, E>) -> PResult<U> {
