@@ -103,7 +103,8 @@ module _ {Tok Cx St Mk Er V : Type 0} (mark : St → Mk) (back : St → Mk → S
 
   module _ (F : Language Tok V) (d : Described part F) where
     -- the first step
-    first_here : (b : Beginning Tok Cx St) → Within b → Here (IsStepped (F.value (drop b.start b.tokens.list)) (λ t. TriedAfter t 1) (at_most_one F 0 (drop b.start b.tokens.list))) (OnceTried mark back safe part false) (place (at_most_one F 0 (drop b.start b.tokens.list))) b
+    first_here : (b : Beginning Tok Cx St) → Within b
+        → Here (IsStepped (F.value (drop b.start b.tokens.list)) (λ t. TriedAfter t 1) (at_most_one F 0 (drop b.start b.tokens.list))) (OnceTried mark back safe part false) (place (at_most_one F 0 (drop b.start b.tokens.list))) b
     first_here b w o m =
         let ts : List Tok = drop b.start b.tokens.list in
         let G : Bool → Type 0 = λ t. TriedAfter t 1 in
@@ -165,7 +166,8 @@ module _ {Tok Cx St Mk Er V : Type 0} (mark : St → Mk) (back : St → Mk → S
       over zero ts rest e = record { word = []; all = of_over ts rest (F.ends ts) e; is = refl }
       over (suc k) ts rest e = let z : ts ≡ rest = cc e in record { word = []; all = z; is = refl }
 
-      each : F.unambiguous → (k : ℕ) (w rest : List Tok) → OnlyWord F k w → GoesOn (OnlyWord F) (λ _ w. w ≡ []) (λ r. F.follow r × (F.ends r ≡ Nowhere)) (suc k) rest → at_most_one F k (w ++ rest) ≡ At (One rest)
+      each : F.unambiguous → (k : ℕ) (w rest : List Tok) → OnlyWord F k w → GoesOn (OnlyWord F) (λ _ w. w ≡ []) (λ r. F.follow r × (F.ends r ≡ Nowhere)) (suc k) rest
+          → at_most_one F k (w ++ rest) ≡ At (One rest)
       each u zero w rest i g = let e : F.ends (w ++ rest) ≡ At rest = (d.each u).each w rest i (none_more F rest g) in rw e refl
       each u (suc k) w rest i g = absurd i
 

@@ -33,7 +33,8 @@ abbrev pub ignored_language : {Tok V : Type 0} → Language Tok V → Language T
 ignored_language F = with_values F (λ ts v. ⊤) (λ w v. F.word w)
 
 module _ {Tok Cx St Er V W : Type 0} (maps : V → W → Type 0) (value : List Tok → V → Type 0) (ts : List Tok) where
-  given_as : (v : Option V) → IfValue (value ts) v → (c : Beginning Tok Cx St) → Within c → (o : Outcome W Er St) → GivenAs maps v c o → Answers (MapsSome value maps ts) (At (drop c.start c.tokens.list)) c.tokens.list o.verdict o.end
+  given_as : (v : Option V) → IfValue (value ts) v → (c : Beginning Tok Cx St) → Within c → (o : Outcome W Er St) → GivenAs maps v c o
+      → Answers (MapsSome value maps ts) (At (drop c.start c.tokens.list)) c.tokens.list o.verdict o.end
   given_as (Some v) i c y o m = given-here Er (MapsSome value maps ts) c y (Some m.0) (v, i, m.1) o m.2
   given_as None i c y o m = given-here Er (MapsSome value maps ts) c y None tt o m
 

@@ -77,7 +77,8 @@ module _ {Tok V : Type 0} (f : Ender Tok) (value of : List Tok → V → Type 0)
   maybe-gives_only : GivesOnly (maybe_ends f) (MaybeValue f value) (MaybeOf of)
   maybe-gives_only = record { given = λ ts rest v e i. by_part ts rest v (f ts) refl e i }
     where
-      by_part : (ts rest : List Tok) (v : Option V) (x : Ending (List Tok)) → f ts ≡ x → or_else x (At ts) ≡ At rest → ElseValue x (IfSomeOf (value ts) v) (IfNoneOf v) → Begins (λ w. MaybeOf of w v) ts rest
+      by_part : (ts rest : List Tok) (v : Option V) (x : Ending (List Tok)) → f ts ≡ x → or_else x (At ts) ≡ At rest → ElseValue x (IfSomeOf (value ts) v) (IfNoneOf v)
+          → Begins (λ w. MaybeOf of w v) ts rest
       by_part ts rest None Nowhere d e i = let z : ts ≡ rest = cc e in record { word = []; all = z; is = refl }
       by_part ts rest (Some v) Nowhere d e i = absurd i
       by_part ts rest v Refused d e i = absurd i

@@ -91,7 +91,8 @@ module _ {Tok V : Type 0} (F : Language Tok V) (G : Language Tok (ArrayVec V)) (
   item_then-gives_only : GivesOnly (then_ends F.ends G.ends) (item_then F G).value (item_then F G).stands_for
   item_then-gives_only = record { given = λ ts rest vs e i. of_items ts rest vs.items e i }
     where
-      of_items : (ts rest : List Tok) (vs : List V) → then_ends F.ends G.ends ts ≡ At rest → OfItems (λ v us. F.value ts v × Ends (F.ends ts) (λ r. G.value r us)) vs → Begins (λ w. OfItems (λ v us. Joined (λ u. F.stands_for u v) (λ u. G.stands_for u us) w) vs) ts rest
+      of_items : (ts rest : List Tok) (vs : List V) → then_ends F.ends G.ends ts ≡ At rest → OfItems (λ v us. F.value ts v × Ends (F.ends ts) (λ r. G.value r us)) vs
+          → Begins (λ w. OfItems (λ v us. Joined (λ u. F.stands_for u v) (λ u. G.stands_for u us) w) vs) ts rest
       of_items ts rest [] e i = absurd i
       of_items ts rest (v ∷ vs) e i = (then-gives_only F.ends G.ends F.value G.value F.stands_for G.stands_for h k).given ts rest (v, record { items = vs }) e i
 

@@ -6,7 +6,7 @@ use Rattle.std.specs.List.{list_all}
 use Rattle.chumsky_input.specs.declared.error.Error as error_trait
 use Rattle.chumsky_input.specs.declared.inspector.Inspector as inspector_trait
 use Rattle.chumsky_input.specs.declared.input.Input as input_trait
-use Rattle.chumsky_input.specs.Outcome.{Meaning, Beginning, Outcome}
+use Rattle.chumsky_input.specs.Outcome.{Meaning, Outcome}
 use Rattle.chumsky_parser.specs.Choice.{Stands, FirstOf, OneOrFirst}
 use Rattle.chumsky_choice.specs.Among.{NoneOrFirst, FirstAmong}
 use Rattle.chumsky_parser.specs.Progress.{IsYes}

@@ -91,7 +91,8 @@ module _ {Tok Cx St Er V : Type 0} (P : V → Type 0) where
   pub asked-here : (b : Beginning Tok Cx St) (wanted : Bool) (part : Meaning Tok Cx St Er V) (x : Ending (List Tok)) → Here P part x (record b { wanted = wanted }) → Here P (Asked wanted part) x b
   asked-here b wanted part x h o m = h o m.run
 
-both_values : {V W : Type 0} (P : V → Type 0) (Q : W → Type 0) (R : V × W → Type 0) → ((v : V) (w : W) → P v → Q w → R (v, w)) → (v : Option V) (w : Option W) → IfValue P v → IfValue Q w → IfValue R (both v w)
+both_values : {V W : Type 0} (P : V → Type 0) (Q : W → Type 0) (R : V × W → Type 0) → ((v : V) (w : W) → P v → Q w → R (v, w)) → (v : Option V) (w : Option W) → IfValue P v → IfValue Q w
+    → IfValue R (both v w)
 both_values P Q R f (Some v) (Some w) i j = f v w i j
 both_values P Q R f (Some v) None i j = tt
 both_values P Q R f None w i j = tt
@@ -206,7 +207,8 @@ ends_any Nowhere Q i = absurd i
 ends_any Refused Q i = absurd i
 
 -- a value that is given after a part
-pub then_given-by : {Tok Cx St Er V W : Type 0} (m : Meaning Tok Cx St Er V) (n : Meaning Tok Cx St Er W) (f : Ender Tok) (va : List Tok → V → Type 0) (P : W → Type 0) → Reads m f va → Reads n (λ ts. At ts) (λ ts. P)
+pub then_given-by : {Tok Cx St Er V W : Type 0} (m : Meaning Tok Cx St Er V) (n : Meaning Tok Cx St Er W) (f : Ender Tok) (va : List Tok → V → Type 0) (P : W → Type 0) → Reads m f va
+    → Reads n (λ ts. At ts) (λ ts. P)
     → Reads (IgnoringFirst m n) f (λ ts. P)
 then_given-by {Tok = Tok} {W = W} m n f va P h k =
     let R : List Tok → W → Type 0 = λ ts v. Ends (f ts) (λ rest. P v) in

@@ -24,7 +24,8 @@ second-further {Tok} f g P h k = λ ts rest e. by_first ts rest (f ts) refl e
     by_first ts rest Refused d e = absurd (cc e)
     by_first ts rest (At mid) d e = let a : length mid ≤ length ts = keeps_tokens f P h ts mid d in let b : length rest < length mid = k mid rest e in omega (arith, a, b)
 
-pub then-further : {Tok : Type 0} (f g : Ender Tok) (P Q : List Tok → Type 0) → TakesOnly f P → TakesOnly g Q → (a b : Bool) → (a ≡ true → EndsFurther f) → (b ≡ true → EndsFurther g) → (a || b) ≡ true → EndsFurther (then_ends f g)
+pub then-further : {Tok : Type 0} (f g : Ender Tok) (P Q : List Tok → Type 0) → TakesOnly f P → TakesOnly g Q → (a b : Bool) → (a ≡ true → EndsFurther f) → (b ≡ true → EndsFurther g)
+    → (a || b) ≡ true → EndsFurther (then_ends f g)
 then-further f g P Q p q a b h k e = elim (either-true a b e) [ inl x ↦ first-further f g Q (h x) q | inr x ↦ second-further f g P p (k x) ]
 
 -- the first of two that doesn't fail

@@ -80,7 +80,8 @@ module _ {Tok Cx St Er V W : Type 0} (first : Meaning Tok Cx St Er V) (second : 
     }
 
   -- `first.then(second)`
-  pub then-accepts : {F : Language Tok V} {G : Language Tok W} {spare : Type 0} → EndsAfterStart first → EndsAfterStart second → Accepts first F spare → Accepts second G spare → Accepts (Sequence first second) (then_language F G) spare
+  pub then-accepts : {F : Language Tok V} {G : Language Tok W} {spare : Type 0} → EndsAfterStart first → EndsAfterStart second → Accepts first F spare → Accepts second G spare
+      → Accepts (Sequence first second) (then_language F G) spare
   then-accepts {F} {G} ef es h k = joined-accepts F G (Sequence first second) _ _ (record {
     reads = λ d e. then-by first second F.ends G.ends F.value G.value d.reads e.reads;
     given = λ d e. then-gives_only F.ends G.ends F.value G.value F.stands_for G.stands_for d.given e.given;
@@ -89,7 +90,8 @@ module _ {Tok Cx St Er V W : Type 0} (first : Meaning Tok Cx St Er V) (second : 
   }) h k
 
   -- `first.ignore_then(second)`
-  pub ignore_then-accepts : {F : Language Tok V} {G : Language Tok W} {spare : Type 0} → EndsAfterStart first → EndsAfterStart second → Accepts first F spare → Accepts second G spare → Accepts (IgnoringFirst first second) (ignore_then_language F G) spare
+  pub ignore_then-accepts : {F : Language Tok V} {G : Language Tok W} {spare : Type 0} → EndsAfterStart first → EndsAfterStart second → Accepts first F spare → Accepts second G spare
+      → Accepts (IgnoringFirst first second) (ignore_then_language F G) spare
   ignore_then-accepts {F} {G} ef es h k = joined-accepts F G (IgnoringFirst first second) _ _ (record {
     reads = λ d e. ignore_then-by first second F.ends G.ends F.value G.value d.reads e.reads;
     given = λ d e. ignore_then-gives_only F.ends G.ends F.value G.value F.word G.stands_for d.only e.given;
@@ -98,7 +100,8 @@ module _ {Tok Cx St Er V W : Type 0} (first : Meaning Tok Cx St Er V) (second : 
   }) h k
 
   -- `first.then_ignore(second)`
-  pub then_ignore-accepts : {F : Language Tok V} {G : Language Tok W} {spare : Type 0} → EndsAfterStart first → EndsAfterStart second → Accepts first F spare → Accepts second G spare → Accepts (IgnoringSecond first second) (then_ignore_language F G) spare
+  pub then_ignore-accepts : {F : Language Tok V} {G : Language Tok W} {spare : Type 0} → EndsAfterStart first → EndsAfterStart second → Accepts first F spare → Accepts second G spare
+      → Accepts (IgnoringSecond first second) (then_ignore_language F G) spare
   then_ignore-accepts {F} {G} ef es h k = joined-accepts F G (IgnoringSecond first second) _ _ (record {
     reads = λ d e. then_ignore-by first second F.ends G.ends F.value G.value d.reads e.reads;
     given = λ d e. then_ignore-gives_only F.ends G.ends F.value G.value F.stands_for G.word d.given e.only;
@@ -108,5 +111,6 @@ module _ {Tok Cx St Er V W : Type 0} (first : Meaning Tok Cx St Er V) (second : 
 
 module _ {Tok Cx St Er U V W : Type 0} (opening : Meaning Tok Cx St Er U) (part : Meaning Tok Cx St Er V) (closing : Meaning Tok Cx St Er W) {O : Language Tok U} {F : Language Tok V} {C : Language Tok W} {spare : Type 0} where
   -- `part.delimited_by(opening, closing)`
-  pub between-accepts : EndsAfterStart opening → EndsAfterStart part → EndsAfterStart closing → Accepts opening O spare → Accepts part F spare → Accepts closing C spare → Accepts (Between opening part closing) (between_language O F C) spare
+  pub between-accepts : EndsAfterStart opening → EndsAfterStart part → EndsAfterStart closing → Accepts opening O spare → Accepts part F spare → Accepts closing C spare
+      → Accepts (Between opening part closing) (between_language O F C) spare
   between-accepts eo ep ec h k c = ignore_then-accepts opening (IgnoringSecond part closing) eo (ignoring_second-ends part closing ep ec) h (then_ignore-accepts part closing ep ec k c)

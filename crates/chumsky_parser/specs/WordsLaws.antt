@@ -87,7 +87,8 @@ module _ {Tok V W : Type 0} (f : Ender Tok) (va ma : List Tok → V → Type 0) 
   regrouped-gives_only g = record { given = λ ts rest w e i. let b = h.given ts rest (g w) e i in record { word = b.word; all = b.all; is = b.is } }
 
 -- one word after another is taken, where the second fits after the first
-pub then-takes_each : {Tok : Type 0} (f g : Ender Tok) (P Q ff fg : List Tok → Type 0) → TakesEach f P ff → TakesEach g Q fg → ((w rest : List Tok) → Q w → fg rest → ff (w ++ rest)) → TakesEach (then_ends f g) (Joined P Q) fg
+pub then-takes_each : {Tok : Type 0} (f g : Ender Tok) (P Q ff fg : List Tok → Type 0) → TakesEach f P ff → TakesEach g Q fg → ((w rest : List Tok) → Q w → fg rest → ff (w ++ rest))
+    → TakesEach (then_ends f g) (Joined P Q) fg
 then-takes_each f g P Q ff fg h k c = record {
   each = λ w rest i j.
     let e : w ++ rest ≡ i.first ++ (i.second ++ rest) = ap (λ u. u ++ rest) i.all ∙ append_assoc i.first i.second rest in
@@ -143,7 +144,8 @@ taken_word ts rest word e = subst (λ t. taken_of t rest ≡ word) (sym e) (let 
         lengths (w ∷ ws) rest = let k = lengths ws rest in omega (arith, k)
 
 -- two words of one parser at the front of one text, each with a fitting rest, are one
-pub one_word : {Tok : Type 0} (f : Ender Tok) (P fits : List Tok → Type 0) → TakesEach f P fits → (w w' rest rest' : List Tok) → P w → P w' → fits rest → fits rest' → w ++ rest ≡ w' ++ rest' → (w ≡ w') × (rest ≡ rest')
+pub one_word : {Tok : Type 0} (f : Ender Tok) (P fits : List Tok → Type 0) → TakesEach f P fits → (w w' rest rest' : List Tok) → P w → P w' → fits rest → fits rest' → w ++ rest ≡ w' ++ rest'
+    → (w ≡ w') × (rest ≡ rest')
 one_word {Tok} f P fits h w w' rest rest' p p' i i' e =
     let a : f (w ++ rest) ≡ At rest = h.each w rest p i in
     let b : f (w' ++ rest') ≡ At rest' = h.each w' rest' p' i' in
