@@ -1,22 +1,21 @@
--- What is made of parts moves where it succeeds, since they do: looked after, and groups.
--- Main laws: validated-moves, group-moves. Read first: Moves.antt, MovesLaws.antt.
-use Rattle.std.proofs.Common.{◌≡◌, ℕ, ◌≤◌, Bool, true, ◌||◌, Option, Some, None, List, [], ◌∷◌, refl, ap, subst, arith, inl, inr, map}
+-- What is made of parts moves where it succeeds, since they do: groups, and either of two.
+-- Main laws: group-moves. Read first: Moves.antt, MovesLaws.antt.
+use Rattle.std.proofs.Common.{◌≡◌, Bool, true, ◌||◌, Option, List, [], ◌∷◌, refl, arith, inl, inr, map}
 use Rattle.std.specs.List.{list_any}
 use Rattle.either.specs.Either.{MatchEither}
 use Rattle.either.specs.declared.Either.{Either}
 use Rattle.either.specs.declared.Either.TheVariants.{Left, Right}
-use Rattle.chumsky_input.specs.Outcome.{Meaning, Beginning, Outcome, No, IsAnswer, EndsAfterStart}
-use Rattle.chumsky_parser.specs.Chained.{Chained, Asked, Sequence, Given}
+use Rattle.chumsky_input.specs.Outcome.{Meaning, EndsAfterStart}
+use Rattle.chumsky_parser.specs.Chained.{Chained, Sequence, Given}
 use Rattle.chumsky_parser.specs.ChoiceLaws.{each-ends}
 use Rattle.chumsky_parser.specs.Laws.{chained-ends, given-ends, sequence-ends}
 use Rattle.chumsky_combinator.specs.Part.{Onward}
 use Rattle.chumsky_group.specs.InTurn.{InTurn, item_before}
 use Rattle.chumsky_group.specs.InTurnLaws.{in_turn-ends}
 use Rattle.chumsky_group.specs.Regrouped.{Regrouped}
-use Rattle.chumsky_shield.specs.Validated.{Emits, EmitsAll, Validated, MeansValidate}
 use Rattle.chumsky_moves.specs.Moves.{of_either}
 use Rattle.chumsky_parser.specs.Progress.{Moves}
-use Rattle.chumsky_parser.specs.ProgressLaws.{either-true, asked-moves, chained-first, chained-second, sequence-moves}
+use Rattle.chumsky_parser.specs.ProgressLaws.{either-true, chained-first, chained-second, sequence-moves}
 
 module _ {Tok Cx St Er : Type 0} where
   pub either-moves : {A B V : Type 0} (left : A → Meaning Tok Cx St Er V) (right : B → Meaning Tok Cx St Er V) (f : A → Bool) (g : B → Bool) → ((x : A) → f x ≡ true → Moves (left x)) → ((y : B) → g y ≡ true → Moves (right y)) → (p : Either A B) → of_either f g p ≡ true
@@ -26,19 +25,6 @@ module _ {Tok Cx St Er : Type 0} where
 
   pub onward-moves : {V : Type 0} (m : Meaning Tok Cx St Er V) → Moves m → Moves (Onward m)
   onward-moves m h b o k y = h b o k.means y
-
-module _ {Tok Cx St Er V W : Type 0} (emits : Emits Tok Cx St Er V W) (part : Meaning Tok Cx St Er V) where
-  emits_all-ends : (r : Option (List Er)) (w : W) (s : St) (b : Beginning Tok Cx St) (o : Outcome W Er St) → EmitsAll r w s b o → IsAnswer o.verdict → b.start ≤ o.end
-  emits_all-ends r w s b o (inl h) a = let e = ap (λ (x : Outcome W Er St). x.end) h.2 in omega arith
-  emits_all-ends r w s b o (inr h) a = absurd (subst IsAnswer h.1 a)
-
-  validated_each-ends : (start : ℕ) (v : Option V) → EndsAfterStart (Validated emits start v)
-  validated_each-ends start (Some v) b o m a = emits_all-ends m.2 m.0 m.1 b o m.4 a
-  validated_each-ends start None b o m a = absurd m
-
-  -- a part whose value a validator looks at
-  pub validated-moves : Moves part → Moves (MeansValidate emits part)
-  validated-moves h b o m y = chained-first (Asked true part) (Validated emits b.start) (asked-moves true part h) (validated_each-ends b.start) b o m.run y
 
 -- of parts in turn so far: no answer ends before its start, and where this is true, each yes ends past it
 pub record SoFarMoves {Tok Cx St Er V : Type 0} (sure : Bool) (m : Meaning Tok Cx St Er V) : Type 0 where

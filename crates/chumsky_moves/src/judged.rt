@@ -102,7 +102,7 @@ where
     A: Moving<'src, I, O, E>,
     F: Fn(O, &mut MapExtra<'src, '_, I, E>, &mut Emitter<E::Error>) -> U,
 {
-    ghost use Rattle.chumsky_moves.specs.PartsMove.{validated-moves};
+    ghost use Rattle.chumsky_shield.specs.ValidatedLanguage.{validated-moves};
 
     ghost moves = { λ p. A.moves p.parser };
 

@@ -28,3 +28,4 @@ pub mod LookingLaws
 pub mod ShieldedLanguage
 pub mod Picked
 pub mod PickedLaws
+pub mod ValidatedLanguage

@@ -25,11 +25,11 @@ impl<'src, I: Input<'src>, O, E: ParserExtra<I>, A: Parser<'src, I, Option<O>, E
     O,
     E,
 > for Unwrapped<A, Option<O>> {
-    ghost use Rattle.chumsky_parser.specs.Language.{of_unsaid};
     ghost use Rattle.std.specs.Option.{IsSome};
     ghost use Rattle.chumsky_combinator.specs.Mapped.{Mapped, SameMapped};
     ghost use Rattle.chumsky_combinator.specs.MappedLaws.{mapped-ends, mapped-agrees};
     ghost use Rattle.chumsky_shield.specs.Unwrapped.{AlwaysGives, InSome};
+    ghost use Rattle.chumsky_combinator.specs.MappedLanguage.{map_language, map-accepts};
 
     ghost ready = { λ p. A.ready p.parser × AlwaysGives IsSome (A.meaning p.parser E.Error.Error E.State.Inspector) };
 
@@ -43,7 +43,9 @@ impl<'src, I: Input<'src>, O, E: ParserExtra<I>, A: Parser<'src, I, Option<O>, E
 
     ghost agrees = { λ p s. mapped-agrees InSome _ (A.same p.parser) (A.agrees p.parser s) };
 
-    ghost accepts = { λ _. of_unsaid };
+    ghost language = { λ p. map_language InSome (A.language p.parser) };
+
+    ghost accepts = { λ p. map-accepts InSome _ (A.accepts p.parser) };
 
     #[inline(always)]
     fn go_emit(&self, inp: &mut InputRef<'src, '_, I, E>) -> PResult<O> {
@@ -64,11 +66,11 @@ where
     E: ParserExtra<I>,
     A: Parser<'src, I, Result<O, X>, E>,
 {
-    ghost use Rattle.chumsky_parser.specs.Language.{of_unsaid};
     ghost use Rattle.std.specs.Prelude.{IsOk};
     ghost use Rattle.chumsky_combinator.specs.Mapped.{Mapped, SameMapped};
     ghost use Rattle.chumsky_combinator.specs.MappedLaws.{mapped-ends, mapped-agrees};
     ghost use Rattle.chumsky_shield.specs.Unwrapped.{AlwaysGives, InOk};
+    ghost use Rattle.chumsky_combinator.specs.MappedLanguage.{map_language, map-accepts};
 
     ghost ready = { λ p. A.ready p.parser × AlwaysGives IsOk (A.meaning p.parser E.Error.Error E.State.Inspector) };
 
@@ -82,7 +84,9 @@ where
 
     ghost agrees = { λ p s. mapped-agrees InOk _ (A.same p.parser) (A.agrees p.parser s) };
 
-    ghost accepts = { λ _. of_unsaid };
+    ghost language = { λ p. map_language InOk (A.language p.parser) };
+
+    ghost accepts = { λ p. map-accepts InOk _ (A.accepts p.parser) };
 
     #[inline(always)]
     fn go_emit(&self, inp: &mut InputRef<'src, '_, I, E>) -> PResult<O> {

@@ -37,9 +37,9 @@ where
     A: Parser<'src, I, O, E>,
     F: Fn(O, &mut MapExtra<'src, '_, I, E>, &mut Emitter<E::Error>) -> U,
 {
-    ghost use Rattle.chumsky_parser.specs.Language.{of_unsaid};
     ghost use Rattle.chumsky_shield.specs.Validated.{EmitsAlike, SameValidated};
     ghost use Rattle.chumsky_shield.specs.ValidatedLaws.{validated-ends, validated-agrees};
+    ghost use Rattle.chumsky_shield.specs.ValidatedLanguage.{validated_language, validated-accepts};
 
     ghost ready = { λ p. A.ready p.parser × MayValidate I.Input E.State.Inspector F.Fn p.validator };
 
@@ -53,7 +53,9 @@ where
 
     ghost agrees = { λ p s. validated-agrees _ _ (A.same p.parser) (A.agrees p.parser s.0) s.1 };
 
-    ghost accepts = { λ _. of_unsaid };
+    ghost language = { λ p. validated_language (ByEmitter I.Input E.State.Inspector F.Fn p.validator E.Error.seen) (A.language p.parser) };
+
+    ghost accepts = { λ p. validated-accepts _ _ (A.accepts p.parser) };
 
     #[inline]
     fn go_emit(&self, inp: &mut InputRef<'src, '_, I, E>) -> PResult<U> {
