@@ -4,3 +4,4 @@ pub mod TextRunLaws
 pub mod TextLanguage
 pub mod TextLanguageLaws
 pub mod Names
+pub mod Decimals

@@ -3,6 +3,7 @@
 
 pub mod ascii;
 pub mod chars;
+pub mod decimal;
 pub mod ident;
 pub mod keyword;
 pub mod kind;
@@ -12,6 +13,7 @@ pub mod number;
 pub mod padded;
 pub mod run;
 mod skip;
+pub mod sliced;
 pub mod space;
 pub mod steady;
 pub mod unicode;
