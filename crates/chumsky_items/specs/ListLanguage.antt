@@ -87,10 +87,10 @@ module _ {Tok Cx St Er S V : Type 0} (gives : S → Meaning Tok Cx St Er (Next S
   -- `collect`
   module _ {C : Type 0} (holds : List V → C → Type 0) (quiet : Type 0) where
     -- these items, and then those that follow, are given from the first place
-    abbrev Before : List Tok → ℕ → List Tok → List V → Type 0
+    abbrev pub Before : List Tok → ℕ → List Tok → List V → Type 0
     Before all k ts xs = (vs : List V) → GivesFrom l.next l.value k vs ts → GivesFrom l.next l.value 0 (xs ++ vs) all
 
-    one_before : (all : List Tok) (k : ℕ) (ts rest : List Tok) (xs : List V) (v : V) → l.next k ts ≡ At (One rest) → Before all k ts xs → l.value k ts v → Before all (suc k) rest (xs ++ v ∷ [])
+    pub one_before : (all : List Tok) (k : ℕ) (ts rest : List Tok) (xs : List V) (v : V) → l.next k ts ≡ At (One rest) → Before all k ts xs → l.value k ts v → Before all (suc k) rest (xs ++ v ∷ [])
     one_before all k ts rest xs v e i j vs g =
         subst (λ z. GivesFrom l.next l.value 0 z all) (sym (append_assoc xs (v ∷ []) vs)) (i (v ∷ vs) (ones (l.next k ts) rest (λ r. l.value k ts v × GivesFrom l.next l.value (suc k) vs r) e (j, g)))
 
@@ -103,7 +103,7 @@ module _ {Tok Cx St Er S V : Type 0} (gives : S → Meaning Tok Cx St Er (Next S
     appends_here all k ts rest e (Some xs) None i j c y = given-here Er (Before all (suc k) rest) c y None tt
     appends_here all k ts rest e None v i j c y = given-here Er (Before all (suc k) rest) c y None tt
 
-    collection_holds : (all : List Tok) (k : ℕ) (ts rest : List Tok) → l.next k ts ≡ At (Over rest) → (x : Option (List V)) (c : Option C) → IfValue (Before all k ts) x → HoldsAll holds x c → IfValue (Holding (GivesFrom l.next l.value 0) holds all) c
+    pub collection_holds : (all : List Tok) (k : ℕ) (ts rest : List Tok) → l.next k ts ≡ At (Over rest) → (x : Option (List V)) (c : Option C) → IfValue (Before all k ts) x → HoldsAll holds x c → IfValue (Holding (GivesFrom l.next l.value 0) holds all) c
     collection_holds all k ts rest e (Some xs) (Some c) i h =
         let g : GivesFrom l.next l.value 0 (xs ++ []) all = i [] (overs (l.next k ts) rest e) in
         record { items = xs; is = subst (λ z. GivesFrom l.next l.value 0 z all) (append-nil xs) g; held = h }
