@@ -18,3 +18,4 @@ pub mod Running
 pub mod AsParsers
 pub mod Standing
 pub mod FoldsLanguage
+pub mod EnumeratedLanguage

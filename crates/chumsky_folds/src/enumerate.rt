@@ -27,7 +27,7 @@ impl<'src, I: Input<'src>, O: Drop, E: ParserExtra<I>, A: IterParser<'src, I, O,
     (usize, O),
     E,
 > for Enumerate<A, O> {
-    ghost use Rattle.chumsky_parser.specs.ItemsLanguage.{of_unsaid_items};
+    ghost use Rattle.chumsky_folds.specs.EnumeratedLanguage.{enumerated_language, enumerates-accepts};
     ghost use Rattle.chumsky_folds.specs.Enumerating.{BeginsAtZero, Enumerates, SameNumbered, AlikeNumbered};
     ghost use Rattle.chumsky_folds.specs.EnumeratingLaws.{enumerates-end, enumerates-agree};
 
@@ -49,7 +49,9 @@ impl<'src, I: Input<'src>, O: Drop, E: ParserExtra<I>, A: IterParser<'src, I, O,
 
     ghost agrees = { λ p s d. enumerates-agree _ _ (A.same p.parser) (A.alike p.parser) (A.agrees p.parser s d) };
 
-    ghost accepts = { λ _ _. of_unsaid_items };
+    ghost language = { λ p. enumerated_language (A.language p.parser) };
+
+    ghost accepts = { λ p d. enumerates-accepts _ _ (A.language p.parser) (A.accepts p.parser d) };
 
     #[inline(always)]
     fn make_iter(&self, inp: &mut InputRef<'src, '_, I, E>) -> PResult<(usize, A::IterState)> {
