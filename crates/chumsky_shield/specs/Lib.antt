@@ -29,3 +29,4 @@ pub mod ShieldedLanguage
 pub mod Picked
 pub mod PickedLaws
 pub mod ValidatedLanguage
+pub mod Tested

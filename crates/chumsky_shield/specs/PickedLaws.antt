@@ -34,7 +34,7 @@ pick-there None y i = absurd i
 module _ {Tok U : Type 0} (picks : List Tok → Option U) where
   module _ (f : Ender Tok) where
     -- the part ends there, and something is picked of what it took
-    picked-at : (ts rest : List Tok) → picked_ends picks f ts ≡ At rest → (f ts ≡ At rest) × IsPick (picks (taken_of ts rest))
+    pub picked-at : (ts rest : List Tok) → picked_ends picks f ts ≡ At rest → (f ts ≡ At rest) × IsPick (picks (taken_of ts rest))
     picked-at ts rest e = by_part (f ts) e
       where
         by_part : (x : Ending (List Tok)) → and_then (λ r. if_picked (picks (taken_of ts r)) r) x ≡ At rest → (x ≡ At rest) × IsPick (picks (taken_of ts rest))
@@ -44,7 +44,7 @@ module _ {Tok U : Type 0} (picks : List Tok → Option U) where
         by_part Nowhere d = absurd (cc d)
         by_part Refused d = absurd (cc d)
 
-    picked-decided : (c : Bool) → (c ≡ false → NeverRefused f) → c ≡ false → NeverRefused (picked_ends picks f)
+    pub picked-decided : (c : Bool) → (c ≡ false → NeverRefused f) → c ≡ false → NeverRefused (picked_ends picks f)
     picked-decided c h e ts d = by_part (f ts) refl d
       where
         by_part : (x : Ending (List Tok)) → f ts ≡ x → and_then (λ r. if_picked (picks (taken_of ts r)) r) x ≡ Refused → ⊥
@@ -52,7 +52,7 @@ module _ {Tok U : Type 0} (picks : List Tok → Option U) where
         by_part Nowhere q d' = cc d'
         by_part Refused q d' = h e ts q
 
-    picked-further : EndsFurther f → EndsFurther (picked_ends picks f)
+    pub picked-further : EndsFurther f → EndsFurther (picked_ends picks f)
     picked-further h ts rest e = h ts rest (picked-at ts rest e).0
 
     module _ (P follow : List Tok → Type 0) where
@@ -73,7 +73,7 @@ module _ {Tok U : Type 0} (picks : List Tok → Option U) where
           record { word = k.word; all = k.all; is = (k.is, subst (λ w. picks w ≡ Some u) (taken_word ts rest k.word k.all) j) }
       }
 
-      picked-takes_each : TakesEach f P follow → TakesEach (picked_ends picks f) (λ w. P w × IsPick (picks w)) follow
+      pub picked-takes_each : TakesEach f P follow → TakesEach (picked_ends picks f) (λ w. P w × IsPick (picks w)) follow
       picked-takes_each h = record {
         each = λ w rest p k.
           let e : f (w ++ rest) ≡ At rest = h.each w rest p.0 k in
