@@ -1,10 +1,8 @@
 -- The words of parts that are only looked at.
 -- Main words: PartFollows, IsThere. Main laws: rewind-takes_each, not-takes_each, and_is-takes_only, and_is-takes_each. Read first: Looking.antt, Language.antt.
 use Rattle.std.proofs.Common.{◌≡◌, Bool, true, false, ◌||◌, List, [], ◌++◌, refl, sym, subst}
-use Rattle.std.specs.Prelude.{⊤}
-use Rattle.chumsky_parser.specs.Ending.{Ending, At, Nowhere, Refused, Ender, and_then, Ends}
-use Rattle.chumsky_parser.specs.FurtherLaws.{then-decided}
-use Rattle.chumsky_parser.specs.Language.{Begins, TakesOnly, GivesOnly, TakesEach, EndsFurther, NeverRefused}
+use Rattle.chumsky_parser.specs.Ending.{Ending, At, Nowhere, Refused, Ender, and_then}
+use Rattle.chumsky_parser.specs.Language.{TakesOnly, GivesOnly, TakesEach, EndsFurther, NeverRefused}
 use Rattle.chumsky_shield.specs.Looking.{back, unless, there_too, rewind_ends, not_ends, and_is_ends, PartFollows, IsThere, MayBeThere, KnownByWord}
 
 back-at : {X : Type 0} (s r : X) (x : Ending X) → back s x ≡ At r → (s ≡ r) × ((y : X) × (x ≡ At y))
@@ -43,17 +41,17 @@ module _ {Tok V : Type 0} (f : Ender Tok) (value of : List Tok → V → Type 0)
   pub rewind-gives_only : GivesOnly f value of → GivesOnly (rewind_ends f) value (λ w v. (w ≡ []) × ((u : List Tok) × of u v))
   rewind-gives_only h = record {
     given = λ ts rest v e i.
-      let b = back-at ts rest (f ts) e in
-      let k = h.given ts b.1.0 v b.1.1 i in
-      record { word = []; all = b.0; is = (refl, (k.word, k.is)) }
+        let b = back-at ts rest (f ts) e in
+        let k = h.given ts b.1.0 v b.1.1 i in
+        record { word = []; all = b.0; is = (refl, (k.word, k.is)) };
   }
 
   pub rewind-takes_each : TakesEach f P follow → TakesEach (rewind_ends f) (λ w. w ≡ []) (PartFollows P follow)
   rewind-takes_each h = record {
     each = λ w rest e k.
-      let d : f rest ≡ At k.rest = subst (λ ts. f ts ≡ At k.rest) (sym k.begins.all) (h.each k.begins.word k.rest k.begins.is k.fits) in
-      let y : back rest (f rest) ≡ At rest = rw d refl in
-      subst (λ u. back (u ++ rest) (f (u ++ rest)) ≡ At rest) (sym e) y
+        let d : f rest ≡ At k.rest = subst (λ ts. f ts ≡ At k.rest) (sym k.begins.all) (h.each k.begins.word k.rest k.begins.is k.fits) in
+        let y : back rest (f rest) ≡ At rest = rw d refl in
+        subst (λ u. back (u ++ rest) (f (u ++ rest)) ≡ At rest) (sym e) y;
   }
 
   pub rewind-decided : (r : Bool) → (r ≡ false → NeverRefused f) → r ≡ false → NeverRefused (rewind_ends f)
@@ -89,26 +87,26 @@ module _ {Tok V : Type 0} (f g : Ender Tok) (value of : List Tok → V → Type 
   pub and_is-takes_only : TakesOnly f P → TakesOnly (and_is_ends f g) (λ w. P w × MayBeThere g w)
   and_is-takes_only h = record {
     taken = λ ts rest e.
-      let b = both-at ts rest e in
-      let k = h.taken ts rest b.0 in
-      record { word = k.word; all = k.all; is = (k.is, (rest, subst (λ us. IsThere (g us)) k.all b.1)) }
+        let b = both-at ts rest e in
+        let k = h.taken ts rest b.0 in
+        record { word = k.word; all = k.all; is = (k.is, (rest, subst (λ us. IsThere (g us)) k.all b.1)) };
   }
 
   pub and_is-gives_only : GivesOnly f value of → GivesOnly (and_is_ends f g) value (λ w v. of w v × MayBeThere g w)
   and_is-gives_only h = record {
     given = λ ts rest v e i.
-      let b = both-at ts rest e in
-      let k = h.given ts rest v b.0 i in
-      record { word = k.word; all = k.all; is = (k.is, (rest, subst (λ us. IsThere (g us)) k.all b.1)) }
+        let b = both-at ts rest e in
+        let k = h.given ts rest v b.0 i in
+        record { word = k.word; all = k.all; is = (k.is, (rest, subst (λ us. IsThere (g us)) k.all b.1)) };
   }
 
   pub and_is-takes_each : TakesEach f P follow → KnownByWord g P follow → TakesEach (and_is_ends f g) (λ w. P w × MayBeThere g w) follow
   and_is-takes_each h known = record {
     each = λ w rest p k.
-      let e : f (w ++ rest) ≡ At rest = h.each w rest p.0 k in
-      let t = is-there (g (w ++ rest)) (known w rest p.1.0 p.0 k p.1.1) in
-      let d : g (w ++ rest) ≡ At t.0 = t.1 in
-      rw (e, d) refl
+        let e : f (w ++ rest) ≡ At rest = h.each w rest p.0 k in
+        let t = is-there (g (w ++ rest)) (known w rest p.1.0 p.0 k p.1.1) in
+        let d : g (w ++ rest) ≡ At t.0 = t.1 in
+        rw (e, d) refl;
   }
 
   pub and_is-further : EndsFurther f → EndsFurther (and_is_ends f g)

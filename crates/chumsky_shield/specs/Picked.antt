@@ -1,7 +1,7 @@
 -- The language of a part whose value is picked, where what is picked is known by the word.
 -- Main words: picked_language, PicksByWord. Laws: picked-accepts. Read first: Tried.antt, chumsky_parser's Language.antt.
 use Rattle.std.specs.Prelude.{◌≡◌, Option, Some, None, List, ⊤}
-use Rattle.chumsky_parser.specs.Ending.{Ending, At, Nowhere, Refused, Ender, and_then, Ends}
+use Rattle.chumsky_parser.specs.Ending.{Ending, At, Nowhere, Ender, and_then, Ends}
 use Rattle.chumsky_parser.specs.Language.{Language}
 use Rattle.chumsky_parser.specs.Words.{taken_of}
 
@@ -32,7 +32,7 @@ module _ {Tok U : Type 0} (picks : List Tok → Option U) where
     unambiguous = F.unambiguous;
     refuses = F.refuses;
     moves = F.moves;
-    takes_no_memory = F.takes_no_memory
+    takes_no_memory = F.takes_no_memory;
   }
 
   -- of each value of a word that is picked which is picked of the word

@@ -1,18 +1,17 @@
 -- The laws of the language of a part whose value is picked.
 -- Main law: picked-accepts. Read first: Picked.antt, ShieldedEndings.antt.
-use Rattle.std.proofs.Common.{◌≡◌, ℕ, ◌≤◌, ◌<◌, Bool, true, false, Option, Some, None, Result, Ok, Err, List, ◌++◌, length, drop, refl, sym, ◌∙◌, ap, subst, inl, inr}
+use Rattle.std.proofs.Common.{◌≡◌, ◌≤◌, Bool, true, false, Option, Some, None, List, ◌++◌, length, drop, refl, sym, ◌∙◌, ap, subst}
 use Rattle.chumsky_input.specs.declared.error.Error as error_trait
 use Rattle.chumsky_input.specs.declared.input.Input as input_trait
-use Rattle.chumsky_input.specs.Outcome.{Meaning, Beginning, Outcome, Yes, No}
+use Rattle.chumsky_input.specs.Outcome.{Meaning, Beginning, Outcome}
 use Rattle.chumsky_parser.specs.Chained.{Asked}
-use Rattle.chumsky_parser.specs.Ending.{Ending, At, Nowhere, Refused, Ender, and_then, Ends, Within, IfValue, Answers, Here, Reads}
+use Rattle.chumsky_parser.specs.Ending.{Ending, At, Nowhere, Refused, Ender, and_then, Ends, IfValue, Answers, Reads}
 use Rattle.chumsky_parser.specs.EndingLaws.{ends_there, asked-here, wanting_value}
-use Rattle.chumsky_parser.specs.Failure.{wanting}
-use Rattle.chumsky_parser.specs.Language.{Begins, TakesOnly, GivesOnly, TakesEach, EndsFurther, NeverRefused, Language, Described, Accepts}
+use Rattle.chumsky_parser.specs.Language.{TakesOnly, GivesOnly, TakesEach, EndsFurther, NeverRefused, Language, Accepts}
 use Rattle.chumsky_parser.specs.Words.{taken_of}
 use Rattle.chumsky_parser.specs.WordsLaws.{ends_at, taken_word}
 use Rattle.chumsky_shield.specs.Picked.{if_picked, IsPick, picked_ends, picked_language, PicksByWord}
-use Rattle.chumsky_shield.specs.Shielded.{OrClash, OrLacks, NoAsOne}
+use Rattle.chumsky_shield.specs.Shielded.{NoAsOne}
 use Rattle.chumsky_shield.specs.ShieldedEndings.{or_clash-by, or_lacks-by, shielded-here}
 use Rattle.chumsky_shield.specs.ShieldedMoves.{vetted-moves}
 use Rattle.chumsky_shield.specs.ShieldedSpares.{vetted-spares}
@@ -59,28 +58,28 @@ module _ {Tok U : Type 0} (picks : List Tok → Option U) where
       picked-takes_only : TakesOnly f P → TakesOnly (picked_ends picks f) (λ w. P w × IsPick (picks w))
       picked-takes_only h = record {
         taken = λ ts rest e.
-          let b = picked-at ts rest e in
-          let k = h.taken ts rest b.0 in
-          record { word = k.word; all = k.all; is = (k.is, subst (λ w. IsPick (picks w)) (taken_word ts rest k.word k.all) b.1) }
+            let b = picked-at ts rest e in
+            let k = h.taken ts rest b.0 in
+            record { word = k.word; all = k.all; is = (k.is, subst (λ w. IsPick (picks w)) (taken_word ts rest k.word k.all) b.1) };
       }
 
       picked-gives_only : TakesOnly f P → GivesOnly (picked_ends picks f) (λ ts u. Ends (f ts) (λ rest. picks (taken_of ts rest) ≡ Some u)) (λ w u. P w × (picks w ≡ Some u))
       picked-gives_only h = record {
         given = λ ts rest u e i.
-          let b = picked-at ts rest e in
-          let k = h.taken ts rest b.0 in
-          let j : picks (taken_of ts rest) ≡ Some u = ends_at (f ts) rest (λ r. picks (taken_of ts r) ≡ Some u) b.0 i in
-          record { word = k.word; all = k.all; is = (k.is, subst (λ w. picks w ≡ Some u) (taken_word ts rest k.word k.all) j) }
+            let b = picked-at ts rest e in
+            let k = h.taken ts rest b.0 in
+            let j : picks (taken_of ts rest) ≡ Some u = ends_at (f ts) rest (λ r. picks (taken_of ts r) ≡ Some u) b.0 i in
+            record { word = k.word; all = k.all; is = (k.is, subst (λ w. picks w ≡ Some u) (taken_word ts rest k.word k.all) j) };
       }
 
       pub picked-takes_each : TakesEach f P follow → TakesEach (picked_ends picks f) (λ w. P w × IsPick (picks w)) follow
       picked-takes_each h = record {
         each = λ w rest p k.
-          let e : f (w ++ rest) ≡ At rest = h.each w rest p.0 k in
-          let q : taken_of (w ++ rest) rest ≡ w = taken_word (w ++ rest) rest w refl in
-          let i : IsPick (picks (taken_of (w ++ rest) rest)) = subst (λ z. IsPick (picks z)) (sym q) p.1 in
-          let d : if_picked (picks (taken_of (w ++ rest) rest)) rest ≡ At rest = pick-there (picks (taken_of (w ++ rest) rest)) rest i in
-          rw e d
+            let e : f (w ++ rest) ≡ At rest = h.each w rest p.0 k in
+            let q : taken_of (w ++ rest) rest ≡ w = taken_word (w ++ rest) rest w refl in
+            let i : IsPick (picks (taken_of (w ++ rest) rest)) = subst (λ z. IsPick (picks z)) (sym q) p.1 in
+            let d : if_picked (picks (taken_of (w ++ rest) rest)) rest ≡ At rest = pick-there (picks (taken_of (w ++ rest) rest)) rest i in
+            rw e d;
       }
 
 module _ {I Tok Sp Cu Er Cx St V U : Type 0} (source : input_trait.Ghosts I Cu Tok Sp) (errors : error_trait.Ghosts Er I Tok Sp) (part : Meaning Tok Cx St errors.Seen V) (gives : V → Option U → Type 0) (picks : List Tok → Option U) where
@@ -124,27 +123,27 @@ module _ {I Tok Sp Cu Er Cx St V U : Type 0} (source : input_trait.Ghosts I Cu T
     picked-by : Reads PickedOf (picked_ends picks f) Value
     picked-by = record {
       here = λ b w o m.
-        let ts : List Tok = drop b.start b.tokens.list in
-        shielded-here (va ts) (Value ts) (Asked true part) (Vetting errors.merged errors.takes_no_memory (ByPick source errors gives)) (NoAsOne errors.merged) (f ts) (picked_ends picks f ts) b (record {
-          yes = λ v p q e i l j. judged b v p q e i l j;
-          no = λ p q e j. let d : picked_ends picks f ts ≡ Nowhere = rw e refl in or_clash-by (Value ts) (picked_ends picks f ts) b.tokens.list _ q d j;
-          refused = λ e. rw e refl
-        }) (asked-here (va ts) b true part (f ts) (h.here (record b { wanted = true }) (record { start = w.start; few = w.few }))) o m.run
+          let ts : List Tok = drop b.start b.tokens.list in
+          shielded-here (va ts) (Value ts) (Asked true part) (Vetting errors.merged errors.takes_no_memory (ByPick source errors gives)) (NoAsOne errors.merged) (f ts) (picked_ends picks f ts) b (record {
+            yes = λ v p q e i l j. judged b v p q e i l j;
+            no = λ p q e j. let d : picked_ends picks f ts ≡ Nowhere = rw e refl in or_clash-by (Value ts) (picked_ends picks f ts) b.tokens.list _ q d j;
+            refused = λ e. rw e refl;
+          }) (asked-here (va ts) b true part (f ts) (h.here (record b { wanted = true }) (record { start = w.start; few = w.few }))) o m.run;
     }
 
   -- a part whose value is picked, as is known by the word
   pub picked-accepts : {F : Language Tok V} {still : Type 0} → PicksByWord picks F.stands_for gives → let spare : Type 0 = errors.takes_no_memory × still in Accepts part F spare → Accepts PickedOf (picked_language picks F) spare
   picked-accepts {F} by_word h = record {
     described = λ s.
-      let d = h.described s in
-      record {
-        reads = picked-by F.ends F.value F.stands_for d.reads d.given by_word;
-        only = picked-takes_only picks F.ends F.word F.follow d.only;
-        given = picked-gives_only picks F.ends F.word F.follow d.only;
-        each = λ u. picked-takes_each picks F.ends F.word F.follow (d.each u);
-        decided = picked-decided picks F.ends F.refuses d.decided;
-        further = λ m. picked-further picks F.ends (d.further m)
-      };
+        let d = h.described s in
+        record {
+          reads = picked-by F.ends F.value F.stands_for d.reads d.given by_word;
+          only = picked-takes_only picks F.ends F.word F.follow d.only;
+          given = picked-gives_only picks F.ends F.word F.follow d.only;
+          each = λ u. picked-takes_each picks F.ends F.word F.follow (d.each u);
+          decided = picked-decided picks F.ends F.refuses d.decided;
+          further = λ m. picked-further picks F.ends (d.further m);
+        };
     moving = λ e. vetted-moves errors.merged errors.takes_no_memory (ByPick source errors gives) part (h.moving e);
-    sparing = λ q t. vetted-spares errors.merged errors.takes_no_memory (ByPick source errors gives) part q.0 (h.sparing q t)
+    sparing = λ q t. vetted-spares errors.merged errors.takes_no_memory (ByPick source errors gives) part q.0 (h.sparing q t);
   }

@@ -1,6 +1,6 @@
 -- Where what is judged or looked at ends, and with which values, by where its parts end.
 -- Main laws: shielded-here, map_err-by, rewind-by, not-by, and_is-by. Read first: Ending.antt, Shielded.antt.
-use Rattle.std.proofs.Common.{◌≡◌, ℕ, ◌≤◌, Bool, true, false, Option, Some, None, List, drop, length, refl, subst, ◌⊎◌, inl, inr}
+use Rattle.std.proofs.Common.{◌≡◌, ℕ, ◌≤◌, false, Option, Some, None, List, drop, length, refl, subst, ◌⊎◌, inl, inr}
 use Rattle.chumsky_input.specs.declared.error.Error as error_trait
 use Rattle.chumsky_input.specs.declared.inspector.Inspector as inspector_trait
 use Rattle.chumsky_input.specs.declared.input.Input as input_trait
@@ -10,8 +10,8 @@ use Rattle.chumsky_input.specs.Primary.{primary}
 use Rattle.chumsky_parser.specs.Chained.{Asked, Follows, from}
 use Rattle.chumsky_parser.specs.Choice.{OrElse}
 use Rattle.chumsky_parser.specs.ChoiceEndings.{or_else-here}
-use Rattle.chumsky_parser.specs.Ending.{Ending, At, Nowhere, Refused, Ender, and_then, or_else, Ends, Within, IfValue, Answers, Here, Reads}
-use Rattle.chumsky_parser.specs.EndingLaws.{answers_weaker, refuses-by, chained-here, asked-here, wanting_value}
+use Rattle.chumsky_parser.specs.Ending.{Ending, At, Nowhere, Refused, Ender, or_else, Within, IfValue, Answers, Here, Reads}
+use Rattle.chumsky_parser.specs.EndingLaws.{answers_weaker, refuses-by, asked-here, wanting_value}
 use Rattle.chumsky_parser.specs.Failure.{SaysNo, wanting}
 use Rattle.chumsky_parser.specs.Words.{ElseValue}
 use Rattle.chumsky_shield.specs.AndIs.{GivenAt, LooksFrom, MeansAndIs, Rewinds, MeansRewind}
@@ -66,12 +66,12 @@ module _ {Tok Cx St Er V : Type 0} (merged : Er → Er → Er) (maps : ErrMaps T
   pub map_err-by : Reads part f va → Reads (MeansMapErr merged maps part) f va
   map_err-by h = record {
     here = λ b w o m.
-      let ts : List Tok = drop b.start b.tokens.list in
-      shielded-here (va ts) (va ts) part (YesAsOne merged) (NoMapped merged maps) (f ts) (f ts) b (record {
-        yes = λ v p o e i l j. or_clash-by (va ts) (f ts) b.tokens.list _ o (e, i, l) j;
-        no = λ p o e j. mapped_no ts (primary merged p.events) b p o e j;
-        refused = λ e. e
-      }) (h.here b w) o m.run
+        let ts : List Tok = drop b.start b.tokens.list in
+        shielded-here (va ts) (va ts) part (YesAsOne merged) (NoMapped merged maps) (f ts) (f ts) b (record {
+          yes = λ v p o e i l j. or_clash-by (va ts) (f ts) b.tokens.list _ o (e, i, l) j;
+          no = λ p o e j. mapped_no ts (primary merged p.events) b p o e j;
+          refused = λ e. e;
+        }) (h.here b w) o m.run;
   }
 
 module _ {Tok Cx St Er V : Type 0} (merged : Er → Er → Er) (part : Meaning Tok Cx St Er V) (f : Ender Tok) (va : List Tok → V → Type 0) where
@@ -79,15 +79,15 @@ module _ {Tok Cx St Er V : Type 0} (merged : Er → Er → Er) (part : Meaning T
   pub rewind-by : Reads part f va → Reads (MeansRewind merged part) (rewind_ends f) va
   rewind-by h = record {
     here = λ b w o m.
-      let ts : List Tok = drop b.start b.tokens.list in
-      let there : (rest : List Tok) → f ts ≡ At rest → back ts (f ts) ≡ At ts = λ rest e. rw e refl in
-      shielded-here (va ts) (va ts) part (Rewinds merged) (NoAsOne merged) (f ts) (back ts (f ts)) b (record {
-        yes = λ v p o e i l j.
-          let d : back ts (f ts) ≡ At ts = there (drop p.end b.tokens.list) e in
-          elim j [ inl k ↦ or_clash-by (va ts) (back ts (f ts)) b.tokens.list _ o (d, i, w.start) k.1 | inr k ↦ or_clash-by (va ts) (back ts (f ts)) b.tokens.list _ o (d, i, w.start) k.1 ];
-        no = λ p o e j. let d : back ts (f ts) ≡ Nowhere = rw e refl in or_clash-by (va ts) (back ts (f ts)) b.tokens.list _ o d j;
-        refused = λ e. rw e refl
-      }) (h.here b w) o m.run
+        let ts : List Tok = drop b.start b.tokens.list in
+        let there : (rest : List Tok) → f ts ≡ At rest → back ts (f ts) ≡ At ts = λ rest e. rw e refl in
+        shielded-here (va ts) (va ts) part (Rewinds merged) (NoAsOne merged) (f ts) (back ts (f ts)) b (record {
+          yes = λ v p o e i l j.
+              let d : back ts (f ts) ≡ At ts = there (drop p.end b.tokens.list) e in
+              elim j [ inl k ↦ or_clash-by (va ts) (back ts (f ts)) b.tokens.list _ o (d, i, w.start) k.1 | inr k ↦ or_clash-by (va ts) (back ts (f ts)) b.tokens.list _ o (d, i, w.start) k.1 ];
+          no = λ p o e j. let d : back ts (f ts) ≡ Nowhere = rw e refl in or_clash-by (va ts) (back ts (f ts)) b.tokens.list _ o d j;
+          refused = λ e. rw e refl;
+        }) (h.here b w) o m.run;
   }
 
 module _ {I Tok Sp Cu Er St Mk Cx V : Type 0} (source : input_trait.Ghosts I Cu Tok Sp) (errors : error_trait.Ghosts Er I Tok Sp) (states : inspector_trait.Ghosts St I Mk Tok Sp)
@@ -112,15 +112,15 @@ module _ {I Tok Sp Cu Er St Mk Cx V : Type 0} (source : input_trait.Ghosts I Cu 
   pub not-by : Reads part f va → Reads (MeansNot source errors states part) (not_ends f) Fails
   not-by h = record {
     here = λ b w o m.
-      let ts : List Tok = drop b.start b.tokens.list in
-      elim m.cases [
-        | inl r ↦ refuses-by (Fails ts) (unless ts (f ts)) b.tokens.list o r
-        | inr k ↦ shielded-here (va ts) (Fails ts) (Asked false part) (Denies source errors states (states.mark b.state)) (Allows source errors states (states.mark b.state)) (f ts) (unless ts (f ts)) b (record {
-          yes = λ v p o e i l j. denied ts (states.mark b.state) b v p o (rw e refl) j;
-          no = λ p o e j. allowed (states.mark b.state) b w p o e j;
-          refused = λ e. rw e refl
-        }) (asked-here (va ts) b false part (f ts) (h.here (record b { wanted = false }) (record { start = w.start; few = w.few }))) o k
-      ]
+        let ts : List Tok = drop b.start b.tokens.list in
+        elim m.cases [
+          | inl r ↦ refuses-by (Fails ts) (unless ts (f ts)) b.tokens.list o r
+          | inr k ↦ shielded-here (va ts) (Fails ts) (Asked false part) (Denies source errors states (states.mark b.state)) (Allows source errors states (states.mark b.state)) (f ts) (unless ts (f ts)) b (record {
+            yes = λ v p o e i l j. denied ts (states.mark b.state) b v p o (rw e refl) j;
+            no = λ p o e j. allowed (states.mark b.state) b w p o e j;
+            refused = λ e. rw e refl;
+          }) (asked-here (va ts) b false part (f ts) (h.here (record b { wanted = false }) (record { start = w.start; few = w.few }))) o k
+        ];
   }
 
 module _ {Tok Cx St Mk Er V W : Type 0} (mark : St → Mk) (goes_back : St → Mk → St) (safe : Type 0) (part : Meaning Tok Cx St Er V) (other : Meaning Tok Cx St Er W) (f g : Ender Tok) (va : List Tok → V → Type 0) (vb : List Tok → W → Type 0) (h : Reads part f va) (k : Reads other g vb) where

@@ -1,6 +1,6 @@
 -- The languages of what is judged or looked at.
 -- Main words: same_but, looked_language, not_language, and_is_language. Laws: map_err-accepts, rewind-accepts, not-accepts, and_is-accepts, vetted-accepts. Read first: Language.antt, Looking.antt.
-use Rattle.std.proofs.Common.{◌≡◌, ℕ, Bool, true, false, ◌&&◌, ◌||◌, List, [], refl}
+use Rattle.std.proofs.Common.{◌≡◌, false, ◌&&◌, ◌||◌, List, []}
 use Rattle.std.specs.Prelude.{⊤}
 use Rattle.chumsky_input.specs.declared.error.Error as error_trait
 use Rattle.chumsky_input.specs.declared.inspector.Inspector as inspector_trait
@@ -37,7 +37,7 @@ rewind_language {Tok} F = record {
   unambiguous = F.unambiguous;
   refuses = F.refuses;
   moves = false;
-  takes_no_memory = F.takes_no_memory
+  takes_no_memory = F.takes_no_memory;
 }
 
 -- the empty word, where the part fails on what follows
@@ -52,7 +52,7 @@ not_language F = record {
   unambiguous = ⊤;
   refuses = F.refuses;
   moves = false;
-  takes_no_memory = F.takes_no_memory
+  takes_no_memory = F.takes_no_memory;
 }
 
 -- the words of a part at whose start another one may end, where that doesn't depend on what follows the word
@@ -67,7 +67,7 @@ and_is_language F G = record {
   unambiguous = F.unambiguous × KnownByWord G.ends F.word F.follow;
   refuses = F.refuses || G.refuses;
   moves = F.moves;
-  takes_no_memory = F.takes_no_memory × G.takes_no_memory
+  takes_no_memory = F.takes_no_memory × G.takes_no_memory;
 }
 
 -- what ends where its part does, with its values, and moves and takes memory only as it does, accepts the part's language
@@ -75,7 +75,7 @@ pub same-accepts : {Tok Cx St Er V : Type 0} (part m : Meaning Tok Cx St Er V) {
 same-accepts part m reads moving sparing h = record {
   described = λ s. let d = h.described s in record { reads = reads d.reads; only = d.only; given = d.given; each = d.each; decided = d.decided; further = d.further };
   moving = λ e. moving (h.moving e);
-  sparing = λ q t. sparing q (h.sparing q t)
+  sparing = λ q t. sparing q (h.sparing q t);
 }
 
 module _ {Tok Cx St Er V : Type 0} (merged : Er → Er → Er) (part : Meaning Tok Cx St Er V) {F : Language Tok V} {spare : Type 0} where
@@ -87,17 +87,17 @@ module _ {Tok Cx St Er V : Type 0} (merged : Er → Er → Er) (part : Meaning T
   pub rewind-accepts : Accepts part F spare → Accepts (MeansRewind merged part) (rewind_language F) spare
   rewind-accepts h = record {
     described = λ s.
-      let d = h.described s in
-      record {
-        reads = rewind-by merged part F.ends F.value d.reads;
-        only = rewind-takes_only F.ends F.value F.stands_for F.word F.follow;
-        given = rewind-gives_only F.ends F.value F.stands_for F.word F.follow d.given;
-        each = λ u. rewind-takes_each F.ends F.value F.stands_for F.word F.follow (d.each u);
-        decided = rewind-decided F.ends F.value F.stands_for F.word F.follow F.refuses d.decided;
-        further = λ e. absurd (cc e)
-      };
+        let d = h.described s in
+        record {
+          reads = rewind-by merged part F.ends F.value d.reads;
+          only = rewind-takes_only F.ends F.value F.stands_for F.word F.follow;
+          given = rewind-gives_only F.ends F.value F.stands_for F.word F.follow d.given;
+          each = λ u. rewind-takes_each F.ends F.value F.stands_for F.word F.follow (d.each u);
+          decided = rewind-decided F.ends F.value F.stands_for F.word F.follow F.refuses d.decided;
+          further = λ e. absurd (cc e);
+        };
     moving = λ e. absurd (cc e);
-    sparing = λ q t. rewind-spares merged part (h.sparing q t)
+    sparing = λ q t. rewind-spares merged part (h.sparing q t);
   }
 
 module _ {I Tok Sp Cu Er St Mk Cx V : Type 0} (source : input_trait.Ghosts I Cu Tok Sp) (errors : error_trait.Ghosts Er I Tok Sp) (states : inspector_trait.Ghosts St I Mk Tok Sp) (part : Meaning Tok Cx states.Seen errors.Seen V) where
@@ -105,17 +105,17 @@ module _ {I Tok Sp Cu Er St Mk Cx V : Type 0} (source : input_trait.Ghosts I Cu 
   pub not-accepts : {F : Language Tok V} → let spare : Type 0 = errors.takes_no_memory × states.takes_no_memory in Accepts part F spare → Accepts (MeansNot source errors states part) (not_language F) spare
   not-accepts {F} h = record {
     described = λ s.
-      let d = h.described s in
-      record {
-        reads = not-by source errors states part F.ends F.value d.reads;
-        only = not-takes_only F.ends;
-        given = not-gives_only F.ends;
-        each = λ u. not-takes_each F.ends;
-        decided = not-decided F.ends F.refuses d.decided;
-        further = λ e. absurd (cc e)
-      };
+        let d = h.described s in
+        record {
+          reads = not-by source errors states part F.ends F.value d.reads;
+          only = not-takes_only F.ends;
+          given = not-gives_only F.ends;
+          each = λ u. not-takes_each F.ends;
+          decided = not-decided F.ends F.refuses d.decided;
+          further = λ e. absurd (cc e);
+        };
     moving = λ e. absurd (cc e);
-    sparing = λ q t. not-spares source errors states q.0 q.1 part (h.sparing q t)
+    sparing = λ q t. not-spares source errors states q.0 q.1 part (h.sparing q t);
   }
 
 module _ {Tok Cx St Mk Er V W : Type 0} (mark : St → Mk) (goes_back : St → Mk → St) {safe spare : Type 0} (still : spare → safe) (part : Meaning Tok Cx St Er V) (other : Meaning Tok Cx St Er W) where
@@ -123,19 +123,19 @@ module _ {Tok Cx St Mk Er V W : Type 0} (mark : St → Mk) (goes_back : St → M
   pub and_is-accepts : {F : Language Tok V} {G : Language Tok W} → Accepts part F spare → Accepts other G spare → Accepts (MeansAndIs mark goes_back safe part other) (and_is_language F G) spare
   and_is-accepts {F} {G} h k = record {
     described = λ s.
-      let t = both-true F.said G.said s in
-      let d = h.described t.0 in
-      let e = k.described t.1 in
-      record {
-        reads = and_is-by mark goes_back safe part other F.ends G.ends F.value G.value d.reads e.reads;
-        only = and_is-takes_only F.ends G.ends F.value F.stands_for F.word F.follow d.only;
-        given = and_is-gives_only F.ends G.ends F.value F.stands_for F.word F.follow d.given;
-        each = λ u. and_is-takes_each F.ends G.ends F.value F.stands_for F.word F.follow (d.each u.0) u.1;
-        decided = and_is-decided F.ends G.ends F.value F.stands_for F.word F.follow F.refuses G.refuses d.decided e.decided;
-        further = λ m. and_is-further F.ends G.ends F.value F.stands_for F.word F.follow (d.further m)
-      };
+        let t = both-true F.said G.said s in
+        let d = h.described t.0 in
+        let e = k.described t.1 in
+        record {
+          reads = and_is-by mark goes_back safe part other F.ends G.ends F.value G.value d.reads e.reads;
+          only = and_is-takes_only F.ends G.ends F.value F.stands_for F.word F.follow d.only;
+          given = and_is-gives_only F.ends G.ends F.value F.stands_for F.word F.follow d.given;
+          each = λ u. and_is-takes_each F.ends G.ends F.value F.stands_for F.word F.follow (d.each u.0) u.1;
+          decided = and_is-decided F.ends G.ends F.value F.stands_for F.word F.follow F.refuses G.refuses d.decided e.decided;
+          further = λ m. and_is-further F.ends G.ends F.value F.stands_for F.word F.follow (d.further m);
+        };
     moving = λ e. and_is-moves mark goes_back safe part other (h.moving e);
-    sparing = λ q t. and_is-spares mark goes_back safe part other (still q) (h.sparing q t.0) (k.sparing q t.1)
+    sparing = λ q t. and_is-spares mark goes_back safe part other (still q) (h.sparing q t.0) (k.sparing q t.1);
   }
 
 module _ {Tok Cx St Er V W : Type 0} (merged : Er → Er → Er) (free : Type 0) (vets : Vets Tok Cx St Er V W) (part : Meaning Tok Cx St Er V) where
@@ -144,5 +144,5 @@ module _ {Tok Cx St Er V W : Type 0} (merged : Er → Er → Er) (free : Type 0)
   vetted_unsaid-accepts quiet h = record {
     described = λ s. absurd (cc s);
     moving = λ e. vetted-moves merged free vets part (h.moving e);
-    sparing = λ q t. vetted-spares merged free vets part (quiet q) (h.sparing q t)
+    sparing = λ q t. vetted-spares merged free vets part (quiet q) (h.sparing q t);
   }

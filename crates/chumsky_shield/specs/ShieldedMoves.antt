@@ -1,6 +1,6 @@
 -- What is judged or looked at moves where it succeeds, since its part does.
 -- Main laws: shielded-moves, vetted-moves, map_err-moves, and_is-moves. Read first: Progress.antt, Shielded.antt.
-use Rattle.std.proofs.Common.{◌≡◌, ℕ, ◌<◌, true, false, Option, Some, None, Result, Ok, Err, refl, ap, subst, arith, inl, inr}
+use Rattle.std.proofs.Common.{◌≡◌, ℕ, ◌<◌, true, Option, Some, None, Result, Ok, Err, refl, ap, subst, arith, inl, inr}
 use Rattle.chumsky_input.specs.Outcome.{Event, Meaning, Beginning, Outcome, Verdict, Yes, No, Halt, Clash}
 use Rattle.chumsky_input.specs.Primary.{primary}
 use Rattle.chumsky_parser.specs.Chained.{Asked, Follows, from}

@@ -11,7 +11,7 @@ use Rattle.chumsky_parser.specs.Choice.{OrElse}
 use Rattle.chumsky_parser.specs.Failure.{SaysNo}
 use Rattle.chumsky_parser.specs.Memory.{IsNotMemory, SparesMemory, NeverOutOfMemory}
 use Rattle.chumsky_parser.specs.MemoryLaws.{no-spares, asked-spares, chained-spares, or_else-spares}
-use Rattle.chumsky_shield.specs.AndIs.{GivenAt, LooksFrom, MeansAndIs, Rewinds, MeansRewind}
+use Rattle.chumsky_shield.specs.AndIs.{GivenAt, LooksFrom, MeansAndIs, MeansRewind}
 use Rattle.chumsky_shield.specs.MapErr.{ErrMaps, MappedAs, MeansMapErr}
 use Rattle.chumsky_shield.specs.Not.{Denies, Allows, MeansNot}
 use Rattle.chumsky_shield.specs.Shielded.{OrClash, OrLacks, OfYes, OfNo, ByVerdict, Shielded}

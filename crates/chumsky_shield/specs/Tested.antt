@@ -1,11 +1,11 @@
 -- The language of a part whose value has to pass a test, where whether it does is known by the word.
 -- Main words: tested_language, TestsByWord. Law: tested-accepts. Read first: Picked.antt, PickedLaws.antt.
-use Rattle.std.proofs.Common.{◌≡◌, ℕ, ◌≤◌, Bool, true, false, Option, Some, None, List, ◌++◌, length, drop, refl, sym, ◌∙◌, ap, subst}
+use Rattle.std.proofs.Common.{◌≡◌, ◌≤◌, Bool, true, false, Option, Some, None, List, length, drop, refl, sym, ◌∙◌, ap, subst}
 use Rattle.chumsky_input.specs.declared.error.Error as error_trait
 use Rattle.chumsky_input.specs.declared.input.Input as input_trait
 use Rattle.chumsky_input.specs.Outcome.{Meaning, Beginning, Outcome}
 use Rattle.chumsky_parser.specs.Chained.{Asked}
-use Rattle.chumsky_parser.specs.Ending.{Ending, At, Nowhere, Ender, Within, IfValue, Answers, Reads}
+use Rattle.chumsky_parser.specs.Ending.{At, Nowhere, Ender, IfValue, Answers, Reads}
 use Rattle.chumsky_parser.specs.EndingLaws.{asked-here, wanting_value}
 use Rattle.chumsky_parser.specs.Language.{TakesOnly, GivesOnly, TakesEach, Language, Accepts}
 use Rattle.chumsky_parser.specs.Words.{taken_of}
@@ -40,7 +40,7 @@ module _ {Tok : Type 0} (tests : List Tok → Bool) where
     unambiguous = F.unambiguous;
     refuses = F.refuses;
     moves = F.moves;
-    takes_no_memory = F.takes_no_memory
+    takes_no_memory = F.takes_no_memory;
   }
 
   -- of each value of a word the test says what is said of the word
@@ -58,17 +58,17 @@ module _ {Tok : Type 0} (tests : List Tok → Bool) where
     tested-takes_only : TakesOnly f P → TakesOnly (picked_ends passing f) (λ w. P w × (tests w ≡ true))
     tested-takes_only h = record {
       taken = λ ts rest e.
-        let b = picked-at passing f ts rest e in
-        let k = h.taken ts rest b.0 in
-        record { word = k.word; all = k.all; is = (k.is, subst (λ w. tests w ≡ true) (taken_word ts rest k.word k.all) (is_passing (tests (taken_of ts rest)) b.1)) }
+          let b = picked-at passing f ts rest e in
+          let k = h.taken ts rest b.0 in
+          record { word = k.word; all = k.all; is = (k.is, subst (λ w. tests w ≡ true) (taken_word ts rest k.word k.all) (is_passing (tests (taken_of ts rest)) b.1)) };
     }
 
     tested-gives_only : {V : Type 0} (va of : List Tok → V → Type 0) → GivesOnly f va of → GivesOnly (picked_ends passing f) va (λ w v. of w v × (tests w ≡ true))
     tested-gives_only va of h = record {
       given = λ ts rest v e i.
-        let b = picked-at passing f ts rest e in
-        let k = h.given ts rest v b.0 i in
-        record { word = k.word; all = k.all; is = (k.is, subst (λ w. tests w ≡ true) (taken_word ts rest k.word k.all) (is_passing (tests (taken_of ts rest)) b.1)) }
+          let b = picked-at passing f ts rest e in
+          let k = h.given ts rest v b.0 i in
+          record { word = k.word; all = k.all; is = (k.is, subst (λ w. tests w ≡ true) (taken_word ts rest k.word k.all) (is_passing (tests (taken_of ts rest)) b.1)) };
     }
 
     tested-takes_each : TakesEach f P follow → TakesEach (picked_ends passing f) (λ w. P w × (tests w ≡ true)) follow
@@ -114,27 +114,27 @@ module _ {I Tok Sp Cu Er Cx St V : Type 0} (source : input_trait.Ghosts I Cu Tok
     tested-by : Reads TestedOf ends va
     tested-by = record {
       here = λ b w o m.
-        let ts : List Tok = drop b.start b.tokens.list in
-        shielded-here (va ts) (va ts) (Asked true part) (Vetting errors.merged errors.takes_no_memory (ByTest source errors gives)) (NoAsOne errors.merged) (f ts) (ends ts) b (record {
-          yes = λ v p q e i l j. judged b v p q e i l j;
-          no = λ p q e j. let d : ends ts ≡ Nowhere = rw e refl in or_clash-by (va ts) (ends ts) b.tokens.list _ q d j;
-          refused = λ e. rw e refl
-        }) (asked-here (va ts) b true part (f ts) (h.here (record b { wanted = true }) (record { start = w.start; few = w.few }))) o m.run
+          let ts : List Tok = drop b.start b.tokens.list in
+          shielded-here (va ts) (va ts) (Asked true part) (Vetting errors.merged errors.takes_no_memory (ByTest source errors gives)) (NoAsOne errors.merged) (f ts) (ends ts) b (record {
+            yes = λ v p q e i l j. judged b v p q e i l j;
+            no = λ p q e j. let d : ends ts ≡ Nowhere = rw e refl in or_clash-by (va ts) (ends ts) b.tokens.list _ q d j;
+            refused = λ e. rw e refl;
+          }) (asked-here (va ts) b true part (f ts) (h.here (record b { wanted = true }) (record { start = w.start; few = w.few }))) o m.run;
     }
 
   -- a part whose value is tested, as is known by the word
   pub tested-accepts : {F : Language Tok V} {still : Type 0} → TestsByWord tests F.stands_for gives → let spare : Type 0 = errors.takes_no_memory × still in Accepts part F spare → Accepts TestedOf (tested_language tests F) spare
   tested-accepts {F} by_word h = record {
     described = λ s.
-      let d = h.described s in
-      record {
-        reads = tested-by F.ends F.value F.stands_for d.reads d.given by_word;
-        only = tested-takes_only tests F.ends F.word F.follow d.only;
-        given = tested-gives_only tests F.ends F.word F.follow F.value F.stands_for d.given;
-        each = λ u. tested-takes_each tests F.ends F.word F.follow (d.each u);
-        decided = picked-decided (passing tests) F.ends F.refuses d.decided;
-        further = λ m. picked-further (passing tests) F.ends (d.further m)
-      };
+        let d = h.described s in
+        record {
+          reads = tested-by F.ends F.value F.stands_for d.reads d.given by_word;
+          only = tested-takes_only tests F.ends F.word F.follow d.only;
+          given = tested-gives_only tests F.ends F.word F.follow F.value F.stands_for d.given;
+          each = λ u. tested-takes_each tests F.ends F.word F.follow (d.each u);
+          decided = picked-decided (passing tests) F.ends F.refuses d.decided;
+          further = λ m. picked-further (passing tests) F.ends (d.further m);
+        };
     moving = λ e. vetted-moves errors.merged errors.takes_no_memory (ByTest source errors gives) part (h.moving e);
-    sparing = λ q t. vetted-spares errors.merged errors.takes_no_memory (ByTest source errors gives) part q.0 (h.sparing q t)
+    sparing = λ q t. vetted-spares errors.merged errors.takes_no_memory (ByTest source errors gives) part q.0 (h.sparing q t);
   }

@@ -6,7 +6,7 @@ use Rattle.chumsky_input.specs.Outcome.{Meaning, Beginning, Outcome, IsAnswer, E
 use Rattle.chumsky_parser.specs.Chained.{Asked}
 use Rattle.chumsky_parser.specs.Ending.{At, Ender, and_then, Within, IfValue, Answers, Here, Reads}
 use Rattle.chumsky_parser.specs.EndingLaws.{and_then_some, refuses-by, chained-here, asked-here, wanting_value}
-use Rattle.chumsky_parser.specs.Language.{Language, Described, Accepts, GivesOnly}
+use Rattle.chumsky_parser.specs.Language.{Language, Accepts, GivesOnly}
 use Rattle.chumsky_parser.specs.LanguageLaws.{with_values}
 use Rattle.chumsky_parser.specs.Memory.{SparesMemory, NeverOutOfMemory}
 use Rattle.chumsky_parser.specs.MemoryLaws.{asked-spares, chained-spares}
@@ -70,27 +70,27 @@ module _ {Tok Cx St Er V W : Type 0} (emits : Emits Tok Cx St Er V W) where
     validated-by : (f : Ender Tok) (va : List Tok → V → Type 0) → Reads part f va → Reads (MeansValidate emits part) f (λ ts. ValidatedAs (va ts))
     validated-by f va h = record {
       here = λ b w o m.
-        let ts : List Tok = drop b.start b.tokens.list in
-        let Q : W → Type 0 = ValidatedAs (va ts) in
-        let z : Answers Q (and_then (λ us. At us) (f ts)) b.tokens.list o.verdict o.end =
-        chained-here (va ts) Q (Asked true part) (Validated emits b.start) (f ts) (λ us. At us) b w (asked-here (va ts) b true part (f ts) (h.here (record b { wanted = true }) (record { start = w.start; few = w.few })))
-        (λ v c y e i. validated_each-here (va ts) b.start v i c y) o m.run in
-        subst (λ q. Answers Q q b.tokens.list o.verdict o.end) (and_then_some (f ts)) z
+          let ts : List Tok = drop b.start b.tokens.list in
+          let Q : W → Type 0 = ValidatedAs (va ts) in
+          let z : Answers Q (and_then (λ us. At us) (f ts)) b.tokens.list o.verdict o.end =
+          chained-here (va ts) Q (Asked true part) (Validated emits b.start) (f ts) (λ us. At us) b w (asked-here (va ts) b true part (f ts) (h.here (record b { wanted = true }) (record { start = w.start; few = w.few })))
+          (λ v c y e i. validated_each-here (va ts) b.start v i c y) o m.run in
+          subst (λ q. Answers Q q b.tokens.list o.verdict o.end) (and_then_some (f ts)) z;
     }
 
     validated-given : (f : Ender Tok) (va of : List Tok → V → Type 0) → GivesOnly f va of → GivesOnly f (λ ts. ValidatedAs (va ts)) (λ u. ValidatedAs (of u))
     validated-given f va of h = record {
       given = λ ts rest w e i.
-        let k = h.given ts rest i.value e i.is in
-        record { word = k.word; all = k.all; is = record { value = i.value; is = k.is; shown = i.shown; state = i.state; emitted = i.emitted; answers = i.answers } }
+          let k = h.given ts rest i.value e i.is in
+          record { word = k.word; all = k.all; is = record { value = i.value; is = k.is; shown = i.shown; state = i.state; emitted = i.emitted; answers = i.answers } };
     }
 
     -- `part.validate(..)`
     pub validated-accepts : {F : Language Tok V} {spare : Type 0} → Accepts part F spare → Accepts (MeansValidate emits part) (validated_language F) spare
     validated-accepts {F} h = record {
       described = λ s.
-        let d = h.described s in
-        record { reads = validated-by F.ends F.value d.reads; only = d.only; given = validated-given F.ends F.value F.stands_for d.given; each = d.each; decided = d.decided; further = d.further };
+          let d = h.described s in
+          record { reads = validated-by F.ends F.value d.reads; only = d.only; given = validated-given F.ends F.value F.stands_for d.given; each = d.each; decided = d.decided; further = d.further };
       moving = λ e. validated-moves (h.moving e);
-      sparing = λ q t. validated-spares t.1 (h.sparing q t.0)
+      sparing = λ q t. validated-spares t.1 (h.sparing q t.0);
     }

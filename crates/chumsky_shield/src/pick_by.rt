@@ -12,9 +12,14 @@ use std::marker::PhantomData;
 
 /// What picks an output of a part by the word that the part took: of each output of a word it makes one value, or answers
 /// none.
-pub trait WordPicker<'src, I: Input<'src>, O, U, E: ParserExtra<I>, A: Parser<'src, I, O, E>>:
-    Picker<O, U>
-{
+pub trait WordPicker<
+    'src,
+    I: Input<'src>,
+    O,
+    U,
+    E: ParserExtra<I>,
+    A: Parser<'src, I, O, E>,
+>: Picker<O, U> {
     /// What is picked of a word, or none.
     ghost picks: { Self → List I.Token → Option U };
 
@@ -32,7 +37,13 @@ pub struct PickBy<A, O, F, U> {
 
 /// The outputs of `parser` that are picked by their words: `pick_by(text::int(10), decimal::<u32>())`.
 pub fn pick_by<A, O, F, U>(parser: A, picker: F) -> PickBy<A, O, F, U> {
-    PickBy { picked: FilterMap { parser: parser, picker: picker, of: PhantomData } }
+    PickBy {
+        picked: FilterMap {
+            parser: parser,
+            picker: picker,
+            of: PhantomData,
+        },
+    }
 }
 
 impl<I, O, U, E, A: IsParser<I, O, E>, F> IsParser<I, U, E> for PickBy<A, O, F, U> {}

@@ -10,9 +10,9 @@ use chumsky_input::stop::PResult;
 use chumsky_parser::parser::{IsParser, Parser};
 
 /// What tests an output of a part by the word that the part took: each output of a word passes, or none does.
-pub trait WordTester<'src, I: Input<'src>, O, E: ParserExtra<I>, A: Parser<'src, I, O, E>>:
-    Tester<O>
-{
+pub trait WordTester<'src, I: Input<'src>, O, E: ParserExtra<I>, A: Parser<'src, I, O, E>>: Tester<
+    O,
+> {
     /// Whether a word passes.
     ghost tests: { Self → List I.Token → Bool };
 
@@ -28,7 +28,12 @@ pub struct TestBy<A, F> {
 
 /// The outputs of `parser` whose words pass a test.
 pub fn test_by<A, F>(parser: A, tester: F) -> TestBy<A, F> {
-    TestBy { tested: Filter { parser: parser, tester: tester } }
+    TestBy {
+        tested: Filter {
+            parser: parser,
+            tester: tester,
+        },
+    }
 }
 
 impl<I, O, E, A: IsParser<I, O, E>, F> IsParser<I, O, E> for TestBy<A, F> {}
