@@ -5,7 +5,7 @@ use Rattle.either.specs.declared.Either.{Either}
 use Rattle.either.specs.declared.Either.TheVariants.{Left, Right}
 use Rattle.chumsky_input.specs.Outcome.{Meaning, Beginning, Outcome, Yes}
 use Rattle.chumsky_parser.specs.Items.{Next}
-use Rattle.chumsky_parser.specs.Progress.{IsYes}
+use Rattle.chumsky_parser.specs.Progress.{Moves}
 use Rattle.chumsky_items.specs.Repeating.{at_cap}
 
 -- making an iteration moves, or the first step of each that was made does
