@@ -1,15 +1,14 @@
 -- The language of a part with what it took, in place of its value or beside it: the part's words.
 -- Main words: covered_language, with_span_language. Laws: covers-accepts, with_span-accepts. Read first: Covered.antt; Language.antt and Slices.antt of chumsky_parser.
-use Rattle.std.proofs.Common.{◌≡◌, ℕ, ◌-◌, ◌≤◌, Bool, true, false, Option, Some, None, option_map, List, length, drop, take, slice_range, refl, sym, ◌∙◌, ap, subst, arith, ◌⊎◌, inl, inr}
+use Rattle.std.proofs.Common.{◌≡◌, ℕ, ◌-◌, ◌≤◌, Bool, true, false, Option, Some, None, option_map, List, length, drop, take, slice_range, refl, ap, subst, arith}
 use Rattle.std.proofs.lemmas.List.{length-drop}
 use Rattle.chumsky_input.specs.Layout.{Layout}
-use Rattle.chumsky_input.specs.declared.stop.Stop.TheVariants.{Memory}
 use Rattle.chumsky_input.specs.Outcome.{Meaning, Beginning, Outcome, Verdict, Yes, No, Halt, Clash}
 use Rattle.chumsky_parser.specs.Chained.{Chained, Given, Asked, Follows, from}
-use Rattle.chumsky_parser.specs.Ending.{Ending, At, Nowhere, Refused, Ender, Ends, Within, IfValue, Answers, Here, Reads}
+use Rattle.chumsky_parser.specs.Ending.{At, Ender, Ends, Within, IfValue, Answers, Reads}
 use Rattle.chumsky_parser.specs.EndingLaws.{ends_there, asked-by}
 use Rattle.chumsky_parser.specs.Failure.{IsWanted}
-use Rattle.chumsky_parser.specs.Language.{Language, Accepts, Described, TakesOnly, GivesOnly}
+use Rattle.chumsky_parser.specs.Language.{Language, Accepts, Described, GivesOnly}
 use Rattle.chumsky_parser.specs.LanguageLaws.{with_values, with_values-accepts}
 use Rattle.chumsky_parser.specs.Laws.{given-ends}
 use Rattle.chumsky_parser.specs.Memory.{NeverOutOfMemory}
@@ -78,11 +77,11 @@ module _ {Tok Cx St Er V W : Type 0} (is : Layout Tok → ℕ → ℕ → W → 
     pub covers-by : Reads part f va → Reads (Covers is part) f (CoversTaken is f)
     covers-by h = record {
       here = λ b w o m.
-        let ts : List Tok = drop b.start b.tokens.list in
-        gives_after-here (Asked false part) (λ _. Cover is b.start) f va (asked-by part f va h false) (CoversTaken is f) b w
-        (λ v p e l i q n.
+          let ts : List Tok = drop b.start b.tokens.list in
+          gives_after-here (Asked false part) (λ _. Cover is b.start) f va (asked-by part f va h false) (CoversTaken is f) b w
+          (λ v p e l i q n.
           let x = n.copies in
-          (x.value, x.given, covering x.value b.wanted (is b.tokens b.start p.end) (CoversTaken is f ts) (λ u j. ends_there (f ts) (drop p.end b.tokens.list) (λ rest. IsSliceOf is (taken_of ts rest) u) e (slice_between b.tokens b.start p.end l u j)) x.is_value)) o m.run
+          (x.value, x.given, covering x.value b.wanted (is b.tokens b.start p.end) (CoversTaken is f ts) (λ u j. ends_there (f ts) (drop p.end b.tokens.list) (λ rest. IsSliceOf is (taken_of ts rest) u) e (slice_between b.tokens b.start p.end l u j)) x.is_value)) o m.run;
     }
       where
         slice_between : (l : Layout Tok) (i j : ℕ) → j ≤ length l.list → (u : W) → is l i j u → IsSliceOf is (taken_of (drop i l.list) (drop j l.list)) u
@@ -91,9 +90,9 @@ module _ {Tok Cx St Er V W : Type 0} (is : Layout Tok → ℕ → ℕ → W → 
   covered-given : {F : Language Tok V} → Described part F → GivesOnly F.ends (CoversTaken is F.ends) (λ w v. F.word w × IsSliceOf is w v)
   covered-given {F} d = record {
     given = λ ts rest v e i.
-      let k = d.only.taken ts rest e in
-      let j : IsSliceOf is (taken_of ts rest) v = ends_at (F.ends ts) rest (λ r. IsSliceOf is (taken_of ts r) v) e i in
-      record { word = k.word; all = k.all; is = (k.is, subst (λ u. IsSliceOf is u v) (taken_word ts rest k.word k.all) j) }
+        let k = d.only.taken ts rest e in
+        let j : IsSliceOf is (taken_of ts rest) v = ends_at (F.ends ts) rest (λ r. IsSliceOf is (taken_of ts r) v) e i in
+        record { word = k.word; all = k.all; is = (k.is, subst (λ u. IsSliceOf is u v) (taken_word ts rest k.word k.all) j) };
   }
 
   -- `part.to_slice()` and `part.to_span()`
@@ -102,7 +101,7 @@ module _ {Tok Cx St Er V W : Type 0} (is : Layout Tok → ℕ → ℕ → W → 
     reads = λ d. covers-by F.ends F.value d.reads;
     given = λ d. covered-given d;
     moving = covers-move;
-    sparing = covers-spares
+    sparing = covers-spares;
   })
 
 module _ {Tok Cx St Er V W : Type 0} (with_span : Layout Tok → ℕ → ℕ → V → W) (part : Meaning Tok Cx St Er V) where
@@ -118,8 +117,8 @@ module _ {Tok Cx St Er V W : Type 0} (with_span : Layout Tok → ℕ → ℕ →
   with_span-by : (f : Ender Tok) (va : List Tok → V → Type 0) → Reads part f va → Reads (WithSpan with_span part) f (SpannedTaken f va)
   with_span-by f va h = record {
     here = λ b w o m.
-      let ts : List Tok = drop b.start b.tokens.list in
-      gives_after-here part (AddsSpan with_span b.start) f va h (SpannedTaken f va) b w (λ v p e l i q n. (option_map (with_span b.tokens b.start p.end) v, n.given, each_value b p.end e l v i)) o m.run
+        let ts : List Tok = drop b.start b.tokens.list in
+        gives_after-here part (AddsSpan with_span b.start) f va h (SpannedTaken f va) b w (λ v p e l i q n. (option_map (with_span b.tokens b.start p.end) v, n.given, each_value b p.end e l v i)) o m.run;
   }
     where
       each_value : (b : Beginning Tok Cx St) (end : ℕ) → f (drop b.start b.tokens.list) ≡ At (drop end b.tokens.list) → end ≤ length b.tokens.list → (v : Option V) → IfValue (va (drop b.start b.tokens.list)) v
@@ -135,9 +134,9 @@ module _ {Tok Cx St Er V W : Type 0} (with_span : Layout Tok → ℕ → ℕ →
   with_span-given : {F : Language Tok V} → Described part F → GivesOnly F.ends (SpannedTaken F.ends F.value) (λ u w. AddsTaken with_span (F.stands_for u) u w)
   with_span-given {F} d = record {
     given = λ ts rest w e i.
-      let j : AddsTaken with_span (F.value ts) (taken_of ts rest) w = ends_at (F.ends ts) rest (λ r. AddsTaken with_span (F.value ts) (taken_of ts r) w) e i in
-      let k = d.given.given ts rest j.0 e j.1 in
-      record { word = k.word; all = k.all; is = (j.0, k.is, subst (λ u. IsSliceOf (λ l a z x. x ≡ with_span l a z j.0) u w) (taken_word ts rest k.word k.all) j.2) }
+        let j : AddsTaken with_span (F.value ts) (taken_of ts rest) w = ends_at (F.ends ts) rest (λ r. AddsTaken with_span (F.value ts) (taken_of ts r) w) e i in
+        let k = d.given.given ts rest j.0 e j.1 in
+        record { word = k.word; all = k.all; is = (j.0, k.is, subst (λ u. IsSliceOf (λ l a z x. x ≡ with_span l a z j.0) u w) (taken_word ts rest k.word k.all) j.2) };
   }
 
   -- `part.spanned()`
@@ -146,5 +145,5 @@ module _ {Tok Cx St Er V W : Type 0} (with_span : Layout Tok → ℕ → ℕ →
     reads = λ d. with_span-by F.ends F.value d.reads;
     given = λ d. with_span-given d;
     moving = with_span-moves;
-    sparing = with_span-spares
+    sparing = with_span-spares;
   })

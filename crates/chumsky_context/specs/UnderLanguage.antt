@@ -1,13 +1,13 @@
 -- The language of a part that runs under another context, or on a state of its own: the part's.
 -- Main word: on_copy_language. Laws: under-accepts, under_made-accepts, on_copy-accepts. Read first: Under.antt, OnState.antt, chumsky_parser's Language.antt.
-use Rattle.std.proofs.Common.{◌≡◌, ◌<◌, Some, List, drop, refl, ap, subst, arith, inl, inr}
-use Rattle.chumsky_input.specs.Outcome.{Meaning, Beginning, Outcome}
+use Rattle.std.proofs.Common.{◌≡◌, ◌<◌, Some, List, drop, ap, subst, arith, inl, inr}
+use Rattle.chumsky_input.specs.Outcome.{Meaning, Outcome}
 use Rattle.chumsky_parser.specs.Ending.{Ender, Answers, Reads}
 use Rattle.chumsky_parser.specs.EndingLaws.{refuses-by}
 use Rattle.chumsky_parser.specs.Language.{Language, Accepts}
 use Rattle.chumsky_parser.specs.Memory.{NeverOutOfMemory}
 use Rattle.chumsky_parser.specs.Progress.{IsYes, Moves}
-use Rattle.chumsky_context.specs.OnState.{begun_in, OnState, OnCopy}
+use Rattle.chumsky_context.specs.OnState.{begun_in, OnCopy}
 use Rattle.chumsky_context.specs.Under.{begun_under, UnderValue, UnderMade}
 
 -- the part's, where a copy of the state takes no memory, nor does the state
@@ -19,34 +19,34 @@ module _ {Tok Cx St Er V W : Type 0} (part : Meaning Tok V St Er W) where
   pub under-accepts : (v : V) {F : Language Tok W} {spare : Type 0} → Accepts part F spare → Accepts (UnderValue {Cx = Cx} part (Some v)) F spare
   under-accepts v h = record {
     described = λ s.
-      let d = h.described s in
-      record { reads = record { here = λ b w o m. d.reads.here (begun_under v b) (record { start = w.start; few = w.few }) o m.runs }; only = d.only; given = d.given; each = d.each; decided = d.decided; further = d.further };
+        let d = h.described s in
+        record { reads = record { here = λ b w o m. d.reads.here (begun_under v b) (record { start = w.start; few = w.few }) o m.runs }; only = d.only; given = d.given; each = d.each; decided = d.decided; further = d.further };
     moving = λ e b o m. h.moving e (begun_under v b) o m.runs;
-    sparing = λ q t b o m. h.sparing q t (begun_under v b) o m.runs
+    sparing = λ q t b o m. h.sparing q t (begun_under v b) o m.runs;
   }
 
   -- `map_ctx(.., part)`
   pub under_made-accepts : (makes : Cx → V → Type 0) {F : Language Tok W} {spare : Type 0} → Accepts part F spare → Accepts (UnderMade makes part) F spare
   under_made-accepts makes h = record {
     described = λ s.
-      let d = h.described s in
-      record { reads = record { here = λ b w o m. d.reads.here (begun_under m.context b) (record { start = w.start; few = w.few }) o m.runs }; only = d.only; given = d.given; each = d.each; decided = d.decided; further = d.further };
+        let d = h.described s in
+        record { reads = record { here = λ b w o m. d.reads.here (begun_under m.context b) (record { start = w.start; few = w.few }) o m.runs }; only = d.only; given = d.given; each = d.each; decided = d.decided; further = d.further };
     moving = λ e b o m. h.moving e (begun_under m.context b) o m.runs;
-    sparing = λ q t b o m. h.sparing q t (begun_under m.context b) o m.runs
+    sparing = λ q t b o m. h.sparing q t (begun_under m.context b) o m.runs;
   }
 
 module _ {Tok Cx St T S Er V : Type 0} (copies : S → Type 0) (safe : Type 0) (seen : S → T) (part : Meaning Tok Cx T Er V) where
   on_copy-by : (f : Ender Tok) (va : List Tok → V → Type 0) → Reads part f va → Reads (OnCopy {St = St} copies safe seen part) f va
   on_copy-by f va h = record {
     here = λ b w o m.
-      let ts : List Tok = drop b.start b.tokens.list in
-      elim m.cases [
-        | inl r ↦ refuses-by (va ts) (f ts) b.tokens.list o r
-        | inr k ↦
-            let n = k.2 in
-            let z : Answers (va ts) (f ts) b.tokens.list n.inner.verdict n.inner.end = h.here (begun_in (seen k.0) b) (record { start = w.start; few = w.few }) n.inner n.runs in
-            rw n.is z
-      ]
+        let ts : List Tok = drop b.start b.tokens.list in
+        elim m.cases [
+          | inl r ↦ refuses-by (va ts) (f ts) b.tokens.list o r
+          | inr k ↦
+              let n = k.2 in
+              let z : Answers (va ts) (f ts) b.tokens.list n.inner.verdict n.inner.end = h.here (begun_in (seen k.0) b) (record { start = w.start; few = w.few }) n.inner n.runs in
+              rw n.is z
+        ];
   }
 
   on_copy-moves : Moves part → Moves (OnCopy {St = St} copies safe seen part)
@@ -71,5 +71,5 @@ module _ {Tok Cx St T S Er V : Type 0} (copies : S → Type 0) (safe : Type 0) (
   on_copy-accepts {F} h = record {
     described = λ s. let d = h.described s in record { reads = on_copy-by F.ends F.value d.reads; only = d.only; given = d.given; each = d.each; decided = d.decided; further = d.further };
     moving = λ e. on_copy-moves (h.moving e);
-    sparing = λ q t. on_copy-spares t.1.0 (h.sparing (q.0, t.1.1) t.0)
+    sparing = λ q t. on_copy-spares t.1.0 (h.sparing (q.0, t.1.1) t.0);
   }
