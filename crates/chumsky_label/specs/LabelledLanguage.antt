@@ -1,11 +1,11 @@
 -- The language of a part that a label names: the part's own.
 -- Main word: labelled_language. Laws: labelled-accepts, labelled-moves. Read first: Labelled.antt, chumsky_parser's Language.antt.
-use Rattle.std.proofs.Common.{◌≡◌, ◌<◌, Option, List, drop, refl, ap, subst, arith, inl, inr}
+use Rattle.std.proofs.Common.{◌<◌, Option, List, drop, ap, subst, arith, inl, inr}
 use Rattle.chumsky_input.specs.Outcome.{Meaning, Beginning, Outcome, Yes, No}
 use Rattle.chumsky_parser.specs.Ending.{Ender, Reads}
 use Rattle.chumsky_parser.specs.EndingLaws.{refuses-by}
 use Rattle.chumsky_parser.specs.Language.{Language, Accepts}
-use Rattle.chumsky_parser.specs.Memory.{SparesMemory, NeverOutOfMemory}
+use Rattle.chumsky_parser.specs.Memory.{NeverOutOfMemory}
 use Rattle.chumsky_parser.specs.Progress.{IsYes, Moves}
 use Rattle.chumsky_shield.specs.ShieldedEndings.{shielded-here, or_clash-by}
 use Rattle.chumsky_shield.specs.ShieldedMoves.{clash-yes, shielded-moves}
@@ -40,20 +40,20 @@ module _ {Tok Cx St Er V : Type 0} (merged : Er → Er → Er) (maps : Er → Er
   pub labelled-by : (part : Meaning Tok Cx St Er V) (f : Ender Tok) (va : List Tok → V → Type 0) → Reads part f va → Reads (MeansLabelled merged maps free part) f va
   labelled-by part f va h = record {
     here = λ b w o m.
-      let ts : List Tok = drop b.start b.tokens.list in
-      shielded-here (va ts) (va ts) part (λ c v p q. LabelledAs merged maps free (Yes v) c p q) (λ c p q. LabelledAs merged maps free No c p q) (f ts) (f ts) b (record {
-        yes = λ v p q e i l j. elim j.says [ inl r ↦ refuses-by (va ts) (f ts) b.tokens.list q r | inr k ↦ or_clash-by (va ts) (f ts) b.tokens.list _ q (e, i, l) k.2 ];
-        no = λ p q e j. elim j.says [ inl r ↦ refuses-by (va ts) (f ts) b.tokens.list q r | inr k ↦ or_clash-by (va ts) (f ts) b.tokens.list _ q e k.2 ];
-        refused = λ e. e
-      }) (h.here b w) o m.run
+        let ts : List Tok = drop b.start b.tokens.list in
+        shielded-here (va ts) (va ts) part (λ c v p q. LabelledAs merged maps free (Yes v) c p q) (λ c p q. LabelledAs merged maps free No c p q) (f ts) (f ts) b (record {
+          yes = λ v p q e i l j. elim j.says [ inl r ↦ refuses-by (va ts) (f ts) b.tokens.list q r | inr k ↦ or_clash-by (va ts) (f ts) b.tokens.list _ q (e, i, l) k.2 ];
+          no = λ p q e j. elim j.says [ inl r ↦ refuses-by (va ts) (f ts) b.tokens.list q r | inr k ↦ or_clash-by (va ts) (f ts) b.tokens.list _ q e k.2 ];
+          refused = λ e. e;
+        }) (h.here b w) o m.run;
   }
 
   -- `part.labelled(..)`
   pub labelled-accepts : (part : Meaning Tok Cx St Er V) {F : Language Tok V} {spare : Type 0} → Accepts part F spare → Accepts (MeansLabelled merged maps free part) (labelled_language free F) spare
   labelled-accepts part {F} h = record {
     described = λ s.
-      let d = h.described s in
-      record { reads = labelled-by part F.ends F.value d.reads; only = d.only; given = d.given; each = d.each; decided = d.decided; further = d.further };
+        let d = h.described s in
+        record { reads = labelled-by part F.ends F.value d.reads; only = d.only; given = d.given; each = d.each; decided = d.decided; further = d.further };
     moving = λ e. labelled-moves part (h.moving e);
-    sparing = λ q t. labelled-spares t.1 part (h.sparing q t.0)
+    sparing = λ q t. labelled-spares t.1 part (h.sparing q t.0);
   }
