@@ -42,7 +42,7 @@ never_refused : {Tok : Type 0} (ts : List Tok) → end_ends ts ≡ Refused → �
 never_refused [] e = absurd (cc e)
 never_refused (t ∷ ts) e = absurd (cc e)
 
-module _ {I Tok Sp Cu Er St Mk Cx V : Type 0} (source : input_trait.Ghosts I Cu Tok Sp) (errors : error_trait.Ghosts Er I Tok Sp) (states : inspector_trait.Ghosts St I Mk Tok Sp) 
+module _ {I Tok Sp Cu Er St Mk Cx V : Type 0} (source : input_trait.Ghosts I Cu Tok Sp) (errors : error_trait.Ghosts Er I Tok Sp) (states : inspector_trait.Ghosts St I Mk Tok Sp)
     (part : Meaning Tok Cx states.Seen errors.Seen V) (l : Language Tok V) (h : Described part l) where
   -- a run of the whole
   abbrev WholeAs : List Tok → Verdict V errors.Seen → Type 0

@@ -19,8 +19,16 @@ use Rattle.chumsky_choice.specs.Among.{FirstAmong}
 -- no word: it fails on each text
 abbrev pub no_language : {Tok V : Type 0} → Language Tok V
 no_language = record {
-  said = true; ends = λ _. Nowhere; value = λ _ _. ⊥; word = λ _. ⊥; stands_for = λ _ _. ⊥; follow = λ _. ⊤;
-  unambiguous = ⊤; refuses = false; moves = true; takes_no_memory = ⊤
+  said = true;
+  ends = λ _. Nowhere;
+  value = λ _ _. ⊥;
+  word = λ _. ⊥;
+  stands_for = λ _ _. ⊥;
+  follow = λ _. ⊤;
+  unambiguous = ⊤;
+  refuses = false;
+  moves = true;
+  takes_no_memory = ⊤;
 }
 
 module _ {X Tok V : Type 0} (language : X → Language Tok V) where
@@ -44,10 +52,10 @@ module _ {I Tok Sp Cu Er St Mk Cx V : Type 0} (source : input_trait.Ghosts I Cu 
       given = record { given = λ ts rest v e i. absurd i };
       each = λ u. record { each = λ w rest i j. absurd i };
       decided = λ r ts e. absurd (cc e);
-      further = λ m ts rest e. absurd (cc e)
+      further = λ m ts rest e. absurd (cc e);
     };
     moving = λ e b o m y. absurd (misses-no m.cases y);
-    sparing = λ q t b o m. misses-spares q.0 m.cases
+    sparing = λ q t b o m. misses-spares q.0 m.cases;
   }
 
   module _ {X : Type 0} (meaning : X → Meaning Tok Cx states.Seen errors.Seen V) (language : X → Language Tok V) (h : (x : X) → Accepts (meaning x) (language x) (errors.takes_no_memory × states.takes_no_memory)) where

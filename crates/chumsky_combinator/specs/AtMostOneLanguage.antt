@@ -57,7 +57,7 @@ module _ {Tok V : Type 0} (F : Language Tok V) where
     follow = λ rest. F.follow rest × (F.ends rest ≡ Nowhere);
     unambiguous = F.unambiguous;
     refuses = F.refuses;
-    takes_no_memory = F.takes_no_memory
+    takes_no_memory = F.takes_no_memory;
   }
 
 module _ {Tok : Type 0} (ts rest : List Tok) where
@@ -112,11 +112,11 @@ module _ {Tok Cx St Mk Er V : Type 0} (mark : St → Mk) (back : St → Mk → S
         let Q : Next Bool V → Type 0 = IsEnd (F.value ts) G ts in
         let R : Next Bool V → Type 0 = IsStepped (F.value ts) G (tried_once (F.ends ts) ts) in
         let first : Here P (Chained part (λ v. Given (Some (More v true)))) (F.ends ts) b = λ p n.
-          (let y : Answers P (and_then (λ us. At us) (F.ends ts)) b.tokens.list p.verdict p.end =
-            chained-here (F.value ts) P part (λ v. Given (Some (More v true))) (F.ends ts) (λ us. At us) b w (d.reads.here b w) (λ v c z e i. given-here Er P c z (Some (More v true)) (i, tt)) p n in
-          subst (λ q. Answers P q b.tokens.list p.verdict p.end) (and_then_some (F.ends ts)) y) in
+        (let y : Answers P (and_then (λ us. At us) (F.ends ts)) b.tokens.list p.verdict p.end =
+        chained-here (F.value ts) P part (λ v. Given (Some (More v true))) (F.ends ts) (λ us. At us) b w (d.reads.here b w) (λ v c z e i. given-here Er P c z (Some (More v true)) (i, tt)) p n in
+        subst (λ q. Answers P q b.tokens.list p.verdict p.end) (and_then_some (F.ends ts)) y) in
         let z : Here (λ n. ElseValue (F.ends ts) (P n) (Q n)) (OnceTried mark back safe part false) (or_else (F.ends ts) (At ts)) b =
-          or_else-here mark back safe _ _ P Q (F.ends ts) (At ts) b first (λ s. given-here Er Q (record b { state = s }) (record { start = w.start; few = w.few }) (Some End) tt) in
+        or_else-here mark back safe _ _ P Q (F.ends ts) (At ts) b first (λ s. given-here Er Q (record b { state = s }) (record { start = w.start; few = w.few }) (Some End) tt) in
         let y : Answers R (or_else (F.ends ts) (At ts)) b.tokens.list o.verdict o.end = weaker-here (λ n. ElseValue (F.ends ts) (P n) (Q n)) R (as_stepped (F.value ts) G ts (F.ends ts)) (OnceTried mark back safe part false) (or_else (F.ends ts) (At ts)) b z o m in
         subst (λ q. Answers R q b.tokens.list o.verdict o.end) (tried_place ts (F.ends ts)) y
 
@@ -147,7 +147,7 @@ module _ {Tok Cx St Mk Er V : Type 0} (mark : St → Mk) (back : St → Mk → S
     over = over;
     each = each;
     ends = ends;
-    decided = decided
+    decided = decided;
   }
     where
       further : (k : ℕ) (ts rest : List Tok) → at_most_one F k ts ≡ At (One rest) → length rest < length ts
@@ -183,5 +183,5 @@ module _ {Tok Cx St Mk Er V : Type 0} (mark : St → Mk) (back : St → Mk → S
   pub at_most_one-accepts : Accepts part F spare → AcceptsItems (Given (Some false)) (AtMostOne mark back safe part) (at_most_one_language F) spare
   at_most_one-accepts h = record {
     described = λ e. let t = both-true F.said F.moves e in once_described (h.described t.0) t.1;
-    sparing = λ q t. record { begin = given-spares (Some false); step = λ s b o m. once_spares mark back safe part (still q) (h.sparing q t) s b o m.step }
+    sparing = λ q t. record { begin = given-spares (Some false); step = λ s b o m. once_spares mark back safe part (still q) (h.sparing q t) s b o m.step };
   }

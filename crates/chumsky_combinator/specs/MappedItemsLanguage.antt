@@ -20,8 +20,17 @@ use Rattle.chumsky_combinator.specs.MappedWithLaws.{given_shown-spares}
 -- the same words, with other items
 abbrev pub with_items : {Tok S V W : Type 0} → ItemsLanguage Tok S V → (ℕ → List Tok → W → Type 0) → (ℕ → List Tok → W → Type 0) → ItemsLanguage Tok S W
 with_items L value stands_for = record {
-  said = L.said; has_given = L.has_given; next = L.next; value = value; word = L.word; stands_for = stands_for; last = L.last; follow = L.follow;
-  unambiguous = L.unambiguous; refuses = L.refuses; takes_no_memory = L.takes_no_memory
+  said = L.said;
+  has_given = L.has_given;
+  next = L.next;
+  value = value;
+  word = L.word;
+  stands_for = stands_for;
+  last = L.last;
+  follow = L.follow;
+  unambiguous = L.unambiguous;
+  refuses = L.refuses;
+  takes_no_memory = L.takes_no_memory;
 }
 
 -- the same words, with what a mapper gives for the items
@@ -90,41 +99,41 @@ module _ {Tok Cx St Er S V W : Type 0} (begins : Meaning Tok Cx St Er S) (gives 
   pub map_items-accepts : (maps : V → W → Type 0) → AcceptsItems begins (λ s. MapsItem maps (gives s)) (map_items_language maps L) spare
   map_items-accepts maps = record {
     described = λ e.
-      let d = h.described e in
-      record {
-        start = d.start;
-        step = λ k s g b w l o m.
-          let ts : List Tok = drop b.start b.tokens.list in
-          remade-here (GivenBy maps) (L.value k ts) (MapsSome (L.value k) maps ts) (λ t. L.has_given t (suc k)) (L.next k ts) (gives s) b w (λ v c y t e i. given_by-here maps (L.value k) ts v i c y) (d.step k s g b w l) o m.remade;
-        further = d.further;
-        one = d.one;
-        given = λ k ts rest w e i. (let b = d.given k ts rest i.0 e i.1 in record { word = b.word; all = b.all; is = (i.0, b.is, i.2) });
-        over = d.over;
-        each = d.each;
-        ends = d.ends;
-        decided = d.decided
-      };
-    sparing = λ q t. let n = h.sparing q t in record { begin = n.begin; step = λ s b o m. remade-spares (GivenBy maps) (gives s) (given_by-spares maps) (n.step s) b o m.remade }
+        let d = h.described e in
+        record {
+          start = d.start;
+          step = λ k s g b w l o m.
+              let ts : List Tok = drop b.start b.tokens.list in
+              remade-here (GivenBy maps) (L.value k ts) (MapsSome (L.value k) maps ts) (λ t. L.has_given t (suc k)) (L.next k ts) (gives s) b w (λ v c y t e i. given_by-here maps (L.value k) ts v i c y) (d.step k s g b w l) o m.remade;
+          further = d.further;
+          one = d.one;
+          given = λ k ts rest w e i. (let b = d.given k ts rest i.0 e i.1 in record { word = b.word; all = b.all; is = (i.0, b.is, i.2) });
+          over = d.over;
+          each = d.each;
+          ends = d.ends;
+          decided = d.decided;
+        };
+    sparing = λ q t. let n = h.sparing q t in record { begin = n.begin; step = λ s b o m. remade-spares (GivenBy maps) (gives s) (given_by-spares maps) (n.step s) b o m.remade };
   }
 
   -- `items.map_with(maps)`
   pub map_items_with-accepts : (maps : GivesShown Tok Cx St V W) → AcceptsItems begins (λ s. MapsItemWith maps (gives s)) (map_items_with_language maps L) spare
   map_items_with-accepts maps = record {
     described = λ e.
-      let d = h.described e in
-      record {
-        start = d.start;
-        step = λ k s g b w l o m.
-          let ts : List Tok = drop b.start b.tokens.list in
-          remade-here (GivenShown maps b.start) (L.value k ts) (GivesSince maps (λ us. place (L.next k us)) (L.value k) ts) (λ t. L.has_given t (suc k)) (L.next k ts) (gives s) b w
-          (λ v c y t e i. given_shown-here maps (λ us. place (L.next k us)) (L.value k) ts b.start v i c y (ap (λ u. drop b.start u.list) t) e) (d.step k s g b w l) o m.remade;
-        further = d.further;
-        one = d.one;
-        given = λ k ts rest w e i. gives_over maps (λ us. place (L.next k us)) (L.value k) (L.stands_for k) ts rest w (ap place e) i (d.given k ts rest i.of e i.is_value);
-        over = d.over;
-        each = d.each;
-        ends = d.ends;
-        decided = d.decided
-      };
-    sparing = λ q t. let n = h.sparing q t in record { begin = n.begin; step = λ s b o m. remade-spares (GivenShown maps b.start) (gives s) (given_shown-spares maps b.start) (n.step s) b o m.remade }
+        let d = h.described e in
+        record {
+          start = d.start;
+          step = λ k s g b w l o m.
+              let ts : List Tok = drop b.start b.tokens.list in
+              remade-here (GivenShown maps b.start) (L.value k ts) (GivesSince maps (λ us. place (L.next k us)) (L.value k) ts) (λ t. L.has_given t (suc k)) (L.next k ts) (gives s) b w
+              (λ v c y t e i. given_shown-here maps (λ us. place (L.next k us)) (L.value k) ts b.start v i c y (ap (λ u. drop b.start u.list) t) e) (d.step k s g b w l) o m.remade;
+          further = d.further;
+          one = d.one;
+          given = λ k ts rest w e i. gives_over maps (λ us. place (L.next k us)) (L.value k) (L.stands_for k) ts rest w (ap place e) i (d.given k ts rest i.of e i.is_value);
+          over = d.over;
+          each = d.each;
+          ends = d.ends;
+          decided = d.decided;
+        };
+    sparing = λ q t. let n = h.sparing q t in record { begin = n.begin; step = λ s b o m. remade-spares (GivenShown maps b.start) (gives s) (given_shown-spares maps b.start) (n.step s) b o m.remade };
   }

@@ -48,10 +48,10 @@ module _ {Tok Cx St Er V W : Type 0} (maps : V → W → Type 0) (part : Meaning
     pub mapped-by : Reads (Mapped maps part) f (MapsSome value maps)
     mapped-by = record {
       here = λ b w o m.
-        let ts : List Tok = drop b.start b.tokens.list in
-        let z : Answers (MapsSome value maps ts) (and_then (λ us. At us) (f ts)) b.tokens.list o.verdict o.end =
-        chained-here (value ts) (MapsSome value maps ts) part (GivenBy maps) (f ts) (λ us. At us) b w (h.here b w) (λ v c y e i. given_by-here maps value ts v i c y) o m in
-        subst (λ q. Answers (MapsSome value maps ts) q b.tokens.list o.verdict o.end) (and_then_some (f ts)) z
+          let ts : List Tok = drop b.start b.tokens.list in
+          let z : Answers (MapsSome value maps ts) (and_then (λ us. At us) (f ts)) b.tokens.list o.verdict o.end =
+          chained-here (value ts) (MapsSome value maps ts) part (GivenBy maps) (f ts) (λ us. At us) b w (h.here b w) (λ v c y e i. given_by-here maps value ts v i c y) o m in
+          subst (λ q. Answers (MapsSome value maps ts) q b.tokens.list o.verdict o.end) (and_then_some (f ts)) z;
     }
 
   -- `part.map(maps)`
@@ -60,7 +60,7 @@ module _ {Tok Cx St Er V W : Type 0} (maps : V → W → Type 0) (part : Meaning
     reads = λ d. mapped-by F.ends F.value d.reads;
     given = λ d. map-gives_only F.ends F.value F.stands_for d.given maps;
     moving = mapped-moves maps part;
-    sparing = mapped-spares maps part
+    sparing = mapped-spares maps part;
   }) h
 
 module _ {Tok Cx St Er V : Type 0} (part : Meaning Tok Cx St Er V) {F : Language Tok V} {spare : Type 0} where
@@ -68,17 +68,17 @@ module _ {Tok Cx St Er V : Type 0} (part : Meaning Tok Cx St Er V) {F : Language
   pub to-accepts : {W : Type 0} (copies : W → Type 0) (safe : Type 0) → Accepts part F spare → Accepts (IgnoringFirst part (GivesCopy copies safe)) (to_language copies safe F) spare
   to-accepts copies safe h = record {
     described = λ s.
-      let d = h.described s in
-      record {
-        reads = then_given-by part (GivesCopy copies safe) F.ends F.value copies d.reads (copy-by Er copies safe);
-        only = d.only;
-        given = to-gives_only F.ends F.word d.only copies;
-        each = d.each;
-        decided = d.decided;
-        further = d.further
-      };
+        let d = h.described s in
+        record {
+          reads = then_given-by part (GivesCopy copies safe) F.ends F.value copies d.reads (copy-by Er copies safe);
+          only = d.only;
+          given = to-gives_only F.ends F.word d.only copies;
+          each = d.each;
+          decided = d.decided;
+          further = d.further;
+        };
     moving = λ e. chained-first _ _ (asked-moves false part (h.moving e)) (λ _. copy-ends copies safe);
-    sparing = λ q t. ignoring_first-spares part (GivesCopy copies safe) (h.sparing q t.0) (copy-spares copies safe t.1)
+    sparing = λ q t. ignoring_first-spares part (GivesCopy copies safe) (h.sparing q t.0) (copy-spares copies safe t.1);
   }
 
   -- `part.ignored()`
@@ -87,5 +87,5 @@ module _ {Tok Cx St Er V : Type 0} (part : Meaning Tok Cx St Er V) {F : Language
     reads = λ d. then_given-by part (Gives tt) F.ends F.value (λ v. ⊤) d.reads (gives-by Er (λ v. ⊤) tt tt);
     given = λ d. record { given = λ ts rest v e i. d.only.taken ts rest e };
     moving = λ h. chained-first _ _ (asked-moves false part h) (λ _. gives-ends tt);
-    sparing = λ h. ignoring_first-spares part (Gives tt) h (gives-spares tt)
+    sparing = λ h. ignoring_first-spares part (Gives tt) h (gives-spares tt);
   })

@@ -53,12 +53,12 @@ module _ {Tok Cx St V W : Type 0} (gives : GivesShown Tok Cx St V W) where
     mapped_with-by : Reads (MappedWith gives part) f (GivesSince f value)
     mapped_with-by = record {
       here = λ b w o m.
-        let ts : List Tok = drop b.start b.tokens.list in
-        let Q : W → Type 0 = GivesSince f value ts in
-        let z : Answers Q (and_then (λ us. At us) (f ts)) b.tokens.list o.verdict o.end =
-        chained-on (value ts) Q part (GivenShown gives b.start) (f ts) (λ us. At us) b w (h.here b w)
-        (λ v c y t e i. given_shown-here f value ts b.start v i c y (ap (λ l. drop b.start l.list) t) e) o m.run in
-        subst (λ q. Answers Q q b.tokens.list o.verdict o.end) (and_then_some (f ts)) z
+          let ts : List Tok = drop b.start b.tokens.list in
+          let Q : W → Type 0 = GivesSince f value ts in
+          let z : Answers Q (and_then (λ us. At us) (f ts)) b.tokens.list o.verdict o.end =
+          chained-on (value ts) Q part (GivenShown gives b.start) (f ts) (λ us. At us) b w (h.here b w)
+          (λ v c y t e i. given_shown-here f value ts b.start v i c y (ap (λ l. drop b.start l.list) t) e) o m.run in
+          subst (λ q. Answers Q q b.tokens.list o.verdict o.end) (and_then_some (f ts)) z;
     }
 
   module _ (f : Ender Tok) (value stands_for : List Tok → V → Type 0) where
@@ -79,5 +79,5 @@ module _ {Tok Cx St V W : Type 0} (gives : GivesShown Tok Cx St V W) where
     reads = λ d. mapped_with-by part F.ends F.value d.reads;
     given = λ d. mapped_with-gives_only F.ends F.value F.stands_for d.given;
     moving = mapped_with-moves gives part;
-    sparing = mapped_with-spares gives part
+    sparing = mapped_with-spares gives part;
   })

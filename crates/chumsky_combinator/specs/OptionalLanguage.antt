@@ -45,7 +45,7 @@ or_not_language F = record {
   unambiguous = F.unambiguous;
   refuses = F.refuses;
   moves = false;
-  takes_no_memory = F.takes_no_memory
+  takes_no_memory = F.takes_no_memory;
 }
 
 module _ {Tok : Type 0} (f : Ender Tok) (P : List Tok → Type 0) where
@@ -62,7 +62,7 @@ module _ {Tok : Type 0} (f : Ender Tok) (P : List Tok → Type 0) where
     each = λ w rest i j. elim i [
       | inl p ↦ let e = k.each w rest p j.0 in rw e refl
       | inr e ↦ let d : f rest ≡ Nowhere = j.1 in rw (e, d) refl
-    ]
+    ];
   }
 
   maybe-decided : NeverRefused f → NeverRefused (maybe_ends f)
@@ -94,15 +94,15 @@ module _ {Tok Cx St Mk Er V : Type 0} (mark : St → Mk) (back : St → Mk → S
   pub or_not-accepts : {F : Language Tok V} → Accepts part F spare → Accepts (OrNone mark back safe part) (or_not_language F) spare
   or_not-accepts {F} h = record {
     described = λ s.
-      let d = h.described s in
-      record {
-        reads = or_none-by F.ends F.value d.reads;
-        only = maybe-takes_only F.ends F.word d.only;
-        given = maybe-gives_only F.ends F.value F.stands_for d.given;
-        each = λ u. maybe-takes_each F.ends F.word F.follow (d.each u);
-        decided = λ r. maybe-decided F.ends F.word (d.decided r);
-        further = λ e. never e
-      };
+        let d = h.described s in
+        record {
+          reads = or_none-by F.ends F.value d.reads;
+          only = maybe-takes_only F.ends F.word d.only;
+          given = maybe-gives_only F.ends F.value F.stands_for d.given;
+          each = λ u. maybe-takes_each F.ends F.word F.follow (d.each u);
+          decided = λ r. maybe-decided F.ends F.word (d.decided r);
+          further = λ e. never e;
+        };
     moving = λ e. never e;
-    sparing = λ q t. or_none-spares mark back safe part (still q) (h.sparing q t)
+    sparing = λ q t. or_none-spares mark back safe part (still q) (h.sparing q t);
   }

@@ -27,7 +27,7 @@ enumerated_language l = record {
   follow = l.follow;
   unambiguous = l.unambiguous;
   refuses = l.refuses;
-  takes_no_memory = l.takes_no_memory
+  takes_no_memory = l.takes_no_memory;
 }
 
 fits_one : (k : ℕ) → k + 1 < 2 ^ 64 → fits k ≡ true
@@ -77,24 +77,24 @@ module _ {Tok Cx St Er S V : Type 0} (begins : Meaning Tok Cx St Er S) (gives : 
   pub enumerates-accepts : {spare : Type 0} → AcceptsItems begins gives l spare → AcceptsItems (BeginsAtZero begins) (Enumerates gives) (enumerated_language l) spare
   enumerates-accepts h = record {
     described = λ q.
-      let d = h.described q in
-      record {
-        start = regrouped-by begins (λ ts. At ts) (λ ts s. l.has_given s 0) d.start (λ t. (0, t)) (λ ts s. (s.0 ≡ 0) × l.has_given s.1 0) (λ ts t g. (refl, g));
-        step = λ k s g b w f o m.
-          let n : s.0 ≡ k = g.0 in
-          enumerates_here d k s.1 g.1 b w f o (subst (λ j. Chained (gives s.1) (AfterStep (Numbered (fits j) j) (Given (Some End))) b o) n m.step);
-        further = d.further;
-        one = d.one;
-        given = λ k ts rest x e i. let b = d.given k ts rest x.1 e i.1 in record { word = b.word; all = b.all; is = (i.0, b.is) };
-        over = d.over;
-        each = d.each;
-        ends = d.ends;
-        decided = d.decided
-      };
+        let d = h.described q in
+        record {
+          start = regrouped-by begins (λ ts. At ts) (λ ts s. l.has_given s 0) d.start (λ t. (0, t)) (λ ts s. (s.0 ≡ 0) × l.has_given s.1 0) (λ ts t g. (refl, g));
+          step = λ k s g b w f o m.
+              let n : s.0 ≡ k = g.0 in
+              enumerates_here d k s.1 g.1 b w f o (subst (λ j. Chained (gives s.1) (AfterStep (Numbered (fits j) j) (Given (Some End))) b o) n m.step);
+          further = d.further;
+          one = d.one;
+          given = λ k ts rest x e i. let b = d.given k ts rest x.1 e i.1 in record { word = b.word; all = b.all; is = (i.0, b.is) };
+          over = d.over;
+          each = d.each;
+          ends = d.ends;
+          decided = d.decided;
+        };
     sparing = λ q t.
-      let n = h.sparing q t in
-      record {
-        begin = chained-spares begins _ n.begin (λ s. given-spares (option_map (λ t. (0, t)) s));
-        step = λ s b o m. chained-spares (gives s.1) _ (n.step s.1) (after-spares s.0) b o m.step
-      }
+        let n = h.sparing q t in
+        record {
+          begin = chained-spares begins _ n.begin (λ s. given-spares (option_map (λ t. (0, t)) s));
+          step = λ s b o m. chained-spares (gives s.1) _ (n.step s.1) (after-spares s.0) b o m.step;
+        };
   }

@@ -37,7 +37,7 @@ module _ {Tok S V A : Type 0} (l : ItemsLanguage Tok S V) (steps : A → V → A
   -- of the items after a part, from its value
   abbrev pub foldl_language : Language Tok A → Language Tok A
   foldl_language F = joined_language F (plain_language {W = A} l) (λ ts z. (a : A) × F.value ts a × Ends (F.ends ts) (λ rest. FoldedFrom (GivesFrom l.next l.value 0) a rest z))
-    (λ w z. (a : A) × Joined (λ u. F.stands_for u a) (λ u. FoldedFrom (ListFrom l.stands_for l.last 0) a u z) w)
+      (λ w z. (a : A) × Joined (λ u. F.stands_for u a) (λ u. FoldedFrom (ListFrom l.stands_for l.last 0) a u z) w)
 
 module _ {Tok Cx St Er S V A : Type 0} (gives : S → Meaning Tok Cx St Er (Next S V)) (begins : Meaning Tok Cx St Er S) (steps : A → V → A → Type 0) (l : ItemsLanguage Tok S V) {spare : Type 0} (h : AcceptsItems begins gives l spare) where
   folds-accept : (a : Option A) → Accepts (FoldsItems gives begins steps a) (collected_language l (FoldsFrom steps a) ⊤) spare
@@ -51,81 +51,81 @@ module _ {Tok Cx St Er S V A : Type 0} (gives : S → Meaning Tok Cx St Er (Next
   pub fold-accepts : (copies : A → Type 0) (safe : Type 0) → Accepts (FoldsFromCopy gives begins steps copies safe) (fold_language l steps copies safe) spare
   fold-accepts copies safe = record {
     described = λ s.
-      let d = (folds-accept None).described s in
-      record {
-        reads = record {
-          here = λ b w.
-            let ts : List Tok = drop b.start b.tokens.list in
-            let Q : A → Type 0 = λ z. (a : A) × copies a × FoldedFrom l steps (GivesFrom l.next l.value 0) a ts z in
-            chained-here copies Q (GivesCopy copies safe) (FoldsItems gives begins steps) (At ts) (list_ends l.next) b w ((copy-by Er copies safe).here b w)
-            (λ a c y e i.
-              let rest : List Tok = drop c.start c.tokens.list in
-              let same : rest ≡ ts = cc e in
-              weaker-here _ Q (λ z k. from_start ts copies a i z (subst (λ us. Holding (GivesFrom l.next l.value 0) (FoldsFrom steps a) us z) same k)) (FoldsItems gives begins steps a) (list_ends l.next rest) c (((folds-accept a).described s).reads.here c y))
+        let d = (folds-accept None).described s in
+        record {
+          reads = record {
+            here = λ b w.
+                let ts : List Tok = drop b.start b.tokens.list in
+                let Q : A → Type 0 = λ z. (a : A) × copies a × FoldedFrom l steps (GivesFrom l.next l.value 0) a ts z in
+                chained-here copies Q (GivesCopy copies safe) (FoldsItems gives begins steps) (At ts) (list_ends l.next) b w ((copy-by Er copies safe).here b w)
+                (λ a c y e i.
+                let rest : List Tok = drop c.start c.tokens.list in
+                let same : rest ≡ ts = cc e in
+                weaker-here _ Q (λ z k. from_start ts copies a i z (subst (λ us. Holding (GivesFrom l.next l.value 0) (FoldsFrom steps a) us z) same k)) (FoldsItems gives begins steps a) (list_ends l.next rest) c (((folds-accept a).described s).reads.here c y));
+          };
+          only = d.only;
+          given = record {
+            given = λ ts rest z e i.
+                let k = i.2 in
+                let b = (((folds-accept (Some i.0)).described s).given).given ts rest z e (record { items = k.items; is = k.is; held = k.held }) in
+                let j = b.is in
+                record { word = b.word; all = b.all; is = (i.0, i.1, record { items = j.items; is = j.is; held = j.held }) };
+          };
+          each = d.each;
+          decided = d.decided;
+          further = λ e. absurd (cc e);
         };
-        only = d.only;
-        given = record {
-          given = λ ts rest z e i.
-            let k = i.2 in
-            let b = (((folds-accept (Some i.0)).described s).given).given ts rest z e (record { items = k.items; is = k.is; held = k.held }) in
-            let j = b.is in
-            record { word = b.word; all = b.all; is = (i.0, i.1, record { items = j.items; is = j.is; held = j.held }) }
-        };
-        each = d.each;
-        decided = d.decided;
-        further = λ e. absurd (cc e)
-      };
     moving = λ e. absurd (cc e);
-    sparing = λ q t. chained-spares (GivesCopy copies safe) (FoldsItems gives begins steps) (copy-spares copies safe t.1) (λ a. (folds-accept a).sparing q (t.0, tt))
+    sparing = λ q t. chained-spares (GivesCopy copies safe) (FoldsItems gives begins steps) (copy-spares copies safe t.1) (λ a. (folds-accept a).sparing q (t.0, tt));
   }
 
   -- `foldl`
   pub foldl-accepts : (part : Meaning Tok Cx St Er A) (F : Language Tok A) → ItemsEnd begins gives → EndsAfterStart part → Accepts part F spare → Accepts (FoldsFromPart gives begins steps part) (foldl_language l steps F) spare
   foldl-accepts part F ends ep k = record {
     described = λ s.
-      let t = both-true F.said l.said s in
-      let f = k.described t.0 in
-      let d = (folds-accept None).described t.1 in
-      record {
-        reads = record {
-          here = λ b w.
-            let ts : List Tok = drop b.start b.tokens.list in
-            let Q : A → Type 0 = λ z. (a : A) × F.value ts a × Ends (F.ends ts) (λ rest. FoldedFrom l steps (GivesFrom l.next l.value 0) a rest z) in
-            chained-here (F.value ts) Q part (FoldsItems gives begins steps) (F.ends ts) (list_ends l.next) b w (f.reads.here b w)
-            (λ a c y e i.
-              let rest : List Tok = drop c.start c.tokens.list in
-              weaker-here _ Q (λ z j. let g = from_start rest (F.value ts) a i z j in (g.0, g.1, ends_there (F.ends ts) rest (λ r. FoldedFrom l steps (GivesFrom l.next l.value 0) g.0 r z) e g.2))
-                (FoldsItems gives begins steps a) (list_ends l.next rest) c (((folds-accept a).described t.1).reads.here c y))
+        let t = both-true F.said l.said s in
+        let f = k.described t.0 in
+        let d = (folds-accept None).described t.1 in
+        record {
+          reads = record {
+            here = λ b w.
+                let ts : List Tok = drop b.start b.tokens.list in
+                let Q : A → Type 0 = λ z. (a : A) × F.value ts a × Ends (F.ends ts) (λ rest. FoldedFrom l steps (GivesFrom l.next l.value 0) a rest z) in
+                chained-here (F.value ts) Q part (FoldsItems gives begins steps) (F.ends ts) (list_ends l.next) b w (f.reads.here b w)
+                (λ a c y e i.
+                let rest : List Tok = drop c.start c.tokens.list in
+                weaker-here _ Q (λ z j. let g = from_start rest (F.value ts) a i z j in (g.0, g.1, ends_there (F.ends ts) rest (λ r. FoldedFrom l steps (GivesFrom l.next l.value 0) g.0 r z) e g.2))
+                (FoldsItems gives begins steps a) (list_ends l.next rest) c (((folds-accept a).described t.1).reads.here c y));
+          };
+          only = then-takes_only F.ends (list_ends l.next) F.word _ f.only d.only;
+          given = record {
+            given = λ ts rest z e i.
+                let one : GivesOnly (list_ends l.next) (FoldedFrom l steps (GivesFrom l.next l.value 0) i.0) (FoldedFrom l steps (ListFrom l.stands_for l.last 0) i.0) = record {
+                  given = λ ts rest z e k.
+                      let b = (((folds-accept (Some i.0)).described t.1).given).given ts rest z e (record { items = k.items; is = k.is; held = k.held }) in
+                      let j = b.is in
+                      record { word = b.word; all = b.all; is = record { items = j.items; is = j.is; held = j.held } };
+                } in
+                let b = (then-gives_only F.ends (list_ends l.next) F.value (FoldedFrom l steps (GivesFrom l.next l.value 0) i.0) F.stands_for (FoldedFrom l steps (ListFrom l.stands_for l.last 0) i.0) f.given one).given ts rest (i.0, z) e (i.1, i.2) in
+                record { word = b.word; all = b.all; is = (i.0, b.is) };
+          };
+          each = λ u. then-takes_each F.ends (list_ends l.next) F.word _ F.follow l.follow (f.each u.0) (d.each u.1) u.2;
+          decided = then-decided F.ends (list_ends l.next) F.refuses l.refuses f.decided d.decided;
+          further = then-further F.ends (list_ends l.next) F.word _ f.only d.only F.moves false f.further (λ e. absurd (cc e));
         };
-        only = then-takes_only F.ends (list_ends l.next) F.word _ f.only d.only;
-        given = record {
-          given = λ ts rest z e i.
-            let one : GivesOnly (list_ends l.next) (FoldedFrom l steps (GivesFrom l.next l.value 0) i.0) (FoldedFrom l steps (ListFrom l.stands_for l.last 0) i.0) = record {
-              given = λ ts rest z e k.
-                let b = (((folds-accept (Some i.0)).described t.1).given).given ts rest z e (record { items = k.items; is = k.is; held = k.held }) in
-                let j = b.is in
-                record { word = b.word; all = b.all; is = record { items = j.items; is = j.is; held = j.held } }
-            } in
-            let b = (then-gives_only F.ends (list_ends l.next) F.value (FoldedFrom l steps (GivesFrom l.next l.value 0) i.0) F.stands_for (FoldedFrom l steps (ListFrom l.stands_for l.last 0) i.0) f.given one).given ts rest (i.0, z) e (i.1, i.2) in
-            record { word = b.word; all = b.all; is = (i.0, b.is) }
-        };
-        each = λ u. then-takes_each F.ends (list_ends l.next) F.word _ F.follow l.follow (f.each u.0) (d.each u.1) u.2;
-        decided = then-decided F.ends (list_ends l.next) F.refuses l.refuses f.decided d.decided;
-        further = then-further F.ends (list_ends l.next) F.word _ f.only d.only F.moves false f.further (λ e. absurd (cc e))
-      };
     moving = λ e. elim (either-true F.moves false e) [
       | inl x ↦ chained-first part (FoldsItems gives begins steps) (k.moving x) (folds-ends gives begins steps ends)
       | inr x ↦ absurd (cc x)
     ];
-    sparing = λ q t. chained-spares part (FoldsItems gives begins steps) (k.sparing q t.0) (λ a. (folds-accept a).sparing q t.1)
+    sparing = λ q t. chained-spares part (FoldsItems gives begins steps) (k.sparing q t.0) (λ a. (folds-accept a).sparing q t.1);
   }
 
 module _ {Tok S V A : Type 0} (l : ItemsLanguage Tok S V) (steps : V → A → A → Type 0) where
   -- the right fold of the items before a part, from its value
   abbrev pub foldr_language : Type 0 → Language Tok A → Language Tok A
   foldr_language quiet F = joined_language (list_language {C = A} l (λ ts v. ⊤) (λ w v. ⊤) quiet) F
-    (λ ts z. (xs : List V) × (a : A) × FoldsRight steps a xs z × GivesFrom l.next l.value 0 xs ts × Ends (list_ends l.next ts) (λ rest. F.value rest a))
-    (λ w z. (xs : List V) × (a : A) × FoldsRight steps a xs z × Joined (ListFrom l.stands_for l.last 0 xs) (λ u. F.stands_for u a) w)
+      (λ ts z. (xs : List V) × (a : A) × FoldsRight steps a xs z × GivesFrom l.next l.value 0 xs ts × Ends (list_ends l.next ts) (λ rest. F.value rest a))
+      (λ w z. (xs : List V) × (a : A) × FoldsRight steps a xs z × Joined (ListFrom l.stands_for l.last 0 xs) (λ u. F.stands_for u a) w)
 
 module _ {Tok Cx St Er S V C A : Type 0} (gives : S → Meaning Tok Cx St Er (Next S V)) (begins : Meaning Tok Cx St Er S) (holds : List V → C → Type 0) (quiet : Type 0) (part : Meaning Tok Cx St Er A) (steps : V → A → A → Type 0) (l : ItemsLanguage Tok S V) (F : Language Tok A)
     (one_list : (xs ys : List V) (c : C) → holds xs c → holds ys c → xs ≡ ys) where
@@ -146,35 +146,35 @@ module _ {Tok Cx St Er S V C A : Type 0} (gives : S → Meaning Tok Cx St Er (Ne
       let collects = collects-accepts gives begins l holds quiet h in
       record {
         described = λ s.
-          let t = both-true l.said F.said s in
-          let d = collects.described t.0 in
-          let f = k.described t.1 in
-          record {
-            reads = record {
-              here = λ b w.
-                let ts : List Tok = drop b.start b.tokens.list in
-                chained-here (Holding (GivesFrom l.next l.value 0) holds ts) (Folded ts) (Collects gives begins holds quiet) (λ c. Chained part (FoldedBack holds steps c)) (list_ends l.next ts) F.ends b w (d.reads.here b w)
-                (λ c g y e i o m.
-                  let rest : List Tok = drop g.start g.tokens.list in
-                  let z : Answers (Folded ts) (and_then (λ us. At us) (F.ends rest)) g.tokens.list o.verdict o.end =
-                  chained-here (F.value rest) (Folded ts) part (FoldedBack holds steps c) (F.ends rest) (λ us. At us) g y (f.reads.here g y)
-                  (λ a q x e' j p n. given-here Er (Folded ts) q x n.value (folded_there ts rest e c a n.value i j n.is) p n.given) o m in
-                  subst (λ x. Answers (Folded ts) x g.tokens.list o.verdict o.end) (and_then_some (F.ends rest)) z)
+            let t = both-true l.said F.said s in
+            let d = collects.described t.0 in
+            let f = k.described t.1 in
+            record {
+              reads = record {
+                here = λ b w.
+                    let ts : List Tok = drop b.start b.tokens.list in
+                    chained-here (Holding (GivesFrom l.next l.value 0) holds ts) (Folded ts) (Collects gives begins holds quiet) (λ c. Chained part (FoldedBack holds steps c)) (list_ends l.next ts) F.ends b w (d.reads.here b w)
+                    (λ c g y e i o m.
+                    let rest : List Tok = drop g.start g.tokens.list in
+                    let z : Answers (Folded ts) (and_then (λ us. At us) (F.ends rest)) g.tokens.list o.verdict o.end =
+                    chained-here (F.value rest) (Folded ts) part (FoldedBack holds steps c) (F.ends rest) (λ us. At us) g y (f.reads.here g y)
+                    (λ a q x e' j p n. given-here Er (Folded ts) q x n.value (folded_there ts rest e c a n.value i j n.is) p n.given) o m in
+                    subst (λ x. Answers (Folded ts) x g.tokens.list o.verdict o.end) (and_then_some (F.ends rest)) z);
+              };
+              only = then-takes_only (list_ends l.next) F.ends _ F.word d.only f.only;
+              given = record {
+                given = λ ts rest z e i.
+                    let list : GivesOnly (list_ends l.next) (λ ts xs. GivesFrom l.next l.value 0 xs ts) (λ w xs. ListFrom l.stands_for l.last 0 xs w) = record { given = λ ts rest xs e g. let d = h.described t.0 in list-given l.next l.value l.stands_for l.last d.given d.over ts rest xs e g } in
+                    let b = (then-gives_only (list_ends l.next) F.ends (λ ts xs. GivesFrom l.next l.value 0 xs ts) F.value (λ w xs. ListFrom l.stands_for l.last 0 xs w) F.stands_for list f.given).given ts rest (i.0, i.1) e (i.3, i.4) in
+                    record { word = b.word; all = b.all; is = (i.0, i.1, i.2, b.is) };
+              };
+              each = λ u. then-takes_each (list_ends l.next) F.ends _ F.word l.follow F.follow (d.each u.0) (f.each u.1) u.2;
+              decided = then-decided (list_ends l.next) F.ends l.refuses F.refuses d.decided f.decided;
+              further = then-further (list_ends l.next) F.ends _ F.word d.only f.only false F.moves (λ e. absurd (cc e)) f.further;
             };
-            only = then-takes_only (list_ends l.next) F.ends _ F.word d.only f.only;
-            given = record {
-              given = λ ts rest z e i.
-                let list : GivesOnly (list_ends l.next) (λ ts xs. GivesFrom l.next l.value 0 xs ts) (λ w xs. ListFrom l.stands_for l.last 0 xs w) = record { given = λ ts rest xs e g. let d = h.described t.0 in list-given l.next l.value l.stands_for l.last d.given d.over ts rest xs e g } in
-                let b = (then-gives_only (list_ends l.next) F.ends (λ ts xs. GivesFrom l.next l.value 0 xs ts) F.value (λ w xs. ListFrom l.stands_for l.last 0 xs w) F.stands_for list f.given).given ts rest (i.0, i.1) e (i.3, i.4) in
-                record { word = b.word; all = b.all; is = (i.0, i.1, i.2, b.is) }
-            };
-            each = λ u. then-takes_each (list_ends l.next) F.ends _ F.word l.follow F.follow (d.each u.0) (f.each u.1) u.2;
-            decided = then-decided (list_ends l.next) F.ends l.refuses F.refuses d.decided f.decided;
-            further = then-further (list_ends l.next) F.ends _ F.word d.only f.only false F.moves (λ e. absurd (cc e)) f.further
-          };
         moving = λ e. elim (either-true false F.moves e) [
           | inl x ↦ absurd (cc x)
           | inr x ↦ chained-second (Collects gives begins holds quiet) _ (collects-ends gives begins holds quiet ends) (λ c. chained-first part _ (k.moving x) (λ a b o m z. given-ends m.value b o m.given z))
         ];
-        sparing = λ q t. chained-spares (Collects gives begins holds quiet) _ (collects.sparing q t.0) (λ c. chained-spares part _ (k.sparing q t.1) (λ a b o m. given-spares m.value b o m.given))
+        sparing = λ q t. chained-spares (Collects gives begins holds quiet) _ (collects.sparing q t.0) (λ c. chained-spares part _ (k.sparing q t.1) (λ a b o m. given-spares m.value b o m.given));
       }

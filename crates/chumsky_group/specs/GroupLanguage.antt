@@ -37,5 +37,5 @@ module _ {Tok Cx St Er V : Type 0} {m : Meaning Tok Cx St Er V} {F : Language To
         reads = λ d. regrouped-by m F.ends F.value d.reads together R (λ ts v i. subst (F.value ts) (sym (e v)) i);
         given = λ d. regrouped-gives_only F.ends F.value F.stands_for d.given apart;
         moving = λ h. chained-first m _ h (λ v. given-ends (option_map together v));
-        sparing = λ h. chained-spares m _ h (λ v. given-spares (option_map together v))
+        sparing = λ h. chained-spares m _ h (λ v. given-spares (option_map together v));
       }) s.accept

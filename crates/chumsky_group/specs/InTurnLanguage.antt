@@ -28,8 +28,16 @@ OfItems P (v ∷ vs) = P v (record { items = vs })
 -- nothing, and no items
 abbrev pub no_items : {Tok V : Type 0} → Language Tok (ArrayVec V)
 no_items = record {
-  said = true; ends = λ ts. At ts; value = λ _ vs. vs.items ≡ []; word = λ w. w ≡ []; stands_for = λ w vs. (w ≡ []) × (vs.items ≡ []); follow = λ _. ⊤;
-  unambiguous = ⊤; refuses = false; moves = false; takes_no_memory = ⊤
+  said = true;
+  ends = λ ts. At ts;
+  value = λ _ vs. vs.items ≡ [];
+  word = λ w. w ≡ [];
+  stands_for = λ w vs. (w ≡ []) × (vs.items ≡ []);
+  follow = λ _. ⊤;
+  unambiguous = ⊤;
+  refuses = false;
+  moves = false;
+  takes_no_memory = ⊤;
 }
 
 -- a word of the first and then one of the others, with the items of both
@@ -54,10 +62,10 @@ module _ {Tok Cx St Er V : Type 0} where
       given = record { given = λ ts rest v e i. let z : ts ≡ rest = cc e in record { word = []; all = z; is = (refl, i) } };
       each = λ u. empty-takes_each;
       decided = λ r ts e. absurd (cc e);
-      further = λ e. never e
+      further = λ e. never e;
     };
     moving = λ e. never e;
-    sparing = λ q t b o m. given-spares (wanting b.wanted (record { items = [] })) b o m
+    sparing = λ q t b o m. given-spares (wanting b.wanted (record { items = [] })) b o m;
   }
 
   module _ (first : Meaning Tok Cx St Er V) (others : Meaning Tok Cx St Er (ArrayVec V)) where
@@ -69,15 +77,15 @@ module _ {Tok Cx St Er V : Type 0} where
         → Reads ItemThen (then_ends f g) (λ ts vs. OfItems (λ v us. va ts v × Ends (f ts) (λ rest. vb rest us)) vs.items)
     item_then-by f g va vb h k = record {
       here = λ b w.
-        let ts : List Tok = drop b.start b.tokens.list in
-        let R : ArrayVec V → Type 0 = λ vs. OfItems (λ v us. va ts v × Ends (f ts) (λ rest. vb rest us)) vs.items in
-        chained-here (va ts) R first _ (f ts) g b w (h.here b w)
-        (λ v c y e i o m.
+          let ts : List Tok = drop b.start b.tokens.list in
+          let R : ArrayVec V → Type 0 = λ vs. OfItems (λ v us. va ts v × Ends (f ts) (λ rest. vb rest us)) vs.items in
+          chained-here (va ts) R first _ (f ts) g b w (h.here b w)
+          (λ v c y e i o m.
           let rest : List Tok = drop c.start c.tokens.list in
           let z : Answers R (and_then (λ us. At us) (g rest)) c.tokens.list o.verdict o.end =
           chained-here (vb rest) R others (λ u. Given (item_before v u)) (g rest) (λ us. At us) c y (k.here c y)
           (λ u d x e' j. given-here Er R d x (item_before v u) (item_value (va ts) (vb rest) R (λ p q i' j'. (i', ends_there (f ts) rest (λ r. vb r q) e j')) v u i j)) o m in
-          subst (λ q. Answers R q c.tokens.list o.verdict o.end) (and_then_some (g rest)) z)
+          subst (λ q. Answers R q c.tokens.list o.verdict o.end) (and_then_some (g rest)) z);
     }
 
     item_then-moves : (a b : Bool) → EndsAfterStart first → EndsAfterStart others → (a ≡ true → Moves first) → (b ≡ true → Moves others) → (a || b) ≡ true → Moves ItemThen
@@ -107,5 +115,5 @@ module _ {X Tok Cx St Er V : Type 0} (meaning : X → Meaning Tok Cx St Er V) (l
         reads = λ d e. item_then-by (meaning x) others F.ends G.ends F.value G.value d.reads e.reads;
         given = λ d e. item_then-gives_only F G d.given e.given;
         moving = item_then-moves (meaning x) others F.moves G.moves (ends x) (in_turn-ends (map meaning xs) (each-ends meaning ends xs));
-        sparing = λ p q. chained-spares (meaning x) _ p (λ v. chained-spares others _ q (λ vs. given-spares (item_before v vs)))
+        sparing = λ p q. chained-spares (meaning x) _ p (λ v. chained-spares others _ q (λ vs. given-spares (item_before v vs)));
       }) (h x) (in_turn-accepts xs)

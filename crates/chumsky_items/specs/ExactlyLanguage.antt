@@ -42,7 +42,7 @@ exact_items l n = record {
   follow = GoesOn l.word l.last l.follow n;
   unambiguous = l.unambiguous;
   refuses = l.refuses;
-  takes_no_memory = l.takes_no_memory
+  takes_no_memory = l.takes_no_memory;
 }
 
 below : (n k : ℕ) → nat_le n k ≡ false → k < n
@@ -86,7 +86,7 @@ module _ {Tok : Type 0} where
     rest = g.rest;
     all = ap (λ z. u ++ z) g.all ∙ sym (append_assoc u g.words g.rest);
     is = record { items = [] ∷ g.is.items; are = record { first = u; second = g.words; all = refl; is_first = i; is_second = g.is.are } };
-    fits = g.fits
+    fits = g.fits;
   }
 
 module _ {Tok Cx St Er S V C : Type 0} (gives : S → Meaning Tok Cx St Er (Next S V)) (holds : List V → C → Type 0) (begins : Meaning Tok Cx St Er S) (n : ℕ) (l : ItemsLanguage Tok S V) where
@@ -167,7 +167,7 @@ module _ {Tok Cx St Er S V C : Type 0} (gives : S → Meaning Tok Cx St Er (Next
     -- a step that has to have an item, where it is known what follows it
     step_here : (left k : ℕ) (s : S) → l.has_given s k → (x : Option (List V)) (b : Beginning Tok Cx St) → Within b → k + length (drop b.start b.tokens.list) < 2 ^ 64 → nat_le n k ≡ false → (more : List Tok → Ending (List Tok))
         → ((rest : List Tok) → l.next k (drop b.start b.tokens.list) ≡ At (One rest) → (v : Option V) (t : S) → IfValue (l.value k (drop b.start b.tokens.list)) v → l.has_given t (suc k) → (c : Beginning Tok Cx St) → Within c → rest ≡ drop c.start c.tokens.list
-          → Here Q (JustSo gives holds left (and_one x v) t) (more (drop c.start c.tokens.list)) c)
+        → Here Q (JustSo gives holds left (and_one x v) t) (more (drop c.start c.tokens.list)) c)
         → Here Q (JustSo gives holds (suc left) x s) (stepped_on more (Exact.next k (drop b.start b.tokens.list))) b
     step_here left k s g x b w f c more next o p =
         let ts : List Tok = drop b.start b.tokens.list in
@@ -199,11 +199,11 @@ module _ {Tok Cx St Er S V C : Type 0} (gives : S → Meaning Tok Cx St Er (Next
     just_so (suc left) (suc m) k z s g x b w i f r =
         let c : nat_le n k ≡ false = is_below n k (omega (arith, z)) in
         step_here left k s g x b w f c _ (λ rest e v t j h q y a.
-          let p : length rest < length (drop b.start b.tokens.list) = d.further k (drop b.start b.tokens.list) rest e in
-          let len : length rest ≡ length (drop q.start q.tokens.list) = ap length a in
-          let u : Exact.next k (drop b.start b.tokens.list) ≡ At (One rest) = rw (c, e) refl in
-          let v' : Made (suc k) (drop q.start q.tokens.list) (and_one x v) = subst (λ us. Made (suc k) us (and_one x v)) a (one_made k (drop b.start b.tokens.list) rest x v u i j) in
-          just_so left m (suc k) (omega (arith, z)) t h (and_one x v) q y v' (omega (arith, f, p, len)) (omega (arith, r, p, len)))
+        let p : length rest < length (drop b.start b.tokens.list) = d.further k (drop b.start b.tokens.list) rest e in
+        let len : length rest ≡ length (drop q.start q.tokens.list) = ap length a in
+        let u : Exact.next k (drop b.start b.tokens.list) ≡ At (One rest) = rw (c, e) refl in
+        let v' : Made (suc k) (drop q.start q.tokens.list) (and_one x v) = subst (λ us. Made (suc k) us (and_one x v)) a (one_made k (drop b.start b.tokens.list) rest x v u i j) in
+        just_so left m (suc k) (omega (arith, z)) t h (and_one x v) q y v' (omega (arith, f, p, len)) (omega (arith, r, p, len)))
 
     made_here : (s : Option S) (b : Beginning Tok Cx St) → Within b → all ≡ drop b.start b.tokens.list → IfValue (λ s. l.has_given s 0) s → (x : Option (List V)) → Made 0 (drop b.start b.tokens.list) x → length (drop b.start b.tokens.list) < 2 ^ 64
         → Here Q (JustSoMade gives holds n x s) (list_ends Exact.next (drop b.start b.tokens.list)) b
@@ -213,15 +213,15 @@ module _ {Tok Cx St Er S V C : Type 0} (gives : S → Meaning Tok Cx St Er (Next
   exactly-reads : ItemsDescribed begins gives l → Reads (CollectsExactly gives holds begins n) (list_ends Exact.next) (Holding (GivesFrom Exact.next l.value 0) holds)
   exactly-reads d = record {
     here = λ b w o m.
-      let ts : List Tok = drop b.start b.tokens.list in
-      chained-here (λ s. l.has_given s 0) (Q d ts) (Asked true begins) (JustSoMade gives holds n (wanting b.wanted [])) (At ts) (list_ends Exact.next) b w
-      (asked-here (λ s. l.has_given s 0) b true begins (At ts) (d.start.here (record b { wanted = true }) (record { start = w.start; few = w.few })))
-      (λ s c y e g.
+        let ts : List Tok = drop b.start b.tokens.list in
+        chained-here (λ s. l.has_given s 0) (Q d ts) (Asked true begins) (JustSoMade gives holds n (wanting b.wanted [])) (At ts) (list_ends Exact.next) b w
+        (asked-here (λ s. l.has_given s 0) b true begins (At ts) (d.start.here (record b { wanted = true }) (record { start = w.start; few = w.few })))
+        (λ s c y e g.
         let same : ts ≡ drop c.start c.tokens.list = cc e in
         let first : IfValue (Before gives begins Exact holds ⊤ ts 0 ts) (wanting b.wanted []) = wanting_value (Before gives begins Exact holds ⊤ ts 0 ts) [] (λ vs i. i) b.wanted in
         let ln : length (drop c.start c.tokens.list) ≡ length c.tokens.list - c.start = length-drop c.start c.tokens.list in
         made_here d ts s c y same g (wanting b.wanted []) (subst (λ us. IfValue (Before gives begins Exact holds ⊤ ts 0 us) (wanting b.wanted [])) same first) (omega (arith, ln, y.few)))
-      o m.run
+        o m.run;
   }
 
   after-spares : (on : Option V → S → Meaning Tok Cx St Er C) → ((v : Option V) (s : S) → NeverOutOfMemory (on v s)) → (x : Option (Next S V)) → NeverOutOfMemory (AfterStep on SaysNo x)
@@ -241,19 +241,19 @@ module _ {Tok Cx St Er S V C : Type 0} (gives : S → Meaning Tok Cx St Er (Next
   pub exactly-accepts : {spare : Type 0} → AcceptsItems begins gives l spare → Accepts (CollectsExactly gives holds begins n) (collected_language Exact holds ⊤) spare
   exactly-accepts h = record {
     described = λ s.
-      let d = h.described s in
-      record {
-        reads = exactly-reads d;
-        only = list-only Exact.next Exact.word Exact.last (one d) over;
-        given = record {
-          given = λ ts rest c e i.
-            let b = list-given Exact.next l.value Exact.stands_for Exact.last (given d) over ts rest i.items e i.is in
-            record { word = b.word; all = b.all; is = record { items = i.items; is = b.is; held = i.held } }
+        let d = h.described s in
+        record {
+          reads = exactly-reads d;
+          only = list-only Exact.next Exact.word Exact.last (one d) over;
+          given = record {
+            given = λ ts rest c e i.
+                let b = list-given Exact.next l.value Exact.stands_for Exact.last (given d) over ts rest i.items e i.is in
+                record { word = b.word; all = b.all; is = record { items = i.items; is = b.is; held = i.held } };
+          };
+          each = λ u. list-each Exact.next (further d) Exact.word Exact.last Exact.follow (each d u) ends;
+          decided = λ r. list-decided Exact.next (further d) (λ k ts e. exact_refused (nat_le n k) (l.next k ts) ts (d.decided r k ts) e);
+          further = λ e. absurd (cc e);
         };
-        each = λ u. list-each Exact.next (further d) Exact.word Exact.last Exact.follow (each d u) ends;
-        decided = λ r. list-decided Exact.next (further d) (λ k ts e. exact_refused (nat_le n k) (l.next k ts) ts (d.decided r k ts) e);
-        further = λ e. absurd (cc e)
-      };
     moving = λ e. absurd (cc e);
-    sparing = λ q t b o m. chained-spares (Asked true begins) _ (asked-spares true begins (h.sparing q t.0).begin) (made-spares (h.sparing q t.0).step (wanting b.wanted [])) b o m.run
+    sparing = λ q t b o m. chained-spares (Asked true begins) _ (asked-spares true begins (h.sparing q t.0).begin) (made-spares (h.sparing q t.0).step (wanting b.wanted [])) b o m.run;
   }

@@ -112,14 +112,14 @@ module _ {Tok Cx St Er V : Type 0} where
       let z : Answers (IsMore P k) (and_then (λ us. At us) (f ts)) b.tokens.list o.verdict o.end =
       chained-here P (IsMore P k) item (SameText item (Settles asked k start) b) (f ts) (λ us. At us) b w (h.here b w)
       (λ v c y e i q n.
-        let same : c.tokens ≡ b.tokens = n.1 in
-        let less : length (drop c.start c.tokens.list) < length ts = further ts (drop c.start c.tokens.list) e in
-        let less' : length (drop c.start b.tokens.list) < length ts = subst (λ s. length (drop c.start s.list) < length ts) same less in
-        let cl : c.start ≤ length b.tokens.list = subst (λ s. c.start ≤ length s.list) same y.start in
-        let past : b.start < c.start = later_place b.tokens.list b.start c.start w.start cl less' in
-        let on : start < c.start = omega (arith, past, l) in
-        let one : k + 1 < 2 ^ 64 = omega (arith, few, less) in
-        settled_here P k (is_stuck asked start c.start) (fits k) v i (not_stuck asked start c.start on) (fits_one k one) c y q n.0)
+      let same : c.tokens ≡ b.tokens = n.1 in
+      let less : length (drop c.start c.tokens.list) < length ts = further ts (drop c.start c.tokens.list) e in
+      let less' : length (drop c.start b.tokens.list) < length ts = subst (λ s. length (drop c.start s.list) < length ts) same less in
+      let cl : c.start ≤ length b.tokens.list = subst (λ s. c.start ≤ length s.list) same y.start in
+      let past : b.start < c.start = later_place b.tokens.list b.start c.start w.start cl less' in
+      let on : start < c.start = omega (arith, past, l) in
+      let one : k + 1 < 2 ^ 64 = omega (arith, few, less) in
+      settled_here P k (is_stuck asked start c.start) (fits k) v i (not_stuck asked start c.start on) (fits_one k one) c y q n.0)
       o (same_text item (Settles asked k start) b o m.run) in
       subst (λ x. Answers (IsMore P k) x b.tokens.list o.verdict o.end) (and_then_some (f ts)) z
 
@@ -152,7 +152,7 @@ module _ {Tok Cx St Mk Er V : Type 0} (mark : St → Mk) (back : St → Mk → S
     uncapped_here k b w l false next e =
         let few : Bool = nat_lt k least in
         rw e (one_or-here (value (drop b.start b.tokens.list)) k (Counted (asks free most) k b.start item) (EndsUnlessFew few) (f (drop b.start b.tokens.list)) (unless_few few (drop b.start b.tokens.list)) b
-          (counted-here item f value h further (asks free most) k b.start b w (omega arith) l) (λ s. closes-here few (record b { state = s }) (record { start = w.start; few = w.few })))
+        (counted-here item f value h further (asks free most) k b.start b w (omega arith) l) (λ s. closes-here few (record b { state = s }) (record { start = w.start; few = w.few })))
 
     -- a step of `repeated`
     pub repeats-here : (k s : ℕ) → s ≡ k → (b : Beginning Tok Cx St) → Within b → k + length (drop b.start b.tokens.list) < 2 ^ 64

@@ -36,7 +36,7 @@ list_language l value stands_for quiet = record {
   unambiguous = l.unambiguous;
   refuses = l.refuses;
   moves = false;
-  takes_no_memory = l.takes_no_memory × quiet
+  takes_no_memory = l.takes_no_memory × quiet;
 }
 
 -- a collection that holds the items
@@ -71,17 +71,17 @@ module _ {Tok Cx St Er S V : Type 0} (gives : S → Meaning Tok Cx St Er (Next S
       → Accepts m (list_language l value stands_for quiet) spare
   listed m value stands_for quiet h reads given spares = record {
     described = λ s.
-      let d = h.described s in
-      record {
-        reads = reads d;
-        only = list-only l.next l.word l.last d.one d.over;
-        given = given d;
-        each = λ u. list-each l.next d.further l.word l.last l.follow (d.each u) (d.ends u);
-        decided = λ r. list-decided l.next d.further (d.decided r);
-        further = λ e. absurd (cc e)
-      };
+        let d = h.described s in
+        record {
+          reads = reads d;
+          only = list-only l.next l.word l.last d.one d.over;
+          given = given d;
+          each = λ u. list-each l.next d.further l.word l.last l.follow (d.each u) (d.ends u);
+          decided = λ r. list-decided l.next d.further (d.decided r);
+          further = λ e. absurd (cc e);
+        };
     moving = λ e. absurd (cc e);
-    sparing = spares
+    sparing = spares;
   }
 
   -- `collect`
@@ -114,10 +114,10 @@ module _ {Tok Cx St Er S V : Type 0} (gives : S → Meaning Tok Cx St Er (Next S
     collects-reads : ItemsDescribed begins gives l → Reads (Collects gives begins holds quiet) (list_ends l.next) (Holding (GivesFrom l.next l.value 0) holds)
     collects-reads d = record {
       here = λ b w.
-        let all : List Tok = drop b.start b.tokens.list in
-        items-here gives (Appends quiet) (Collected holds) l.has_given l.next l.value d.further d.step (Before all) (Holding (GivesFrom l.next l.value 0) holds all) (appends_here all)
-        (λ k ts rest e x i c y o m. given-here Er (Holding (GivesFrom l.next l.value 0) holds all) c y m.value (collection_holds all k ts rest e x m.value i m.is) o m.given)
-        begins d.start [] b w (λ vs g. g)
+          let all : List Tok = drop b.start b.tokens.list in
+          items-here gives (Appends quiet) (Collected holds) l.has_given l.next l.value d.further d.step (Before all) (Holding (GivesFrom l.next l.value 0) holds all) (appends_here all)
+          (λ k ts rest e x i c y o m. given-here Er (Holding (GivesFrom l.next l.value 0) holds all) c y m.value (collection_holds all k ts rest e x m.value i m.is) o m.given)
+          begins d.start [] b w (λ vs g. g);
     }
 
     appends-spare : quiet → (x : Option (List V)) (v : Option V) → NeverOutOfMemory (Appends {Tok = Tok} {Cx = Cx} {St = St} {Er = Er} quiet x v)
@@ -166,13 +166,13 @@ module _ {Tok Cx St Er S V : Type 0} (gives : S → Meaning Tok Cx St Er (Next S
   counts-reads : ItemsDescribed begins gives l → Reads (Counts gives begins) (list_ends l.next) (Holding (GivesFrom l.next AnyItem 0) IsNumberOf)
   counts-reads d = record {
     here = λ b w.
-      let all : List Tok = drop b.start b.tokens.list in
-      items-here (λ s. Asked false (gives s)) CountsUp Given l.has_given l.next (λ k ts (v : V). ⊤) d.further
-      (λ k s g c y f. asked-here _ c false (gives s) _ (any_step d k s g (record c { wanted = false }) (record { start = y.start; few = y.few }) f))
-      (CountBefore all) (Holding (GivesFrom l.next AnyItem 0) IsNumberOf all)
-      (λ k ts rest e x v i j c y. given-here Er (CountBefore all (suc k) rest) c y (option_map (λ n. n + 1) x) (one_counted all k ts rest e x i))
-      (λ k ts rest e x i c y. given-here Er (Holding (GivesFrom l.next AnyItem 0) IsNumberOf all) c y x (all_counted all k ts rest e x i))
-      begins d.start 0 b w (λ us g. record { items = us; is = g; held = let z : length us ≡ 0 + length us = omega arith in z })
+        let all : List Tok = drop b.start b.tokens.list in
+        items-here (λ s. Asked false (gives s)) CountsUp Given l.has_given l.next (λ k ts (v : V). ⊤) d.further
+        (λ k s g c y f. asked-here _ c false (gives s) _ (any_step d k s g (record c { wanted = false }) (record { start = y.start; few = y.few }) f))
+        (CountBefore all) (Holding (GivesFrom l.next AnyItem 0) IsNumberOf all)
+        (λ k ts rest e x v i j c y. given-here Er (CountBefore all (suc k) rest) c y (option_map (λ n. n + 1) x) (one_counted all k ts rest e x i))
+        (λ k ts rest e x i c y. given-here Er (Holding (GivesFrom l.next AnyItem 0) IsNumberOf all) c y x (all_counted all k ts rest e x i))
+        begins d.start 0 b w (λ us g. record { items = us; is = g; held = let z : length us ≡ 0 + length us = omega arith in z });
   }
 
   pub counts-accepts : {spare : Type 0} → AcceptsItems begins gives l spare → Accepts (Counts gives begins) (counted_language l) spare
@@ -180,8 +180,8 @@ module _ {Tok Cx St Er S V : Type 0} (gives : S → Meaning Tok Cx St Er (Next S
       listed (Counts gives begins) (Holding (GivesFrom l.next AnyItem 0) IsNumberOf) (Holding (ListFrom (λ k w v. l.word k w) l.last 0) IsNumberOf) ⊤ h counts-reads
       (λ d. record {
         given = λ ts rest c e i.
-          let b = list-given l.next AnyItem (λ k w v. l.word k w) l.last (λ k ts rest v e j. d.one k ts rest e) d.over ts rest i.items e i.is in
-          record { word = b.word; all = b.all; is = record { items = i.items; is = b.is; held = i.held } }
+            let b = list-given l.next AnyItem (λ k w v. l.word k w) l.last (λ k ts rest v e j. d.one k ts rest e) d.over ts rest i.items e i.is in
+            record { word = b.word; all = b.all; is = record { items = i.items; is = b.is; held = i.held } };
       })
       (λ q t. counts-spare gives begins (h.sparing q t.0))
 
@@ -189,8 +189,8 @@ module _ {Tok Cx St Er S V : Type 0} (gives : S → Meaning Tok Cx St Er (Next S
   passes-reads : {W : Type 0} → ItemsDescribed begins gives l → Reads (Passes gives begins W) (list_ends l.next) (λ ts v. ⊤)
   passes-reads {W = W} d = record {
     here = λ b w.
-      items-here gives Skips (λ _. Given None) l.has_given l.next (λ k ts (v : V). ⊤) d.further (any_step d) (λ k ts x. ⊤) (λ (v : W). ⊤)
-      (λ k ts rest e x v i j c y. given-here Er (λ x. ⊤) c y None tt) (λ k ts rest e x i c y. given-here Er (λ (v : W). ⊤) c y None tt) begins d.start tt b w tt
+        items-here gives Skips (λ _. Given None) l.has_given l.next (λ k ts (v : V). ⊤) d.further (any_step d) (λ k ts x. ⊤) (λ (v : W). ⊤)
+        (λ k ts rest e x v i j c y. given-here Er (λ x. ⊤) c y None tt) (λ k ts rest e x i c y. given-here Er (λ (v : W). ⊤) c y None tt) begins d.start tt b w tt;
   }
 
   pub plain-accepts : {spare : Type 0} → AcceptsItems begins gives l spare → Accepts (IgnoringFirst (Passes gives begins (Unit {0})) (Gives (tt {0}))) (plain_language l) spare

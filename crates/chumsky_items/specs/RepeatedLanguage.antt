@@ -28,26 +28,26 @@ repeated_language F least most = record {
   follow = RepeatedFollow F.ends F.follow least most;
   unambiguous = F.unambiguous × MayFollow F F;
   refuses = F.refuses;
-  takes_no_memory = F.takes_no_memory
+  takes_no_memory = F.takes_no_memory;
 }
 
 module _ {Tok Cx St Mk Er V : Type 0} (mark : St → Mk) (back : St → Mk → St) (safe : Type 0) (item : Meaning Tok Cx St Er V) (free : Bool) (least : ℕ) (most : Option ℕ) (F : Language Tok V) where
   pub repeated-accepts : {X : Type 0} → Accepts item F (X × safe) → AcceptsItems (Given (Some 0)) (Repeats mark back safe item free least most) (repeated_language F least most) (X × safe)
   repeated-accepts h = record {
     described = λ s.
-      let t = both-true F.said F.moves s in
-      let d = h.described t.0 in
-      let further = d.further t.1 in
-      record {
-        start = given-by Er (λ s. s ≡ 0) (Some 0) refl;
-        step = repeats-here mark back safe item F.ends F.value d.reads further free least most;
-        further = repeated-further F.ends least most further;
-        one = repeated-one F.ends least most F.word d.only;
-        given = λ k. repeated-given F.ends least most F.value F.stands_for d.given k;
-        over = repeated-over F.ends least most;
-        each = λ u. repeated-each F.ends least most F.word F.follow (d.each u.0) u.1;
-        ends = λ u. repeated-ends F.ends least most F.word F.follow (d.each u.0);
-        decided = λ r. repeated-decided F.ends least most (d.decided r)
-      };
-    sparing = λ q t. record { begin = given-spares (Some 0); step = repeats-spare mark back safe item free least most q.1 (h.sparing q t) }
+        let t = both-true F.said F.moves s in
+        let d = h.described t.0 in
+        let further = d.further t.1 in
+        record {
+          start = given-by Er (λ s. s ≡ 0) (Some 0) refl;
+          step = repeats-here mark back safe item F.ends F.value d.reads further free least most;
+          further = repeated-further F.ends least most further;
+          one = repeated-one F.ends least most F.word d.only;
+          given = λ k. repeated-given F.ends least most F.value F.stands_for d.given k;
+          over = repeated-over F.ends least most;
+          each = λ u. repeated-each F.ends least most F.word F.follow (d.each u.0) u.1;
+          ends = λ u. repeated-ends F.ends least most F.word F.follow (d.each u.0);
+          decided = λ r. repeated-decided F.ends least most (d.decided r);
+        };
+    sparing = λ q t. record { begin = given-spares (Some 0); step = repeats-spare mark back safe item free least most q.1 (h.sparing q t) };
   }

@@ -127,7 +127,7 @@ module _ {Tok Cx St Mk Er U V : Type 0} (mark : St → Mk) (back : St → Mk →
   -- a separator where there has to be one, and then that
   round_here : (leading : Bool) (k : ℕ) (c asked : Bool) (b : Beginning Tok Cx St) → Within b → k + length (drop b.start b.tokens.list) < 2 ^ 64
       → Here (IsStepped (λ v. Ends (lead_at fs leading k (drop b.start b.tokens.list)) (λ mid. value mid v)) (λ t. t ≡ suc k) (and_then (stay_step f c) (lead_at fs leading k (drop b.start b.tokens.list))))
-        (Chained (Lead mark back safe separator (nat_eq k 0) leading) (λ _. Staying mark back safe c (Counted asked k b.start item))) (place (and_then (stay_step f c) (lead_at fs leading k (drop b.start b.tokens.list)))) b
+      (Chained (Lead mark back safe separator (nat_eq k 0) leading) (λ _. Staying mark back safe c (Counted asked k b.start item))) (place (and_then (stay_step f c) (lead_at fs leading k (drop b.start b.tokens.list)))) b
   round_here leading k c asked b w q o m =
       let ts : List Tok = drop b.start b.tokens.list in
       let x : Ending (List Tok) = lead_at fs leading k ts in
@@ -136,14 +136,14 @@ module _ {Tok Cx St Mk Er U V : Type 0} (mark : St → Mk) (back : St → Mk →
       let z : Answers R (and_then (λ mid. place (stay_step f c mid)) x) b.tokens.list o.verdict o.end =
       chained-here Any R (Lead mark back safe separator (nat_eq k 0) leading) (SameText (Lead mark back safe separator (nat_eq k 0) leading) next b) x (λ mid. place (stay_step f c mid)) b w (lead_here leading k b w)
       (λ v d y e i p n.
-        let mid : List Tok = drop d.start d.tokens.list in
-        let same : d.tokens ≡ b.tokens = n.1 in
-        let less : length mid ≤ length ts = lead_keeps fs keeps leading k ts mid e in
-        let less' : length (drop d.start b.tokens.list) ≤ length ts = subst (λ s. length (drop d.start s.list) ≤ length ts) same less in
-        let dl : d.start ≤ length b.tokens.list = subst (λ s. d.start ≤ length s.list) same y.start in
-        let l : b.start ≤ d.start = earlier_place b.tokens.list b.start d.start w.start dl less' in
-        let q' : k + length mid < 2 ^ 64 = omega (arith, q, less) in
-        weaker-here (IsStepped (value mid) (λ t. t ≡ suc k) (stay_step f c mid)) R (λ u j. led_value value k x (stay_step f c) mid u e j) (next v) (place (stay_step f c mid)) d (staying_here c k b.start asked d y l q') p n.0)
+      let mid : List Tok = drop d.start d.tokens.list in
+      let same : d.tokens ≡ b.tokens = n.1 in
+      let less : length mid ≤ length ts = lead_keeps fs keeps leading k ts mid e in
+      let less' : length (drop d.start b.tokens.list) ≤ length ts = subst (λ s. length (drop d.start s.list) ≤ length ts) same less in
+      let dl : d.start ≤ length b.tokens.list = subst (λ s. d.start ≤ length s.list) same y.start in
+      let l : b.start ≤ d.start = earlier_place b.tokens.list b.start d.start w.start dl less' in
+      let q' : k + length mid < 2 ^ 64 = omega (arith, q, less) in
+      weaker-here (IsStepped (value mid) (λ t. t ≡ suc k) (stay_step f c mid)) R (λ u j. led_value value k x (stay_step f c) mid u e j) (next v) (place (stay_step f c mid)) d (staying_here c k b.start asked d y l q') p n.0)
       o (same_text (Lead mark back safe separator (nat_eq k 0) leading) next b o m) in
       subst (λ s. Answers R s b.tokens.list o.verdict o.end) (place_then (stay_step f c) x) z
 
@@ -199,5 +199,5 @@ module _ {Tok Cx St Mk Er U V : Type 0} (mark : St → Mk) (back : St → Mk →
   -- a step of `separated_by`
   pub separates-here : (d : Bounds) (k s : ℕ) → s ≡ k → (b : Beginning Tok Cx St) → Within b → k + length (drop b.start b.tokens.list) < 2 ^ 64
       → Here (IsStepped (λ v. Ends (lead_at fs d.leading k (drop b.start b.tokens.list)) (λ mid. value mid v)) (λ t. t ≡ suc k) (separated_next f fs d.leading d.trailing d.least d.most k (drop b.start b.tokens.list)))
-        (Separates mark back safe separator item d s) (place (separated_next f fs d.leading d.trailing d.least d.most k (drop b.start b.tokens.list))) b
+      (Separates mark back safe separator item d s) (place (separated_next f fs d.leading d.trailing d.least d.most k (drop b.start b.tokens.list))) b
   separates-here d k s e b w q = rw e (λ o m. step_here d k b w q (at_cap d.most k) (separated_next f fs d.leading d.trailing d.least d.most k (drop b.start b.tokens.list)) refl o m.step)

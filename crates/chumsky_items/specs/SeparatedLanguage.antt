@@ -36,29 +36,29 @@ separated_language G F d = record {
   follow = SeparatedFollow F.ends G.ends F.follow G.follow;
   unambiguous = F.unambiguous × G.unambiguous × MayFollow F G × MayFollow G F × (d.leading ≡ true → NoSeparatorFirst G F);
   refuses = F.refuses || G.refuses;
-  takes_no_memory = F.takes_no_memory × G.takes_no_memory
+  takes_no_memory = F.takes_no_memory × G.takes_no_memory;
 }
 
 module _ {Tok Cx St Mk Er U V : Type 0} (mark : St → Mk) (back : St → Mk → St) (safe : Type 0) (separator : Meaning Tok Cx St Er U) (item : Meaning Tok Cx St Er V) (d : Bounds) (G : Language Tok U) (F : Language Tok V) where
   pub separated-accepts : {X : Type 0} → Accepts separator G (X × safe) → Accepts item F (X × safe) → AcceptsItems (Given (Some 0)) (Separates mark back safe separator item d) (separated_language G F d) (X × safe)
   separated-accepts hs h = record {
     described = λ s.
-      let t = both-true (F.said && F.moves) G.said s in
-      let u = both-true F.said F.moves t.0 in
-      let g = hs.described t.1 in
-      let i = h.described u.0 in
-      let further = i.further u.1 in
-      let keeps = keeps_tokens G.ends G.word g.only in
-      record {
-        start = given-by Er (λ s. s ≡ 0) (Some 0) refl;
-        step = separates-here mark back safe separator item G.ends F.ends G.value F.value g.reads i.reads keeps further d;
-        further = separated-further F.ends G.ends d.leading d.trailing d.least d.most further (lead_keeps G.ends keeps);
-        one = separated-one F.ends G.ends d.leading d.trailing d.least d.most F.word G.word i.only g.only;
-        given = separated-given F.ends G.ends d.leading d.trailing d.least d.most G.word F.value F.stands_for i.given g.only;
-        over = separated-over F.ends G.ends G.word g.only d.least d.most d.leading d.trailing;
-        each = λ q. separated-each F.ends G.ends F.word G.word F.follow G.follow (i.each q.0) (g.each q.1) d.leading d.trailing d.least d.most q.2 q.3 q.4;
-        ends = λ q. separated-ends F.ends G.ends F.word G.word F.follow G.follow (i.each q.0) (g.each q.1) d.leading d.trailing d.least d.most q.2 q.3 q.4;
-        decided = λ r. let z = neither-true F.refuses G.refuses r in separated-decided F.ends G.ends d.leading d.trailing d.least d.most (i.decided z.0) (g.decided z.1)
-      };
-    sparing = λ q t. record { begin = given-spares (Some 0); step = separates-spare mark back safe separator item d q.1 (hs.sparing q t.1) (h.sparing q t.0) }
+        let t = both-true (F.said && F.moves) G.said s in
+        let u = both-true F.said F.moves t.0 in
+        let g = hs.described t.1 in
+        let i = h.described u.0 in
+        let further = i.further u.1 in
+        let keeps = keeps_tokens G.ends G.word g.only in
+        record {
+          start = given-by Er (λ s. s ≡ 0) (Some 0) refl;
+          step = separates-here mark back safe separator item G.ends F.ends G.value F.value g.reads i.reads keeps further d;
+          further = separated-further F.ends G.ends d.leading d.trailing d.least d.most further (lead_keeps G.ends keeps);
+          one = separated-one F.ends G.ends d.leading d.trailing d.least d.most F.word G.word i.only g.only;
+          given = separated-given F.ends G.ends d.leading d.trailing d.least d.most G.word F.value F.stands_for i.given g.only;
+          over = separated-over F.ends G.ends G.word g.only d.least d.most d.leading d.trailing;
+          each = λ q. separated-each F.ends G.ends F.word G.word F.follow G.follow (i.each q.0) (g.each q.1) d.leading d.trailing d.least d.most q.2 q.3 q.4;
+          ends = λ q. separated-ends F.ends G.ends F.word G.word F.follow G.follow (i.each q.0) (g.each q.1) d.leading d.trailing d.least d.most q.2 q.3 q.4;
+          decided = λ r. let z = neither-true F.refuses G.refuses r in separated-decided F.ends G.ends d.leading d.trailing d.least d.most (i.decided z.0) (g.decided z.1);
+        };
+    sparing = λ q t. record { begin = given-spares (Some 0); step = separates-spare mark back safe separator item d q.1 (hs.sparing q t.1) (h.sparing q t.0) };
   }

@@ -26,7 +26,7 @@ module _ {Tok Er V : Type 0} (P Q : V → Type 0) (x y : Ending (List Tok)) (ts 
 module _ {Tok Cx St Mk Er V : Type 0} (mark : St → Mk) (back : St → Mk → St) (safe : Type 0) where
   else_by : (first second : Meaning Tok Cx St Er V) (P Q : V → Type 0) (x y : Ending (List Tok)) (b : Beginning Tok Cx St) → Here P first x b → ((s : St) → Here Q second y (record b { state = s }))
       → (m : Mk) (o p : Outcome V Er St) (u : Verdict V Er) → p.verdict ≡ u → first b p → ElseFrom back safe m u second b p o
-          → Answers (λ v. ElseValue x (P v) (Q v)) (or_else x y) b.tokens.list o.verdict o.end
+      → Answers (λ v. ElseValue x (P v) (Q v)) (or_else x y) b.tokens.list o.verdict o.end
   else_by first second P Q x y b h k m o p (Yes v) e f g =
       let a : Answers P {Er = Er} x b.tokens.list (Yes v) p.end = subst (λ u. Answers P {Er = Er} x b.tokens.list u p.end) e (h p f) in
       let yes : Verdict V Er = Yes v in
@@ -57,6 +57,6 @@ module _ {Tok Cx St Mk Er V : Type 0} (mark : St → Mk) (back : St → Mk → S
       → Reads (OrElse mark back safe first second) (either_ends f g) (λ ts v. ElseValue (f ts) (va ts v) (vb ts v))
   or-by first second f g va vb h k = record {
     here = λ b w.
-      let ts : List Tok = drop b.start b.tokens.list in
-      or_else-here first second (va ts) (vb ts) (f ts) (g ts) b (h.here b w) (λ s. k.here (record b { state = s }) (record { start = w.start; few = w.few }))
+        let ts : List Tok = drop b.start b.tokens.list in
+        or_else-here first second (va ts) (vb ts) (f ts) (g ts) b (h.here b w) (λ s. k.here (record b { state = s }) (record { start = w.start; few = w.few }));
   }

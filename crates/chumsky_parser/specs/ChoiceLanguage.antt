@@ -31,7 +31,7 @@ or_language F G = record {
   unambiguous = F.unambiguous × G.unambiguous × Leaves F G;
   refuses = F.refuses || G.refuses;
   moves = F.moves && G.moves;
-  takes_no_memory = F.takes_no_memory × G.takes_no_memory
+  takes_no_memory = F.takes_no_memory × G.takes_no_memory;
 }
 
 module _ {Tok Cx St Er V : Type 0} (first second m : Meaning Tok Cx St Er V) (F G : Language Tok V) where
@@ -44,19 +44,19 @@ module _ {Tok Cx St Er V : Type 0} (first second m : Meaning Tok Cx St Er V) (F 
   either-accepts : {safe spare : Type 0} → (spare → safe) → IsEither safe → Accepts first F spare → Accepts second G spare → Accepts m (or_language F G) spare
   either-accepts still i h k = record {
     described = λ s.
-      let t = both-true F.said G.said s in
-      let d = h.described t.0 in
-      let e = k.described t.1 in
-      record {
-        reads = i.reads d.reads e.reads;
-        only = or-takes_only F.ends G.ends F.word G.word d.only e.only;
-        given = or-gives_only F.ends G.ends F.value G.value F.stands_for G.stands_for d.given e.given;
-        each = λ u. or-takes_each F.ends G.ends F.word G.word F.follow G.follow (d.each u.0) (e.each u.1) u.2;
-        decided = else-decided F.ends G.ends F.refuses G.refuses d.decided e.decided;
-        further = λ m. let b = both-true F.moves G.moves m in else-further F.ends G.ends (d.further b.0) (e.further b.1)
-      };
+        let t = both-true F.said G.said s in
+        let d = h.described t.0 in
+        let e = k.described t.1 in
+        record {
+          reads = i.reads d.reads e.reads;
+          only = or-takes_only F.ends G.ends F.word G.word d.only e.only;
+          given = or-gives_only F.ends G.ends F.value G.value F.stands_for G.stands_for d.given e.given;
+          each = λ u. or-takes_each F.ends G.ends F.word G.word F.follow G.follow (d.each u.0) (e.each u.1) u.2;
+          decided = else-decided F.ends G.ends F.refuses G.refuses d.decided e.decided;
+          further = λ m. let b = both-true F.moves G.moves m in else-further F.ends G.ends (d.further b.0) (e.further b.1);
+        };
     moving = i.moving h.moving k.moving;
-    sparing = λ q t. i.sparing (still q) (h.sparing q t.0) (k.sparing q t.1)
+    sparing = λ q t. i.sparing (still q) (h.sparing q t.0) (k.sparing q t.1);
   }
 
 module _ {Tok Cx St Mk Er V : Type 0} (mark : St → Mk) (back : St → Mk → St) {safe spare : Type 0} (still : spare → safe) where
@@ -66,7 +66,7 @@ module _ {Tok Cx St Mk Er V : Type 0} (mark : St → Mk) (back : St → Mk → S
     or-accepts {F} {G} = either-accepts first second (OrElse mark back safe first second) F G still (record {
       reads = or-by mark back safe first second F.ends G.ends F.value G.value;
       moving = or-moves mark back safe first second F.moves G.moves;
-      sparing = or_else-spares mark back safe first second
+      sparing = or_else-spares mark back safe first second;
     })
 
     -- the first, and by some mark the second
@@ -77,7 +77,7 @@ module _ {Tok Cx St Mk Er V : Type 0} (mark : St → Mk) (back : St → Mk → S
     by_a_mark-accepts {F} {G} = either-accepts first second ByAMark F G still (record {
       reads = λ h k. record { here = λ b w o x. (or-by (λ _. x.0) back safe first second F.ends G.ends F.value G.value h k).here b w o (record { cases = inr x.1 }) };
       moving = λ h k e b o x. or-moves (λ _. x.0) back safe first second F.moves G.moves h k e b o (record { cases = inr x.1 });
-      sparing = λ q h k b o x. or_else-spares (λ _. x.0) back safe first second q h k b o (record { cases = inr x.1 })
+      sparing = λ q h k b o x. or_else-spares (λ _. x.0) back safe first second q h k b o (record { cases = inr x.1 });
     })
 
   -- the first of several by some mark
@@ -98,7 +98,7 @@ module _ {Tok Cx St Mk Er V : Type 0} (mark : St → Mk) (back : St → Mk → S
     pub last-accepts : AcceptInOrder first [] F
     last-accepts = record {
       later = fewer-accepts (FirstByAMark first []) first (λ b o x. last_later b o x.0 x.1.k x.1.stands) F h;
-      first_of = fewer-accepts (FirstOf mark back safe first []) first (λ b o x. x.cases) F h
+      first_of = fewer-accepts (FirstOf mark back safe first []) first (λ b o x. x.cases) F h;
     }
 
     module _ (next : Meaning Tok Cx St Er V) (others : List (Meaning Tok Cx St Er V)) {G : Language Tok V} (k : AcceptInOrder next others G) where
@@ -123,5 +123,5 @@ module _ {Tok Cx St Mk Er V : Type 0} (mark : St → Mk) (back : St → Mk → S
       next-accepts = record {
         later = fewer-accepts (FirstByAMark first (next ∷ others)) (ByAMark first (FirstByAMark next others)) (λ b o x. (x.0, attempted x.0 x.1.k b o x.1.stands)) (or_language F G) (by_a_mark-accepts first (FirstByAMark next others) h k.later);
         first_of = fewer-accepts (FirstOf mark back safe first (next ∷ others)) (OrElse mark back safe first (FirstByAMark next others))
-          (λ b o x. record { cases = elim x.cases [ inl r ↦ inl r | inr y ↦ inr (attempted (mark b.state) y.k b o y.stands) ] }) (or_language F G) (or-accepts first (FirstByAMark next others) h k.later)
+            (λ b o x. record { cases = elim x.cases [ inl r ↦ inl r | inr y ↦ inr (attempted (mark b.state) y.k b o y.stands) ] }) (or_language F G) (or-accepts first (FirstByAMark next others) h k.later);
       }

@@ -125,11 +125,11 @@ module _ {Tok Cx St V : Type 0} (Er : Type 0) (P : V → Type 0) where
 pub copy-by : {Tok Cx St V : Type 0} (Er : Type 0) (copies : V → Type 0) (safe : Type 0) → Reads (GivesCopy {Tok = Tok} {Cx = Cx} {St = St} {Er = Er} copies safe) (λ ts. At ts) (λ ts. copies)
 copy-by Er copies safe = record {
   here = λ b w o m.
-    let ts = drop b.start b.tokens.list in
-    elim m.cases [
-      | inl r ↦ refuses-by copies (At ts) b.tokens.list o r
-      | inr c ↦ given-here Er copies b w c.value (wanted_value copies b.wanted c.value c.is_value) o c.given
-    ]
+      let ts = drop b.start b.tokens.list in
+      elim m.cases [
+        | inl r ↦ refuses-by copies (At ts) b.tokens.list o r
+        | inr c ↦ given-here Er copies b w c.value (wanted_value copies b.wanted c.value c.is_value) o c.given
+      ];
 }
 
 module _ {Tok Cx St Er V W : Type 0} (part : Meaning Tok Cx St Er V) (next : Meaning Tok Cx St Er W) (f g : Ender Tok) (va : List Tok → V → Type 0) (vb : List Tok → W → Type 0) (h : Reads part f va) (k : Reads next g vb) where
@@ -137,53 +137,53 @@ module _ {Tok Cx St Er V W : Type 0} (part : Meaning Tok Cx St Er V) (next : Mea
   pub then-by : Reads (Sequence part next) (then_ends f g) (λ ts v. va ts v.0 × Ends (f ts) (λ rest. vb rest v.1))
   then-by = record {
     here = λ b w.
-      let ts : List Tok = drop b.start b.tokens.list in
-      let R : V × W → Type 0 = λ v. va ts v.0 × Ends (f ts) (λ rest. vb rest v.1) in
-      chained-here (va ts) R part _ (f ts) g b w (h.here b w)
-      (λ v c y e i o m.
+        let ts : List Tok = drop b.start b.tokens.list in
+        let R : V × W → Type 0 = λ v. va ts v.0 × Ends (f ts) (λ rest. vb rest v.1) in
+        chained-here (va ts) R part _ (f ts) g b w (h.here b w)
+        (λ v c y e i o m.
         let rest : List Tok = drop c.start c.tokens.list in
         let z : Answers R (and_then (λ us. At us) (g rest)) c.tokens.list o.verdict o.end =
         chained-here (vb rest) R next (λ u. Given (both v u)) (g rest) (λ us. At us) c y (k.here c y)
         (λ u d x e' j. given-here Er R d x (both v u) (both_values (va ts) (vb rest) R (λ p q i' j'. (i', ends_there (f ts) rest (λ r. vb r q) e j')) v u i j)) o m in
-        subst (λ q. Answers R q c.tokens.list o.verdict o.end) (and_then_some (g rest)) z)
+        subst (λ q. Answers R q c.tokens.list o.verdict o.end) (and_then_some (g rest)) z);
   }
 
   -- `first.ignore_then(second)`
   pub ignore_then-by : Reads (IgnoringFirst part next) (then_ends f g) (λ ts v. Ends (f ts) (λ rest. vb rest v))
   ignore_then-by = record {
     here = λ b w.
-      let ts : List Tok = drop b.start b.tokens.list in
-      let R : W → Type 0 = λ v. Ends (f ts) (λ rest. vb rest v) in
-      chained-here (va ts) R (Asked false part) _ (f ts) g b w (asked-here (va ts) b false part (f ts) (h.here (record b { wanted = false }) (record { start = w.start; few = w.few })))
-      (λ v c y e i.
+        let ts : List Tok = drop b.start b.tokens.list in
+        let R : W → Type 0 = λ v. Ends (f ts) (λ rest. vb rest v) in
+        chained-here (va ts) R (Asked false part) _ (f ts) g b w (asked-here (va ts) b false part (f ts) (h.here (record b { wanted = false }) (record { start = w.start; few = w.few })))
+        (λ v c y e i.
         let rest : List Tok = drop c.start c.tokens.list in
-        weaker-here (vb rest) R (λ u j. ends_there (f ts) rest (λ r. vb r u) e j) next (g rest) c (k.here c y))
+        weaker-here (vb rest) R (λ u j. ends_there (f ts) rest (λ r. vb r u) e j) next (g rest) c (k.here c y));
   }
 
   -- `first.then_ignore(second)`
   pub then_ignore-by : Reads (IgnoringSecond part next) (then_ends f g) va
   then_ignore-by = record {
     here = λ b w.
-      let ts : List Tok = drop b.start b.tokens.list in
-      chained-here (va ts) (va ts) part _ (f ts) g b w (h.here b w)
-      (λ v c y e i o m.
+        let ts : List Tok = drop b.start b.tokens.list in
+        chained-here (va ts) (va ts) part _ (f ts) g b w (h.here b w)
+        (λ v c y e i o m.
         let rest : List Tok = drop c.start c.tokens.list in
         let z : Answers (va ts) (and_then (λ us. At us) (g rest)) c.tokens.list o.verdict o.end =
         chained-here (vb rest) (va ts) (Asked false next) (λ u. Given v) (g rest) (λ us. At us) c y (asked-here (vb rest) c false next (g rest) (k.here (record c { wanted = false }) (record { start = y.start; few = y.few })))
         (λ u d x e' j. given-here Er (va ts) d x v i) o m in
-        subst (λ q. Answers (va ts) q c.tokens.list o.verdict o.end) (and_then_some (g rest)) z)
+        subst (λ q. Answers (va ts) q c.tokens.list o.verdict o.end) (and_then_some (g rest)) z);
   }
 
   -- the second with its own value, where both run as the whole is asked
   pub second-by : Reads (Chained part (λ _. next)) (then_ends f g) (λ ts v. Ends (f ts) (λ rest. vb rest v))
   second-by = record {
     here = λ b w.
-      let ts : List Tok = drop b.start b.tokens.list in
-      let R : W → Type 0 = λ v. Ends (f ts) (λ rest. vb rest v) in
-      chained-here (va ts) R part (λ _. next) (f ts) g b w (h.here b w)
-      (λ v c y e i.
+        let ts : List Tok = drop b.start b.tokens.list in
+        let R : W → Type 0 = λ v. Ends (f ts) (λ rest. vb rest v) in
+        chained-here (va ts) R part (λ _. next) (f ts) g b w (h.here b w)
+        (λ v c y e i.
         let rest : List Tok = drop c.start c.tokens.list in
-        weaker-here (vb rest) R (λ u j. ends_there (f ts) rest (λ r. vb r u) e j) next (g rest) c (k.here c y))
+        weaker-here (vb rest) R (λ u j. ends_there (f ts) rest (λ r. vb r u) e j) next (g rest) c (k.here c y));
   }
 
 module _ {Tok Cx St Er V W : Type 0} (part : Meaning Tok Cx St Er V) (f : Ender Tok) (va : List Tok → V → Type 0) (h : Reads part f va) where
@@ -191,10 +191,10 @@ module _ {Tok Cx St Er V W : Type 0} (part : Meaning Tok Cx St Er V) (f : Ender 
   pub regrouped-by : (g : V → W) (R : List Tok → W → Type 0) → ((ts : List Tok) (v : V) → va ts v → R ts (g v)) → Reads (Chained part (λ v. Given (option_map g v))) f R
   regrouped-by g R k = record {
     here = λ b w o m.
-      let ts : List Tok = drop b.start b.tokens.list in
-      let z : Answers (R ts) (and_then (λ us. At us) (f ts)) b.tokens.list o.verdict o.end =
-      chained-here (va ts) (R ts) part (λ v. Given (option_map g v)) (f ts) (λ us. At us) b w (h.here b w) (λ v c y e i. given-here Er (R ts) c y (option_map g v) (each_value ts v i)) o m in
-      subst (λ q. Answers (R ts) q b.tokens.list o.verdict o.end) (and_then_some (f ts)) z
+        let ts : List Tok = drop b.start b.tokens.list in
+        let z : Answers (R ts) (and_then (λ us. At us) (f ts)) b.tokens.list o.verdict o.end =
+        chained-here (va ts) (R ts) part (λ v. Given (option_map g v)) (f ts) (λ us. At us) b w (h.here b w) (λ v c y e i. given-here Er (R ts) c y (option_map g v) (each_value ts v i)) o m in
+        subst (λ q. Answers (R ts) q b.tokens.list o.verdict o.end) (and_then_some (f ts)) z;
   }
     where
       each_value : (ts : List Tok) (v : Option V) → IfValue (va ts) v → IfValue (R ts) (option_map g v)

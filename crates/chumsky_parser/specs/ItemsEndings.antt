@@ -28,10 +28,10 @@ module _ {Tok Cx St Er S V X W : Type 0} (step : S → Meaning Tok Cx St Er (Nex
     (has_given : S → ℕ → Type 0) (next : ℕ → List Tok → Ending (Stepped Tok)) (value : ℕ → List Tok → V → Type 0)
     (further : (k : ℕ) (ts rest : List Tok) → next k ts ≡ At (One rest) → length rest < length ts)
     (steps : (k : ℕ) (s : S) → has_given s k → (b : Beginning Tok Cx St) → Within b → k + length (drop b.start b.tokens.list) < 2 ^ 64
-      → Here (IsStepped (value k (drop b.start b.tokens.list)) (λ t. has_given t (suc k)) (next k (drop b.start b.tokens.list))) (step s) (place (next k (drop b.start b.tokens.list))) b)
+    → Here (IsStepped (value k (drop b.start b.tokens.list)) (λ t. has_given t (suc k)) (next k (drop b.start b.tokens.list))) (step s) (place (next k (drop b.start b.tokens.list))) b)
     (made : ℕ → List Tok → X → Type 0) (Q : W → Type 0)
     (mores : (k : ℕ) (ts rest : List Tok) → next k ts ≡ At (One rest) → (x : Option X) (v : Option V) → IfValue (made k ts) x → IfValue (value k ts) v
-      → (c : Beginning Tok Cx St) → Within c → Here (made (suc k) rest) (more x v) (At (drop c.start c.tokens.list)) c)
+    → (c : Beginning Tok Cx St) → Within c → Here (made (suc k) rest) (more x v) (At (drop c.start c.tokens.list)) c)
     (ends : (k : ℕ) (ts rest : List Tok) → next k ts ≡ At (Over rest) → (x : Option X) → IfValue (made k ts) x → (c : Beginning Tok Cx St) → Within c → Here Q (ended x) (At (drop c.start c.tokens.list)) c) where
   -- a step, where it is known what follows an item
   step_here : (k : ℕ) (s : S) → has_given s k → (x : Option X) (b : Beginning Tok Cx St) → Within b → IfValue (made k (drop b.start b.tokens.list)) x → k + length (drop b.start b.tokens.list) < 2 ^ 64
@@ -71,13 +71,13 @@ module _ {Tok Cx St Er S V X W : Type 0} (step : S → Meaning Tok Cx St Er (Nex
   all_steps (suc n) zero k s g x b w i l m r = step_here k s g x b w i l _ _ (λ rest e v t j h c y d. none_left k _ rest _ e r)
   all_steps (suc n) (suc room) k s g x b w i l m r =
       step_here k s g x b w i l _ _ (λ rest e v t j h c y d.
-        let p : length rest < length (drop b.start b.tokens.list) = further k (drop b.start b.tokens.list) rest e in
-        chained-here (made (suc k) rest) Q (more x v) (λ a. AllSteps step more ended room a t) (At (drop c.start c.tokens.list)) (list_until next n (suc k)) c y
-        (mores k (drop b.start b.tokens.list) rest e x v i j c y)
-        (λ a f z q u.
-          let same : rest ≡ drop f.start f.tokens.list = d ∙ cc q in
-          let len : length rest ≡ length (drop f.start f.tokens.list) = ap length same in
-          all_steps n room (suc k) t h a f z (subst (λ us. IfValue (made (suc k) us) a) same u) (omega (arith, l, p, len)) (omega (arith, m, p, len)) (omega (arith, r, p, len))))
+      let p : length rest < length (drop b.start b.tokens.list) = further k (drop b.start b.tokens.list) rest e in
+      chained-here (made (suc k) rest) Q (more x v) (λ a. AllSteps step more ended room a t) (At (drop c.start c.tokens.list)) (list_until next n (suc k)) c y
+      (mores k (drop b.start b.tokens.list) rest e x v i j c y)
+      (λ a f z q u.
+      let same : rest ≡ drop f.start f.tokens.list = d ∙ cc q in
+      let len : length rest ≡ length (drop f.start f.tokens.list) = ap length same in
+      all_steps n room (suc k) t h a f z (subst (λ us. IfValue (made (suc k) us) a) same u) (omega (arith, l, p, len)) (omega (arith, m, p, len)) (omega (arith, r, p, len))))
 
   -- a run over items, from here
   pub items-here : (begins : Meaning Tok Cx St Er S) → Reads begins (λ ts. At ts) (λ ts s. has_given s 0) → (first : X) (b : Beginning Tok Cx St) → Within b → made 0 (drop b.start b.tokens.list) first

@@ -13,14 +13,22 @@ module _ {Tok Cx St Er V : Type 0} (m n : Meaning Tok Cx St Er V) (fewer : (b : 
   fewer-accepts h = record {
     described = λ s. let d = h.described s in record { reads = record { here = λ b w o x. d.reads.here b w o (fewer b o x) }; only = d.only; given = d.given; each = d.each; decided = d.decided; further = d.further };
     moving = λ e b o x. h.moving e b o (fewer b o x);
-    sparing = λ q t b o x. h.sparing q t b o (fewer b o x)
+    sparing = λ q t b o x. h.sparing q t b o (fewer b o x);
   }
 
 -- the same words, with other values
 abbrev pub with_values : {Tok V W : Type 0} → Language Tok V → (List Tok → W → Type 0) → (List Tok → W → Type 0) → Language Tok W
 with_values F value stands_for = record {
-  said = F.said; ends = F.ends; value = value; word = F.word; stands_for = stands_for; follow = F.follow;
-  unambiguous = F.unambiguous; refuses = F.refuses; moves = F.moves; takes_no_memory = F.takes_no_memory
+  said = F.said;
+  ends = F.ends;
+  value = value;
+  word = F.word;
+  stands_for = stands_for;
+  follow = F.follow;
+  unambiguous = F.unambiguous;
+  refuses = F.refuses;
+  moves = F.moves;
+  takes_no_memory = F.takes_no_memory;
 }
 
 module _ {Tok Cx St Er V W : Type 0} (part : Meaning Tok Cx St Er V) (m : Meaning Tok Cx St Er W) (F : Language Tok V) (value stands_for : List Tok → W → Type 0) where
@@ -35,5 +43,5 @@ module _ {Tok Cx St Er V W : Type 0} (part : Meaning Tok Cx St Er V) (m : Meanin
   with_values-accepts i h = record {
     described = λ s. let d = h.described s in record { reads = i.reads d; only = d.only; given = i.given d; each = d.each; decided = d.decided; further = d.further };
     moving = λ e. i.moving (h.moving e);
-    sparing = λ q t. i.sparing (h.sparing q t)
+    sparing = λ q t. i.sparing (h.sparing q t);
   }

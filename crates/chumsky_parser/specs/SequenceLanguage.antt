@@ -33,7 +33,7 @@ module _ {Tok V W : Type 0} (F : Language Tok V) (G : Language Tok W) where
     unambiguous = F.unambiguous × G.unambiguous × MayFollow F G;
     refuses = F.refuses || G.refuses;
     moves = F.moves || G.moves;
-    takes_no_memory = F.takes_no_memory × G.takes_no_memory
+    takes_no_memory = F.takes_no_memory × G.takes_no_memory;
   }
 
   -- with the values of both
@@ -64,19 +64,19 @@ module _ {Tok Cx St Er V W : Type 0} (first : Meaning Tok Cx St Er V) (second : 
     pub joined-accepts : {spare : Type 0} → IsJoined → Accepts first F spare → Accepts second G spare → Accepts m (joined_language F G value stands_for) spare
     joined-accepts i h k = record {
       described = λ s.
-        let t = both-true F.said G.said s in
-        let d = h.described t.0 in
-        let e = k.described t.1 in
-        record {
-          reads = i.reads d e;
-          only = then-takes_only F.ends G.ends F.word G.word d.only e.only;
-          given = i.given d e;
-          each = λ u. then-takes_each F.ends G.ends F.word G.word F.follow G.follow (d.each u.0) (e.each u.1) u.2;
-          decided = then-decided F.ends G.ends F.refuses G.refuses d.decided e.decided;
-          further = then-further F.ends G.ends F.word G.word d.only e.only F.moves G.moves d.further e.further
-        };
+          let t = both-true F.said G.said s in
+          let d = h.described t.0 in
+          let e = k.described t.1 in
+          record {
+            reads = i.reads d e;
+            only = then-takes_only F.ends G.ends F.word G.word d.only e.only;
+            given = i.given d e;
+            each = λ u. then-takes_each F.ends G.ends F.word G.word F.follow G.follow (d.each u.0) (e.each u.1) u.2;
+            decided = then-decided F.ends G.ends F.refuses G.refuses d.decided e.decided;
+            further = then-further F.ends G.ends F.word G.word d.only e.only F.moves G.moves d.further e.further;
+          };
       moving = i.moving h.moving k.moving;
-      sparing = λ q t. i.sparing (h.sparing q t.0) (k.sparing q t.1)
+      sparing = λ q t. i.sparing (h.sparing q t.0) (k.sparing q t.1);
     }
 
   -- `first.then(second)`
@@ -86,7 +86,7 @@ module _ {Tok Cx St Er V W : Type 0} (first : Meaning Tok Cx St Er V) (second : 
     reads = λ d e. then-by first second F.ends G.ends F.value G.value d.reads e.reads;
     given = λ d e. then-gives_only F.ends G.ends F.value G.value F.stands_for G.stands_for d.given e.given;
     moving = sequence-moves first second F.moves G.moves ef es;
-    sparing = sequence-spares first second
+    sparing = sequence-spares first second;
   }) h k
 
   -- `first.ignore_then(second)`
@@ -96,7 +96,7 @@ module _ {Tok Cx St Er V W : Type 0} (first : Meaning Tok Cx St Er V) (second : 
     reads = λ d e. ignore_then-by first second F.ends G.ends F.value G.value d.reads e.reads;
     given = λ d e. ignore_then-gives_only F.ends G.ends F.value G.value F.word G.stands_for d.only e.given;
     moving = ignoring_first-moves first second F.moves G.moves ef es;
-    sparing = ignoring_first-spares first second
+    sparing = ignoring_first-spares first second;
   }) h k
 
   -- `first.then_ignore(second)`
@@ -106,7 +106,7 @@ module _ {Tok Cx St Er V W : Type 0} (first : Meaning Tok Cx St Er V) (second : 
     reads = λ d e. then_ignore-by first second F.ends G.ends F.value G.value d.reads e.reads;
     given = λ d e. then_ignore-gives_only F.ends G.ends F.value G.value F.stands_for G.word d.given e.only;
     moving = ignoring_second-moves first second F.moves G.moves ef es;
-    sparing = ignoring_second-spares first second
+    sparing = ignoring_second-spares first second;
   }) h k
 
 module _ {Tok Cx St Er U V W : Type 0} (opening : Meaning Tok Cx St Er U) (part : Meaning Tok Cx St Er V) (closing : Meaning Tok Cx St Er W) {O : Language Tok U} {F : Language Tok V} {C : Language Tok W} {spare : Type 0} where

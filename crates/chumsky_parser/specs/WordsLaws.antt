@@ -45,21 +45,21 @@ module _ {Tok V W : Type 0} (f g : Ender Tok) (va : List Tok → V → Type 0) (
   pub then-gives_only : (ma : List Tok → V → Type 0) (mb : List Tok → W → Type 0) → GivesOnly f va ma → GivesOnly g vb mb
       → GivesOnly {V = V × W} (then_ends f g) (λ ts v. va ts v.0 × Ends (f ts) (λ rest. vb rest v.1)) (λ w v. Joined (λ u. ma u v.0) (λ u. mb u v.1) w)
   then-gives_only ma mb h k = record {
-    given = λ ts rest v e i. joined f g (λ u. ma u v.0) (λ u. mb u v.1) ts rest e (λ mid d. h.given ts mid v.0 d i.0) (λ mid d c. k.given mid rest v.1 c (ends_at (f ts) mid (λ r. vb r v.1) d i.1))
+    given = λ ts rest v e i. joined f g (λ u. ma u v.0) (λ u. mb u v.1) ts rest e (λ mid d. h.given ts mid v.0 d i.0) (λ mid d c. k.given mid rest v.1 c (ends_at (f ts) mid (λ r. vb r v.1) d i.1));
   }
 
   -- `first.ignore_then(second)`
   pub ignore_then-gives_only : (P : List Tok → Type 0) (mb : List Tok → W → Type 0) → TakesOnly f P → GivesOnly g vb mb
       → GivesOnly (then_ends f g) (λ ts v. Ends (f ts) (λ rest. vb rest v)) (λ w v. Joined P (λ u. mb u v) w)
   ignore_then-gives_only P mb h k = record {
-    given = λ ts rest v e i. joined f g P (λ u. mb u v) ts rest e (λ mid d. h.taken ts mid d) (λ mid d c. k.given mid rest v c (ends_at (f ts) mid (λ r. vb r v) d i))
+    given = λ ts rest v e i. joined f g P (λ u. mb u v) ts rest e (λ mid d. h.taken ts mid d) (λ mid d c. k.given mid rest v c (ends_at (f ts) mid (λ r. vb r v) d i));
   }
 
   -- `first.then_ignore(second)`
   pub then_ignore-gives_only : (ma : List Tok → V → Type 0) (Q : List Tok → Type 0) → GivesOnly f va ma → TakesOnly g Q
       → GivesOnly (then_ends f g) va (λ w v. Joined (λ u. ma u v) Q w)
   then_ignore-gives_only ma Q h k = record {
-    given = λ ts rest v e i. joined f g (λ u. ma u v) Q ts rest e (λ mid d. h.given ts mid v d i) (λ mid d c. k.taken mid rest c)
+    given = λ ts rest v e i. joined f g (λ u. ma u v) Q ts rest e (λ mid d. h.given ts mid v d i) (λ mid d c. k.taken mid rest c);
   }
 
 module _ {Tok V : Type 0} (f g : Ender Tok) (va vb ma mb : List Tok → V → Type 0) (h : GivesOnly f va ma) (k : GivesOnly g vb mb) where
@@ -91,10 +91,10 @@ pub then-takes_each : {Tok : Type 0} (f g : Ender Tok) (P Q ff fg : List Tok →
     → TakesEach (then_ends f g) (Joined P Q) fg
 then-takes_each f g P Q ff fg h k c = record {
   each = λ w rest i j.
-    let e : w ++ rest ≡ i.first ++ (i.second ++ rest) = ap (λ u. u ++ rest) i.all ∙ append_assoc i.first i.second rest in
-    let a : f (i.first ++ (i.second ++ rest)) ≡ At (i.second ++ rest) = h.each i.first (i.second ++ rest) i.is_first (c i.second rest i.is_second j) in
-    let b : g (i.second ++ rest) ≡ At rest = k.each i.second rest i.is_second j in
-    rw (e, a) b
+      let e : w ++ rest ≡ i.first ++ (i.second ++ rest) = ap (λ u. u ++ rest) i.all ∙ append_assoc i.first i.second rest in
+      let a : f (i.first ++ (i.second ++ rest)) ≡ At (i.second ++ rest) = h.each i.first (i.second ++ rest) i.is_first (c i.second rest i.is_second j) in
+      let b : g (i.second ++ rest) ≡ At rest = k.each i.second rest i.is_second j in
+      rw (e, a) b;
 }
 
 -- a word of the first, or one of the second that the first leaves
@@ -104,7 +104,7 @@ or-takes_each f g P Q ff fg h k c = record {
   each = λ w rest i j. elim i [
     | inl p ↦ let e = h.each w rest p j.0 in rw e refl
     | inr q ↦ let e = c w rest q j.1 in let d = k.each w rest q j.1 in rw e d
-  ]
+  ];
 }
 
 -- a text that is taken whole is a word, and each word that nothing follows is taken whole

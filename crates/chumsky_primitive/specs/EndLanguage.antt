@@ -52,7 +52,7 @@ end_language = record {
   unambiguous = ⊤;
   refuses = false;
   moves = false;
-  takes_no_memory = ⊤
+  takes_no_memory = ⊤;
 }
 
 any_value : (v : Option (Unit {0})) → IfValue (λ (_ : Unit {0}). ⊤) v
@@ -98,8 +98,8 @@ module _ {I Tok Sp Cu Er St Mk Cx : Type 0} (source : input_trait.Ghosts I Cu To
       given = record { given = λ ts rest v e _. record { word = []; all = empty_before ts rest e; is = refl } };
       each = λ _. record { each = λ w rest p f. rw (p, f) refl };
       decided = λ _. never_refused;
-      further = λ m. absurd (cc m)
+      further = λ m. absurd (cc m);
     };
     moving = λ m. absurd (cc m);
-    sparing = λ q _. end-spares q.0 q.1
+    sparing = λ q _. end-spares q.0 q.1;
   }

@@ -28,7 +28,7 @@ one_language test IsOf free = record {
   unambiguous = ⊤;
   refuses = false;
   moves = true;
-  takes_no_memory = free
+  takes_no_memory = free;
 }
 
 -- tokens that equal these members, in turn
@@ -56,7 +56,7 @@ literal_language equal members copies free = record {
   unambiguous = ⊤;
   refuses = false;
   moves = has_members members;
-  takes_no_memory = free
+  takes_no_memory = free;
 }
 
 -- no token
@@ -71,7 +71,7 @@ nothing_language = record {
   unambiguous = ⊤;
   refuses = false;
   moves = false;
-  takes_no_memory = ⊤
+  takes_no_memory = ⊤;
 }
 
 -- nothing is said but that a token is taken

@@ -75,7 +75,7 @@ module _ {Tok V : Type 0} (test : Tok → Bool) (IsOf : Tok → V → Type 0) wh
   one-accepts m h k q = record {
     described = λ s. record { reads = h; only = one_only; given = one_given; each = λ u. one_each; decided = λ d. one_decided; further = λ d. one_further };
     moving = λ d. k;
-    sparing = q
+    sparing = q;
   }
 
 module _ {I Tok Sp Cu Er St Mk Cx V : Type 0} (source : input_trait.Ghosts I Cu Tok Sp) (IsOf : Tok → V → Type 0) (safe : Tok → Type 0) (errors : error_trait.Ghosts Er I Tok Sp) (states : inspector_trait.Ghosts St I Mk Tok Sp) where
@@ -129,10 +129,10 @@ empty-accepts {Tok = Tok} {Er = Er} = record {
     given = record { given = λ ts rest v e i. empty-takes_only.taken ts rest e };
     each = λ u. empty-takes_each;
     decided = λ d ts e. absurd (cc e);
-    further = never
+    further = never;
   };
   moving = never;
-  sparing = λ q free. empty-spares
+  sparing = λ q free. empty-spares;
 }
 
 module _ {I Tok Sp Cu Er St Mk Cx V : Type 0} (source : input_trait.Ghosts I Cu Tok Sp) (safe : Tok → Type 0) (errors : error_trait.Ghosts Er I Tok Sp) (states : inspector_trait.Ghosts St I Mk Tok Sp) (picks : Picks Tok Cx states.Seen V) where
@@ -237,8 +237,8 @@ module _ {I Tok Sp Cu Er St Mk Cx : Type 0} (source : input_trait.Ghosts I Cu To
         given = to-gives_only (literal_ends equal ms) (Equals equal ms) (literal_only equal ms) copies;
         each = λ u. record { each = λ w rest i j. literal_each equal ms w rest i };
         decided = λ d. literal_decided equal ms;
-        further = literal_further equal ms
+        further = literal_further equal ms;
       };
       moving = just-moves source equal errors states copies safe ms;
-      sparing = λ q free. just-spares source errors states q.0 q.1 equal copies safe free ms
+      sparing = λ q free. just-spares source errors states q.0 q.1 equal copies safe free ms;
     }

@@ -72,7 +72,7 @@ front_language is ends front word follow moves = record {
   unambiguous = ⊤;
   refuses = false;
   moves = moves;
-  takes_no_memory = ⊤
+  takes_no_memory = ⊤;
 }
 
 module _ {Tok V : Type 0} (is : Layout Tok → ℕ → ℕ → V → Type 0) where
@@ -104,7 +104,7 @@ skip_language test = record {
   unambiguous = ⊤;
   refuses = false;
   moves = false;
-  takes_no_memory = ⊤
+  takes_no_memory = ⊤;
 }
 
 -- a word of the part between two runs

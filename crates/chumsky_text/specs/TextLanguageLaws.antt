@@ -90,7 +90,7 @@ module _ {Tok W : Type 0} (is : Layout Tok → ℕ → ℕ → W → Type 0) (en
   front_accepts m follow moves h k n f y q = record {
     described = λ s. record { reads = h; only = front_only; given = front_given; each = λ u. k; decided = λ d. n; further = f };
     moving = y;
-    sparing = λ x t. q x
+    sparing = λ x t. q x;
   }
 
 module _ {I Tok Sp Cu Er St W : Type 0} (source : input_trait.Ghosts I Cu Tok Sp) (errors : error_trait.Ghosts Er I Tok Sp) where
@@ -146,8 +146,8 @@ module _ {I Tok Sp Cu Er St Mk Cx W : Type 0} (source : input_trait.Ghosts I Cu 
 
   module _ (begins : Tok → Bool) (front : List Tok → List Tok) (spells : List Tok → Bool) (what : List (Wanted Tok)) (next : Tok → ℕ → Meaning Tok Cx states.Seen errors.Seen W)
       (then : (b : Beginning Tok Cx states.Seen) → Within b → (t : Tok) → drop b.start b.tokens.list ≡ t ∷ drop (b.start + 1) b.tokens.list → (o : Outcome W errors.Seen states.Seen) → next t b.start (record b { start = b.start + 1; state = states.after b.state t }) o
-        → let xs : List Tok = t ∷ drop (b.start + 1) b.tokens.list in
-        Answers (IsSliceOf is (front xs)) (cond (spells (front xs)) (past_ends (front xs) xs) Nowhere) b.tokens.list o.verdict o.end) where
+      → let xs : List Tok = t ∷ drop (b.start + 1) b.tokens.list in
+      Answers (IsSliceOf is (front xs)) (cond (spells (front xs)) (past_ends (front xs) xs) Nowhere) b.tokens.list o.verdict o.end) where
     begun_token : (b : Beginning Tok Cx states.Seen) → Within b → (o : Outcome W errors.Seen states.Seen) (t : Tok) (c : Bool) → slice_get b.tokens.list b.start ≡ Some t → begins t ≡ c → AfterToken source is errors states begins next what c t b o
         → let xs : List Tok = drop b.start b.tokens.list in
         Answers (IsSliceOf is (front xs)) (begun_ends begins front spells xs) b.tokens.list o.verdict o.end
@@ -260,9 +260,9 @@ module _ {I Tok Sp Cu Er St Mk Cx W : Type 0} (source : input_trait.Ghosts I Cu 
         let ends : Ender Tok = begun_ends begins front (λ w. true) in
         front_accepts is ends front (IsWord begins goes_on) (λ ts rest e. let x = begun_taken begins front (λ w. true) ts rest e in (word_fits goes_on ts, x.2, word_is begins goes_on ts x.0)) _ (StopsAll goes_on) true
         (begun_reads source is errors states begins front (λ w. true) what _ (λ b w t e o m.
-          let ys : List Tok = drop (b.start + 1) b.tokens.list in
-          let fits : take (suc (length (leading (goes_on t) ys))) (drop b.start b.tokens.list) ≡ t ∷ leading (goes_on t) ys = ap (λ z. take (suc (length (leading (goes_on t) ys))) z) e ∙ ap (λ z. t ∷ z) (take_leading (goes_on t) ys) in
-          cut_by source is errors states (rest_what t) b (record b { start = b.start + 1; state = states.after b.state t }) (t ∷ leading (goes_on t) ys) _ _ o _ w refl fits (omega arith) (ap (λ z. At (drop (suc (length (leading (goes_on t) ys))) z)) (sym e)) m))
+        let ys : List Tok = drop (b.start + 1) b.tokens.list in
+        let fits : take (suc (length (leading (goes_on t) ys))) (drop b.start b.tokens.list) ≡ t ∷ leading (goes_on t) ys = ap (λ z. take (suc (length (leading (goes_on t) ys))) z) e ∙ ap (λ z. t ∷ z) (take_leading (goes_on t) ys) in
+        cut_by source is errors states (rest_what t) b (record b { start = b.start + 1; state = states.after b.state t }) (t ∷ leading (goes_on t) ys) _ _ o _ w refl fits (omega arith) (ap (λ z. At (drop (suc (length (leading (goes_on t) ys))) z)) (sym e)) m))
         (record { each = λ w rest i j. word_each begins goes_on (λ w. true) w rest i refl j })
         (begun_decided begins front (λ w. true)) (λ d. begun_further begins front (λ w. true) (λ t ts. (leading (goes_on t) ts, refl))) (λ d. no_or-moves _ (word-moves source is errors states begins goes_on what rest_what))
         (λ q. begun_spares _ what q.0 (λ t from b o m. cut_spares source errors q.0 (rest_what t) b.tokens m.value _ _ o m.outcome))
@@ -274,12 +274,12 @@ module _ {I Tok Sp Cu Er St Mk Cx W : Type 0} (source : input_trait.Ghosts I Cu 
         let ends : Ender Tok = begun_ends begins front (λ w. true) in
         front_accepts is ends front (IsLineEnd begins goes_on) (λ ts rest e. let x = begun_taken begins front (λ w. true) ts rest e in (line_end_fits goes_on ts, x.2, line_end_is begins goes_on ts x.0)) _ (StopsAll goes_on) true
         (begun_reads source is errors states begins front (λ w. true) what _ (λ b w t e o m.
-          let ys : List Tok = drop (b.start + 1) b.tokens.list in
-          let us : List Tok = one_leading (goes_on t) ys in
-          let n : length (one_more (goes_on t) (slice_get b.tokens.list (b.start + 1))) ≡ length us = ap length (one_there (goes_on t) b.tokens.list (b.start + 1) _ refl) in
-          let at : one_end (goes_on t) b.tokens (b.start + 1) ≡ b.start + length (t ∷ us) = omega (arith, n) in
-          let fits : take (suc (length us)) (drop b.start b.tokens.list) ≡ t ∷ us = ap (λ z. take (suc (length us)) z) e ∙ ap (λ z. t ∷ z) (take_one (goes_on t) ys) in
-          cut_by source is errors states [] b (record b { start = b.start + 1; state = states.after b.state t }) (t ∷ us) _ _ o _ w refl fits at (ap (λ z. At (drop (suc (length us)) z)) (sym e)) m))
+        let ys : List Tok = drop (b.start + 1) b.tokens.list in
+        let us : List Tok = one_leading (goes_on t) ys in
+        let n : length (one_more (goes_on t) (slice_get b.tokens.list (b.start + 1))) ≡ length us = ap length (one_there (goes_on t) b.tokens.list (b.start + 1) _ refl) in
+        let at : one_end (goes_on t) b.tokens (b.start + 1) ≡ b.start + length (t ∷ us) = omega (arith, n) in
+        let fits : take (suc (length us)) (drop b.start b.tokens.list) ≡ t ∷ us = ap (λ z. take (suc (length us)) z) e ∙ ap (λ z. t ∷ z) (take_one (goes_on t) ys) in
+        cut_by source is errors states [] b (record b { start = b.start + 1; state = states.after b.state t }) (t ∷ us) _ _ o _ w refl fits at (ap (λ z. At (drop (suc (length us)) z)) (sym e)) m))
         (record { each = λ w rest i j. line_end_each begins goes_on w rest i j })
         (begun_decided begins front (λ w. true)) (λ d. begun_further begins front (λ w. true) (λ t ts. (one_leading (goes_on t) ts, refl))) (λ d. no_or-moves _ (newline-moves source is errors states begins goes_on what))
         (λ q. begun_spares _ what q.0 (λ t from b o m. cut_spares source errors q.0 [] b.tokens m.value _ _ o m.outcome))
@@ -344,10 +344,10 @@ module _ {I Tok Sp Er St Mk Cx : Type 0} (errors : error_trait.Ghosts Er I Tok S
       given = record { given = λ ts rest v e i. skip_only.taken ts rest e };
       each = λ u. record { each = λ w rest i j. let e = leading_stops test w rest i j in rw e (ap (λ r. At r) (drop-append_seam w rest)) };
       decided = λ d ts e. absurd (cc e);
-      further = never
+      further = never;
     };
     moving = never;
-    sparing = λ q t b o m. rw (ap (λ (x : Outcome (Unit {0}) errors.Seen states.Seen). x.verdict) m.outcome) tt
+    sparing = λ q t b o m. rw (ap (λ (x : Outcome (Unit {0}) errors.Seen states.Seen). x.verdict) m.outcome) tt;
   }
     where
       skip_only : TakesOnly (run_ends test) (AllPass test)

@@ -12,7 +12,7 @@ returns-in-Ok g c =
     (search rules) (rw c.in-Ok.is (_, refl, refl, rw c.finish-last.ensures.emitted refl))
     (λ y. whole-agrees g.I.Input g.E.Error.Error g.E.State.Inspector _ _ ((g.met.P.Parser c.lifetimes (search rules)).agrees c.args.parser.now y))
     (λ o m x. answers-text g.I.Input g.E.Error.Error g.E.State.Inspector (λ w. None) (g.I.Input.tokens c.args.input) c.new-inp.ensures.count
-      ((g.met.P.Parser c.lifetimes (search rules)).accepts c.args.parser.now) _ _ _ o m _ x)
+    ((g.met.P.Parser c.lifetimes (search rules)).accepts c.args.parser.now) _ _ _ o m _ x)
 
 pub returns : goal.returns
 returns g c =
@@ -22,4 +22,4 @@ returns g c =
     (search rules) (rw c.in-Err.is refl)
     (λ y. whole-agrees g.I.Input g.E.Error.Error g.E.State.Inspector _ _ ((g.met.P.Parser c.lifetimes (search rules)).agrees c.args.parser.now y))
     (λ o m x. answers-text g.I.Input g.E.Error.Error g.E.State.Inspector (λ w. None) (g.I.Input.tokens c.args.input) c.new-inp.ensures.count
-      ((g.met.P.Parser c.lifetimes (search rules)).accepts c.args.parser.now) _ _ _ o m _ x)
+    ((g.met.P.Parser c.lifetimes (search rules)).accepts c.args.parser.now) _ _ _ o m _ x)
