@@ -190,7 +190,9 @@ pub mod combinator {
     pub use chumsky_shield::map_err_with::MapErrWith;
     pub use chumsky_shield::map_err_with_state::MapErrWithState;
     pub use chumsky_shield::not::Not;
+    pub use chumsky_shield::pick_by::{PickBy, WordPicker};
     pub use chumsky_shield::rewind::Rewind;
+    pub use chumsky_shield::test_by::{TestBy, WordTester};
     pub use chumsky_shield::try_map::{TryMap, TryMapper};
     pub use chumsky_shield::try_map_with::TryMapWith;
     pub use chumsky_shield::unwrapped::Unwrapped;
@@ -213,6 +215,7 @@ pub mod label {
 /// tokens that they are made of.
 pub mod text {
     pub use chumsky_text::chars::{Char, TextInput};
+    pub use chumsky_text::decimal::{DecimalOf, Fixed, decimal};
     pub use chumsky_text::ident::{AsciiIdent, AsciiIdentRest, UnicodeIdent, UnicodeIdentRest};
     pub use chumsky_text::keyword::Keyword;
     pub use chumsky_text::kind::{Kind, Lexeme};
@@ -223,6 +226,7 @@ pub mod text {
     pub use chumsky_text::number::{Digits, Int, IntRest};
     pub use chumsky_text::padded::Padded;
     pub use chumsky_text::run::Run;
+    pub use chumsky_text::sliced::Sliced;
     pub use chumsky_text::space::{InlineWhitespace, LineEnd, LineEndRest, Whitespace};
     pub use chumsky_text::word::Word;
     pub use chumsky_text::{ascii, unicode};

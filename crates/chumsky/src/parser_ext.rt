@@ -5,9 +5,9 @@ ghost use Rattle.chumsky.specs.Answer.{FromDefault, ParseGives, CheckGives};
 use crate::combinator::{
     AndIs, Contextual, DelimitedBy, Filter, FilterMap, Folder, Foldl, FoldlWith, FromStr,
     IgnoreThen, IgnoreWithCtx, Ignored, IntoIter, Lazy, Map, MapErr, MapErrWith, MapErrWithState,
-    MapWith, Mapper, NestedIn, Not, Or, OrNot, PaddedBy, Picker, ReadStr, Repeated, Rewind,
-    SeparatedBy, Spanned, Tester, Then, ThenIgnore, ThenWithCtx, To, ToSlice, ToSpan, TryFoldl,
-    TryMap, TryMapWith, TryMapper, Unwrapped, Validate, WithCtx, WithState,
+    MapWith, Mapper, NestedIn, Not, Or, OrNot, PaddedBy, PickBy, Picker, ReadStr, Repeated, Rewind,
+    SeparatedBy, Spanned, TestBy, Tester, Then, ThenIgnore, ThenWithCtx, To, ToSlice, ToSpan,
+    TryFoldl, TryMap, TryMapWith, TryMapper, Unwrapped, Validate, WithCtx, WithState,
 };
 use crate::extra::{Full, ParserExtra};
 use crate::input::{Emitter, Input, MapExtra, SliceInput, Tokens, ValueInput};
@@ -151,6 +151,21 @@ pub trait ParserExt<'src, I, O, E>: Sized {
         }
     }
 
+    /// Filters as `filter_by` does, by a tester that decides by the word that was taken, so that it is known which words are
+    /// accepted.
+    #[inline]
+    final fn test_by<F: Tester<O>>(self, tester: F) -> TestBy<Self, F>
+        ensures parser { result.tested.parser ≡ self }
+        ensures tester { result.tested.tester ≡ tester }
+    {
+        TestBy {
+            tested: Filter {
+                parser: self,
+                tester,
+            },
+        }
+    }
+
     /// Gives what is in the `Some` that `picker` makes of this parser's output: `any().filter_map(|c| c.to_digit(10))`
     /// on `3` gives `3`. Where it makes `None`, this fails as `filter` does.
     #[inline]
@@ -176,6 +191,22 @@ pub trait ParserExt<'src, I, O, E>: Sized {
             parser: self,
             picker,
             of: PhantomData,
+        }
+    }
+
+    /// Picks as `filter_map_by` does, by a picker that decides by the word that was taken, so that it is known which words
+    /// are accepted: `text::int(10).pick_by(text::decimal::<u8>())` on `42` gives `42`, and on `256` it fails at 0.
+    #[inline]
+    final fn pick_by<U, F: Picker<O, U>>(self, picker: F) -> PickBy<Self, O, F, U>
+        ensures parser { result.picked.parser ≡ self }
+        ensures picker { result.picked.picker ≡ picker }
+    {
+        PickBy {
+            picked: FilterMap {
+                parser: self,
+                picker,
+                of: PhantomData,
+            },
         }
     }
 

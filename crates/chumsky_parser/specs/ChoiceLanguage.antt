@@ -1,5 +1,5 @@
 -- The language of a choice: a word of one alternative, which those before it leave.
--- Main words: or_language, Leaves. Laws: or-accepts, last-accepts, next-accepts. Read first: Language.antt, Words.antt, Choice.antt.
+-- Main words: or_language, FailsOn. Laws: or-accepts, last-accepts, next-accepts. Read first: Language.antt, Words.antt, Choice.antt.
 use Rattle.std.proofs.Common.{◌≡◌, ℕ, zero, suc, true, ◌&&◌, ◌||◌, List, [], ◌∷◌, ◌++◌, ◌⊎◌, inl, inr, refl, sym, subst}
 use Rattle.chumsky_input.specs.Outcome.{Meaning, Beginning, Outcome, Verdict, Yes, No, Halt, Clash}
 use Rattle.chumsky_parser.specs.Choice.{GoneOn, ElseFrom, AttemptFrom, Stands, FirstFrom, OrElse, FirstOf}
@@ -16,8 +16,8 @@ use Rattle.chumsky_parser.specs.Words.{either_ends, ElseValue}
 use Rattle.chumsky_parser.specs.WordsLaws.{or-takes_only, or-gives_only, or-takes_each}
 
 -- the first fails on each word of the second, whatever follows it that may
-abbrev pub Leaves : {Tok V W : Type 0} → Language Tok V → Language Tok W → Type 0
-Leaves {Tok} F G = (w rest : List Tok) → G.word w → G.follow rest → F.ends (w ++ rest) ≡ Nowhere
+abbrev pub FailsOn : {Tok V W : Type 0} → Language Tok V → Language Tok W → Type 0
+FailsOn {Tok} F G = (w rest : List Tok) → G.word w → G.follow rest → F.ends (w ++ rest) ≡ Nowhere
 
 -- a word of the first, or one of the second
 abbrev pub or_language : {Tok V : Type 0} → Language Tok V → Language Tok V → Language Tok V
@@ -28,7 +28,7 @@ or_language F G = record {
   word = λ w. F.word w ⊎ G.word w;
   stands_for = λ w v. F.stands_for w v ⊎ G.stands_for w v;
   follow = λ rest. F.follow rest × G.follow rest;
-  unambiguous = F.unambiguous × G.unambiguous × Leaves F G;
+  unambiguous = F.unambiguous × G.unambiguous × FailsOn F G;
   refuses = F.refuses || G.refuses;
   moves = F.moves && G.moves;
   takes_no_memory = F.takes_no_memory × G.takes_no_memory;

@@ -8,10 +8,10 @@ use Rattle.std.proofs.lemmas.Option.{slice_get_within, get_or_from_slice_get, sl
 use Rattle.chumsky_input.specs.declared.error.Error as error_trait
 use Rattle.chumsky_input.specs.declared.inspector.Inspector as inspector_trait
 use Rattle.chumsky_input.specs.declared.input.Input as input_trait
-use Rattle.chumsky_input.specs.Outcome.{Event, Meaning, Beginning, Outcome, Verdict, Yes, No, Halt, Clash}
+use Rattle.chumsky_input.specs.Outcome.{Beginning, Outcome}
 use Rattle.chumsky_parser.specs.Ending.{Ending, At, Nowhere, Refused, Ender, Within, IfValue, Answers, Reads}
-use Rattle.chumsky_parser.specs.EndingLaws.{refuses-by}
-use Rattle.chumsky_parser.specs.Failure.{Misses, wanting}
+use Rattle.chumsky_parser.specs.EndingLaws.{refuses-by, misses-by}
+use Rattle.chumsky_parser.specs.Failure.{wanting}
 use Rattle.chumsky_parser.specs.Language.{Language, Accepts}
 use Rattle.chumsky_parser.specs.Memory.{SparesMemory, NeverOutOfMemory}
 use Rattle.chumsky_parser.specs.MemoryLaws.{misses-spares, given-spares}
@@ -29,12 +29,6 @@ module _ {Tok : Type 0} (ts : List Tok) (p : ℕ) where
   -- and where there is none, nothing is left
   pub none_there : slice_get ts p ≡ None → drop p ts ≡ []
   none_there e = elim (slice_get_cases ts p).1 [ inl x ↦ absurd (cc (x.2, e)) | inr x ↦ drop_all p ts x.0 ]
-
-module _ {Tok V Er St : Type 0} (P : V → Type 0) where
-  -- a failure, where it fails
-  pub misses-by : {safe : Type 0} {e : Event Er} {end : ℕ} {s : St} (x : Ending (List Tok)) (ts : List Tok) (o : Outcome V Er St) → x ≡ Nowhere → Misses safe e end s o → Answers P x ts o.verdict o.end
-  misses-by x ts o n (inl r) = refuses-by P x ts o r
-  misses-by x ts o n (inr f) = elim f.by [ inl y ↦ rw y.0 n | inr y ↦ rw y.0 tt ]
 
 -- where nothing is left
 abbrev pub end_ends : {Tok : Type 0} → Ender Tok

@@ -8,7 +8,6 @@ use chumsky_input::input::Input;
 use chumsky_input::input_ref::InputRef;
 use chumsky_input::stop::PResult;
 use chumsky_parser::parser::{IsParser, Parser};
-use std::marker::PhantomData;
 
 /// What picks an output of a part by the word that the part took: of each output of a word it makes one value, or answers
 /// none.
@@ -33,17 +32,6 @@ pub trait WordPicker<
 #[derive_where(Clone, Copy; A, F)]
 pub struct PickBy<A, O, F, U> {
     pub picked: FilterMap<A, O, F, U>,
-}
-
-/// The outputs of `parser` that are picked by their words: `pick_by(text::int(10), decimal::<u32>())`.
-pub fn pick_by<A, O, F, U>(parser: A, picker: F) -> PickBy<A, O, F, U> {
-    PickBy {
-        picked: FilterMap {
-            parser: parser,
-            picker: picker,
-            of: PhantomData,
-        },
-    }
 }
 
 impl<I, O, U, E, A: IsParser<I, O, E>, F> IsParser<I, U, E> for PickBy<A, O, F, U> {}

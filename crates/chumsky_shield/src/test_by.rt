@@ -26,16 +26,6 @@ pub struct TestBy<A, F> {
     pub tested: Filter<A, F>,
 }
 
-/// The outputs of `parser` whose words pass a test.
-pub fn test_by<A, F>(parser: A, tester: F) -> TestBy<A, F> {
-    TestBy {
-        tested: Filter {
-            parser: parser,
-            tester: tester,
-        },
-    }
-}
-
 impl<I, O, E, A: IsParser<I, O, E>, F> IsParser<I, O, E> for TestBy<A, F> {}
 
 impl<'src, I, O, E, A, F> Parser<'src, I, O, E> for TestBy<A, F>

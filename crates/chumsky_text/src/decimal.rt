@@ -15,7 +15,7 @@ pub struct DecimalOf<T> {
     pub of: PhantomData<T>,
 }
 
-/// What picks the number that some digits write, where a `T` holds it: `pick_by(text::int(10), decimal::<u32>())`.
+/// What picks the number that some digits write, where a `T` holds it: `text::int(10).pick_by(text::decimal::<u32>())`.
 pub fn decimal<T>() -> DecimalOf<T> {
     DecimalOf { of: PhantomData }
 }

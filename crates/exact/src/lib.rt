@@ -1,0 +1,6 @@
+//! Functions whose contracts say exactly which texts they accept, and with which value.
+#![tactic(auto)]
+
+pub mod level;
+pub mod nested;
+pub mod number;
