@@ -44,3 +44,26 @@ fn a_digit_is_one_of_ascii(rt: HostRuntime) {
     let rows = [("\u{663}", "error 0..2 expected digit found '\u{663}'")];
     assert_answers(&rt, &digits::<&str, Own>(10), &rows);
 }
+
+#[test]
+fn a_number_is_picked_of_its_digits_where_the_type_holds_it(rt: HostRuntime) {
+    let rows = [
+        ("42", "ok 42"),
+        ("255", "ok 255"),
+        ("256", "error 0..3 expected something else found '2'"),
+        ("x", "error 0..1 expected int found 'x'"),
+    ];
+    assert_answers(&rt, &int::<&str, Own>(10).pick_by(text::decimal::<u8>()), &rows);
+    let month = text::digits::<&str, Own>(10).pick_by(text::Fixed {
+        digits: 2,
+        least: 1,
+        most: 12,
+    });
+    let rows = [
+        ("07", "ok 7"),
+        ("12", "ok 12"),
+        ("7", "error 0..1 expected something else found '7'"),
+        ("13", "error 0..2 expected something else found '1'"),
+    ];
+    assert_answers(&rt, &month, &rows);
+}
