@@ -2,6 +2,7 @@
 use chumsky::Stop;
 use exact::level::{Level, parse_level};
 use exact::nested::parse_nested;
+use exact::number::parse_number;
 use std::test::Fail;
 
 #[test]
@@ -35,6 +36,20 @@ fn pairs_within_one_another_are_read_under_a_limit_that_suffices(rt: HostRuntime
     }
     for text in ["", "[", "]", "[]]", "[[]", "[][]", "[x]"] {
         let parsed = parse_nested(alloc, text, 10)?;
+        assert_eq!(rt; parsed.into_output(), None, "{text}");
+    }
+    Ok(())
+}
+
+#[test]
+fn decimals_below_two_to_the_thirty_two_are_numbers(rt: HostRuntime) -> Result<(), Fail> {
+    let alloc = rt.alloc();
+    for (text, number) in [("0", 0), ("42", 42), ("4294967295", 4294967295)] {
+        let parsed = parse_number(alloc, text)?;
+        assert_eq!(rt; parsed.into_output(), Some(number), "{text}");
+    }
+    for text in ["", "042", "4294967296", "4x", "-1", "99999999999999999999"] {
+        let parsed = parse_number(alloc, text)?;
         assert_eq!(rt; parsed.into_output(), None, "{text}");
     }
     Ok(())
