@@ -11,6 +11,7 @@ use Rattle.chumsky_input.specs.Outcome.{Event, Meaning, Beginning, Outcome, Verd
 use Rattle.chumsky_parse_iter.specs.Settled.{RefusesBy}
 use Rattle.chumsky_parser.specs.Chained.{Chained, Follows, Given, Asked, from}
 use Rattle.chumsky_parser.specs.Failure.{Refuses, Misses, FailsAt}
+use Rattle.chumsky_parser.specs.Language.{Language}
 use Rattle.chumsky_parser.specs.declared.result.ParseResult.{ParseResult}
 use Rattle.chumsky_primitive.specs.End.{MeansEnd, MeansEndAt}
 use Rattle.chumsky_rules.specs.Tables.{Tables}
