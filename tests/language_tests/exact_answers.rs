@@ -1,8 +1,11 @@
 //! Functions whose contracts say exactly which texts they accept.
 use chumsky::Stop;
+use exact::bits::parse_bits;
+use exact::date::parse_date;
 use exact::level::{Level, parse_level};
 use exact::nested::parse_nested;
 use exact::number::parse_number;
+use exact::pairs::parse_pairs;
 use std::test::Fail;
 
 #[test]
@@ -51,6 +54,63 @@ fn decimals_below_two_to_the_thirty_two_are_numbers(rt: HostRuntime) -> Result<(
     for text in ["", "042", "4294967296", "4x", "-1", "99999999999999999999"] {
         let parsed = parse_number(alloc, text)?;
         assert_eq!(rt; parsed.into_output(), None, "{text}");
+    }
+    Ok(())
+}
+
+#[test]
+fn bits_are_read_and_no_other_text_is(rt: HostRuntime) -> Result<(), Fail> {
+    let alloc = rt.alloc();
+    for text in ["0", "1", "0110", "11111111"] {
+        let parsed = parse_bits(alloc, text)?;
+        let bits = parsed.into_output().unwrap_or(Vec::new(alloc));
+        assert!(rt; bits.iter().copied().eq(text.chars()), "{text}");
+    }
+    for text in ["", "2", "012", "01 ", " 01", "0x1", "٠"] {
+        let parsed = parse_bits(alloc, text)?;
+        assert_eq!(rt; parsed.into_output(), None, "{text}");
+    }
+    Ok(())
+}
+
+#[test]
+fn dates_are_read_and_no_other_text_is(rt: HostRuntime) -> Result<(), Fail> {
+    let alloc = rt.alloc();
+    let accepted = [
+        ("2026-11-27", ((2026, 11), 27)),
+        ("0000-01-01", ((0, 1), 1)),
+        ("9999-12-31", ((9999, 12), 31)),
+        ("2026-02-31", ((2026, 2), 31)),
+    ];
+    for (text, date) in accepted {
+        let parsed = parse_date(alloc, text)?;
+        assert_eq!(rt; parsed.into_output(), Some(date), "{text}");
+    }
+    for text in ["", "2026-13-01", "2026-00-01", "2026-1-01", "2026-01-32", "2026-01-00", "02026-01-01", "2026-01-011", "2026/01/01", "+026-01-01", "2026-01-01 "] {
+        let parsed = parse_date(alloc, text)?;
+        assert_eq!(rt; parsed.into_output(), None, "{text}");
+    }
+    Ok(())
+}
+
+#[test]
+fn pairs_of_names_and_numbers_are_read_a_line_each(rt: HostRuntime) -> Result<(), Fail> {
+    let alloc = rt.alloc();
+    let accepted: [(&str, &[(&str, &str)]); 5] = [
+        ("", &[]),
+        ("size=10", &[("size", "10")]),
+        ("size=10\n", &[("size", "10")]),
+        ("size=10\n_a1=0\nb=7", &[("size", "10"), ("_a1", "0"), ("b", "7")]),
+        ("a=1\na=2\n", &[("a", "1"), ("a", "2")]),
+    ];
+    for (text, pairs) in accepted {
+        let parsed = parse_pairs(alloc, text)?;
+        let read = parsed.into_output();
+        assert!(rt; read.is_some_and(|read| read.as_slice() == pairs), "{text}");
+    }
+    for text in ["\n", "a", "a=", "=1", "a=01", "a=b", "1=a", "a=1\n\n", "\na=1", "a=1 ", "a =1", "a=1\n\nb=2", "a=-1", "ä=1"] {
+        let parsed = parse_pairs(alloc, text)?;
+        assert!(rt; parsed.into_output().is_none(), "{text}");
     }
     Ok(())
 }

@@ -1,6 +1,15 @@
+pub mod Rendered
+pub mod RenderedOnce
+pub mod ReadBack
+pub mod Bits
+pub mod BitsLaws
+pub mod Date
+pub mod DateLaws
 pub mod Level
 pub mod LevelLaws
 pub mod Nested
 pub mod NestedLaws
 pub mod Number
 pub mod NumberLaws
+pub mod Pairs
+pub mod PairsLaws

@@ -16,6 +16,10 @@ module _ (copies other : ℕ → Type 0) (free freed : Type 0) where
   abbrev pairs : ℕ → Language ℕ (Unit {0})
   pairs = call_language (pair_language (literal_language nat_eq (91 ∷ []) copies free) (literal_language nat_eq (93 ∷ []) other freed))
 
+  pub pairs-said : (limit : ℕ) → (pairs limit).said ≡ true
+  pairs-said zero = refl
+  pairs-said (suc limit) = rw (pairs-said limit) refl
+
   -- a word is pairs within one another
   word_nested : (limit : ℕ) (w : List ℕ) → (pairs limit).word w → (n : ℕ) × (w ≡ nested n)
   word_nested zero w j = absurd j

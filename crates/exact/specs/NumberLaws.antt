@@ -1,6 +1,6 @@
 -- The parser of numbers accepts just these.
 -- Main laws: number-sound, number-complete. Read first: Number.antt, and Decimals.antt of chumsky_text.
-use Rattle.std.proofs.Common.{◌≡◌, ℕ, ◌<◌, Some, List, arith}
+use Rattle.std.proofs.Common.{◌≡◌, ℕ, ◌<◌, ◌^◌, Some, List, arith}
 use Rattle.std.specs.Str.{encode_utf8_all}
 use Rattle.std.specs.Str.Parse.{digits_value}
 use Rattle.chumsky_shield.specs.Picked.{IsPick}

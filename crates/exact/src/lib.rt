@@ -1,6 +1,9 @@
 //! Functions whose contracts say exactly which texts they accept, and with which value.
 #![tactic(auto)]
 
+pub mod bits;
+pub mod date;
 pub mod level;
 pub mod nested;
 pub mod number;
+pub mod pairs;

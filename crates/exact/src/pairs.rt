@@ -1,0 +1,27 @@
+//! Settings, a line each.
+ghost use Rattle.std.specs.Prelude.{List, map};
+ghost use Rattle.std.specs.Str.{chars};
+ghost use Rattle.chumsky.specs.Accepted.{Exactly};
+ghost use Rattle.exact.specs.ReadBack.{GivesBack};
+ghost use Rattle.exact.specs.Pairs.{Pair, IsPairs, HoldsPairs, pairs_of};
+
+use chumsky::Stop;
+use chumsky::extra::EmptyText;
+use chumsky::prelude::*;
+use std::alloc::Global;
+
+/// The names and numbers of a text such as `size=10`, one pair a line, of which the last may be ended too. They are those
+/// that the text says, in order; where it says none so, there is no output. Each text that pairs are written as gives them
+/// back.
+pub fn parse_pairs<'src>(
+    alloc: Global,
+    text: &'src str,
+) -> Result<ParseResult<Vec<(&'src str, &'src str)>, EmptyErr>, Stop>
+    ensures exact { Exactly HoldsPairs (chars text.now) result }
+    ensures read_back { (ps : List Pair) → IsPairs (chars text.now) ps → GivesBack pairs_of ps result }
+{
+    let name = text::ascii::ident::<&str, EmptyText>();
+    let pair = name.then_ignore(just("=")).then(text::int(10));
+    let lines = pair.separated_by(just("\n")).allow_trailing();
+    lines.collect::<Vec<(&str, &str)>>().parse(alloc, text)
+}
