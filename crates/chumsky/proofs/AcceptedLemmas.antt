@@ -15,6 +15,7 @@ use Rattle.chumsky_parser.specs.declared.result.ParseResult.{ParseResult}
 use Rattle.chumsky_parser.specs.Ending.{Ending, At, Nowhere, Refused, Ender, Within, IfValue, Answers as AnswersAt, Reads}
 use Rattle.chumsky_parser.specs.Language.{Begins, GivesOnly, Language, Described, Accepts}
 use Rattle.chumsky_parser.specs.Memory.{NeverOutOfMemory}
+use Rattle.chumsky_parser.specs.WordsLaws.{whole-taken}
 use Rattle.chumsky_parse_iter.specs.Settled.{RefusesBy}
 use Rattle.chumsky_primitive.specs.End.{MeansEnd}
 use Rattle.chumsky_primitive.specs.EndLanguage.{end_ends, end-reads}
@@ -99,15 +100,11 @@ module _ {I Tok Sp Cu Er St Mk Cx V : Type 0} (source : input_trait.Ghosts I Cu 
     output_by (Halt s) w a i = absurd i
     output_by (Clash c) w a i = absurd i
 
-    refusal_by : (c : Bool) → l.refuses ≡ c → l.ends ts ≡ Refused → (l.refuses ≡ true) × (l.ends ts ≡ Refused)
-    refusal_by true e r = (e, r)
-    refusal_by false e r = absurd (h.decided e ts r)
-
-    refused_by : (o : Outcome V errors.Seen states.Seen) (s : Stop) (u : Verdict V errors.Seen) → WholeAs ts u → RefusesBy errors.takes_no_memory u o s → (s ≡ Memory) ⊎ ((l.refuses ≡ true) × (l.ends ts ≡ Refused))
+    refused_by : (o : Outcome V errors.Seen states.Seen) (s : Stop) (u : Verdict V errors.Seen) → WholeAs ts u → RefusesBy errors.takes_no_memory u o s → (s ≡ Memory) ⊎ (l.ends ts ≡ Refused)
     refused_by o s (Yes v) a r = absurd r
     refused_by o s No a r = inl r
     refused_by o s (Halt z) (inl a) r = inl (r ∙ a)
-    refused_by o s (Halt z) (inr a) r = inr (refusal_by l.refuses refl a)
+    refused_by o s (Halt z) (inr a) r = inr a
     refused_by o s (Clash c) a r = inl r.0
 
     answer_by : (all : Layout Tok) (o : Outcome V errors.Seen states.Seen) (result : Result (ParseResult W Er) Stop) → WholeAs ts o.verdict → Answers source errors (λ v w. v ≡ gives w) all o result → IsAnswerOf gives l ts result
@@ -118,7 +115,7 @@ module _ {I Tok Sp Cu Er St Mk Cx V : Type 0} (source : input_trait.Ghosts I Cu 
     sure_by : errors.takes_no_memory → states.takes_no_memory → NeverOutOfMemory part → (all : Layout Tok) (b : Beginning Tok Cx states.Seen) (o : Outcome V errors.Seen states.Seen) → WholeRun source errors states part b o → WholeAs ts o.verdict → l.ends ts ≡ At []
         → (result : Result (ParseResult W Er) Stop) → IsAnswerOf gives l ts result → Answers source errors (λ v w. v ≡ gives w) all o result → IsOk result
     sure_by quiet still never all b o m a t (Ok parsed) r x = refl
-    sure_by quiet still never all b o m a t (Err s) (inr r) x = absurd (cc (r.1, t))
+    sure_by quiet still never all b o m a t (Err s) (inr r) x = absurd (cc (r, t))
     sure_by quiet still never all b o m a t (Err s) (inl r) x =
         let no : o.verdict ≡ No = wanted-for_errors source errors states quiet still part never b o s m x r in
         let f : FallsShort (l.ends ts) = subst (WholeAs ts) no a in
@@ -138,6 +135,7 @@ module _ {I Tok Sp Cu Er St Mk Cx V W : Type 0} (source : input_trait.Ghosts I C
       let r : IsAnswerOf gives l ts.list result = answer_by source errors states part l h gives ts.list ts o result a x in
       record {
         output = r;
-        accepted = λ u f y. subst (λ q. l.ends q ≡ At []) (append-nil ts.list) ((h.each u).each ts.list [] y f);
+        accepted = λ u f y. whole-taken l.ends l.word l.follow (h.each u) ts.list y f;
+        decided = h.decided ts.list;
         answered = λ q n t. sure_by source errors states part l h gives ts.list q.0 q.1 (accepts.sparing q n) ts b o m a t result r x;
       }

@@ -1,6 +1,6 @@
 -- The language of a choice among the parsers of a list.
 -- Main words: no_language, among_language. Law: among-accepts. Read first: ChoiceLanguage.antt of chumsky_parser, Among.antt.
-use Rattle.std.proofs.Common.{true, false, List, [], ◌∷◌, map, refl}
+use Rattle.std.proofs.Common.{true, false, None, List, [], ◌∷◌, map, refl}
 use Rattle.std.specs.Prelude.{⊤}
 use Rattle.chumsky_input.specs.declared.error.Error as error_trait
 use Rattle.chumsky_input.specs.declared.inspector.Inspector as inspector_trait
@@ -10,6 +10,7 @@ use Rattle.chumsky_parser.specs.Choice.{FirstOf}
 use Rattle.chumsky_parser.specs.ChoiceLanguage.{or_language, AcceptInOrder, last-accepts, next-accepts}
 use Rattle.chumsky_parser.specs.Ending.{Nowhere}
 use Rattle.chumsky_parser.specs.EndingLaws.{misses-by}
+use Rattle.chumsky_parser.specs.FurtherLaws.{never-below}
 use Rattle.chumsky_parser.specs.Language.{Language, Accepts}
 use Rattle.chumsky_parser.specs.LanguageLaws.{fewer-accepts}
 use Rattle.chumsky_parser.specs.MemoryLaws.{misses-spares}
@@ -26,7 +27,7 @@ no_language = record {
   stands_for = λ _ _. ⊥;
   follow = λ _. ⊤;
   unambiguous = ⊤;
-  refuses = false;
+  refused_from = None;
   moves = true;
   takes_no_memory = ⊤;
 }
@@ -51,7 +52,7 @@ module _ {I Tok Sp Cu Er St Mk Cx V : Type 0} (source : input_trait.Ghosts I Cu 
       only = record { taken = λ ts rest e. absurd (cc e) };
       given = record { given = λ ts rest v e i. absurd i };
       each = λ u. record { each = λ w rest i j. absurd i };
-      decided = λ r ts e. absurd (cc e);
+      decided = never-below (λ ts e. absurd (cc e));
       further = λ m ts rest e. absurd (cc e);
     };
     moving = λ e b o m y. absurd (misses-no m.cases y);

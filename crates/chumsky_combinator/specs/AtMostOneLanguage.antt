@@ -1,15 +1,15 @@
--- The language of a part that may be absent, as items: one item of a word of the part, or none, where the part fails on what follows.
+-- The language of a part that may be absent, as items: one item of a word of the part, or none, where the part does not end on what follows.
 -- Main words: at_most_one_language. Law: at_most_one-accepts. Read first: ItemsLanguage.antt of chumsky_parser, AtMostOne.antt.
-use Rattle.std.proofs.Common.{◌≡◌, ℕ, zero, suc, ◌<◌, Bool, true, false, ◌&&◌, Some, List, [], ◌∷◌, ◌++◌, length, drop, refl, sym, ◌∙◌, ap, subst}
+use Rattle.std.proofs.Common.{◌≡◌, ℕ, zero, suc, ◌<◌, Bool, true, false, ◌&&◌, Some, List, [], ◌∷◌, ◌++◌, length, drop, refl, sym, ◌∙◌, ap, subst, inl, inr}
 use Rattle.std.specs.Prelude.{⊤}
 use Rattle.chumsky_input.specs.Outcome.{Meaning, Beginning}
 use Rattle.chumsky_parser.specs.Chained.{Chained, Given}
 use Rattle.chumsky_parser.specs.ChoiceEndings.{or_else-here}
-use Rattle.chumsky_parser.specs.Ending.{Ending, At, Nowhere, Refused, and_then, or_else, Within, Answers, Here}
+use Rattle.chumsky_parser.specs.Ending.{Ending, At, Nowhere, Refused, and_then, or_else, Within, Answers, Here, EndsOrRefused, DoesNotEnd}
 use Rattle.chumsky_parser.specs.EndingLaws.{chained-here, given-here, given-by, weaker-here, and_then_some}
 use Rattle.chumsky_parser.specs.Items.{Next, More, End}
 use Rattle.chumsky_parser.specs.ItemsLanguage.{Stepped, One, Over, place, IsStepped, ListFrom, GoesOn, ItemsLanguage, ItemsDescribed, AcceptsItems}
-use Rattle.chumsky_parser.specs.Language.{Language, Begins, Described, Accepts}
+use Rattle.chumsky_parser.specs.Language.{Language, Begins, Described, Accepts, IsBelow}
 use Rattle.chumsky_parser.specs.Memory.{NeverOutOfMemory}
 use Rattle.chumsky_parser.specs.MemoryLaws.{chained-spares, given-spares, or_else-spares}
 use Rattle.chumsky_parser.specs.ProgressLaws.{both-true}
@@ -54,9 +54,9 @@ module _ {Tok V : Type 0} (F : Language Tok V) where
     word = OnlyWord;
     stands_for = OnlyStands;
     last = λ _ w. w ≡ [];
-    follow = λ rest. F.follow rest × (F.ends rest ≡ Nowhere);
+    follow = λ rest. F.follow rest × DoesNotEnd (F.ends rest);
     unambiguous = F.unambiguous;
-    refuses = F.refuses;
+    refused_from = F.refused_from;
     takes_no_memory = F.takes_no_memory;
   }
 
@@ -75,6 +75,11 @@ of_refused : {Tok : Type 0} (ts : List Tok) (x : Ending (List Tok)) → tried_on
 of_refused ts (At r) e = absurd (cc e)
 of_refused ts Nowhere e = absurd (cc e)
 of_refused ts Refused e = refl
+
+tried_over : {Tok : Type 0} (ts : List Tok) (x : Ending (List Tok)) → DoesNotEnd x → EndsOrRefused (tried_once x ts) (Over ts)
+tried_over ts (At r) n = absurd n
+tried_over ts Nowhere n = inl refl
+tried_over ts Refused n = inr refl
 
 tried_place : {Tok : Type 0} (ts : List Tok) (x : Ending (List Tok)) → or_else x (At ts) ≡ place (tried_once x ts)
 tried_place ts (At r) = refl
@@ -129,7 +134,7 @@ module _ {Tok Cx St Mk Er V : Type 0} (mark : St → Mk) (back : St → Mk → S
 
 module _ {Tok V : Type 0} (F : Language Tok V) where
   -- what follows the only item is what may follow the list
-  none_more : (rest : List Tok) → GoesOn (OnlyWord F) (λ _ w. w ≡ []) (λ r. F.follow r × (F.ends r ≡ Nowhere)) 1 rest → F.follow rest
+  none_more : (rest : List Tok) → GoesOn (OnlyWord F) (λ _ w. w ≡ []) (λ r. F.follow r × DoesNotEnd (F.ends r)) 1 rest → F.follow rest
   none_more rest g = by_items g.is.items g.is.are
     where
       by_items : (items : List (List Tok)) → ListFrom (λ j u (v : List Tok). OnlyWord F j u) (λ _ w. w ≡ []) 1 items g.words → F.follow rest
@@ -166,18 +171,18 @@ module _ {Tok Cx St Mk Er V : Type 0} (mark : St → Mk) (back : St → Mk → S
       over zero ts rest e = record { word = []; all = of_over ts rest (F.ends ts) e; is = refl }
       over (suc k) ts rest e = let z : ts ≡ rest = cc e in record { word = []; all = z; is = refl }
 
-      each : F.unambiguous → (k : ℕ) (w rest : List Tok) → OnlyWord F k w → GoesOn (OnlyWord F) (λ _ w. w ≡ []) (λ r. F.follow r × (F.ends r ≡ Nowhere)) (suc k) rest
-          → at_most_one F k (w ++ rest) ≡ At (One rest)
-      each u zero w rest i g = let e : F.ends (w ++ rest) ≡ At rest = (d.each u).each w rest i (none_more F rest g) in rw e refl
+      each : F.unambiguous → (k : ℕ) (w rest : List Tok) → OnlyWord F k w → GoesOn (OnlyWord F) (λ _ w. w ≡ []) (λ r. F.follow r × DoesNotEnd (F.ends r)) (suc k) rest
+          → EndsOrRefused (at_most_one F k (w ++ rest)) (One rest)
+      each u zero w rest i g = elim ((d.each u).each w rest i (none_more F rest g)) [ inl e ↦ rw e (inl refl) | inr e ↦ rw e (inr refl) ]
       each u (suc k) w rest i g = absurd i
 
-      ends : F.unambiguous → (k : ℕ) (w rest : List Tok) → w ≡ [] → F.follow rest × (F.ends rest ≡ Nowhere) → at_most_one F k (w ++ rest) ≡ At (Over rest)
-      ends u zero w rest e f = let n : F.ends rest ≡ Nowhere = f.1 in rw (e, n) refl
-      ends u (suc k) w rest e f = rw e refl
+      ends : F.unambiguous → (k : ℕ) (w rest : List Tok) → w ≡ [] → F.follow rest × DoesNotEnd (F.ends rest) → EndsOrRefused (at_most_one F k (w ++ rest)) (Over rest)
+      ends u zero w rest e f = rw e (tried_over rest (F.ends rest) f.1)
+      ends u (suc k) w rest e f = rw e (inl refl)
 
-      decided : F.refuses ≡ false → (k : ℕ) (ts : List Tok) → at_most_one F k ts ≡ Refused → ⊥
-      decided r zero ts e = d.decided r ts (of_refused ts (F.ends ts) e)
-      decided r (suc k) ts e = absurd (cc e)
+      decided : (k : ℕ) (ts : List Tok) → IsBelow F.refused_from (length ts) → at_most_one F k ts ≡ Refused → ⊥
+      decided zero ts i e = d.decided ts i (of_refused ts (F.ends ts) e)
+      decided (suc k) ts i e = absurd (cc e)
 
   -- `part.or_not()` as items, where a mark and going back take no memory if errors and states don't
   pub at_most_one-accepts : Accepts part F spare → AcceptsItems (Given (Some false)) (AtMostOne mark back safe part) (at_most_one_language F) spare

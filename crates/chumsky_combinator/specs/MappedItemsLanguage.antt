@@ -29,7 +29,7 @@ with_items L value stands_for = record {
   last = L.last;
   follow = L.follow;
   unambiguous = L.unambiguous;
-  refuses = L.refuses;
+  refused_from = L.refused_from;
   takes_no_memory = L.takes_no_memory;
 }
 

@@ -1,14 +1,15 @@
--- The language of a part that may be absent: a word of the part, or nothing, where the part fails on what follows.
+-- The language of a part that may be absent: a word of the part, or nothing, where the part does not end on what follows.
 -- Main words: or_not_language. Law: or_not-accepts. Read first: Language.antt of chumsky_parser, Optional.antt.
-use Rattle.std.proofs.Common.{◌≡◌, false, Option, Some, None, List, [], refl, ◌∙◌, inl, inr}
+use Rattle.std.proofs.Common.{◌≡◌, ℕ, false, Option, Some, None, List, [], length, refl, ◌∙◌, inl, inr}
 use Rattle.std.specs.Prelude.{⊤, ◌⊎◌}
 use Rattle.chumsky_input.specs.Outcome.{Meaning}
 use Rattle.chumsky_parser.specs.ChoiceEndings.{or-by}
-use Rattle.chumsky_parser.specs.Ending.{Ending, At, Nowhere, Refused, Ender, or_else, Reads}
+use Rattle.chumsky_parser.specs.Ending.{Ending, At, Nowhere, Refused, Ender, or_else, Reads, DoesNotEnd}
 use Rattle.chumsky_parser.specs.EndingLaws.{gives-by, regrouped-by}
-use Rattle.chumsky_parser.specs.Language.{Language, Begins, TakesOnly, GivesOnly, TakesEach, NeverRefused, Accepts}
+use Rattle.chumsky_parser.specs.Language.{Language, Begins, TakesOnly, GivesOnly, TakesEach, NeverRefusedBelow, IsBelow, Accepts}
 use Rattle.chumsky_parser.specs.ProgressLaws.{never}
 use Rattle.chumsky_parser.specs.Words.{either_ends, ElseValue}
+use Rattle.chumsky_parser.specs.WordsLaws.{or-takes_each}
 use Rattle.chumsky_combinator.specs.Optional.{OrNone}
 use Rattle.chumsky_combinator.specs.OptionalLaws.{or_none-spares}
 
@@ -33,7 +34,7 @@ maybe_ends f = either_ends f (λ ts. At ts)
 abbrev pub MaybeValue : {Tok V : Type 0} → Ender Tok → (List Tok → V → Type 0) → List Tok → Option V → Type 0
 MaybeValue f value ts v = ElseValue (f ts) (IfSomeOf (value ts) v) (IfNoneOf v)
 
--- a word of the part, or nothing; and the part fails on what follows
+-- a word of the part, or nothing; and the part does not end on what follows
 abbrev pub or_not_language : {Tok V : Type 0} → Language Tok V → Language Tok (Option V)
 or_not_language F = record {
   said = F.said;
@@ -41,9 +42,9 @@ or_not_language F = record {
   value = MaybeValue F.ends F.value;
   word = λ w. F.word w ⊎ (w ≡ []);
   stands_for = MaybeOf F.stands_for;
-  follow = λ rest. F.follow rest × (F.ends rest ≡ Nowhere);
+  follow = λ rest. F.follow rest × DoesNotEnd (F.ends rest);
   unambiguous = F.unambiguous;
-  refuses = F.refuses;
+  refused_from = F.refused_from;
   moves = false;
   takes_no_memory = F.takes_no_memory;
 }
@@ -57,21 +58,16 @@ module _ {Tok : Type 0} (f : Ender Tok) (P : List Tok → Type 0) where
       by_part ts rest Refused d e = absurd (cc e)
       by_part ts rest (At r) d e = let b = h.taken ts rest (d ∙ e) in record { word = b.word; all = b.all; is = inl b.is }
 
-  maybe-takes_each : (fits : List Tok → Type 0) → TakesEach f P fits → TakesEach (maybe_ends f) (λ w. P w ⊎ (w ≡ [])) (λ rest. fits rest × (f rest ≡ Nowhere))
-  maybe-takes_each fits k = record {
-    each = λ w rest i j. elim i [
-      | inl p ↦ let e = k.each w rest p j.0 in rw e refl
-      | inr e ↦ let d : f rest ≡ Nowhere = j.1 in rw (e, d) refl
-    ];
-  }
+  maybe-takes_each : (fits : List Tok → Type 0) → TakesEach f P fits → TakesEach (maybe_ends f) (λ w. P w ⊎ (w ≡ [])) (λ rest. fits rest × DoesNotEnd (f rest))
+  maybe-takes_each fits k = or-takes_each f (λ ts. At ts) P (λ w. w ≡ []) fits (λ rest. DoesNotEnd (f rest)) k (record { each = λ w rest e i. rw e (inl refl) }) (λ w rest e i. rw e i)
 
-  maybe-decided : NeverRefused f → NeverRefused (maybe_ends f)
-  maybe-decided h ts e = by_part ts (f ts) refl e
+  maybe-decided : (n : Option ℕ) → NeverRefusedBelow n f → NeverRefusedBelow n (maybe_ends f)
+  maybe-decided n h ts i e = by_part ts i (f ts) refl e
     where
-      by_part : (ts : List Tok) (x : Ending (List Tok)) → f ts ≡ x → or_else x (At ts) ≡ Refused → ⊥
-      by_part ts Nowhere d e = absurd (cc e)
-      by_part ts Refused d e = h ts d
-      by_part ts (At r) d e = absurd (cc e)
+      by_part : (ts : List Tok) → IsBelow n (length ts) → (x : Ending (List Tok)) → f ts ≡ x → or_else x (At ts) ≡ Refused → ⊥
+      by_part ts i Nowhere d e = absurd (cc e)
+      by_part ts i Refused d e = h ts i d
+      by_part ts i (At r) d e = absurd (cc e)
 
 module _ {Tok V : Type 0} (f : Ender Tok) (value of : List Tok → V → Type 0) (h : GivesOnly f value of) where
   maybe-gives_only : GivesOnly (maybe_ends f) (MaybeValue f value) (MaybeOf of)
@@ -100,7 +96,7 @@ module _ {Tok Cx St Mk Er V : Type 0} (mark : St → Mk) (back : St → Mk → S
           only = maybe-takes_only F.ends F.word d.only;
           given = maybe-gives_only F.ends F.value F.stands_for d.given;
           each = λ u. maybe-takes_each F.ends F.word F.follow (d.each u);
-          decided = λ r. maybe-decided F.ends F.word (d.decided r);
+          decided = maybe-decided F.ends F.word F.refused_from d.decided;
           further = λ e. never e;
         };
     moving = λ e. never e;

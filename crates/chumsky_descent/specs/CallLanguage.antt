@@ -1,30 +1,30 @@
--- The language of a call under a depth: of what is refused under none, and else what the body makes of that under one less.
--- Main words: call_language, language_of. Main law: does_call-accepts. Read first: Calls.antt, Kept.antt.
-use Rattle.std.proofs.Common.{◌≡◌, ℕ, zero, suc, true, List, refl, inr, subst}
+-- The language of a call under a depth: under none it refuses each text, and else it is what the body makes of that under one less.
+-- Main words: call_language, language_of, IsIntended. Main laws: does_call-accepts, call-is_intended. Read first: Calls.antt, Kept.antt.
+use Rattle.std.proofs.Common.{◌≡◌, ℕ, zero, suc, ◌<◌, true, Some, List, refl, arith, inr, subst}
 use Rattle.std.specs.Prelude.{⊤}
 use Rattle.chumsky_input.specs.declared.stop.Stop.TheVariants.{TooDeep}
 use Rattle.chumsky_input.specs.Outcome.{Meaning, Outcome, Verdict, Halt, EndsAfterStart}
 use Rattle.chumsky_combinator.specs.Part.{Onward}
 use Rattle.chumsky_combinator.specs.PartLaws.{onward-ends}
 use Rattle.chumsky_parser.specs.Ending.{Ending, Refused, Answers}
-use Rattle.chumsky_parser.specs.Language.{Language, Described, Accepts, unsaid, of_unsaid}
+use Rattle.chumsky_parser.specs.Language.{Language, Described, Accepts, TakesOnly, IsBelow, unsaid, of_unsaid}
 use Rattle.chumsky_moves.specs.PartsMove.{onward-moves}
 use Rattle.chumsky_descent.specs.CallLaws.{call-ends}
-use Rattle.chumsky_descent.specs.Calls.{Body, IsTooDeep, CallOf, KeepsLanguage, Said, Nothing, Means, Steady, Exact, Together, DoesCall}
+use Rattle.chumsky_descent.specs.Calls.{Body, IsTooDeep, CallOf, KeepsLanguage, Intended, Said, Nothing, Means, Steady, Exact, Together, DoesCall}
 use Rattle.chumsky_descent.specs.Kept.{too_deep-moves, too_deep-spares, onward-spares}
 
-module _ {Tok V : Type 0} where
-  -- each text is refused
+module _ {Tok V : Type 0} (intended : Intended Tok V) where
+  -- the words that are intended, each text refused
   abbrev pub too_deep : Language Tok V
   too_deep = record {
     said = true;
     ends = λ _. Refused;
     value = λ _ _. ⊥;
-    word = λ _. ⊥;
-    stands_for = λ _ _. ⊥;
-    follow = λ _. ⊤;
+    word = intended.word;
+    stands_for = intended.stands_for;
+    follow = intended.follow;
     unambiguous = ⊤;
-    refuses = true;
+    refused_from = Some zero;
     moves = true;
     takes_no_memory = ⊤;
   }
@@ -34,15 +34,31 @@ module _ {Tok V : Type 0} where
   call_language grammar zero = too_deep
   call_language grammar (suc depth) = grammar (call_language grammar depth)
 
+  -- a language is as intended, and no text of fewer tokens than the depth is refused: its words are those, with these values;
+  -- what may follow them may; it is unambiguous; and it moves where that is intended
+  pub record IsIntended (l : Language Tok V) (depth : ℕ) : Type 0 where
+    pub said : l.said ≡ true
+    pub moves : intended.moves ≡ true → l.moves ≡ true
+    pub only : (w : List Tok) → l.word w → intended.word w
+    pub given : (w : List Tok) (v : V) → l.stands_for w v → intended.stands_for w v
+    pub each : (w : List Tok) → intended.word w → l.word w
+    pub follows : (rest : List Tok) → intended.follow rest → l.follow rest
+    pub unambiguous : l.unambiguous
+    pub refused : (k : ℕ) → k < depth → IsBelow l.refused_from k
+
+  -- the body makes of a language that is as intended one that is, where a call takes only such words
+  abbrev pub KeepsIntended : (Language Tok V → Language Tok V) → Type 1
+  KeepsIntended grammar = (call : Language Tok V) (depth : ℕ) → IsIntended call depth → TakesOnly call.ends intended.word → IsIntended (grammar call) (suc depth)
+
 module _ {Tok Cx St Er V : Type 0} {spare : Type 0} where
-  too_deep-accepts : Accepts (Onward (IsTooDeep {Tok = Tok} {Cx = Cx} {St = St} {Er = Er} {V = V})) too_deep spare
-  too_deep-accepts = record {
+  too_deep-accepts : (intended : Intended Tok V) → Accepts (Onward (IsTooDeep {Tok = Tok} {Cx = Cx} {St = St} {Er = Er} {V = V})) (too_deep intended) spare
+  too_deep-accepts intended = record {
     described = λ s. record {
       reads = record { here = λ b w o m. let r : Ending (List Tok) = Refused in let a : Answers (λ (v : V). ⊥) {Tok = Tok} {Er = Er} r b.tokens.list (Halt TooDeep) o.end = inr refl in rw m.means.verdict a };
       only = record { taken = λ ts rest e. absurd (cc e) };
       given = record { given = λ ts rest v e x. absurd (cc e) };
-      each = λ u. record { each = λ w rest x f. absurd x };
-      decided = λ e. absurd (cc e);
+      each = λ u. record { each = λ w rest x f. inr refl };
+      decided = λ ts i e. omega (arith, i);
       further = λ e ts rest x. absurd (cc x);
     };
     moving = λ e. too_deep-moves;
@@ -64,9 +80,20 @@ module _ {Tok Cx St Er V : Type 0} {spare : Type 0} where
     sparing = λ q x. onward-spares m (h.sparing q x);
   }
 
-  pub call-accepts : (body : Body Tok Cx St Er V) (grammar : Language Tok V → Language Tok V) → KeepsLanguage spare body grammar → (depth : ℕ) → Accepts (CallOf body depth) (call_language grammar depth) spare
-  call-accepts body grammar keeps zero = too_deep-accepts
-  call-accepts body grammar keeps (suc depth) = onward-accepts _ _ (keeps depth (call_language grammar depth) (call-ends body depth) (call-accepts body grammar keeps depth))
+  pub call-accepts : (body : Body Tok Cx St Er V) (intended : Intended Tok V) (grammar : Language Tok V → Language Tok V) → KeepsLanguage spare body grammar → (depth : ℕ) → Accepts (CallOf body depth) (call_language intended grammar depth) spare
+  call-accepts body intended grammar keeps zero = too_deep-accepts intended
+  call-accepts body intended grammar keeps (suc depth) = onward-accepts _ _ (keeps depth (call_language intended grammar depth) (call-ends body depth) (call-accepts body intended grammar keeps depth))
+
+  -- a call of a function whose body keeps its intended language has it
+  module _ (body : Body Tok Cx St Er V) (intended : Intended Tok V) (grammar : Language Tok V → Language Tok V) (keeps : KeepsLanguage spare body grammar) (step : KeepsIntended intended grammar) where
+    call_takes_only : (depth : ℕ) → IsIntended intended (call_language intended grammar depth) depth → TakesOnly (call_language intended grammar depth).ends intended.word
+    call_takes_only depth i = record {
+      taken = λ ts rest e. let b = ((call-accepts body intended grammar keeps depth).described i.said).only.taken ts rest e in record { word = b.word; all = b.all; is = i.only b.word b.is };
+    }
+
+    pub call-is_intended : (depth : ℕ) → IsIntended intended (call_language intended grammar depth) depth
+    call-is_intended zero = record { said = refl; moves = λ e. refl; only = λ w i. i; given = λ w v i. i; each = λ w i. i; follows = λ rest i. i; unambiguous = tt; refused = λ k l. omega (arith, l) }
+    call-is_intended (suc depth) = let i = call-is_intended depth in step (call_language intended grammar depth) depth i (call_takes_only depth i)
 
 module _ {Tok Cx St Er : Type 0} where
   -- the language of a call of a function of which this is said
@@ -74,7 +101,7 @@ module _ {Tok Cx St Er : Type 0} where
   language_of Nothing depth = unsaid
   language_of (Means body) depth = unsaid
   language_of (Steady same body keeps) depth = unsaid
-  language_of (Exact same body keeps grammar accepts) depth = call_language grammar depth
+  language_of (Exact same body keeps intended grammar accepts) depth = call_language intended grammar depth
   language_of (Together same bodies keep name) depth = unsaid
 
   -- a call accepts the language that is said
@@ -82,5 +109,5 @@ module _ {Tok Cx St Er : Type 0} where
   does_call-accepts Nothing depth = of_unsaid
   does_call-accepts (Means body) depth = of_unsaid
   does_call-accepts (Steady same body keeps) depth = of_unsaid
-  does_call-accepts (Exact same body keeps grammar accepts) depth = call-accepts body grammar accepts depth
+  does_call-accepts (Exact same body keeps intended grammar accepts) depth = call-accepts body intended grammar accepts depth
   does_call-accepts (Together same bodies keep name) depth = of_unsaid

@@ -20,7 +20,7 @@ module _ {Tok Cx St Er : Type 0} where
   does_call-ends Nothing depth = call-ends _ depth
   does_call-ends (Means body) depth = call-ends body depth
   does_call-ends (Steady same body keeps) depth = call-ends body depth
-  does_call-ends (Exact same body keeps grammar accepts) depth = call-ends body depth
+  does_call-ends (Exact same body keeps intended grammar accepts) depth = call-ends body depth
   does_call-ends (Together same bodies keep name) depth = calls-end bodies depth name
 
   -- a stop is no answer
@@ -41,5 +41,5 @@ module _ {Tok Cx St Er : Type 0} where
   does_call-agrees Nothing s depth = absurd s
   does_call-agrees (Means body) s depth = absurd s
   does_call-agrees (Steady same body keeps) s depth = call-agrees body same keeps depth
-  does_call-agrees (Exact same body keeps grammar accepts) s depth = call-agrees body same keeps depth
+  does_call-agrees (Exact same body keeps intended grammar accepts) s depth = call-agrees body same keeps depth
   does_call-agrees (Together same bodies keep name) s depth = calls-agree bodies same keep depth name

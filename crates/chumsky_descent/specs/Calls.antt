@@ -1,6 +1,6 @@
 -- A function that runs a part of a grammar, and a call of it.
 -- Main words: Said, DoesCall, DoesUnder, RunsPart, MayCall. Laws: CallLaws.antt.
-use Rattle.std.specs.Prelude.{◌≡◌, ◌<◌, ℕ, zero, suc, Bool, Option, Result, IfOk, is_some, ⊤}
+use Rattle.std.specs.Prelude.{◌≡◌, ◌<◌, ℕ, zero, suc, Bool, Option, List, Result, IfOk, is_some, ⊤}
 use Rattle.std.specs.Fn.{Shared}
 use denote.Ref.{MutBor}
 use Rattle.chumsky_input.specs.declared.error.Error as error_trait
@@ -53,14 +53,23 @@ module _ {Tok Cx St Er V : Type 0} where
   abbrev pub KeepsLanguage : Type 0 → Body Tok Cx St Er V → (Language Tok V → Language Tok V) → Type 1
   KeepsLanguage spare body grammar = (depth : ℕ) (call : Language Tok V) → EndsAfterStart (CallOf body depth) → Accepts (CallOf body depth) call spare → Accepts (body depth (CallOf body depth)) (grammar call) spare
 
--- what is said of a function: nothing; what its body may do; that it is steady too, with the outputs that count as the same; its
--- language besides, of that of a call in it; and that it is steady of functions that call each other, with the name of this one.
+-- the language that a function is intended to have, under any depth: its words, the values that they stand for, and what may
+-- follow them; and whether it takes a token wherever it succeeds
+pub record Intended (Tok V : Type 0) : Type 1 where
+  pub word : List Tok → Type 0
+  pub stands_for : List Tok → V → Type 0
+  pub follow : List Tok → Type 0
+  pub moves : Bool
+
+-- what is said of a function: nothing; what its body may do; that it is steady too, with the outputs that count as the same; the
+-- language that is intended besides, and its own of that of a call in it; and that it is steady of functions that call each other,
+-- with the name of this one.
 -- That errors and states take no memory is `spare`
 pub data Said (Tok Cx St Er spare : Type 0) : Type 0 → Type 1 where
   Nothing : {V : Type 0} → Said Tok Cx St Er spare V
   Means : {V : Type 0} → Body Tok Cx St Er V → Said Tok Cx St Er spare V
   Steady : {V : Type 0} (same : V → V → Type 0) (body : Body Tok Cx St Er V) → KeepsAgreement same body → Said Tok Cx St Er spare V
-  Exact : {V : Type 0} (same : V → V → Type 0) (body : Body Tok Cx St Er V) → KeepsAgreement same body → (grammar : Language Tok V → Language Tok V) → KeepsLanguage spare body grammar → Said Tok Cx St Er spare V
+  Exact : {V : Type 0} (same : V → V → Type 0) (body : Body Tok Cx St Er V) → KeepsAgreement same body → (intended : Intended Tok V) (grammar : Language Tok V → Language Tok V) → KeepsLanguage spare body grammar → Said Tok Cx St Er spare V
   Together : {Name : Type 0} {V : Name → Type 0} (same : (name : Name) → V name → V name → Type 0) (bodies : Bodies Tok Cx St Er Name V)
       → KeepAgreement same bodies → (name : Name) → Said Tok Cx St Er spare (V name)
 
@@ -74,7 +83,7 @@ module _ {Tok Cx St Er : Type 0} where
   DoesCall Nothing depth = CallOf (λ depth call. Anything) depth
   DoesCall (Means body) depth = CallOf body depth
   DoesCall (Steady same body keeps) depth = CallOf body depth
-  DoesCall (Exact same body keeps grammar accepts) depth = CallOf body depth
+  DoesCall (Exact same body keeps intended grammar accepts) depth = CallOf body depth
   DoesCall (Together same bodies keep name) depth = CallsOf bodies depth name
 
   -- what the function does under a depth
@@ -82,7 +91,7 @@ module _ {Tok Cx St Er : Type 0} where
   DoesUnder Nothing depth = Anything
   DoesUnder (Means body) depth = body depth (CallOf body depth)
   DoesUnder (Steady same body keeps) depth = body depth (CallOf body depth)
-  DoesUnder (Exact same body keeps grammar accepts) depth = body depth (CallOf body depth)
+  DoesUnder (Exact same body keeps intended grammar accepts) depth = body depth (CallOf body depth)
   DoesUnder (Together same bodies keep name) depth = bodies name depth (CallsOf bodies depth)
 
   -- which outputs count as the same: equal ones, where nothing is said of them
@@ -90,14 +99,14 @@ module _ {Tok Cx St Er : Type 0} where
   same_of Nothing v w = v ≡ w
   same_of (Means body) v w = v ≡ w
   same_of (Steady same body keeps) v w = same v w
-  same_of (Exact same body keeps grammar accepts) v w = same v w
+  same_of (Exact same body keeps intended grammar accepts) v w = same v w
   same_of (Together same bodies keep name) v w = same name v w
 
   abbrev pub IsSteady : {spare V : Type 0} → Said Tok Cx St Er spare V → Type 0
   IsSteady Nothing = ⊥
   IsSteady (Means body) = ⊥
   IsSteady (Steady same body keeps) = ⊤
-  IsSteady (Exact same body keeps grammar accepts) = ⊤
+  IsSteady (Exact same body keeps intended grammar accepts) = ⊤
   IsSteady (Together same bodies keep name) = ⊤
 
 -- what is said of a function in the words of the errors and of the states

@@ -28,14 +28,14 @@ module _ {Tok Cx St Er : Type 0} where
   none-moves Nothing = too_deep-moves
   none-moves (Means body) = too_deep-moves
   none-moves (Steady same body keeps) = too_deep-moves
-  none-moves (Exact same body keeps grammar accepts) = too_deep-moves
+  none-moves (Exact same body keeps intended grammar accepts) = too_deep-moves
   none-moves (Together same bodies keep name) = too_deep-moves
 
   more-moves : {spare V : Type 0} (said : Said Tok Cx St Er spare V) (depth : ℕ) → Moves (DoesUnder said depth) → Moves (DoesCall said (suc depth))
   more-moves Nothing depth h = onward-moves _ h
   more-moves (Means body) depth h = onward-moves _ h
   more-moves (Steady same body keeps) depth h = onward-moves _ h
-  more-moves (Exact same body keeps grammar accepts) depth h = onward-moves _ h
+  more-moves (Exact same body keeps intended grammar accepts) depth h = onward-moves _ h
   more-moves (Together same bodies keep name) depth h = onward-moves _ h
 
   -- each call moves, where the function does when they do
@@ -53,14 +53,14 @@ module _ {Tok Cx St Er : Type 0} where
   none-spares Nothing = too_deep-spares
   none-spares (Means body) = too_deep-spares
   none-spares (Steady same body keeps) = too_deep-spares
-  none-spares (Exact same body keeps grammar accepts) = too_deep-spares
+  none-spares (Exact same body keeps intended grammar accepts) = too_deep-spares
   none-spares (Together same bodies keep name) = too_deep-spares
 
   more-spares : {spare V : Type 0} (said : Said Tok Cx St Er spare V) (depth : ℕ) → NeverOutOfMemory (DoesUnder said depth) → NeverOutOfMemory (DoesCall said (suc depth))
   more-spares Nothing depth h = onward-spares _ h
   more-spares (Means body) depth h = onward-spares _ h
   more-spares (Steady same body keeps) depth h = onward-spares _ h
-  more-spares (Exact same body keeps grammar accepts) depth h = onward-spares _ h
+  more-spares (Exact same body keeps intended grammar accepts) depth h = onward-spares _ h
   more-spares (Together same bodies keep name) depth h = onward-spares _ h
 
   -- each call is never refused for memory, where the function isn't when they aren't

@@ -26,7 +26,7 @@ enumerated_language l = record {
   last = l.last;
   follow = l.follow;
   unambiguous = l.unambiguous;
-  refuses = l.refuses;
+  refused_from = l.refused_from;
   takes_no_memory = l.takes_no_memory;
 }
 

@@ -110,7 +110,7 @@ module _ {Tok Cx St Er S V A : Type 0} (gives : S → Meaning Tok Cx St Er (Next
                 record { word = b.word; all = b.all; is = (i.0, b.is) };
           };
           each = λ u. then-takes_each F.ends (list_ends l.next) F.word _ F.follow l.follow (f.each u.0) (d.each u.1) u.2;
-          decided = then-decided F.ends (list_ends l.next) F.refuses l.refuses f.decided d.decided;
+          decided = then-decided F.ends (list_ends l.next) F.word f.only F.moves f.further F.refused_from l.refused_from f.decided d.decided;
           further = then-further F.ends (list_ends l.next) F.word _ f.only d.only F.moves false f.further (λ e. absurd (cc e));
         };
     moving = λ e. elim (either-true F.moves false e) [
@@ -169,7 +169,7 @@ module _ {Tok Cx St Er S V C A : Type 0} (gives : S → Meaning Tok Cx St Er (Ne
                     record { word = b.word; all = b.all; is = (i.0, i.1, i.2, b.is) };
               };
               each = λ u. then-takes_each (list_ends l.next) F.ends _ F.word l.follow F.follow (d.each u.0) (f.each u.1) u.2;
-              decided = then-decided (list_ends l.next) F.ends l.refuses F.refuses d.decided f.decided;
+              decided = then-decided (list_ends l.next) F.ends _ d.only false (λ e. absurd (cc e)) l.refused_from F.refused_from d.decided f.decided;
               further = then-further (list_ends l.next) F.ends _ F.word d.only f.only false F.moves (λ e. absurd (cc e)) f.further;
             };
         moving = λ e. elim (either-true false F.moves e) [

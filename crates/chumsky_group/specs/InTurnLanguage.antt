@@ -9,6 +9,7 @@ use Rattle.chumsky_parser.specs.ChoiceLaws.{each-ends}
 use Rattle.chumsky_parser.specs.Ending.{At, Ender, and_then, Ends, IfValue, Answers, Reads}
 use Rattle.chumsky_parser.specs.EndingLaws.{chained-here, given-here, and_then_some, ends_there, wanting_value}
 use Rattle.chumsky_parser.specs.Failure.{wanting}
+use Rattle.chumsky_parser.specs.FurtherLaws.{never-below}
 use Rattle.chumsky_parser.specs.Language.{Language, Begins, GivesOnly, Accepts}
 use Rattle.chumsky_parser.specs.Laws.{chained-ends, given-ends}
 use Rattle.chumsky_parser.specs.MemoryLaws.{chained-spares, given-spares}
@@ -35,7 +36,7 @@ no_items = record {
   stands_for = λ w vs. (w ≡ []) × (vs.items ≡ []);
   follow = λ _. ⊤;
   unambiguous = ⊤;
-  refuses = false;
+  refused_from = None;
   moves = false;
   takes_no_memory = ⊤;
 }
@@ -61,7 +62,7 @@ module _ {Tok Cx St Er V : Type 0} where
       only = empty-takes_only;
       given = record { given = λ ts rest v e i. let z : ts ≡ rest = cc e in record { word = []; all = z; is = (refl, i) } };
       each = λ u. empty-takes_each;
-      decided = λ r ts e. absurd (cc e);
+      decided = never-below (λ ts e. absurd (cc e));
       further = λ e. never e;
     };
     moving = λ e. never e;

@@ -1,6 +1,6 @@
 -- The language of just so many items, collected: as many words of items, before what may go on with the list.
 -- Main words: exact_items. Main law: exactly-accepts. Read first: ListLanguage.antt, Exactly.antt.
-use Rattle.std.proofs.Common.{◌≡◌, ℕ, zero, suc, ◌+◌, ◌-◌, ◌^◌, ◌≤◌, ◌<◌, nat_le, Bool, true, false, cond, Option, Some, None, List, [], ◌∷◌, ◌++◌, length, drop, refl, sym, ◌∙◌, ap, subst, arith, append_assoc}
+use Rattle.std.proofs.Common.{◌≡◌, ℕ, zero, suc, ◌+◌, ◌-◌, ◌^◌, ◌≤◌, ◌<◌, nat_le, Bool, true, false, cond, Option, Some, None, List, [], ◌∷◌, ◌++◌, length, drop, refl, sym, ◌∙◌, ap, subst, arith, append_assoc, inl, inr}
 use Rattle.std.specs.Prelude.{⊤}
 use Rattle.std.proofs.lemmas.List.{length-drop}
 use Rattle.std.proofs.lemmas.Bool.Decides.{nat_tests}
@@ -8,7 +8,7 @@ use Rattle.chumsky_input.specs.Outcome.{Meaning, Beginning}
 use Rattle.chumsky_parser.specs.Chained.{Asked}
 use Rattle.chumsky_parser.specs.Failure.{SaysNo, wanting}
 use Rattle.chumsky_parser.specs.Items.{Next, More, End, AfterStep}
-use Rattle.chumsky_parser.specs.Ending.{Ending, At, Nowhere, Refused, Within, IfValue, Answers, Here, Reads, and_then}
+use Rattle.chumsky_parser.specs.Ending.{Ending, At, Nowhere, Refused, Within, IfValue, Answers, Here, Reads, and_then, EndsOrRefused}
 use Rattle.chumsky_parser.specs.EndingLaws.{chained-here, given-here, asked-here, wanting_value}
 use Rattle.chumsky_parser.specs.Language.{Accepts, Begins}
 use Rattle.chumsky_parser.specs.Memory.{NeverOutOfMemory}
@@ -41,7 +41,7 @@ exact_items l n = record {
   last = λ k w. (n ≤ k) × (w ≡ []);
   follow = GoesOn l.word l.last l.follow n;
   unambiguous = l.unambiguous;
-  refuses = l.refuses;
+  refused_from = l.refused_from;
   takes_no_memory = l.takes_no_memory;
 }
 
@@ -116,16 +116,15 @@ module _ {Tok Cx St Er S V C : Type 0} (gives : S → Meaning Tok Cx St Er (Next
       let e : i.first ++ (i.second ++ rest) ≡ w ++ rest = sym (append_assoc i.first i.second rest) ∙ ap (λ u. u ++ rest) (sym i.all) in
       subst (GoesOn l.word l.last l.follow k) e c
 
-  each : ItemsDescribed begins gives l → l.unambiguous → (k : ℕ) (w rest : List Tok) → Exact.word k w → GoesOn Exact.word Exact.last Exact.follow (suc k) rest → Exact.next k (w ++ rest) ≡ At (One rest)
+  each : ItemsDescribed begins gives l → l.unambiguous → (k : ℕ) (w rest : List Tok) → Exact.word k w → GoesOn Exact.word Exact.last Exact.follow (suc k) rest → EndsOrRefused (Exact.next k (w ++ rest)) (One rest)
   each d u k w rest i g =
       let a : k < n = i.0 in
       let c : GoesOn l.word l.last l.follow (suc k) rest = subst (GoesOn l.word l.last l.follow (suc k)) (sym g.all) (goes_on (suc k) g.is.items g.words g.rest (omega (arith, a)) g.is.are g.fits) in
-      let e : l.next k (w ++ rest) ≡ At (One rest) = d.each u k w rest i.1 c in
       let b : nat_le n k ≡ false = is_below n k a in
-      rw (b, e) refl
+      rw b (elim (d.each u k w rest i.1 c) [ inl e ↦ rw e (inl refl) | inr e ↦ rw e (inr refl) ])
 
-  ends : (k : ℕ) (w rest : List Tok) → Exact.last k w → Exact.follow rest → Exact.next k (w ++ rest) ≡ At (Over rest)
-  ends k w rest i g = let e : w ≡ [] = i.1 in let b : nat_le n k ≡ true = is_enough n k i.0 in rw (b, e) refl
+  ends : (k : ℕ) (w rest : List Tok) → Exact.last k w → Exact.follow rest → EndsOrRefused (Exact.next k (w ++ rest)) (Over rest)
+  ends k w rest i g = let e : w ≡ [] = i.1 in let b : nat_le n k ≡ true = is_enough n k i.0 in rw (b, e) (inl refl)
 
   -- what follows a step that has to have an item
   abbrev goes : (List Tok → Ending (List Tok)) → Ending (Stepped Tok) → List Tok → Ending (List Tok)
@@ -251,7 +250,7 @@ module _ {Tok Cx St Er S V C : Type 0} (gives : S → Meaning Tok Cx St Er (Next
                 record { word = b.word; all = b.all; is = record { items = i.items; is = b.is; held = i.held } };
           };
           each = λ u. list-each Exact.next (further d) Exact.word Exact.last Exact.follow (each d u) ends;
-          decided = λ r. list-decided Exact.next (further d) (λ k ts e. exact_refused (nat_le n k) (l.next k ts) ts (d.decided r k ts) e);
+          decided = list-decided Exact.next (further d) l.refused_from (λ k ts i e. exact_refused (nat_le n k) (l.next k ts) ts (d.decided k ts i) e);
           further = λ e. absurd (cc e);
         };
     moving = λ e. absurd (cc e);

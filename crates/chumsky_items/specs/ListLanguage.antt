@@ -34,7 +34,7 @@ list_language l value stands_for quiet = record {
   stands_for = stands_for;
   follow = l.follow;
   unambiguous = l.unambiguous;
-  refuses = l.refuses;
+  refused_from = l.refused_from;
   moves = false;
   takes_no_memory = l.takes_no_memory × quiet;
 }
@@ -77,7 +77,7 @@ module _ {Tok Cx St Er S V : Type 0} (gives : S → Meaning Tok Cx St Er (Next S
           only = list-only l.next l.word l.last d.one d.over;
           given = given d;
           each = λ u. list-each l.next d.further l.word l.last l.follow (d.each u) (d.ends u);
-          decided = λ r. list-decided l.next d.further (d.decided r);
+          decided = list-decided l.next d.further l.refused_from d.decided;
           further = λ e. absurd (cc e);
         };
     moving = λ e. absurd (cc e);

@@ -1,7 +1,7 @@
 -- Where a step of a list ends, by where its items and separators do; and which words it takes.
 -- Main words: repeated_next, separated_next, RepeatedWord, RepeatedEnd, SeparatedWord, SeparatedEnd. Read first: ItemsLanguage.antt of the parsers.
 use Rattle.std.specs.Prelude.{◌≡◌, ℕ, zero, suc, ◌≤◌, ◌<◌, nat_lt, nat_le, ◌&&◌, Bool, true, false, cond, Option, Some, None, List, [], ⊤, ◌⊎◌}
-use Rattle.chumsky_parser.specs.Ending.{Ending, At, Nowhere, Refused, Ender, and_then, or_else}
+use Rattle.chumsky_parser.specs.Ending.{Ending, At, Nowhere, Refused, Ender, and_then, or_else, DoesNotEnd}
 use Rattle.chumsky_parser.specs.Words.{Joined}
 use Rattle.chumsky_parser.specs.ItemsLanguage.{Stepped, One, Over}
 use Rattle.chumsky_items.specs.Repeating.{at_cap}
@@ -83,7 +83,7 @@ RepeatedEnd least most k w = Enough least most k × (w ≡ [])
 
 -- no item may follow, unless there are as many as there may be anyway
 abbrev pub RepeatedFollow : {Tok : Type 0} → Ender Tok → (List Tok → Type 0) → ℕ → Option ℕ → List Tok → Type 0
-RepeatedFollow f fits least most rest = fits rest × (IsExact least most ⊎ (f rest ≡ Nowhere))
+RepeatedFollow f fits least most rest = fits rest × (IsExact least most ⊎ DoesNotEnd (f rest))
 
 -- a word after a separator, or where it is the first without one, unless a separator may lead
 abbrev pub Led : {Tok : Type 0} → (List Tok → Type 0) → Bool → (List Tok → Type 0) → ℕ → List Tok → Type 0
@@ -108,4 +108,4 @@ SeparatedEnd separator leading trailing least most k w = Enough least most k × 
 
 -- neither an item nor a separator may follow
 abbrev pub SeparatedFollow : {Tok : Type 0} → Ender Tok → Ender Tok → (List Tok → Type 0) → (List Tok → Type 0) → List Tok → Type 0
-SeparatedFollow f separator fits sfits rest = fits rest × sfits rest × (separator rest ≡ Nowhere) × (f rest ≡ Nowhere)
+SeparatedFollow f separator fits sfits rest = fits rest × sfits rest × DoesNotEnd (separator rest) × DoesNotEnd (f rest)

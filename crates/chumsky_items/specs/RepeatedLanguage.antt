@@ -27,7 +27,7 @@ repeated_language F least most = record {
   last = RepeatedEnd least most;
   follow = RepeatedFollow F.ends F.follow least most;
   unambiguous = F.unambiguous × MayFollow F F;
-  refuses = F.refuses;
+  refused_from = F.refused_from;
   takes_no_memory = F.takes_no_memory;
 }
 
@@ -47,7 +47,7 @@ module _ {Tok Cx St Mk Er V : Type 0} (mark : St → Mk) (back : St → Mk → S
           over = repeated-over F.ends least most;
           each = λ u. repeated-each F.ends least most F.word F.follow (d.each u.0) u.1;
           ends = λ u. repeated-ends F.ends least most F.word F.follow (d.each u.0);
-          decided = λ r. repeated-decided F.ends least most (d.decided r);
+          decided = λ k ts i. repeated-decided F.ends least most k ts (d.decided ts i);
         };
     sparing = λ q t. record { begin = given-spares (Some 0); step = repeats-spare mark back safe item free least most q.1 (h.sparing q t) };
   }

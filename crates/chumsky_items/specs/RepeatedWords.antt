@@ -2,8 +2,8 @@
 -- Main laws: repeated-one, repeated-given, repeated-over, repeated-each, repeated-ends. Read first: ListWords.antt.
 use Rattle.std.proofs.Common.{◌≡◌, ℕ, suc, ◌≤◌, ◌<◌, nat_lt, Bool, true, false, cond, Option, Some, None, List, [], ◌∷◌, ◌++◌, length, refl, sym, ◌∙◌, ap, subst, arith, append_assoc, ◌⊎◌, inl, inr}
 use Rattle.std.proofs.lemmas.Bool.Decides.{nat_tests}
-use Rattle.chumsky_parser.specs.Ending.{Ending, At, Nowhere, Refused, Ender}
-use Rattle.chumsky_parser.specs.Language.{Begins, TakesOnly, GivesOnly, TakesEach, EndsFurther, NeverRefused}
+use Rattle.chumsky_parser.specs.Ending.{Ending, At, Nowhere, Refused, Ender, EndsOrRefused, DoesNotEnd}
+use Rattle.chumsky_parser.specs.Language.{Begins, TakesOnly, GivesOnly, TakesEach, EndsFurther}
 use Rattle.chumsky_parser.specs.ItemsLanguage.{One, Over, ListFrom, GoesOn}
 use Rattle.chumsky_items.specs.Repeating.{at_cap}
 use Rattle.chumsky_items.specs.ListWords.{overs, one_or, unless_few, repeated_next, Under, Enough, IsExact, RepeatedWord, RepeatedEnd, RepeatedFollow}
@@ -71,6 +71,20 @@ module _ {Tok : Type 0} where
   refused_is false d Nowhere y f g h e = h (overs_refused y e)
   refused_is false d Refused y f g h e = g refl
 
+  -- an item ends there, or the list does, unless a part is refused
+  pub one_each : (x y : Ending (List Tok)) (rest : List Tok) → EndsOrRefused x rest → EndsOrRefused (one_or x y) (One rest)
+  one_each x y rest (inl e) = rw e (inl refl)
+  one_each x y rest (inr e) = rw e (inr refl)
+
+  pub overs_each : (x : Ending (List Tok)) (rest : List Tok) → EndsOrRefused x rest → EndsOrRefused (overs x) (Over rest)
+  overs_each x rest (inl e) = rw e (inl refl)
+  overs_each x rest (inr e) = rw e (inr refl)
+
+  pub over_each : (x y : Ending (List Tok)) (rest : List Tok) → DoesNotEnd x → EndsOrRefused y rest → EndsOrRefused (one_or x y) (Over rest)
+  over_each (At r) y rest n e = absurd n
+  over_each Nowhere y rest n e = overs_each y rest e
+  over_each Refused y rest n e = inr refl
+
   pub few_at : (few : Bool) (ts rest : List Tok) → unless_few few ts ≡ At rest → (few ≡ false) × (ts ≡ rest)
   few_at true ts rest e = absurd (cc e)
   few_at false ts rest e = (refl, cc e)
@@ -101,8 +115,8 @@ module _ {Tok : Type 0} (f : Ender Tok) (least : ℕ) (most : Option ℕ) where
     | inr i ↦ let j = few_at (nat_lt k least) ts rest i.1 in record { word = []; all = j.1; is = (least-enough least most k j.0, refl) }
   ]
 
-  pub repeated-decided : NeverRefused f → (k : ℕ) (ts : List Tok) → repeated_next f least most k ts ≡ Refused → ⊥
-  repeated-decided h k ts e = refused_is (at_cap most k) (At ts) (f ts) (unless_few (nat_lt k least) ts) (λ z. cc z) (h ts) (few_not_refused (nat_lt k least) ts) e
+  pub repeated-decided : (k : ℕ) (ts : List Tok) → (f ts ≡ Refused → ⊥) → repeated_next f least most k ts ≡ Refused → ⊥
+  repeated-decided k ts h e = refused_is (at_cap most k) (At ts) (f ts) (unless_few (nat_lt k least) ts) (λ z. cc z) h (few_not_refused (nat_lt k least) ts) e
 
   module _ (P fits : List Tok → Type 0) (h : TakesEach f P fits) where
     goes_on_fits : ((w rest : List Tok) → P w → fits rest → fits (w ++ rest)) → (k : ℕ) (items : List (List Tok)) (w rest : List Tok) → ListFrom (λ j u (v : List Tok). RepeatedWord most P j u) (RepeatedEnd least most) k items w → fits rest → fits (w ++ rest)
@@ -113,17 +127,16 @@ module _ {Tok : Type 0} (f : Ender Tok) (least : ℕ) (most : Option ℕ) where
         subst fits e (again i.first (i.second ++ rest) i.is_first.1 g)
 
     pub repeated-each : ((w rest : List Tok) → P w → fits rest → fits (w ++ rest)) → (k : ℕ) (w rest : List Tok) → RepeatedWord most P k w → GoesOn (RepeatedWord most P) (RepeatedEnd least most) (RepeatedFollow f fits least most) (suc k) rest
-        → repeated_next f least most k (w ++ rest) ≡ At (One rest)
+        → EndsOrRefused (repeated_next f least most k (w ++ rest)) (One rest)
     repeated-each again k w rest i g =
         let y : fits rest = subst fits (sym g.all) (goes_on_fits again (suc k) g.is.items g.words g.rest g.is.are g.fits.0) in
         let c : at_cap most k ≡ false = cap-under most k i.0 in
-        let e : f (w ++ rest) ≡ At rest = h.each w rest i.1 y in
-        rw (c, e) refl
+        rw c (one_each (f (w ++ rest)) (unless_few (nat_lt k least) (w ++ rest)) rest (h.each w rest i.1 y))
 
-    ended_each : (k : ℕ) (rest : List Tok) → Enough least most k → RepeatedFollow f fits least most rest → (c : Bool) → at_cap most k ≡ c → cond c (overs (At rest)) (one_or (f rest) (unless_few (nat_lt k least) rest)) ≡ At (Over rest)
-    ended_each k rest n y true d = refl
+    ended_each : (k : ℕ) (rest : List Tok) → Enough least most k → RepeatedFollow f fits least most rest → (c : Bool) → at_cap most k ≡ c → EndsOrRefused (cond c (overs (At rest)) (one_or (f rest) (unless_few (nat_lt k least) rest))) (Over rest)
+    ended_each k rest n y true d = inl refl
     ended_each k rest n (y, inl i) false d = let z : at_cap most k ≡ true = exact-full least most k i n in absurd (cc (d, z))
-    ended_each k rest n (y, inr e) false d = let z : nat_lt k least ≡ false = enough-least least most k n d in rw (e, z) refl
+    ended_each k rest n (y, inr e) false d = let z : nat_lt k least ≡ false = enough-least least most k n d in rw z (over_each (f rest) (At rest) rest e (inl refl))
 
-    pub repeated-ends : (k : ℕ) (w rest : List Tok) → RepeatedEnd least most k w → RepeatedFollow f fits least most rest → repeated_next f least most k (w ++ rest) ≡ At (Over rest)
+    pub repeated-ends : (k : ℕ) (w rest : List Tok) → RepeatedEnd least most k w → RepeatedFollow f fits least most rest → EndsOrRefused (repeated_next f least most k (w ++ rest)) (Over rest)
     repeated-ends k w rest i y = let e : w ≡ [] = i.1 in let z = ended_each k rest i.0 y (at_cap most k) refl in rw e z

@@ -1,12 +1,12 @@
 -- The language of `separated_by`, as a parser of items.
 -- Main words: separated_language. Main law: separated-accepts. Read first: ItemsLanguage.antt of the parsers, ListWords.antt.
-use Rattle.std.proofs.Common.{◌≡◌, ℕ, true, ◌&&◌, ◌||◌, Some, List, ◌++◌, refl}
+use Rattle.std.proofs.Common.{◌≡◌, ℕ, true, ◌&&◌, Some, List, ◌++◌, length, refl}
 use Rattle.chumsky_input.specs.Outcome.{Meaning}
 use Rattle.chumsky_parser.specs.Chained.{Given}
-use Rattle.chumsky_parser.specs.Ending.{Nowhere, Ends}
+use Rattle.chumsky_parser.specs.Ending.{DoesNotEnd, Ends}
 use Rattle.chumsky_parser.specs.EndingLaws.{given-by}
-use Rattle.chumsky_parser.specs.FurtherLaws.{neither-true}
-use Rattle.chumsky_parser.specs.Language.{Language, Accepts}
+use Rattle.chumsky_parser.specs.FurtherLaws.{sooner-below, fewer-below}
+use Rattle.chumsky_parser.specs.Language.{Language, Accepts, sooner}
 use Rattle.chumsky_parser.specs.SequenceLanguage.{MayFollow}
 use Rattle.chumsky_parser.specs.WordsLaws.{keeps_tokens}
 use Rattle.chumsky_parser.specs.ProgressLaws.{both-true}
@@ -20,7 +20,7 @@ use Rattle.chumsky_items.specs.SeparatedWords.{separated-further, separated-one,
 
 -- no word of an item, with what may follow it, begins with a separator
 abbrev pub NoSeparatorFirst : {Tok U V : Type 0} → Language Tok U → Language Tok V → Type 0
-NoSeparatorFirst {Tok} G F = (w rest : List Tok) → F.word w → F.follow rest → G.ends (w ++ rest) ≡ Nowhere
+NoSeparatorFirst {Tok} G F = (w rest : List Tok) → F.word w → F.follow rest → DoesNotEnd (G.ends (w ++ rest))
 
 -- words of items one after another, with a word of the separator between each two; before the first and after the last where
 -- it may stand there. Each item takes a token
@@ -35,7 +35,7 @@ separated_language G F d = record {
   last = SeparatedEnd G.word d.leading d.trailing d.least d.most;
   follow = SeparatedFollow F.ends G.ends F.follow G.follow;
   unambiguous = F.unambiguous × G.unambiguous × MayFollow F G × MayFollow G F × (d.leading ≡ true → NoSeparatorFirst G F);
-  refuses = F.refuses || G.refuses;
+  refused_from = sooner F.refused_from G.refused_from;
   takes_no_memory = F.takes_no_memory × G.takes_no_memory;
 }
 
@@ -58,7 +58,7 @@ module _ {Tok Cx St Mk Er U V : Type 0} (mark : St → Mk) (back : St → Mk →
           over = separated-over F.ends G.ends G.word g.only d.least d.most d.leading d.trailing;
           each = λ q. separated-each F.ends G.ends F.word G.word F.follow G.follow (i.each q.0) (g.each q.1) d.leading d.trailing d.least d.most q.2 q.3 q.4;
           ends = λ q. separated-ends F.ends G.ends F.word G.word F.follow G.follow (i.each q.0) (g.each q.1) d.leading d.trailing d.least d.most q.2 q.3 q.4;
-          decided = λ r. let z = neither-true F.refuses G.refuses r in separated-decided F.ends G.ends d.leading d.trailing d.least d.most (i.decided z.0) (g.decided z.1);
+          decided = λ k ts b. let z = sooner-below F.refused_from G.refused_from (length ts) b in separated-decided F.ends G.ends d.leading d.trailing d.least d.most k ts (λ us l. i.decided us (fewer-below F.refused_from (length us) (length ts) l z.0)) (g.decided ts z.1) (lead_keeps G.ends keeps);
         };
     sparing = λ q t. record { begin = given-spares (Some 0); step = separates-spare mark back safe separator item d q.1 (hs.sparing q t.1) (h.sparing q t.0) };
   }

@@ -2,13 +2,14 @@
 -- Main laws: separated-one, separated-given, separated-over, separated-each, separated-ends. Read first: ListWords.antt, RepeatedWords.antt.
 use Rattle.std.proofs.Common.{◌≡◌, ℕ, zero, suc, ◌≤◌, ◌<◌, nat_lt, nat_le, Bool, true, false, ◌&&◌, cond, Option, Some, None, List, [], ◌∷◌, ◌++◌, length, refl, sym, ◌∙◌, ap, subst, arith, append_assoc, ◌⊎◌, inl, inr}
 use Rattle.std.proofs.lemmas.Bool.Decides.{nat_tests}
-use Rattle.chumsky_parser.specs.Ending.{Ending, At, Nowhere, Refused, Ender, and_then, or_else, Ends}
-use Rattle.chumsky_parser.specs.Language.{Begins, TakesOnly, GivesOnly, TakesEach, EndsFurther, NeverRefused}
+use Rattle.chumsky_parser.specs.Ending.{Ending, At, Nowhere, Refused, Ender, and_then, or_else, Ends, EndsOrRefused, DoesNotEnd}
+use Rattle.chumsky_parser.specs.Language.{Begins, TakesOnly, GivesOnly, TakesEach, EndsFurther}
 use Rattle.chumsky_parser.specs.Words.{Joined}
 use Rattle.chumsky_parser.specs.ItemsLanguage.{Stepped, One, Over, ListFrom, GoesOn}
 use Rattle.chumsky_items.specs.Repeating.{at_cap}
+use Rattle.chumsky_parser.specs.WordsLaws.{then_or_refused, first_or_refused, second_or_refused}
 use Rattle.chumsky_items.specs.ListWords.{overs, one_or, unless_few, lead_at, full_at, stands, stay_or, none_at, separated_next, Enough, Led, SeparatedWord, MayTrail, SeparatedEnd, SeparatedFollow}
-use Rattle.chumsky_items.specs.RepeatedWords.{under-cap, cap-under, cap-enough, least-enough, enough-least, one_is, over_is, refused_is, few_at, few_not_refused}
+use Rattle.chumsky_items.specs.RepeatedWords.{under-cap, cap-under, cap-enough, least-enough, enough-least, one_is, over_is, refused_is, one_each, overs_each, over_each, few_at, few_not_refused}
 
 le-least : (least : ℕ) (most : Option ℕ) (k : ℕ) → nat_le least k ≡ true → Enough least most k
 le-least least None k e = grind (arith, nat_tests)
@@ -76,10 +77,10 @@ module _ {Tok : Type 0} (f separator : Ender Tok) where
         let b = led_begins S (λ u. of u v) hs leading k ts rest (λ mid d g. h.given mid rest v g (subst (λ x. Ends x (λ us. value us v)) d j)) i.1 in
         record { word = b.word; all = b.all; is = (under-cap most k i.0, b.is) }
 
-    pub separated-decided : NeverRefused f → NeverRefused separator → (k : ℕ) (ts : List Tok) → next k ts ≡ Refused → ⊥
-    separated-decided h hs k ts e =
+    pub separated-decided : (k : ℕ) (ts : List Tok) → ((us : List Tok) → length us ≤ length ts → f us ≡ Refused → ⊥) → (separator ts ≡ Refused → ⊥) → ((l : Bool) (k : ℕ) (ts rest : List Tok) → lead_at separator l k ts ≡ At rest → length rest ≤ length ts) → next k ts ≡ Refused → ⊥
+    separated-decided k ts h hs keeps e =
         refused_is (at_cap most k) (full_at separator trailing k ts) (and_then f (lead_at separator leading k ts)) (none_at separator leading trailing least k ts)
-        (full_not trailing k) (λ z. by_lead (lead_at separator leading k ts) (lead_not leading k) z) (λ z. stay_not (stands leading trailing k && nat_le least k) (lead_at separator leading k ts) (lead_not leading k) z) e
+        (full_not trailing k) (λ z. by_lead (lead_at separator leading k ts) (keeps leading k ts) (lead_not leading k) z) (λ z. stay_not (stands leading trailing k && nat_le least k) (lead_at separator leading k ts) (lead_not leading k) z) e
       where
         missing_not : (x : Ending (List Tok)) → (x ≡ Refused → ⊥) → or_else x (At ts) ≡ Refused → ⊥
         missing_not (At r) g e = cc e
@@ -89,18 +90,18 @@ module _ {Tok : Type 0} (f separator : Ender Tok) where
         full_not : (t : Bool) (k : ℕ) → full_at separator t k ts ≡ Refused → ⊥
         full_not true zero e = cc e
         full_not false zero e = cc e
-        full_not true (suc k) e = missing_not (separator ts) (hs ts) e
+        full_not true (suc k) e = missing_not (separator ts) hs e
         full_not false (suc k) e = cc e
 
         lead_not : (l : Bool) (k : ℕ) → lead_at separator l k ts ≡ Refused → ⊥
-        lead_not l (suc k) e = hs ts e
-        lead_not true zero e = missing_not (separator ts) (hs ts) e
+        lead_not l (suc k) e = hs e
+        lead_not true zero e = missing_not (separator ts) hs e
         lead_not false zero e = cc e
 
-        by_lead : (x : Ending (List Tok)) → (x ≡ Refused → ⊥) → and_then f x ≡ Refused → ⊥
-        by_lead (At mid) g e = h mid e
-        by_lead Nowhere g e = cc e
-        by_lead Refused g e = g refl
+        by_lead : (x : Ending (List Tok)) → ((mid : List Tok) → x ≡ At mid → length mid ≤ length ts) → (x ≡ Refused → ⊥) → and_then f x ≡ Refused → ⊥
+        by_lead (At mid) l g e = h mid (l mid refl) e
+        by_lead Nowhere l g e = cc e
+        by_lead Refused l g e = g refl
 
         stay_not : (c : Bool) (x : Ending (List Tok)) → (x ≡ Refused → ⊥) → stay_or c x (unless_few (nat_lt k least) ts) ≡ Refused → ⊥
         stay_not true (At mid) g e = cc e
@@ -163,22 +164,24 @@ module _ {Tok : Type 0} (f separator : Ender Tok) where
   -- each word is taken
   module _ (P S fits sfits : List Tok → Type 0) (h : TakesEach f P fits) (hs : TakesEach separator S sfits) (leading trailing : Bool) (least : ℕ) (most : Option ℕ)
       (after_item : (w rest : List Tok) → S w → sfits rest → fits (w ++ rest)) (after_separator : (w rest : List Tok) → P w → fits rest → sfits (w ++ rest))
-      (not_separator : leading ≡ true → (w rest : List Tok) → P w → fits rest → separator (w ++ rest) ≡ Nowhere) where
+      (not_separator : leading ≡ true → (w rest : List Tok) → P w → fits rest → DoesNotEnd (separator (w ++ rest))) where
     abbrev Follow : List Tok → Type 0
     Follow = SeparatedFollow f separator fits sfits
 
     -- a separator and an item are taken
-    taken_there : (w rest : List Tok) → Joined S P w → fits rest → (mid : List Tok) × (separator (w ++ rest) ≡ At mid) × (f mid ≡ At rest)
+    taken_there : (w rest : List Tok) → Joined S P w → fits rest → (mid : List Tok) × EndsOrRefused (separator (w ++ rest)) mid × EndsOrRefused (f mid) rest
     taken_there w rest i y =
         let e : w ++ rest ≡ i.first ++ (i.second ++ rest) = ap (λ u. u ++ rest) i.all ∙ append_assoc i.first i.second rest in
-        let a : separator (i.first ++ (i.second ++ rest)) ≡ At (i.second ++ rest) = hs.each i.first (i.second ++ rest) i.is_first (after_separator i.second rest i.is_second y) in
-        (i.second ++ rest, ap separator e ∙ a, h.each i.second rest i.is_second y)
+        let a : EndsOrRefused (separator (i.first ++ (i.second ++ rest))) (i.second ++ rest) = hs.each i.first (i.second ++ rest) i.is_first (after_separator i.second rest i.is_second y) in
+        (i.second ++ rest, subst (λ u. EndsOrRefused (separator u) (i.second ++ rest)) (sym e) a, h.each i.second rest i.is_second y)
 
-    led_each : (l : Bool) → (l ≡ true → (w rest : List Tok) → P w → fits rest → separator (w ++ rest) ≡ Nowhere) → (k : ℕ) (w rest : List Tok) → Led S l P k w → fits rest → and_then f (lead_at separator l k (w ++ rest)) ≡ At rest
-    led_each l clear (suc k) w rest i y = let t = taken_there w rest i y in let a = t.1 in let b = t.2 in rw a b
+    led_each : (l : Bool) → (l ≡ true → (w rest : List Tok) → P w → fits rest → DoesNotEnd (separator (w ++ rest))) → (k : ℕ) (w rest : List Tok) → Led S l P k w → fits rest → EndsOrRefused (and_then f (lead_at separator l k (w ++ rest))) rest
+    led_each l clear (suc k) w rest i y = let t = taken_there w rest i y in then_or_refused f (separator (w ++ rest)) t.0 rest t.1 t.2
     led_each false clear zero w rest i y = h.each w rest i y
-    led_each true clear zero w rest (inl i) y = let t = taken_there w rest i y in let a = t.1 in let b = t.2 in rw a b
-    led_each true clear zero w rest (inr p) y = let n : separator (w ++ rest) ≡ Nowhere = clear refl w rest p y in let b : f (w ++ rest) ≡ At rest = h.each w rest p y in rw n b
+    led_each true clear zero w rest (inl i) y = let t = taken_there w rest i y in then_or_refused f (or_else (separator (w ++ rest)) (At (w ++ rest))) t.0 rest (first_or_refused (separator (w ++ rest)) (At (w ++ rest)) t.0 t.1) t.2
+    led_each true clear zero w rest (inr p) y =
+        let x : EndsOrRefused (or_else (separator (w ++ rest)) (At (w ++ rest))) (w ++ rest) = second_or_refused (separator (w ++ rest)) (At (w ++ rest)) (w ++ rest) (clear refl w rest p y) (inl refl) in
+        then_or_refused f (or_else (separator (w ++ rest)) (At (w ++ rest))) (w ++ rest) rest x (h.each w rest p y)
 
     last_fits : (l t : Bool) (k : ℕ) (w rest : List Tok) → MayTrail S l t most (suc k) w → fits rest → sfits rest → fits (w ++ rest)
     last_fits true false k w rest e y z = subst (λ u. fits (u ++ rest)) (sym e) y
@@ -199,66 +202,69 @@ module _ {Tok : Type 0} (f separator : Ender Tok) where
         subst fits (sym (e ∙ d)) a
 
     pub separated-each : (k : ℕ) (w rest : List Tok) → SeparatedWord S leading most P k w → GoesOn (SeparatedWord S leading most P) (SeparatedEnd S leading trailing least most) Follow (suc k) rest
-        → separated_next f separator leading trailing least most k (w ++ rest) ≡ At (One rest)
+        → EndsOrRefused (separated_next f separator leading trailing least most k (w ++ rest)) (One rest)
     separated-each k w rest i g =
         let y : fits rest = subst fits (sym g.all) (goes_on_fits k g.is.items g.words g.rest g.is.are g.fits.0 g.fits.1) in
         let c : at_cap most k ≡ false = cap-under most k i.0 in
-        let e : and_then f (lead_at separator leading k (w ++ rest)) ≡ At rest = led_each leading not_separator k w rest i.1 y in
-        rw (c, e) refl
+        rw c (one_each (and_then f (lead_at separator leading k (w ++ rest))) (none_at separator leading trailing least k (w ++ rest)) rest (led_each leading not_separator k w rest i.1 y))
 
     few_not : (k : ℕ) (w rest : List Tok) → Enough least most k → at_cap most k ≡ false → w ≡ [] → unless_few (nat_lt k least) (w ++ rest) ≡ At rest
     few_not k w rest n c e = let d : nat_lt k least ≡ false = enough-least least most k n c in rw (d, e) refl
 
     -- at the cap
-    full_each : (l t : Bool) (k : ℕ) (w rest : List Tok) → MayTrail S l t most k w → at_cap most k ≡ true → Follow rest → full_at separator t k (w ++ rest) ≡ At rest
-    full_each false true zero w rest e c y = rw e refl
-    full_each false false zero w rest e c y = rw e refl
-    full_each true true zero w rest (inl e) c y = rw e refl
-    full_each true false zero w rest (inl e) c y = rw e refl
+    full_each : (l t : Bool) (k : ℕ) (w rest : List Tok) → MayTrail S l t most k w → at_cap most k ≡ true → Follow rest → EndsOrRefused (full_at separator t k (w ++ rest)) rest
+    full_each false true zero w rest e c y = rw e (inl refl)
+    full_each false false zero w rest e c y = rw e (inl refl)
+    full_each true true zero w rest (inl e) c y = rw e (inl refl)
+    full_each true false zero w rest (inl e) c y = rw e (inl refl)
     full_each true t zero w rest (inr x) c y = let d : at_cap most 0 ≡ false = cap-under most 0 x.0 in absurd (cc (c, d))
-    full_each true false (suc k) w rest e c y = rw e refl
-    full_each false false (suc k) w rest e c y = rw e refl
-    full_each true true (suc k) w rest (inl e) c y = let d : separator rest ≡ Nowhere = y.2 in rw (e, d) refl
-    full_each false true (suc k) w rest (inl e) c y = let d : separator rest ≡ Nowhere = y.2 in rw (e, d) refl
-    full_each true true (suc k) w rest (inr x) c y = let d : separator (w ++ rest) ≡ At rest = hs.each w rest x y.1 in rw d refl
-    full_each false true (suc k) w rest (inr x) c y = let d : separator (w ++ rest) ≡ At rest = hs.each w rest x y.1 in rw d refl
+    full_each true false (suc k) w rest e c y = rw e (inl refl)
+    full_each false false (suc k) w rest e c y = rw e (inl refl)
+    full_each true true (suc k) w rest (inl e) c y = rw e (second_or_refused (separator rest) (At rest) rest y.2 (inl refl))
+    full_each false true (suc k) w rest (inl e) c y = rw e (second_or_refused (separator rest) (At rest) rest y.2 (inl refl))
+    full_each true true (suc k) w rest (inr x) c y = first_or_refused (separator (w ++ rest)) (At (w ++ rest)) rest (hs.each w rest x y.1)
+    full_each false true (suc k) w rest (inr x) c y = first_or_refused (separator (w ++ rest)) (At (w ++ rest)) rest (hs.each w rest x y.1)
 
-    -- no item follows, and the list ends there
+    -- no item follows, and the list ends there, unless a part is refused
     abbrev NoItem : Bool → Bool → ℕ → List Tok → List Tok → Type 0
-    NoItem l t k w rest = (and_then f (lead_at separator l k (w ++ rest)) ≡ Nowhere) × (none_at separator l t least k (w ++ rest) ≡ At rest)
+    NoItem l t k w rest = DoesNotEnd (and_then f (lead_at separator l k (w ++ rest))) × EndsOrRefused (none_at separator l t least k (w ++ rest)) rest
 
-    by_end : (c : Bool) (x : Ending (List Tok)) (k : ℕ) (w rest : List Tok) → x ≡ Nowhere → Enough least most k → at_cap most k ≡ false → w ≡ [] → (and_then f x ≡ Nowhere) × (stay_or c x (unless_few (nat_lt k least) (w ++ rest)) ≡ At rest)
-    by_end true x k w rest d n c e = rw d (refl, few_not k w rest n c e)
-    by_end false x k w rest d n c e = rw d (refl, few_not k w rest n c e)
+    -- where no separator is there
+    by_end : (c : Bool) (x : Ending (List Tok)) (k : ℕ) (w rest : List Tok) → DoesNotEnd x → Enough least most k → at_cap most k ≡ false → w ≡ [] → DoesNotEnd (and_then f x) × EndsOrRefused (stay_or c x (unless_few (nat_lt k least) (w ++ rest))) rest
+    by_end c (At r) k w rest d n a e = absurd d
+    by_end true Nowhere k w rest d n a e = (tt, inl (few_not k w rest n a e))
+    by_end false Nowhere k w rest d n a e = (tt, inl (few_not k w rest n a e))
+    by_end true Refused k w rest d n a e = (tt, inr refl)
+    by_end false Refused k w rest d n a e = (tt, inl (few_not k w rest n a e))
 
-    by_stay : (k : ℕ) (x y : Ending (List Tok)) (rest : List Tok) → x ≡ At rest → f rest ≡ Nowhere → Enough least most k → at_cap most k ≡ false → (and_then f x ≡ Nowhere) × (stay_or (nat_le least k) x y ≡ At rest)
-    by_stay k x y rest d g n c = let b : nat_le least k ≡ true = enough-le least most k n c in rw (d, b) (g, refl)
+    -- where one is there, and stays
+    by_stay : (k : ℕ) (x y : Ending (List Tok)) (rest : List Tok) → EndsOrRefused x rest → DoesNotEnd (f rest) → Enough least most k → at_cap most k ≡ false → DoesNotEnd (and_then f x) × EndsOrRefused (stay_or (nat_le least k) x y) rest
+    by_stay k x y rest (inl d) g n c = let b : nat_le least k ≡ true = enough-le least most k n c in rw (d, b) (g, inl refl)
+    by_stay k x y rest (inr d) g n c = let b : nat_le least k ≡ true = enough-le least most k n c in rw (d, b) (tt, inr refl)
 
-    empty_end : (k : ℕ) (w rest : List Tok) → w ≡ [] → separator rest ≡ Nowhere → separator (w ++ rest) ≡ Nowhere
-    empty_end k w rest e d = rw e d
+    empty_end : (w rest : List Tok) → w ≡ [] → DoesNotEnd (separator rest) → DoesNotEnd (separator (w ++ rest))
+    empty_end w rest e d = rw e d
 
     none_each : (l t : Bool) (k : ℕ) (w rest : List Tok) → Enough least most k → MayTrail S l t most k w → at_cap most k ≡ false → Follow rest → NoItem l t k w rest
-    none_each false t zero w rest n e c y = let d : f rest ≡ Nowhere = y.3 in let u : f (w ++ rest) ≡ Nowhere = subst (λ z. f (z ++ rest) ≡ Nowhere) (sym e) d in (u, few_not zero w rest n c e)
+    none_each false t zero w rest n e c y = (subst (λ z. DoesNotEnd (f (z ++ rest))) (sym e) y.3, inl (few_not zero w rest n c e))
     none_each true t zero w rest n (inl e) c y =
-        let d : separator (w ++ rest) ≡ Nowhere = empty_end zero w rest e y.2 in
-        let x : or_else (separator (w ++ rest)) (At (w ++ rest)) ≡ At rest = rw (d, e) refl in
+        let x : EndsOrRefused (or_else (separator (w ++ rest)) (At (w ++ rest))) rest = rw e (second_or_refused (separator rest) (At rest) rest y.2 (inl refl)) in
         by_stay zero (or_else (separator (w ++ rest)) (At (w ++ rest))) (unless_few (nat_lt zero least) (w ++ rest)) rest x y.3 n c
     none_each true t zero w rest n (inr s) c y =
-        let d : separator (w ++ rest) ≡ At rest = hs.each w rest s.1 y.1 in
-        let x : or_else (separator (w ++ rest)) (At (w ++ rest)) ≡ At rest = rw d refl in
+        let x : EndsOrRefused (or_else (separator (w ++ rest)) (At (w ++ rest))) rest = first_or_refused (separator (w ++ rest)) (At (w ++ rest)) rest (hs.each w rest s.1 y.1) in
         by_stay zero (or_else (separator (w ++ rest)) (At (w ++ rest))) (unless_few (nat_lt zero least) (w ++ rest)) rest x y.3 n c
-    none_each true false (suc k) w rest n e c y = by_end false (separator (w ++ rest)) (suc k) w rest (empty_end k w rest e y.2) n c e
-    none_each false false (suc k) w rest n e c y = by_end false (separator (w ++ rest)) (suc k) w rest (empty_end k w rest e y.2) n c e
-    none_each true true (suc k) w rest n (inl e) c y = by_end (nat_le least (suc k)) (separator (w ++ rest)) (suc k) w rest (empty_end k w rest e y.2) n c e
-    none_each false true (suc k) w rest n (inl e) c y = by_end (nat_le least (suc k)) (separator (w ++ rest)) (suc k) w rest (empty_end k w rest e y.2) n c e
+    none_each true false (suc k) w rest n e c y = by_end false (separator (w ++ rest)) (suc k) w rest (empty_end w rest e y.2) n c e
+    none_each false false (suc k) w rest n e c y = by_end false (separator (w ++ rest)) (suc k) w rest (empty_end w rest e y.2) n c e
+    none_each true true (suc k) w rest n (inl e) c y = by_end (nat_le least (suc k)) (separator (w ++ rest)) (suc k) w rest (empty_end w rest e y.2) n c e
+    none_each false true (suc k) w rest n (inl e) c y = by_end (nat_le least (suc k)) (separator (w ++ rest)) (suc k) w rest (empty_end w rest e y.2) n c e
     none_each true true (suc k) w rest n (inr s) c y = by_stay (suc k) (separator (w ++ rest)) (unless_few (nat_lt (suc k) least) (w ++ rest)) rest (hs.each w rest s y.1) y.3 n c
     none_each false true (suc k) w rest n (inr s) c y = by_stay (suc k) (separator (w ++ rest)) (unless_few (nat_lt (suc k) least) (w ++ rest)) rest (hs.each w rest s y.1) y.3 n c
 
-    last_each : (b : Bool) (d x y : Ending (List Tok)) (rest : List Tok) → (b ≡ true → d ≡ At rest) → (b ≡ false → (x ≡ Nowhere) × (y ≡ At rest)) → cond b (overs d) (one_or x y) ≡ At (Over rest)
-    last_each true d x y rest g i = let e : d ≡ At rest = g refl in rw e refl
-    last_each false d x y rest g i = let e = i refl in let a : x ≡ Nowhere = e.0 in let c : y ≡ At rest = e.1 in rw (a, c) refl
+    last_each : (b : Bool) (d x y : Ending (List Tok)) (rest : List Tok) → (b ≡ true → EndsOrRefused d rest) → (b ≡ false → DoesNotEnd x × EndsOrRefused y rest) → EndsOrRefused (cond b (overs d) (one_or x y)) (Over rest)
+    last_each true d x y rest g i = overs_each d rest (g refl)
+    last_each false d x y rest g i = let e = i refl in over_each x y rest e.0 e.1
 
-    pub separated-ends : (k : ℕ) (w rest : List Tok) → SeparatedEnd S leading trailing least most k w → Follow rest → separated_next f separator leading trailing least most k (w ++ rest) ≡ At (Over rest)
+    pub separated-ends : (k : ℕ) (w rest : List Tok) → SeparatedEnd S leading trailing least most k w → Follow rest → EndsOrRefused (separated_next f separator leading trailing least most k (w ++ rest)) (Over rest)
     separated-ends k w rest i y =
         last_each (at_cap most k) (full_at separator trailing k (w ++ rest)) (and_then f (lead_at separator leading k (w ++ rest))) (none_at separator leading trailing least k (w ++ rest)) rest
         (λ c. full_each leading trailing k w rest i.1 c y) (λ c. none_each leading trailing k w rest i.0 i.1 c y)

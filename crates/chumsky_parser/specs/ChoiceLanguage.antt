@@ -1,12 +1,12 @@
 -- The language of a choice: a word of one alternative, which those before it leave.
 -- Main words: or_language, FailsOn. Laws: or-accepts, last-accepts, next-accepts. Read first: Language.antt, Words.antt, Choice.antt.
-use Rattle.std.proofs.Common.{◌≡◌, ℕ, zero, suc, true, ◌&&◌, ◌||◌, List, [], ◌∷◌, ◌++◌, ◌⊎◌, inl, inr, refl, sym, subst}
+use Rattle.std.proofs.Common.{◌≡◌, ℕ, zero, suc, true, ◌&&◌, List, [], ◌∷◌, ◌++◌, ◌⊎◌, inl, inr, refl, sym, subst}
 use Rattle.chumsky_input.specs.Outcome.{Meaning, Beginning, Outcome, Verdict, Yes, No, Halt, Clash}
 use Rattle.chumsky_parser.specs.Choice.{GoneOn, ElseFrom, AttemptFrom, Stands, FirstFrom, OrElse, FirstOf}
 use Rattle.chumsky_parser.specs.ChoiceEndings.{or-by}
-use Rattle.chumsky_parser.specs.Ending.{Nowhere, Reads}
+use Rattle.chumsky_parser.specs.Ending.{DoesNotEnd, Reads}
 use Rattle.chumsky_parser.specs.FurtherLaws.{else-further, else-decided}
-use Rattle.chumsky_parser.specs.Language.{Language, Accepts}
+use Rattle.chumsky_parser.specs.Language.{Language, Accepts, sooner}
 use Rattle.chumsky_parser.specs.LanguageLaws.{fewer-accepts}
 use Rattle.chumsky_parser.specs.Memory.{NeverOutOfMemory}
 use Rattle.chumsky_parser.specs.MemoryLaws.{or_else-spares}
@@ -15,9 +15,9 @@ use Rattle.chumsky_parser.specs.ProgressLaws.{both-true, or-moves}
 use Rattle.chumsky_parser.specs.Words.{either_ends, ElseValue}
 use Rattle.chumsky_parser.specs.WordsLaws.{or-takes_only, or-gives_only, or-takes_each}
 
--- the first fails on each word of the second, whatever follows it that may
+-- the first ends on no word of the second, whatever follows it that may
 abbrev pub FailsOn : {Tok V W : Type 0} → Language Tok V → Language Tok W → Type 0
-FailsOn {Tok} F G = (w rest : List Tok) → G.word w → G.follow rest → F.ends (w ++ rest) ≡ Nowhere
+FailsOn {Tok} F G = (w rest : List Tok) → G.word w → G.follow rest → DoesNotEnd (F.ends (w ++ rest))
 
 -- a word of the first, or one of the second
 abbrev pub or_language : {Tok V : Type 0} → Language Tok V → Language Tok V → Language Tok V
@@ -29,7 +29,7 @@ or_language F G = record {
   stands_for = λ w v. F.stands_for w v ⊎ G.stands_for w v;
   follow = λ rest. F.follow rest × G.follow rest;
   unambiguous = F.unambiguous × G.unambiguous × FailsOn F G;
-  refuses = F.refuses || G.refuses;
+  refused_from = sooner F.refused_from G.refused_from;
   moves = F.moves && G.moves;
   takes_no_memory = F.takes_no_memory × G.takes_no_memory;
 }
@@ -52,7 +52,7 @@ module _ {Tok Cx St Er V : Type 0} (first second m : Meaning Tok Cx St Er V) (F 
           only = or-takes_only F.ends G.ends F.word G.word d.only e.only;
           given = or-gives_only F.ends G.ends F.value G.value F.stands_for G.stands_for d.given e.given;
           each = λ u. or-takes_each F.ends G.ends F.word G.word F.follow G.follow (d.each u.0) (e.each u.1) u.2;
-          decided = else-decided F.ends G.ends F.refuses G.refuses d.decided e.decided;
+          decided = else-decided F.ends G.ends F.refused_from G.refused_from d.decided e.decided;
           further = λ m. let b = both-true F.moves G.moves m in else-further F.ends G.ends (d.further b.0) (e.further b.1);
         };
     moving = i.moving h.moving k.moving;

@@ -32,6 +32,16 @@ Ends (At x) P = P x
 Ends Nowhere P = ⊥
 Ends Refused P = ⊥
 
+-- it ends there, unless it is refused
+abbrev pub EndsOrRefused : {X : Type 0} → Ending X → X → Type 0
+EndsOrRefused e x = (e ≡ At x) ⊎ (e ≡ Refused)
+
+-- it ends nowhere: it fails, or it is refused
+abbrev pub DoesNotEnd : {X : Type 0} → Ending X → Type 0
+DoesNotEnd (At x) = ⊥
+DoesNotEnd Nowhere = ⊤
+DoesNotEnd Refused = ⊤
+
 -- a beginning that stands within its tokens, of which a length can be counted
 pub record Within {Tok Cx St : Type 0} (b : Beginning Tok Cx St) : Type 0 where
   pub start : b.start ≤ length b.tokens.list

@@ -1,11 +1,11 @@
 -- The language of a parser of items: where a step of it ends, with an item or without one; which words its items have, and the
 -- end of the list.
 -- Main words: ItemsLanguage, AcceptsItems. Laws: ItemsEndings.antt. Read first: Ending.antt, Language.antt, Items.antt.
-use Rattle.std.specs.Prelude.{◌≡◌, ℕ, zero, suc, ◌+◌, ◌^◌, ◌<◌, Bool, true, false, List, [], ◌∷◌, ◌++◌, length, drop, ⊤}
+use Rattle.std.specs.Prelude.{◌≡◌, ℕ, zero, suc, ◌+◌, ◌^◌, ◌<◌, Bool, true, false, Option, Some, List, [], ◌∷◌, ◌++◌, length, drop, ⊤}
 use Rattle.chumsky_input.specs.Outcome.{Meaning, Beginning}
 use Rattle.chumsky_parser.specs.Items.{Next, More, End}
-use Rattle.chumsky_parser.specs.Ending.{Ending, At, Nowhere, Refused, Within, IfValue, Here, Reads}
-use Rattle.chumsky_parser.specs.Language.{Begins}
+use Rattle.chumsky_parser.specs.Ending.{Ending, At, Nowhere, Refused, Within, IfValue, Here, Reads, EndsOrRefused}
+use Rattle.chumsky_parser.specs.Language.{Begins, IsBelow}
 use Rattle.chumsky_parser.specs.Words.{Joined}
 use Rattle.chumsky_parser.specs.Memory.{ItemsNeverOutOfMemory}
 
@@ -104,8 +104,8 @@ pub record ItemsLanguage (Tok S V : Type 0) : Type 1 where
   pub follow : List Tok → Type 0
   -- that no word is cut short, or taken for another
   pub unambiguous : Type 0
-  -- that it may be refused for something else than memory
-  pub refuses : Bool
+  -- how many tokens a text has at least that is refused for something else than memory
+  pub refused_from : Option ℕ
   -- what has to take no memory, besides errors and states
   pub takes_no_memory : Type 0
 
@@ -126,10 +126,10 @@ module _ {Tok Cx St Er S V : Type 0} (begins : Meaning Tok Cx St Er S) (gives : 
     pub one : (k : ℕ) (ts rest : List Tok) → l.next k ts ≡ At (One rest) → Begins (l.word k) ts rest
     pub given : (k : ℕ) (ts rest : List Tok) (v : V) → l.next k ts ≡ At (One rest) → l.value k ts v → Begins (λ w. l.stands_for k w v) ts rest
     pub over : (k : ℕ) (ts rest : List Tok) → l.next k ts ≡ At (Over rest) → Begins (l.last k) ts rest
-    -- each such word is taken, where what follows fits
-    pub each : l.unambiguous → (k : ℕ) (w rest : List Tok) → l.word k w → GoesOn l.word l.last l.follow (suc k) rest → l.next k (w ++ rest) ≡ At (One rest)
-    pub ends : l.unambiguous → (k : ℕ) (w rest : List Tok) → l.last k w → l.follow rest → l.next k (w ++ rest) ≡ At (Over rest)
-    pub decided : l.refuses ≡ false → (k : ℕ) (ts : List Tok) → l.next k ts ≡ Refused → ⊥
+    -- each such word is taken, where what follows fits, unless it is refused
+    pub each : l.unambiguous → (k : ℕ) (w rest : List Tok) → l.word k w → GoesOn l.word l.last l.follow (suc k) rest → EndsOrRefused (l.next k (w ++ rest)) (One rest)
+    pub ends : l.unambiguous → (k : ℕ) (w rest : List Tok) → l.last k w → l.follow rest → EndsOrRefused (l.next k (w ++ rest)) (Over rest)
+    pub decided : (k : ℕ) (ts : List Tok) → IsBelow l.refused_from (length ts) → l.next k ts ≡ Refused → ⊥
 
   -- what is said of a parser of items holds, where errors and states take no memory if this does
   pub record AcceptsItems (spare : Type 0) : Type 0 where
@@ -138,7 +138,7 @@ module _ {Tok Cx St Er S V : Type 0} (begins : Meaning Tok Cx St Er S) (gives : 
 
 -- nothing is said
 abbrev pub unsaid_items : {Tok S V : Type 0} → ItemsLanguage Tok S V
-unsaid_items = record { said = false; has_given = λ _ _. ⊤; next = λ _ _. Refused; value = λ _ _ _. ⊤; word = λ _ _. ⊤; stands_for = λ _ _ _. ⊤; last = λ _ _. ⊤; follow = λ _. ⊥; unambiguous = ⊥; refuses = true; takes_no_memory = ⊥ }
+unsaid_items = record { said = false; has_given = λ _ _. ⊤; next = λ _ _. Refused; value = λ _ _ _. ⊤; word = λ _ _. ⊤; stands_for = λ _ _ _. ⊤; last = λ _ _. ⊤; follow = λ _. ⊥; unambiguous = ⊥; refused_from = Some zero; takes_no_memory = ⊥ }
 
 pub of_unsaid_items : {Tok Cx St Er S V : Type 0} {begins : Meaning Tok Cx St Er S} {gives : S → Meaning Tok Cx St Er (Next S V)} {spare : Type 0} → AcceptsItems begins gives unsaid_items spare
 of_unsaid_items = record { described = λ s. absurd (cc s); sparing = λ _ x. absurd x }

@@ -1,9 +1,10 @@
 -- Which words a list takes, and with which items, by which its steps do.
 -- Main laws: list-only, list-given, list-each, list-decided. Read first: ItemsLanguage.antt.
-use Rattle.std.proofs.Common.{◌≡◌, ℕ, zero, suc, ◌≤◌, ◌<◌, Bool, true, false, List, [], ◌∷◌, ◌++◌, length, refl, sym, ◌∙◌, ap, subst, arith, append_assoc}
+use Rattle.std.proofs.Common.{◌≡◌, ℕ, zero, suc, ◌≤◌, ◌<◌, Option, List, [], ◌∷◌, ◌++◌, length, refl, sym, ◌∙◌, ap, subst, arith, append_assoc, inl, inr}
 use Rattle.std.specs.Prelude.{⊤}
-use Rattle.chumsky_parser.specs.Ending.{Ending, At, Nowhere, Refused}
-use Rattle.chumsky_parser.specs.Language.{Begins, TakesOnly, TakesEach}
+use Rattle.chumsky_parser.specs.Ending.{Ending, At, Nowhere, Refused, EndsOrRefused}
+use Rattle.chumsky_parser.specs.FurtherLaws.{fewer-below}
+use Rattle.chumsky_parser.specs.Language.{Begins, TakesOnly, TakesEach, NeverRefusedBelow, IsBelow}
 use Rattle.chumsky_parser.specs.Words.{Joined}
 use Rattle.chumsky_parser.specs.ItemsLanguage.{Stepped, One, Over, stepped_on, list_until, list_ends, OfOne, IsOver, GivesFrom, ListFrom, IsListFrom, GoesOn}
 
@@ -60,40 +61,47 @@ module _ {Tok : Type 0} (next : ℕ → List Tok → Ending (Stepped Tok)) where
     list-given ts rest vs e g = until_given (length ts) 0 ts rest vs e g
 
   module _ (further : (k : ℕ) (ts rest : List Tok) → next k ts ≡ At (One rest) → length rest < length ts) where
-    module _ (word last : ℕ → List Tok → Type 0) (follow : List Tok → Type 0) (each : (k : ℕ) (w rest : List Tok) → word k w → GoesOn word last follow (suc k) rest → next k (w ++ rest) ≡ At (One rest))
-        (ends : (k : ℕ) (w rest : List Tok) → last k w → follow rest → next k (w ++ rest) ≡ At (Over rest)) where
-      until_ended : (n k : ℕ) (ts rest : List Tok) → next k ts ≡ At (Over rest) → list_until next n k ts ≡ At rest
-      until_ended zero k ts rest e = rw e refl
-      until_ended (suc n) k ts rest e = rw e refl
+    module _ (word last : ℕ → List Tok → Type 0) (follow : List Tok → Type 0) (each : (k : ℕ) (w rest : List Tok) → word k w → GoesOn word last follow (suc k) rest → EndsOrRefused (next k (w ++ rest)) (One rest))
+        (ends : (k : ℕ) (w rest : List Tok) → last k w → follow rest → EndsOrRefused (next k (w ++ rest)) (Over rest)) where
+      until_ended : (n k : ℕ) (ts rest : List Tok) → EndsOrRefused (next k ts) (Over rest) → EndsOrRefused (list_until next n k ts) rest
+      until_ended zero k ts rest (inl e) = rw e (inl refl)
+      until_ended zero k ts rest (inr e) = rw e (inr refl)
+      until_ended (suc n) k ts rest (inl e) = rw e (inl refl)
+      until_ended (suc n) k ts rest (inr e) = rw e (inr refl)
 
-      until_each : (n k : ℕ) (items : List (List Tok)) (w rest : List Tok) → length (w ++ rest) ≤ n → ListFrom (λ j u (v : List Tok). word j u) last k items w → follow rest → list_until next n k (w ++ rest) ≡ At rest
+      until_refused : (n k : ℕ) (ts : List Tok) → next k ts ≡ Refused → list_until next n k ts ≡ Refused
+      until_refused zero k ts e = rw e refl
+      until_refused (suc n) k ts e = rw e refl
+
+      until_each : (n k : ℕ) (items : List (List Tok)) (w rest : List Tok) → length (w ++ rest) ≤ n → ListFrom (λ j u (v : List Tok). word j u) last k items w → follow rest → EndsOrRefused (list_until next n k (w ++ rest)) rest
       until_each n k [] w rest l i f = until_ended n k (w ++ rest) rest (ends k w rest i f)
       until_each n k (v ∷ vs) w rest l i f =
           let z : w ++ rest ≡ i.first ++ (i.second ++ rest) = ap (λ u. u ++ rest) i.all ∙ append_assoc i.first i.second rest in
-          let d : next k (i.first ++ (i.second ++ rest)) ≡ At (One (i.second ++ rest)) = each k i.first (i.second ++ rest) i.is_first (record { words = i.second; rest = rest; all = refl; is = record { items = vs; are = i.is_second }; fits = f }) in
-          let e : next k (w ++ rest) ≡ At (One (i.second ++ rest)) = ap (next k) z ∙ d in
-          let p : length (i.second ++ rest) < length (w ++ rest) = further k (w ++ rest) (i.second ++ rest) e in
-          by_room n l e p (λ m q. until_each m (suc k) vs i.second rest q i.is_second f)
+          let d : EndsOrRefused (next k (i.first ++ (i.second ++ rest))) (One (i.second ++ rest)) = each k i.first (i.second ++ rest) i.is_first (record { words = i.second; rest = rest; all = refl; is = record { items = vs; are = i.is_second }; fits = f }) in
+          elim d [
+            | inl x ↦ let e : next k (w ++ rest) ≡ At (One (i.second ++ rest)) = ap (next k) z ∙ x in by_room n l e (further k (w ++ rest) (i.second ++ rest) e) (λ m q. until_each m (suc k) vs i.second rest q i.is_second f)
+            | inr x ↦ inr (until_refused n k (w ++ rest) (ap (next k) z ∙ x))
+          ]
         where
-          by_room : {u : List Tok} (n : ℕ) → length (w ++ rest) ≤ n → next k (w ++ rest) ≡ At (One u) → length u < length (w ++ rest) → ((m : ℕ) → length u ≤ m → list_until next m (suc k) u ≡ At rest) → list_until next n k (w ++ rest) ≡ At rest
+          by_room : {u : List Tok} (n : ℕ) → length (w ++ rest) ≤ n → next k (w ++ rest) ≡ At (One u) → length u < length (w ++ rest) → ((m : ℕ) → length u ≤ m → EndsOrRefused (list_until next m (suc k) u) rest) → EndsOrRefused (list_until next n k (w ++ rest)) rest
           by_room zero l e p h = absurd (omega (arith, l, p))
           by_room (suc n) l e p h = rw e (h n (omega (arith, l, p)))
 
-      -- each word of a list is taken
+      -- each word of a list is taken, unless it is refused
       pub list-each : TakesEach (list_ends next) (IsListFrom word last 0) follow
       list-each = record { each = λ w rest i f. until_each (length (w ++ rest)) 0 i.items w rest (omega arith) i.are f }
 
-    module _ (h : (k : ℕ) (ts : List Tok) → next k ts ≡ Refused → ⊥) where
-      step_decided : (k : ℕ) (ts : List Tok) (more : List Tok → Ending (List Tok)) → ((rest : List Tok) → length rest < length ts → more rest ≡ Refused → ⊥) → (t : Ending (Stepped Tok)) → next k ts ≡ t → stepped_on more t ≡ Refused → ⊥
-      step_decided k ts more g (At (One rest)) d e = g rest (further k ts rest d) e
-      step_decided k ts more g (At (Over rest)) d e = cc e
-      step_decided k ts more g Nowhere d e = cc e
-      step_decided k ts more g Refused d e = h k ts d
+    module _ (bound : Option ℕ) (h : (k : ℕ) (ts : List Tok) → IsBelow bound (length ts) → next k ts ≡ Refused → ⊥) where
+      step_decided : (k : ℕ) (ts : List Tok) → IsBelow bound (length ts) → (more : List Tok → Ending (List Tok)) → ((rest : List Tok) → length rest < length ts → more rest ≡ Refused → ⊥) → (t : Ending (Stepped Tok)) → next k ts ≡ t → stepped_on more t ≡ Refused → ⊥
+      step_decided k ts b more g (At (One rest)) d e = g rest (further k ts rest d) e
+      step_decided k ts b more g (At (Over rest)) d e = cc e
+      step_decided k ts b more g Nowhere d e = cc e
+      step_decided k ts b more g Refused d e = h k ts b d
 
-      until_decided : (n k : ℕ) (ts : List Tok) → length ts ≤ n → list_until next n k ts ≡ Refused → ⊥
-      until_decided zero k ts l e = step_decided k ts _ (λ rest p z. omega (arith, p, l)) (next k ts) refl e
-      until_decided (suc n) k ts l e = step_decided k ts _ (λ rest p z. until_decided n (suc k) rest (omega (arith, p, l)) z) (next k ts) refl e
+      until_decided : (n k : ℕ) (ts : List Tok) → length ts ≤ n → IsBelow bound (length ts) → list_until next n k ts ≡ Refused → ⊥
+      until_decided zero k ts l b e = step_decided k ts b _ (λ rest p z. omega (arith, p, l)) (next k ts) refl e
+      until_decided (suc n) k ts l b e = step_decided k ts b _ (λ rest p z. until_decided n (suc k) rest (omega (arith, p, l)) (fewer-below bound (length rest) (length ts) (omega (arith, p)) b) z) (next k ts) refl e
 
-      -- where each step is known to end or to fail, so is the list
-      pub list-decided : (ts : List Tok) → list_ends next ts ≡ Refused → ⊥
-      list-decided ts e = until_decided (length ts) 0 ts (omega arith) e
+      -- where each step on so short a text is known to end or to fail, so is the list
+      pub list-decided : NeverRefusedBelow bound (list_ends next)
+      list-decided ts b e = until_decided (length ts) 0 ts (omega arith) b e

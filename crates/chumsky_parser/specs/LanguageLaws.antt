@@ -26,7 +26,7 @@ with_values F value stands_for = record {
   stands_for = stands_for;
   follow = F.follow;
   unambiguous = F.unambiguous;
-  refuses = F.refuses;
+  refused_from = F.refused_from;
   moves = F.moves;
   takes_no_memory = F.takes_no_memory;
 }

@@ -8,7 +8,7 @@ use Rattle.chumsky_parser.specs.IgnoringLaws.{ignoring_second-ends}
 use Rattle.chumsky_parser.specs.Ending.{Ends, Reads}
 use Rattle.chumsky_parser.specs.EndingLaws.{then-by, ignore_then-by, then_ignore-by}
 use Rattle.chumsky_parser.specs.FurtherLaws.{then-further, then-decided}
-use Rattle.chumsky_parser.specs.Language.{Language, Described, Accepts, GivesOnly}
+use Rattle.chumsky_parser.specs.Language.{Language, Described, Accepts, GivesOnly, sooner, later}
 use Rattle.chumsky_parser.specs.Memory.{NeverOutOfMemory}
 use Rattle.chumsky_parser.specs.MemoryLaws.{sequence-spares, ignoring_first-spares, ignoring_second-spares}
 use Rattle.chumsky_parser.specs.Progress.{Moves}
@@ -31,7 +31,7 @@ module _ {Tok V W : Type 0} (F : Language Tok V) (G : Language Tok W) where
     stands_for = stands_for;
     follow = G.follow;
     unambiguous = F.unambiguous × G.unambiguous × MayFollow F G;
-    refuses = F.refuses || G.refuses;
+    refused_from = sooner F.refused_from (later G.refused_from F.moves);
     moves = F.moves || G.moves;
     takes_no_memory = F.takes_no_memory × G.takes_no_memory;
   }
@@ -72,7 +72,7 @@ module _ {Tok Cx St Er V W : Type 0} (first : Meaning Tok Cx St Er V) (second : 
             only = then-takes_only F.ends G.ends F.word G.word d.only e.only;
             given = i.given d e;
             each = λ u. then-takes_each F.ends G.ends F.word G.word F.follow G.follow (d.each u.0) (e.each u.1) u.2;
-            decided = then-decided F.ends G.ends F.refuses G.refuses d.decided e.decided;
+            decided = then-decided F.ends G.ends F.word d.only F.moves d.further F.refused_from G.refused_from d.decided e.decided;
             further = then-further F.ends G.ends F.word G.word d.only e.only F.moves G.moves d.further e.further;
           };
       moving = i.moving h.moving k.moving;

@@ -17,13 +17,6 @@ ElseValue (At rest) P Q = P
 ElseValue Nowhere P Q = Q
 ElseValue Refused P Q = ⊥
 
--- all tokens are taken
-abbrev pub TakesAll : {Tok : Type 0} → Ending (List Tok) → Type 0
-TakesAll (At []) = ⊤
-TakesAll (At (t ∷ ts)) = ⊥
-TakesAll Nowhere = ⊥
-TakesAll Refused = ⊥
-
 -- a word with P, and a word with Q
 pub record Joined {Tok : Type 0} (P Q : List Tok → Type 0) (w : List Tok) : Type 0 where
   pub first : List Tok

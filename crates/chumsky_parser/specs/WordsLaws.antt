@@ -1,12 +1,12 @@
 -- Which words sequences and choices take, from those of their parts, and which values they give.
--- Main laws: then-takes_only, then-gives_only, then-takes_each, or-takes_only, or-gives_only, or-takes_each, keeps_tokens. Read first: Words.antt.
+-- Main laws: then-takes_only, then-gives_only, then_or_refused, then-takes_each, or-takes_only, or-gives_only, or-takes_each, whole-taken, takes-none, keeps_tokens. Read first: Words.antt.
 use Rattle.std.proofs.Common.{◌≡◌, ◌+◌, ◌-◌, ◌≤◌, List, [], ◌∷◌, ◌++◌, length, refl, sym, ◌∙◌, ap, subst, arith, append_assoc, ◌⊎◌, inl, inr}
 use Rattle.std.specs.Prelude.{⊤}
 use Rattle.std.proofs.lemmas.List.{append-nil}
 use Rattle.std.proofs.Math.Seq.{take-append_seam}
-use Rattle.chumsky_parser.specs.Ending.{Ending, At, Nowhere, Refused, Ender, and_then, or_else, Ends}
+use Rattle.chumsky_parser.specs.Ending.{Ending, At, Nowhere, Refused, Ender, and_then, or_else, Ends, EndsOrRefused, DoesNotEnd}
 use Rattle.chumsky_parser.specs.Language.{Begins, TakesOnly, GivesOnly, TakesEach}
-use Rattle.chumsky_parser.specs.Words.{then_ends, either_ends, ElseValue, TakesAll, Joined, taken_of}
+use Rattle.chumsky_parser.specs.Words.{then_ends, either_ends, ElseValue, Joined, taken_of}
 
 -- what is said of where a part ends, where that is known
 pub ends_at : {X : Type 0} (x : Ending X) (y : X) (P : X → Type 0) → x ≡ At y → Ends x P → P y
@@ -86,43 +86,49 @@ module _ {Tok V W : Type 0} (f : Ender Tok) (va ma : List Tok → V → Type 0) 
   pub regrouped-gives_only : (g : W → V) → GivesOnly f (λ ts w. va ts (g w)) (λ u w. ma u (g w))
   regrouped-gives_only g = record { given = λ ts rest w e i. let b = h.given ts rest (g w) e i in record { word = b.word; all = b.all; is = b.is } }
 
+-- what follows ends there, unless the first or it is refused
+pub then_or_refused : {X Y : Type 0} (next : X → Ending Y) (x : Ending X) (mid : X) (y : Y) → EndsOrRefused x mid → EndsOrRefused (next mid) y → EndsOrRefused (and_then next x) y
+then_or_refused next x mid y (inl e) k = rw e k
+then_or_refused next x mid y (inr e) k = rw e (inr refl)
+
 -- one word after another is taken, where the second fits after the first
 pub then-takes_each : {Tok : Type 0} (f g : Ender Tok) (P Q ff fg : List Tok → Type 0) → TakesEach f P ff → TakesEach g Q fg → ((w rest : List Tok) → Q w → fg rest → ff (w ++ rest))
     → TakesEach (then_ends f g) (Joined P Q) fg
 then-takes_each f g P Q ff fg h k c = record {
   each = λ w rest i j.
       let e : w ++ rest ≡ i.first ++ (i.second ++ rest) = ap (λ u. u ++ rest) i.all ∙ append_assoc i.first i.second rest in
-      let a : f (i.first ++ (i.second ++ rest)) ≡ At (i.second ++ rest) = h.each i.first (i.second ++ rest) i.is_first (c i.second rest i.is_second j) in
-      let b : g (i.second ++ rest) ≡ At rest = k.each i.second rest i.is_second j in
-      rw (e, a) b;
+      let a : EndsOrRefused (f (i.first ++ (i.second ++ rest))) (i.second ++ rest) = h.each i.first (i.second ++ rest) i.is_first (c i.second rest i.is_second j) in
+      rw e (then_or_refused g (f (i.first ++ (i.second ++ rest))) (i.second ++ rest) rest a (k.each i.second rest i.is_second j));
 }
 
+-- the first of two ends there, unless it is refused; or the second does, where the first doesn't end
+pub first_or_refused : {X : Type 0} (x other : Ending X) (y : X) → EndsOrRefused x y → EndsOrRefused (or_else x other) y
+first_or_refused x other y (inl e) = rw e (inl refl)
+first_or_refused x other y (inr e) = rw e (inr refl)
+
+pub second_or_refused : {X : Type 0} (x other : Ending X) (y : X) → DoesNotEnd x → EndsOrRefused other y → EndsOrRefused (or_else x other) y
+second_or_refused (At z) other y n e = absurd n
+second_or_refused Nowhere other y n e = e
+second_or_refused Refused other y n e = inr refl
+
 -- a word of the first, or one of the second that the first leaves
-pub or-takes_each : {Tok : Type 0} (f g : Ender Tok) (P Q ff fg : List Tok → Type 0) → TakesEach f P ff → TakesEach g Q fg → ((w rest : List Tok) → Q w → fg rest → f (w ++ rest) ≡ Nowhere)
+pub or-takes_each : {Tok : Type 0} (f g : Ender Tok) (P Q ff fg : List Tok → Type 0) → TakesEach f P ff → TakesEach g Q fg → ((w rest : List Tok) → Q w → fg rest → DoesNotEnd (f (w ++ rest)))
     → TakesEach (either_ends f g) (λ w. P w ⊎ Q w) (λ rest. ff rest × fg rest)
 or-takes_each f g P Q ff fg h k c = record {
   each = λ w rest i j. elim i [
-    | inl p ↦ let e = h.each w rest p j.0 in rw e refl
-    | inr q ↦ let e = c w rest q j.1 in let d = k.each w rest q j.1 in rw e d
+    | inl p ↦ first_or_refused (f (w ++ rest)) (g (w ++ rest)) rest (h.each w rest p j.0)
+    | inr q ↦ second_or_refused (f (w ++ rest)) (g (w ++ rest)) rest (c w rest q j.1) (k.each w rest q j.1)
   ];
 }
 
--- a text that is taken whole is a word, and each word that nothing follows is taken whole
-nothing_left : {Tok : Type 0} (x : Ending (List Tok)) → TakesAll x → x ≡ At []
-nothing_left (At []) t = refl
-nothing_left (At (u ∷ us)) t = absurd t
-nothing_left Nowhere t = absurd t
-nothing_left Refused t = absurd t
+-- what is known never to be refused ends there
+pub ends-unless : {X : Type 0} {x : Ending X} {y : X} → EndsOrRefused x y → (x ≡ Refused → ⊥) → x ≡ At y
+ends-unless (inl e) n = e
+ends-unless (inr e) n = absurd (n e)
 
-pub whole-given : {Tok V : Type 0} (f : Ender Tok) (value of : List Tok → V → Type 0) → GivesOnly f value of → (ts : List Tok) (v : V) → TakesAll (f ts) → value ts v → of ts v
-whole-given f value of h ts v t i = let b = h.given ts [] v (nothing_left (f ts) t) i in let e : ts ≡ b.word = b.all ∙ append-nil b.word in subst (λ w. of w v) (sym e) b.is
-
-pub whole-taken : {Tok : Type 0} (f : Ender Tok) (P fits : List Tok → Type 0) → TakesEach f P fits → (ts : List Tok) → P ts → fits [] → TakesAll (f ts)
-whole-taken f P fits h ts p n =
-    let e : f (ts ++ []) ≡ At [] = h.each ts [] p n in
-    let d : ts ++ [] ≡ ts = append-nil ts in
-    let z : f ts ≡ At [] = ap f (sym d) ∙ e in
-    rw z tt
+-- a word that nothing follows is taken whole, unless it is refused
+pub whole-taken : {Tok : Type 0} (f : Ender Tok) (P fits : List Tok → Type 0) → TakesEach f P fits → (ts : List Tok) → P ts → fits [] → EndsOrRefused (f ts) []
+whole-taken f P fits h ts p n = subst (λ q. EndsOrRefused (f q) []) (append-nil ts) (h.each ts [] p n)
 
 -- a parser that takes words gives no token back
 pub keeps_tokens : {Tok : Type 0} (f : Ender Tok) (P : List Tok → Type 0) → TakesOnly f P → (ts rest : List Tok) → f ts ≡ At rest → length rest ≤ length ts
@@ -143,22 +149,18 @@ taken_word ts rest word e = subst (λ t. taken_of t rest ≡ word) (sym e) (let 
         lengths [] rest = omega arith
         lengths (w ∷ ws) rest = let k = lengths ws rest in omega (arith, k)
 
--- two words of one parser at the front of one text, each with a fitting rest, are one
-pub one_word : {Tok : Type 0} (f : Ender Tok) (P fits : List Tok → Type 0) → TakesEach f P fits → (w w' rest rest' : List Tok) → P w → P w' → fits rest → fits rest' → w ++ rest ≡ w' ++ rest'
-    → (w ≡ w') × (rest ≡ rest')
-one_word {Tok} f P fits h w w' rest rest' p p' i i' e =
-    let a : f (w ++ rest) ≡ At rest = h.each w rest p i in
-    let b : f (w' ++ rest') ≡ At rest' = h.each w' rest' p' i' in
-    let c : At rest ≡ At rest' = sym a ∙ ap f e ∙ b in
-    let r : rest ≡ rest' = cc c in
-    let x : taken_of (w ++ rest) rest ≡ w = taken_word (w ++ rest) rest w refl in
-    let y : taken_of (w' ++ rest') rest' ≡ w' = taken_word (w' ++ rest') rest' w' refl in
-    let z : taken_of (w ++ rest) rest ≡ taken_of (w' ++ rest') rest' = cc (e, r) in
-    (sym x ∙ z ∙ y, r)
+-- what takes only such words ends nowhere on a text that begins with none
+pub takes-none : {Tok : Type 0} {f : Ender Tok} {P : List Tok → Type 0} → TakesOnly f P → (ts : List Tok) → ((w rest : List Tok) → P w → ts ≡ w ++ rest → ⊥) → DoesNotEnd (f ts)
+takes-none {Tok} {f} {P} h ts n = by_end (f ts) refl
+  where
+    by_end : (x : Ending (List Tok)) → f ts ≡ x → DoesNotEnd x
+    by_end (At rest) e = let b = h.taken ts rest e in absurd (n b.word rest b.is b.all)
+    by_end Nowhere e = tt
+    by_end Refused e = tt
 
 -- nothing: it takes the empty word, whatever follows
 pub empty-takes_only : {Tok : Type 0} → TakesOnly {Tok = Tok} (λ ts. At ts) (λ w. w ≡ [])
 empty-takes_only = record { taken = λ ts rest e. let z : ts ≡ rest = cc e in record { word = []; all = z; is = refl } }
 
 pub empty-takes_each : {Tok : Type 0} → TakesEach {Tok = Tok} (λ ts. At ts) (λ w. w ≡ []) (λ rest. ⊤)
-empty-takes_each = record { each = λ w rest e i. rw e refl }
+empty-takes_each = record { each = λ w rest e i. rw e (inl refl) }

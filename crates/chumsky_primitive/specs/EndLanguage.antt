@@ -12,6 +12,7 @@ use Rattle.chumsky_input.specs.Outcome.{Beginning, Outcome}
 use Rattle.chumsky_parser.specs.Ending.{Ending, At, Nowhere, Refused, Ender, Within, IfValue, Answers, Reads}
 use Rattle.chumsky_parser.specs.EndingLaws.{refuses-by, misses-by}
 use Rattle.chumsky_parser.specs.Failure.{wanting}
+use Rattle.chumsky_parser.specs.FurtherLaws.{never-below}
 use Rattle.chumsky_parser.specs.Language.{Language, Accepts}
 use Rattle.chumsky_parser.specs.Memory.{SparesMemory, NeverOutOfMemory}
 use Rattle.chumsky_parser.specs.MemoryLaws.{misses-spares, given-spares}
@@ -44,7 +45,7 @@ end_language = record {
   stands_for = λ w _. w ≡ [];
   follow = λ rest. rest ≡ [];
   unambiguous = ⊤;
-  refuses = false;
+  refused_from = None;
   moves = false;
   takes_no_memory = ⊤;
 }
@@ -90,8 +91,8 @@ module _ {I Tok Sp Cu Er St Mk Cx : Type 0} (source : input_trait.Ghosts I Cu To
       reads = end-reads;
       only = record { taken = λ ts rest e. record { word = []; all = empty_before ts rest e; is = refl } };
       given = record { given = λ ts rest v e _. record { word = []; all = empty_before ts rest e; is = refl } };
-      each = λ _. record { each = λ w rest p f. rw (p, f) refl };
-      decided = λ _. never_refused;
+      each = λ _. record { each = λ w rest p f. rw (p, f) (inl refl) };
+      decided = never-below never_refused;
       further = λ m. absurd (cc m);
     };
     moving = λ m. absurd (cc m);

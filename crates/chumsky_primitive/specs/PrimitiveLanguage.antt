@@ -1,6 +1,6 @@
 -- The languages of primitives: of a token, of a fixed sequence, and of nothing.
 -- Main words: one_language, literal_language, nothing_language, some_token. Laws: PrimitiveLanguageLaws.antt. Read first: Language.antt, Words.antt.
-use Rattle.std.specs.Prelude.{◌≡◌, Bool, true, false, cond, List, [], ◌∷◌, ⊤}
+use Rattle.std.specs.Prelude.{◌≡◌, Bool, true, false, cond, None, List, [], ◌∷◌, ⊤}
 use Rattle.chumsky_parser.specs.Ending.{At, Nowhere, Ender}
 use Rattle.chumsky_parser.specs.Language.{Language, unsaid}
 use Rattle.chumsky_parser.specs.Words.{IsOne}
@@ -26,7 +26,7 @@ one_language test IsOf free = record {
   stands_for = λ w v. IsOne test (λ t. IsOf t v) w;
   follow = λ rest. ⊤;
   unambiguous = ⊤;
-  refuses = false;
+  refused_from = None;
   moves = true;
   takes_no_memory = free;
 }
@@ -54,7 +54,7 @@ literal_language equal members copies free = record {
   stands_for = λ w v. Equals equal members w × copies v;
   follow = λ rest. ⊤;
   unambiguous = ⊤;
-  refuses = false;
+  refused_from = None;
   moves = has_members members;
   takes_no_memory = free;
 }
@@ -69,7 +69,7 @@ nothing_language = record {
   stands_for = λ w v. w ≡ [];
   follow = λ rest. ⊤;
   unambiguous = ⊤;
-  refuses = false;
+  refused_from = None;
   moves = false;
   takes_no_memory = ⊤;
 }

@@ -12,6 +12,7 @@ use Rattle.chumsky_parser.specs.Copied.{GivesCopy}
 use Rattle.chumsky_parser.specs.Ending.{Ending, At, Nowhere, Refused, Ender, and_then, Ends, Within, IfValue, Answers, Reads}
 use Rattle.chumsky_parser.specs.EndingLaws.{refuses-by, misses-by, wanted_value, wanting_value, given-by, given-here, copy-by, second-by, same_ends-by, weaker-by}
 use Rattle.chumsky_parser.specs.Failure.{wanting}
+use Rattle.chumsky_parser.specs.FurtherLaws.{never-below}
 use Rattle.chumsky_parser.specs.Language.{Begins, TakesOnly, GivesOnly, TakesEach, EndsFurther, NeverRefused, Accepts}
 use Rattle.chumsky_parser.specs.Memory.{NeverOutOfMemory}
 use Rattle.chumsky_parser.specs.Progress.{Moves}
@@ -52,7 +53,7 @@ module _ {Tok V : Type 0} (test : Tok → Bool) (IsOf : Tok → V → Type 0) wh
       at_first (t ∷ ts) rest v e i = by_test t ts rest v (test t) i refl e
 
   one_each : TakesEach (one_ends test) (IsOne test (λ t. ⊤)) (λ rest. ⊤)
-  one_each = record { each = λ w rest i j. let p : test i.token ≡ true = i.passes in rw i.all (rw p refl) }
+  one_each = record { each = λ w rest i j. let p : test i.token ≡ true = i.passes in rw i.all (rw p (inl refl)) }
 
   one_decided : NeverRefused (one_ends test)
   one_decided [] e = absurd (cc e)
@@ -73,7 +74,7 @@ module _ {Tok V : Type 0} (test : Tok → Bool) (IsOf : Tok → V → Type 0) wh
   -- what reads one token that passes, with a value of it
   pub one-accepts : {Cx St Er spare free : Type 0} (m : Meaning Tok Cx St Er V) → Reads m (one_ends test) (λ ts v. OfFirst (λ t. IsOf t v) ts) → Moves m → (spare → free → NeverOutOfMemory m) → Accepts m (one_language test IsOf free) spare
   one-accepts m h k q = record {
-    described = λ s. record { reads = h; only = one_only; given = one_given; each = λ u. one_each; decided = λ d. one_decided; further = λ d. one_further };
+    described = λ s. record { reads = h; only = one_only; given = one_given; each = λ u. one_each; decided = never-below one_decided; further = λ d. one_further };
     moving = λ d. k;
     sparing = q;
   }
@@ -128,7 +129,7 @@ empty-accepts {Tok = Tok} {Er = Er} = record {
     only = empty-takes_only;
     given = record { given = λ ts rest v e i. empty-takes_only.taken ts rest e };
     each = λ u. empty-takes_each;
-    decided = λ d ts e. absurd (cc e);
+    decided = never-below (λ ts e. absurd (cc e));
     further = never;
   };
   moving = never;
@@ -235,8 +236,8 @@ module _ {I Tok Sp Cu Er St Mk Cx : Type 0} (source : input_trait.Ghosts I Cu To
         reads = just_reads;
         only = literal_only equal ms;
         given = to-gives_only (literal_ends equal ms) (Equals equal ms) (literal_only equal ms) copies;
-        each = λ u. record { each = λ w rest i j. literal_each equal ms w rest i };
-        decided = λ d. literal_decided equal ms;
+        each = λ u. record { each = λ w rest i j. inl (literal_each equal ms w rest i) };
+        decided = never-below (literal_decided equal ms);
         further = literal_further equal ms;
       };
       moving = just-moves source equal errors states copies safe ms;

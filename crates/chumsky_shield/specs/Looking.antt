@@ -44,6 +44,12 @@ IsThere x = Ends x (λ _. ⊤)
 abbrev pub MayBeThere : {Tok : Type 0} → Ender Tok → List Tok → Type 0
 MayBeThere {Tok} g w = (rest : List Tok) × IsThere (g (w ++ rest))
 
+-- it ends anywhere, unless it is refused
+abbrev pub EndsAnywhereOrRefused : {X : Type 0} → Ending X → Type 0
+EndsAnywhereOrRefused (At x) = ⊤
+EndsAnywhereOrRefused Nowhere = ⊥
+EndsAnywhereOrRefused Refused = ⊤
+
 -- whether the other ends where a word begins doesn't depend on what follows the word
 abbrev pub KnownByWord : {Tok : Type 0} → Ender Tok → (P follow : List Tok → Type 0) → Type 0
-KnownByWord {Tok} g P follow = (w rest other : List Tok) → P w → follow rest → IsThere (g (w ++ other)) → IsThere (g (w ++ rest))
+KnownByWord {Tok} g P follow = (w rest other : List Tok) → P w → follow rest → IsThere (g (w ++ other)) → EndsAnywhereOrRefused (g (w ++ rest))

@@ -1,9 +1,11 @@
 -- The words of parts that are only looked at.
 -- Main words: PartFollows, IsThere. Main laws: rewind-takes_each, not-takes_each, and_is-takes_only, and_is-takes_each. Read first: Looking.antt, Language.antt.
-use Rattle.std.proofs.Common.{◌≡◌, Bool, true, false, ◌||◌, List, [], ◌++◌, refl, sym, subst}
-use Rattle.chumsky_parser.specs.Ending.{Ending, At, Nowhere, Refused, Ender, and_then}
-use Rattle.chumsky_parser.specs.Language.{TakesOnly, GivesOnly, TakesEach, EndsFurther, NeverRefused}
-use Rattle.chumsky_shield.specs.Looking.{back, unless, there_too, rewind_ends, not_ends, and_is_ends, PartFollows, IsThere, MayBeThere, KnownByWord}
+use Rattle.std.proofs.Common.{◌≡◌, ℕ, Option, List, [], ◌++◌, length, refl, sym, subst, inl, inr}
+use Rattle.chumsky_parser.specs.Ending.{Ending, At, Nowhere, Refused, Ender, and_then, EndsOrRefused, DoesNotEnd}
+use Rattle.chumsky_parser.specs.Language.{TakesOnly, GivesOnly, TakesEach, EndsFurther, NeverRefusedBelow, IsBelow, sooner}
+use Rattle.chumsky_parser.specs.FurtherLaws.{sooner-below}
+use Rattle.chumsky_parser.specs.WordsLaws.{then_or_refused}
+use Rattle.chumsky_shield.specs.Looking.{back, unless, there_too, rewind_ends, not_ends, and_is_ends, PartFollows, IsThere, EndsAnywhereOrRefused, MayBeThere, KnownByWord}
 
 back-at : {X : Type 0} (s r : X) (x : Ending X) → back s x ≡ At r → (s ≡ r) × ((y : X) × (x ≡ At y))
 back-at s r (At y) e = (cc e, (y, refl))
@@ -28,10 +30,19 @@ unless-refused s Refused e = refl
 there-is : {X : Type 0} (x : Ending X) (y : X) → x ≡ At y → IsThere x
 there-is x y e = rw e tt
 
-is-there : {X : Type 0} (x : Ending X) → IsThere x → (y : X) × (x ≡ At y)
-is-there (At y) i = (y, refl)
-is-there Nowhere i = absurd i
-is-there Refused i = absurd i
+there-too : {X : Type 0} (x : Ending X) (y : X) → EndsAnywhereOrRefused x → EndsOrRefused (there_too x y) y
+there-too (At z) y i = inl refl
+there-too Nowhere y i = absurd i
+there-too Refused y i = inr refl
+
+back-there : {X : Type 0} (s : X) (x : Ending X) (y : X) → EndsOrRefused x y → EndsOrRefused (back s x) s
+back-there s x y (inl e) = rw e (inl refl)
+back-there s x y (inr e) = rw e (inr refl)
+
+unless-there : {X : Type 0} (s : X) (x : Ending X) → DoesNotEnd x → EndsOrRefused (unless s x) s
+unless-there s (At y) n = absurd n
+unless-there s Nowhere n = inl refl
+unless-there s Refused n = inr refl
 
 module _ {Tok V : Type 0} (f : Ender Tok) (value of : List Tok → V → Type 0) (P follow : List Tok → Type 0) where
   pub rewind-takes_only : TakesOnly (rewind_ends f) (λ w. w ≡ [])
@@ -49,13 +60,12 @@ module _ {Tok V : Type 0} (f : Ender Tok) (value of : List Tok → V → Type 0)
   pub rewind-takes_each : TakesEach f P follow → TakesEach (rewind_ends f) (λ w. w ≡ []) (PartFollows P follow)
   rewind-takes_each h = record {
     each = λ w rest e k.
-        let d : f rest ≡ At k.rest = subst (λ ts. f ts ≡ At k.rest) (sym k.begins.all) (h.each k.begins.word k.rest k.begins.is k.fits) in
-        let y : back rest (f rest) ≡ At rest = rw d refl in
-        subst (λ u. back (u ++ rest) (f (u ++ rest)) ≡ At rest) (sym e) y;
+        let d : EndsOrRefused (f rest) k.rest = subst (λ ts. EndsOrRefused (f ts) k.rest) (sym k.begins.all) (h.each k.begins.word k.rest k.begins.is k.fits) in
+        rw e (back-there rest (f rest) k.rest d);
   }
 
-  pub rewind-decided : (r : Bool) → (r ≡ false → NeverRefused f) → r ≡ false → NeverRefused (rewind_ends f)
-  rewind-decided r h e ts d = h e ts (back-refused ts (f ts) d)
+  pub rewind-decided : (n : Option ℕ) → NeverRefusedBelow n f → NeverRefusedBelow n (rewind_ends f)
+  rewind-decided n h ts i d = h ts i (back-refused ts (f ts) d)
 
 module _ {Tok : Type 0} (f : Ender Tok) where
   pub not-takes_only : TakesOnly (not_ends f) (λ w. w ≡ [])
@@ -64,11 +74,11 @@ module _ {Tok : Type 0} (f : Ender Tok) where
   pub not-gives_only : GivesOnly (not_ends f) (λ ts (u : Unit {0}). f ts ≡ Nowhere) (λ w u. w ≡ [])
   not-gives_only = record { given = λ ts rest u e i. let b = unless-at ts rest (f ts) e in record { word = []; all = b.0; is = refl } }
 
-  pub not-takes_each : TakesEach (not_ends f) (λ w. w ≡ []) (λ rest. f rest ≡ Nowhere)
-  not-takes_each = record { each = λ w rest e k. rw (e, k) refl }
+  pub not-takes_each : TakesEach (not_ends f) (λ w. w ≡ []) (λ rest. DoesNotEnd (f rest))
+  not-takes_each = record { each = λ w rest e k. rw e (unless-there rest (f rest) k) }
 
-  pub not-decided : (r : Bool) → (r ≡ false → NeverRefused f) → r ≡ false → NeverRefused (not_ends f)
-  not-decided r h e ts d = h e ts (unless-refused ts (f ts) d)
+  pub not-decided : (n : Option ℕ) → NeverRefusedBelow n f → NeverRefusedBelow n (not_ends f)
+  not-decided n h ts i d = h ts i (unless-refused ts (f ts) d)
 
 module _ {Tok V : Type 0} (f g : Ender Tok) (value of : List Tok → V → Type 0) (P follow : List Tok → Type 0) where
   both-at : (ts rest : List Tok) → and_is_ends f g ts ≡ At rest → (f ts ≡ At rest) × IsThere (g ts)
@@ -102,21 +112,16 @@ module _ {Tok V : Type 0} (f g : Ender Tok) (value of : List Tok → V → Type 
 
   pub and_is-takes_each : TakesEach f P follow → KnownByWord g P follow → TakesEach (and_is_ends f g) (λ w. P w × MayBeThere g w) follow
   and_is-takes_each h known = record {
-    each = λ w rest p k.
-        let e : f (w ++ rest) ≡ At rest = h.each w rest p.0 k in
-        let t = is-there (g (w ++ rest)) (known w rest p.1.0 p.0 k p.1.1) in
-        let d : g (w ++ rest) ≡ At t.0 = t.1 in
-        rw (e, d) refl;
+    each = λ w rest p k. then_or_refused (λ r. there_too (g (w ++ rest)) r) (f (w ++ rest)) rest rest (h.each w rest p.0 k) (there-too (g (w ++ rest)) rest (known w rest p.1.0 p.0 k p.1.1));
   }
 
   pub and_is-further : EndsFurther f → EndsFurther (and_is_ends f g)
   and_is-further h ts rest e = h ts rest (both-at ts rest e).0
 
-  pub and_is-decided : (r s : Bool) → (r ≡ false → NeverRefused f) → (s ≡ false → NeverRefused g) → (r || s) ≡ false → NeverRefused (and_is_ends f g)
-  and_is-decided true s h k e ts d = absurd (cc e)
-  and_is-decided false s h k e ts d = by_first (f ts) refl d
+  pub and_is-decided : (m n : Option ℕ) → NeverRefusedBelow m f → NeverRefusedBelow n g → NeverRefusedBelow (sooner m n) (and_is_ends f g)
+  and_is-decided m n h k ts i d = let j = sooner-below m n (length ts) i in by_first j.0 j.1 (f ts) refl d
     where
-      by_first : (x : Ending (List Tok)) → f ts ≡ x → and_then (λ r. there_too (g ts) r) x ≡ Refused → ⊥
-      by_first (At r) q e' = k e ts (back-refused r (g ts) e')
-      by_first Nowhere q e' = cc e'
-      by_first Refused q e' = h refl ts q
+      by_first : IsBelow m (length ts) → IsBelow n (length ts) → (x : Ending (List Tok)) → f ts ≡ x → and_then (λ r. there_too (g ts) r) x ≡ Refused → ⊥
+      by_first i j (At r) q e' = k ts j (back-refused r (g ts) e')
+      by_first i j Nowhere q e' = cc e'
+      by_first i j Refused q e' = h ts i q

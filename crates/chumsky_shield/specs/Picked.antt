@@ -30,7 +30,7 @@ module _ {Tok U : Type 0} (picks : List Tok → Option U) where
     stands_for = λ w u. F.word w × (picks w ≡ Some u);
     follow = F.follow;
     unambiguous = F.unambiguous;
-    refuses = F.refuses;
+    refused_from = F.refused_from;
     moves = F.moves;
     takes_no_memory = F.takes_no_memory;
   }

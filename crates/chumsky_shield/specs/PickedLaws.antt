@@ -1,15 +1,15 @@
 -- The laws of the language of a part whose value is picked.
 -- Main law: picked-accepts. Read first: Picked.antt, ShieldedEndings.antt.
-use Rattle.std.proofs.Common.{◌≡◌, ◌≤◌, Bool, true, false, Option, Some, None, List, ◌++◌, length, drop, refl, sym, ◌∙◌, ap, subst}
+use Rattle.std.proofs.Common.{◌≡◌, ℕ, ◌≤◌, true, Option, Some, None, List, ◌++◌, length, drop, refl, sym, ◌∙◌, ap, subst, inl}
 use Rattle.chumsky_input.specs.declared.error.Error as error_trait
 use Rattle.chumsky_input.specs.declared.input.Input as input_trait
 use Rattle.chumsky_input.specs.Outcome.{Meaning, Beginning, Outcome}
 use Rattle.chumsky_parser.specs.Chained.{Asked}
 use Rattle.chumsky_parser.specs.Ending.{Ending, At, Nowhere, Refused, Ender, and_then, Ends, IfValue, Answers, Reads}
 use Rattle.chumsky_parser.specs.EndingLaws.{ends_there, asked-here, wanting_value}
-use Rattle.chumsky_parser.specs.Language.{TakesOnly, GivesOnly, TakesEach, EndsFurther, NeverRefused, Language, Accepts}
+use Rattle.chumsky_parser.specs.Language.{TakesOnly, GivesOnly, TakesEach, EndsFurther, NeverRefusedBelow, Language, Accepts}
 use Rattle.chumsky_parser.specs.Words.{taken_of}
-use Rattle.chumsky_parser.specs.WordsLaws.{ends_at, taken_word}
+use Rattle.chumsky_parser.specs.WordsLaws.{ends_at, then_or_refused, taken_word}
 use Rattle.chumsky_shield.specs.Picked.{if_picked, IsPick, picked_ends, picked_language, PicksByWord}
 use Rattle.chumsky_shield.specs.Shielded.{NoAsOne}
 use Rattle.chumsky_shield.specs.ShieldedEndings.{or_clash-by, or_lacks-by, shielded-here}
@@ -43,13 +43,13 @@ module _ {Tok U : Type 0} (picks : List Tok → Option U) where
         by_part Nowhere d = absurd (cc d)
         by_part Refused d = absurd (cc d)
 
-    pub picked-decided : (c : Bool) → (c ≡ false → NeverRefused f) → c ≡ false → NeverRefused (picked_ends picks f)
-    picked-decided c h e ts d = by_part (f ts) refl d
+    pub picked-decided : (n : Option ℕ) → NeverRefusedBelow n f → NeverRefusedBelow n (picked_ends picks f)
+    picked-decided n h ts i d = by_part (f ts) refl d
       where
         by_part : (x : Ending (List Tok)) → f ts ≡ x → and_then (λ r. if_picked (picks (taken_of ts r)) r) x ≡ Refused → ⊥
         by_part (At r) q d' = if_picked-refused (picks (taken_of ts r)) r d'
         by_part Nowhere q d' = cc d'
-        by_part Refused q d' = h e ts q
+        by_part Refused q d' = h ts i q
 
     pub picked-further : EndsFurther f → EndsFurther (picked_ends picks f)
     picked-further h ts rest e = h ts rest (picked-at ts rest e).0
@@ -75,11 +75,10 @@ module _ {Tok U : Type 0} (picks : List Tok → Option U) where
       pub picked-takes_each : TakesEach f P follow → TakesEach (picked_ends picks f) (λ w. P w × IsPick (picks w)) follow
       picked-takes_each h = record {
         each = λ w rest p k.
-            let e : f (w ++ rest) ≡ At rest = h.each w rest p.0 k in
             let q : taken_of (w ++ rest) rest ≡ w = taken_word (w ++ rest) rest w refl in
             let i : IsPick (picks (taken_of (w ++ rest) rest)) = subst (λ z. IsPick (picks z)) (sym q) p.1 in
             let d : if_picked (picks (taken_of (w ++ rest) rest)) rest ≡ At rest = pick-there (picks (taken_of (w ++ rest) rest)) rest i in
-            rw e d;
+            then_or_refused (λ r. if_picked (picks (taken_of (w ++ rest) r)) r) (f (w ++ rest)) rest rest (h.each w rest p.0 k) (inl d);
       }
 
 module _ {I Tok Sp Cu Er Cx St V U : Type 0} (source : input_trait.Ghosts I Cu Tok Sp) (errors : error_trait.Ghosts Er I Tok Sp) (part : Meaning Tok Cx St errors.Seen V) (gives : V → Option U → Type 0) (picks : List Tok → Option U) where
@@ -141,7 +140,7 @@ module _ {I Tok Sp Cu Er Cx St V U : Type 0} (source : input_trait.Ghosts I Cu T
           only = picked-takes_only picks F.ends F.word F.follow d.only;
           given = picked-gives_only picks F.ends F.word F.follow d.only;
           each = λ u. picked-takes_each picks F.ends F.word F.follow (d.each u);
-          decided = picked-decided picks F.ends F.refuses d.decided;
+          decided = picked-decided picks F.ends F.refused_from d.decided;
           further = λ m. picked-further picks F.ends (d.further m);
         };
     moving = λ e. vetted-moves errors.merged errors.takes_no_memory (ByPick source errors gives) part (h.moving e);

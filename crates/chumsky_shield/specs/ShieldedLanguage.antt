@@ -1,13 +1,13 @@
 -- The languages of what is judged or looked at.
 -- Main words: same_but, looked_language, not_language, and_is_language. Laws: map_err-accepts, rewind-accepts, not-accepts, and_is-accepts, vetted-accepts. Read first: Language.antt, Looking.antt.
-use Rattle.std.proofs.Common.{◌≡◌, false, ◌&&◌, ◌||◌, List, []}
+use Rattle.std.proofs.Common.{◌≡◌, false, ◌&&◌, List, []}
 use Rattle.std.specs.Prelude.{⊤}
 use Rattle.chumsky_input.specs.declared.error.Error as error_trait
 use Rattle.chumsky_input.specs.declared.inspector.Inspector as inspector_trait
 use Rattle.chumsky_input.specs.declared.input.Input as input_trait
 use Rattle.chumsky_input.specs.Outcome.{Meaning}
-use Rattle.chumsky_parser.specs.Ending.{Nowhere, Reads}
-use Rattle.chumsky_parser.specs.Language.{Language, Accepts, unsaid}
+use Rattle.chumsky_parser.specs.Ending.{Nowhere, DoesNotEnd, Reads}
+use Rattle.chumsky_parser.specs.Language.{Language, Accepts, sooner, unsaid}
 use Rattle.chumsky_parser.specs.Memory.{NeverOutOfMemory}
 use Rattle.chumsky_parser.specs.Progress.{Moves}
 use Rattle.chumsky_parser.specs.ProgressLaws.{both-true}
@@ -35,12 +35,12 @@ rewind_language {Tok} F = record {
   stands_for = λ w v. (w ≡ []) × ((u : List Tok) × F.stands_for u v);
   follow = PartFollows F.word F.follow;
   unambiguous = F.unambiguous;
-  refuses = F.refuses;
+  refused_from = F.refused_from;
   moves = false;
   takes_no_memory = F.takes_no_memory;
 }
 
--- the empty word, where the part fails on what follows
+-- the empty word, where the part does not end on what follows
 abbrev pub not_language : {Tok V : Type 0} → Language Tok V → Language Tok (Unit {0})
 not_language F = record {
   said = F.said;
@@ -48,9 +48,9 @@ not_language F = record {
   value = λ ts _. F.ends ts ≡ Nowhere;
   word = λ w. w ≡ [];
   stands_for = λ w _. w ≡ [];
-  follow = λ rest. F.ends rest ≡ Nowhere;
+  follow = λ rest. DoesNotEnd (F.ends rest);
   unambiguous = ⊤;
-  refuses = F.refuses;
+  refused_from = F.refused_from;
   moves = false;
   takes_no_memory = F.takes_no_memory;
 }
@@ -65,7 +65,7 @@ and_is_language F G = record {
   stands_for = λ w v. F.stands_for w v × MayBeThere G.ends w;
   follow = F.follow;
   unambiguous = F.unambiguous × KnownByWord G.ends F.word F.follow;
-  refuses = F.refuses || G.refuses;
+  refused_from = sooner F.refused_from G.refused_from;
   moves = F.moves;
   takes_no_memory = F.takes_no_memory × G.takes_no_memory;
 }
@@ -93,7 +93,7 @@ module _ {Tok Cx St Er V : Type 0} (merged : Er → Er → Er) (part : Meaning T
           only = rewind-takes_only F.ends F.value F.stands_for F.word F.follow;
           given = rewind-gives_only F.ends F.value F.stands_for F.word F.follow d.given;
           each = λ u. rewind-takes_each F.ends F.value F.stands_for F.word F.follow (d.each u);
-          decided = rewind-decided F.ends F.value F.stands_for F.word F.follow F.refuses d.decided;
+          decided = rewind-decided F.ends F.value F.stands_for F.word F.follow F.refused_from d.decided;
           further = λ e. absurd (cc e);
         };
     moving = λ e. absurd (cc e);
@@ -111,7 +111,7 @@ module _ {I Tok Sp Cu Er St Mk Cx V : Type 0} (source : input_trait.Ghosts I Cu 
           only = not-takes_only F.ends;
           given = not-gives_only F.ends;
           each = λ u. not-takes_each F.ends;
-          decided = not-decided F.ends F.refuses d.decided;
+          decided = not-decided F.ends F.refused_from d.decided;
           further = λ e. absurd (cc e);
         };
     moving = λ e. absurd (cc e);
@@ -131,7 +131,7 @@ module _ {Tok Cx St Mk Er V W : Type 0} (mark : St → Mk) (goes_back : St → M
           only = and_is-takes_only F.ends G.ends F.value F.stands_for F.word F.follow d.only;
           given = and_is-gives_only F.ends G.ends F.value F.stands_for F.word F.follow d.given;
           each = λ u. and_is-takes_each F.ends G.ends F.value F.stands_for F.word F.follow (d.each u.0) u.1;
-          decided = and_is-decided F.ends G.ends F.value F.stands_for F.word F.follow F.refuses G.refuses d.decided e.decided;
+          decided = and_is-decided F.ends G.ends F.value F.stands_for F.word F.follow F.refused_from G.refused_from d.decided e.decided;
           further = λ m. and_is-further F.ends G.ends F.value F.stands_for F.word F.follow (d.further m);
         };
     moving = λ e. and_is-moves mark goes_back safe part other (h.moving e);

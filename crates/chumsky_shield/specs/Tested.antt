@@ -38,7 +38,7 @@ module _ {Tok : Type 0} (tests : List Tok → Bool) where
     stands_for = λ w v. F.stands_for w v × (tests w ≡ true);
     follow = F.follow;
     unambiguous = F.unambiguous;
-    refuses = F.refuses;
+    refused_from = F.refused_from;
     moves = F.moves;
     takes_no_memory = F.takes_no_memory;
   }
@@ -132,7 +132,7 @@ module _ {I Tok Sp Cu Er Cx St V : Type 0} (source : input_trait.Ghosts I Cu Tok
           only = tested-takes_only tests F.ends F.word F.follow d.only;
           given = tested-gives_only tests F.ends F.word F.follow F.value F.stands_for d.given;
           each = λ u. tested-takes_each tests F.ends F.word F.follow (d.each u);
-          decided = picked-decided (passing tests) F.ends F.refuses d.decided;
+          decided = picked-decided (passing tests) F.ends F.refused_from d.decided;
           further = λ m. picked-further (passing tests) F.ends (d.further m);
         };
     moving = λ e. vetted-moves errors.merged errors.takes_no_memory (ByTest source errors gives) part (h.moving e);

@@ -1,6 +1,6 @@
 -- The languages of parsers of text: of runs, words, keywords, ends of lines, and of what is padded.
 -- Main words: run_language, word_language, keyword_language, newline_language, padded_language. Laws: TextLanguageLaws.antt. Read first: Leading.antt, and Language.antt, Words.antt, Slices.antt of chumsky_parser.
-use Rattle.std.specs.Prelude.{◌≡◌, ℕ, Bool, true, false, cond, List, [], ◌∷◌, length, drop, ⊤}
+use Rattle.std.specs.Prelude.{◌≡◌, ℕ, Bool, true, false, cond, None, List, [], ◌∷◌, length, drop, ⊤}
 use Rattle.chumsky_input.specs.Layout.{Layout}
 use Rattle.chumsky_parser.specs.Ending.{At, Nowhere, Ender}
 use Rattle.chumsky_parser.specs.Language.{Language}
@@ -70,7 +70,7 @@ front_language is ends front word follow moves = record {
   stands_for = λ w v. word w × IsSliceOf is w v;
   follow = follow;
   unambiguous = ⊤;
-  refuses = false;
+  refused_from = None;
   moves = moves;
   takes_no_memory = ⊤;
 }
@@ -102,7 +102,7 @@ skip_language test = record {
   stands_for = λ w v. AllPass test w;
   follow = StopsAt test;
   unambiguous = ⊤;
-  refuses = false;
+  refused_from = None;
   moves = false;
   takes_no_memory = ⊤;
 }

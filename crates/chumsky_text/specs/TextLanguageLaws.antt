@@ -14,6 +14,7 @@ use Rattle.chumsky_parser.specs.Chained.{Chained, Given, Asked, Follows, from}
 use Rattle.chumsky_parser.specs.Ending.{Ending, At, Nowhere, Refused, Ender, Within, IfValue, Answers, Reads}
 use Rattle.chumsky_parser.specs.EndingLaws.{refuses-by, misses-by, wanted_value}
 use Rattle.chumsky_parser.specs.Ignoring.{Between, IgnoringSecond}
+use Rattle.chumsky_parser.specs.FurtherLaws.{never-below}
 use Rattle.chumsky_parser.specs.Language.{Language, Begins, TakesOnly, GivesOnly, TakesEach, EndsFurther, NeverRefused, Accepts}
 use Rattle.chumsky_parser.specs.LanguageLaws.{fewer-accepts}
 use Rattle.chumsky_parser.specs.Memory.{SparesMemory, NeverOutOfMemory}
@@ -88,7 +89,7 @@ module _ {Tok W : Type 0} (is : Layout Tok → ℕ → ℕ → W → Type 0) (en
   front_accepts : {Cx St Er spare : Type 0} (m : Meaning Tok Cx St Er W) (follow : List Tok → Type 0) (moves : Bool) → Reads m ends (λ ts. IsSliceOf is (front ts)) → TakesEach ends word follow → NeverRefused ends → (moves ≡ true → EndsFurther ends) → (moves ≡ true → Moves m)
       → (spare → NeverOutOfMemory m) → Accepts m (front_language is ends front word follow moves) spare
   front_accepts m follow moves h k n f y q = record {
-    described = λ s. record { reads = h; only = front_only; given = front_given; each = λ u. k; decided = λ d. n; further = f };
+    described = λ s. record { reads = h; only = front_only; given = front_given; each = λ u. k; decided = never-below n; further = f };
     moving = y;
     sparing = λ x t. q x;
   }
@@ -138,7 +139,7 @@ module _ {I Tok Sp Cu Er St Mk Cx W : Type 0} (source : input_trait.Ghosts I Cu 
   run-accepts test what =
       front_accepts is (run_ends test) (leading test) (AllPass test) (λ ts rest e. (take_leading test ts, run_left ts rest e, leading_pass test ts)) _ (StopsAt test) false
       (record { here = λ b w o m. let xs : List Tok = drop b.start b.tokens.list in cut_by what b b (leading test xs) _ _ o (run_ends test xs) w refl (take_leading test xs) refl refl m.run })
-      (record { each = λ w rest i j. let e = leading_stops test w rest i j in rw e (ap (λ r. At r) (drop-append_seam w rest)) })
+      (record { each = λ w rest i j. let e = leading_stops test w rest i j in inl (rw e (ap (λ r. At r) (drop-append_seam w rest))) })
       (λ ts e. absurd (cc e)) never never (λ q b o m. cut_spares source errors q.0 what b.tokens m.run.value _ _ o m.run.outcome)
     where
       run_left : (ts rest : List Tok) → run_ends test ts ≡ At rest → drop (length (leading test ts)) ts ≡ rest
@@ -263,7 +264,7 @@ module _ {I Tok Sp Cu Er St Mk Cx W : Type 0} (source : input_trait.Ghosts I Cu 
         let ys : List Tok = drop (b.start + 1) b.tokens.list in
         let fits : take (suc (length (leading (goes_on t) ys))) (drop b.start b.tokens.list) ≡ t ∷ leading (goes_on t) ys = ap (λ z. take (suc (length (leading (goes_on t) ys))) z) e ∙ ap (λ z. t ∷ z) (take_leading (goes_on t) ys) in
         cut_by source is errors states (rest_what t) b (record b { start = b.start + 1; state = states.after b.state t }) (t ∷ leading (goes_on t) ys) _ _ o _ w refl fits (omega arith) (ap (λ z. At (drop (suc (length (leading (goes_on t) ys))) z)) (sym e)) m))
-        (record { each = λ w rest i j. word_each begins goes_on (λ w. true) w rest i refl j })
+        (record { each = λ w rest i j. inl (word_each begins goes_on (λ w. true) w rest i refl j) })
         (begun_decided begins front (λ w. true)) (λ d. begun_further begins front (λ w. true) (λ t ts. (leading (goes_on t) ts, refl))) (λ d. no_or-moves _ (word-moves source is errors states begins goes_on what rest_what))
         (λ q. begun_spares _ what q.0 (λ t from b o m. cut_spares source errors q.0 (rest_what t) b.tokens m.value _ _ o m.outcome))
 
@@ -280,7 +281,7 @@ module _ {I Tok Sp Cu Er St Mk Cx W : Type 0} (source : input_trait.Ghosts I Cu 
         let at : one_end (goes_on t) b.tokens (b.start + 1) ≡ b.start + length (t ∷ us) = omega (arith, n) in
         let fits : take (suc (length us)) (drop b.start b.tokens.list) ≡ t ∷ us = ap (λ z. take (suc (length us)) z) e ∙ ap (λ z. t ∷ z) (take_one (goes_on t) ys) in
         cut_by source is errors states [] b (record b { start = b.start + 1; state = states.after b.state t }) (t ∷ us) _ _ o _ w refl fits at (ap (λ z. At (drop (suc (length us)) z)) (sym e)) m))
-        (record { each = λ w rest i j. line_end_each begins goes_on w rest i j })
+        (record { each = λ w rest i j. inl (line_end_each begins goes_on w rest i j) })
         (begun_decided begins front (λ w. true)) (λ d. begun_further begins front (λ w. true) (λ t ts. (one_leading (goes_on t) ts, refl))) (λ d. no_or-moves _ (newline-moves source is errors states begins goes_on what))
         (λ q. begun_spares _ what q.0 (λ t from b o m. cut_spares source errors q.0 [] b.tokens m.value _ _ o m.outcome))
 
@@ -321,7 +322,7 @@ module _ {I Tok Sp Cu Er St Mk Cx W : Type 0} (source : input_trait.Ghosts I Cu 
           front_accepts is ends front (λ w. IsWord begins goes_on w × (spells w ≡ true))
           (λ ts rest e. let x = begun_taken begins front spells ts rest e in (word_fits goes_on ts, x.2, (word_is begins goes_on ts x.0, x.1))) _ (StopsAll goes_on) true
           (begun_reads source is errors states begins front spells what _ (λ b w t e o m. spelled_by b w t e o _ refl m))
-          (record { each = λ w rest i j. word_each begins goes_on spells w rest i.0 i.1 j })
+          (record { each = λ w rest i j. inl (word_each begins goes_on spells w rest i.0 i.1 j) })
           (begun_decided begins front spells) (λ d. begun_further begins front spells (λ t ts. (leading (goes_on t) ts, refl))) (λ d. no_or-moves _ (keyword-moves source is errors states spells begins goes_on what))
           (λ q. begun_spares _ what q.0 (λ t from b o m. spelled_spares q.0 _ (goes_on t) from b o m))
 
@@ -342,8 +343,8 @@ module _ {I Tok Sp Er St Mk Cx : Type 0} (errors : error_trait.Ghosts Er I Tok S
       reads = record { here = skip_here };
       only = skip_only;
       given = record { given = λ ts rest v e i. skip_only.taken ts rest e };
-      each = λ u. record { each = λ w rest i j. let e = leading_stops test w rest i j in rw e (ap (λ r. At r) (drop-append_seam w rest)) };
-      decided = λ d ts e. absurd (cc e);
+      each = λ u. record { each = λ w rest i j. let e = leading_stops test w rest i j in inl (rw e (ap (λ r. At r) (drop-append_seam w rest))) };
+      decided = never-below (λ ts e. absurd (cc e));
       further = never;
     };
     moving = never;

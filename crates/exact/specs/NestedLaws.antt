@@ -1,61 +1,74 @@
 -- The function that reads pairs accepts just these.
--- Main laws: pairs-sound, pairs-complete. Read first: Nested.antt.
-use Rattle.std.proofs.lemmas.List.{append-nil}
-use Rattle.std.proofs.lemmas.Bool.Decides.{nat_tests}
-use Rattle.std.proofs.Common.{◌≡◌, ℕ, zero, suc, Bool, true, false, nat_lt, ◌+◌, ◌<◌, ◌≤◌, List, [], ◌∷◌, ◌++◌, append_assoc, refl, sym, ◌∙◌, ap, arith, ◌⊎◌, inl, inr}
+-- Main laws: pairs-intended, pairs-complete. Read first: Nested.antt.
+use Rattle.std.proofs.Common.{◌≡◌, ℕ, zero, suc, true, Some, None, ◌<◌, List, [], ◌∷◌, ◌++◌, append_assoc, refl, ◌∙◌, ap, arith, inl, inr}
 use Rattle.std.specs.Prelude.{nat_eq}
-use Rattle.chumsky_parser.specs.Ending.{Ending, At, Refused}
-use Rattle.chumsky_parser.specs.Language.{Language}
+use Rattle.chumsky_parser.specs.Ending.{Ending, At, DoesNotEnd}
+use Rattle.chumsky_parser.specs.FurtherLaws.{both-below, behind-below}
+use Rattle.chumsky_parser.specs.Language.{Language, TakesOnly, IsBelow, sooner}
 use Rattle.chumsky_parser.specs.Words.{Joined}
+use Rattle.chumsky_parser.specs.WordsLaws.{takes-none}
 use Rattle.chumsky_primitive.specs.PrimitiveLanguage.{literal_language, Equals}
 use Rattle.chumsky_primitive.specs.Literals.{equals-same}
-use Rattle.chumsky_descent.specs.CallLanguage.{call_language}
-use Rattle.exact.specs.Nested.{nested, IsNested, pair_language}
+use Rattle.chumsky_descent.specs.CallLanguage.{call_language, IsIntended, KeepsIntended}
+use Rattle.exact.specs.Nested.{nested, IsNested, pairs, pair_language}
 
 module _ (copies other : ℕ → Type 0) (free freed : Type 0) where
-  abbrev pairs : ℕ → Language ℕ (Unit {0})
-  pairs = call_language (pair_language (literal_language nat_eq (91 ∷ []) copies free) (literal_language nat_eq (93 ∷ []) other freed))
+  abbrev opening : Language ℕ ℕ
+  opening = literal_language nat_eq (91 ∷ []) copies free
 
-  pub pairs-said : (limit : ℕ) → (pairs limit).said ≡ true
-  pairs-said zero = refl
-  pairs-said (suc limit) = rw (pairs-said limit) refl
+  abbrev closing : Language ℕ ℕ
+  closing = literal_language nat_eq (93 ∷ []) other freed
 
-  -- a word is pairs within one another
-  word_nested : (limit : ℕ) (w : List ℕ) → (pairs limit).word w → (n : ℕ) × (w ≡ nested n)
-  word_nested zero w j = absurd j
-  word_nested (suc limit) w j =
-      let o : j.first ≡ 91 ∷ [] = equals-same (91 ∷ []) j.first j.is_first in
-      let c : j.is_second.second ≡ 93 ∷ [] = equals-same (93 ∷ []) j.is_second.second j.is_second.is_second in
-      elim j.is_second.is_first [
-        | inl call ↦ let d = word_nested limit j.is_second.first call in (suc d.0, cc (j.all, o, j.is_second.all, c, d.1))
-        | inr none ↦ (zero, cc (j.all, o, j.is_second.all, c, none))
-      ]
+  abbrev grammar : Language ℕ (Unit {0}) → Language ℕ (Unit {0})
+  grammar = pair_language opening closing
 
-  -- they are taken under as many calls as they need
-  taken : (n limit : ℕ) (rest : List ℕ) → suc n < limit → (pairs limit).ends (nested n ++ rest) ≡ At rest
+  module _ (call : Language ℕ (Unit {0})) (depth : ℕ) (i : IsIntended pairs call depth) (only : TakesOnly call.ends pairs.word) where
+    is_pairs : (w : List ℕ) → (grammar call).word w → IsNested w tt
+    is_pairs w j =
+        let o : j.first ≡ 91 ∷ [] = equals-same (91 ∷ []) j.first j.is_first in
+        let c : j.is_second.second ≡ 93 ∷ [] = equals-same (93 ∷ []) j.is_second.second j.is_second.is_second in
+        elim j.is_second.is_first [
+          | inl k ↦ let d = i.only j.is_second.first k in record { around = suc d.around; is = cc (j.all, o, j.is_second.all, c, d.is) }
+          | inr none ↦ record { around = zero; is = cc (j.all, o, j.is_second.all, c, none) }
+        ]
+
+    is_word : (w : List ℕ) (n : ℕ) → w ≡ nested n → (grammar call).word w
+    is_word w zero e = record { first = 91 ∷ []; second = 93 ∷ []; all = e; is_first = (refl, tt); is_second = record { first = []; second = 93 ∷ []; all = refl; is_first = inr refl; is_second = (refl, tt) } }
+    is_word w (suc n) e = record {
+      first = 91 ∷ [];
+      second = nested n ++ (93 ∷ []);
+      all = e;
+      is_first = (refl, tt);
+      is_second = record { first = nested n; second = 93 ∷ []; all = refl; is_first = inl (i.each (nested n) (record { around = n; is = refl })); is_second = (refl, tt) };
+    }
+
+    opens : (n : ℕ) (w rest ts : List ℕ) → w ≡ nested n → 93 ∷ ts ≡ w ++ rest → ⊥
+    opens zero w rest ts e d = let z : 93 ∷ ts ≡ nested zero ++ rest = d ∙ ap (λ u. u ++ rest) e in absurd (cc z)
+    opens (suc n) w rest ts e d = let z : 93 ∷ ts ≡ nested (suc n) ++ rest = d ∙ ap (λ u. u ++ rest) e in absurd (cc z)
+
+    -- no pair begins with a bracket that closes
+    none_inside : (w rest : List ℕ) → Equals nat_eq (93 ∷ []) w → DoesNotEnd (call.ends (w ++ rest))
+    none_inside w rest j = let e : w ≡ 93 ∷ [] = equals-same (93 ∷ []) w j in rw e (takes-none only (93 ∷ rest) (λ u left p d. opens p.around u left rest p.is d))
+
+    kept : IsIntended pairs (grammar call) (suc depth)
+    kept = record {
+      said = rw i.said refl;
+      moves = λ e. refl;
+      only = is_pairs;
+      given = λ w v j. let d = is_pairs w j in record { around = d.around; is = d.is };
+      each = λ w j. is_word w j.around j.is;
+      follows = λ rest f. tt;
+      unambiguous = (tt, (i.unambiguous, tt, λ w rest j f. (i.follows (w ++ rest) tt, none_inside w rest j)), λ w rest j f. tt);
+      refused = behind-below (sooner call.refused_from None) depth (λ k l. both-below call.refused_from None k (i.refused k l) tt);
+    }
+
+  -- the function has the language that is intended
+  pub pairs-intended : KeepsIntended pairs grammar
+  pairs-intended call depth i only = kept call depth i only
+
+  -- pairs are taken under as many calls as they need
+  taken : (n limit : ℕ) (rest : List ℕ) → suc n < limit → (call_language pairs grammar limit).ends (nested n ++ rest) ≡ At rest
   taken n zero rest l = absurd (omega (arith, l))
   taken zero (suc zero) rest l = absurd (omega (arith, l))
   taken zero (suc (suc limit)) rest l = refl
   taken (suc n) (suc limit) rest l = rw (append_assoc (nested n) (93 ∷ []) rest, taken n limit (93 ∷ rest) (omega (arith, l))) refl
-
-  -- and are refused under fewer
-  refused : (n limit : ℕ) (rest : List ℕ) → limit ≤ suc n → (pairs limit).ends (nested n ++ rest) ≡ Refused
-  refused n zero rest l = refl
-  refused zero (suc zero) rest l = refl
-  refused zero (suc (suc limit)) rest l = absurd (omega (arith, l))
-  refused (suc n) (suc limit) rest l = rw (append_assoc (nested n) (93 ∷ []) rest, refused n limit (93 ∷ rest) (omega (arith, l))) refl
-
-  -- a text that is taken whole is pairs that the limit suffices for
-  pub pairs-sound : (limit : ℕ) (cs : List ℕ) → (pairs limit).ends cs ≡ At [] → (pairs limit).word cs → (v : Unit {0}) → IsNested limit cs v
-  pairs-sound limit cs e w v = let d = word_nested limit cs w in by_limit d.0 d.1 (nat_lt (suc d.0) limit) refl
-    where
-      by_limit : (n : ℕ) → cs ≡ nested n → (c : Bool) → nat_lt (suc n) limit ≡ c → IsNested limit cs v
-      by_limit n i true l = record { around = n; within = grind (arith, nat_tests); is = i }
-      by_limit n i false l =
-          let few : limit ≤ suc n = grind (arith, nat_tests) in
-          let r : (pairs limit).ends cs ≡ Refused = rw (i, sym (append-nil (nested n))) (refused n limit [] few) in
-          absurd (cc (e, r))
-
-  -- and these are taken whole
-  pub pairs-complete : (limit : ℕ) (cs : List ℕ) (v : Unit {0}) → IsNested limit cs v → (pairs limit).ends cs ≡ At []
-  pairs-complete limit cs v i = rw (i.is, sym (append-nil (nested i.around))) (taken i.around limit [] i.within)

@@ -1,12 +1,14 @@
 -- What a caller of `parse` makes of its answer where a text has one value alone: that value is given back.
 -- Main words: GivesBack. Main laws: gives_back-by_words. Read first: Accepted.antt of chumsky.
-use Rattle.std.proofs.Common.{◌≡◌, false, Option, Some, None, List, [], subst, inl, inr}
+use Rattle.std.proofs.Common.{◌≡◌, Option, Some, None, List, [], subst, inl, inr}
 use Rattle.std.specs.Prelude.{Result, Ok, Err}
 use Rattle.chumsky_input.specs.declared.stop.Stop.{Stop}
 use Rattle.chumsky_input.specs.declared.stop.Stop.TheVariants.{Memory}
 use Rattle.chumsky_parser.specs.Ending.{Ending, At}
 use Rattle.chumsky_parser.specs.Language.{Language}
+use Rattle.chumsky_parser.specs.WordsLaws.{ends-unless}
 use Rattle.chumsky_parser.specs.declared.result.ParseResult.{ParseResult}
+use Rattle.chumsky.specs.AcceptedLaws.{decided_by}
 use Rattle.chumsky.specs.Accepted.{FallsShort, AnswersText, IsOutputOf, IsAnswerOf}
 
 module _ {V X : Type 0} (of : V → X) (x : X) where
@@ -21,15 +23,15 @@ module _ {V X : Type 0} (of : V → X) (x : X) where
   GivesBack (Err s) = s ≡ Memory
 
 module _ {Tok V X Er : Type 0} {l : Language Tok V} {ts : List Tok} {spare : Type 0} {result : Result (ParseResult V Er) Stop} (of : V → X) (P : List Tok → X → Type 0) (a : AnswersText Some l ts spare result) where
-  given_back : (x : X) → l.refuses ≡ false → l.ends ts ≡ At [] → ((v : V) → l.stands_for ts v → of v ≡ x) → (r : Result (ParseResult V Er) Stop) → IsAnswerOf Some l ts r → GivesBack of x r
-  given_back x n e same (Ok parsed) i = by_output parsed.output i
+  given_back : (x : X) → l.ends ts ≡ At [] → ((v : V) → l.stands_for ts v → of v ≡ x) → (r : Result (ParseResult V Er) Stop) → IsAnswerOf Some l ts r → GivesBack of x r
+  given_back x e same (Ok parsed) i = by_output parsed.output i
     where
       by_output : (w : Option V) → IsOutputOf Some l ts w → IsOutput of x w
       by_output (Some v) i = same v i.2.1
       by_output None i = let f : FallsShort {Tok = Tok} (At []) = subst FallsShort e i in f
-  given_back x n e same (Err s) (inl m) = m
-  given_back x n e same (Err s) (inr r) = absurd (cc (n, r.0))
+  given_back x e same (Err s) (inl m) = m
+  given_back x e same (Err s) (inr r) = absurd (cc (e, r))
 
   -- of an unambiguous language, where a word stands for values with P alone, a text has one value with P, and is a word where it has one
-  pub gives_back-by_words : l.refuses ≡ false → l.unambiguous → l.follow [] → ((v : V) → l.word ts → l.stands_for ts v → P ts (of v)) → ((x y : X) → P ts x → P ts y → x ≡ y) → ((x : X) → P ts x → l.word ts) → (x : X) → P ts x → GivesBack of x result
-  gives_back-by_words n u f sound once complete x p = let w = complete x p in given_back x n (a.accepted u f w) (λ v s. once (of v) x (sound v w s) p) result a.output
+  pub gives_back-by_words : l.refused_from ≡ None → l.unambiguous → l.follow [] → ((v : V) → l.word ts → l.stands_for ts v → P ts (of v)) → ((x y : X) → P ts x → P ts y → x ≡ y) → ((x : X) → P ts x → l.word ts) → (x : X) → P ts x → GivesBack of x result
+  gives_back-by_words n u f sound once complete x p = let w = complete x p in given_back x (ends-unless (a.accepted u f w) (decided_by P a n)) (λ v s. once (of v) x (sound v w s) p) result a.output

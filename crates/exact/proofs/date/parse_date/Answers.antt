@@ -21,5 +21,5 @@ returns c =
     let a = rw (c.just.ensures, c.just-2.ensures, c.digits.ensures, c.digits-2.ensures, c.digits-3.ensures) at a2 in
     record {
       exact = exactly-by_words IsDate a refl ((((tt, tt, λ w rest h f. dash_stops w rest h), tt, λ w rest h f. tt), tt, λ w rest h f. dash_stops w rest h), tt, λ w rest h f. tt) (λ t. tt) (λ v w s. date-sound cs v s) (λ v i. date-complete cs v i);
-      answered = never_refuses-by_words IsDate a (search rules) (search rules) ((((tt, tt, λ w rest h f. dash_stops w rest h), tt, λ w rest h f. tt), tt, λ w rest h f. dash_stops w rest h), tt, λ w rest h f. tt) (λ t. tt) (λ v i. date-complete cs v i);
+      answered = never_refuses-by_words IsDate a (search rules) (search rules) refl ((((tt, tt, λ w rest h f. dash_stops w rest h), tt, λ w rest h f. tt), tt, λ w rest h f. dash_stops w rest h), tt, λ w rest h f. tt) (λ t. tt) (λ v i. date-complete cs v i);
     }

@@ -12,5 +12,5 @@ returns c =
     let a = rw ten at (c.parse.ensures.3.reads refl) in
     record {
       exact = exactly-by_words IsNumber a refl tt (λ t. tt) (λ v w s. number-sound cs v s) (λ v i. number-complete cs v i);
-      answered = never_refuses-by_words IsNumber a (search rules) (search rules) tt (λ t. tt) (λ v i. number-complete cs v i);
+      answered = never_refuses-by_words IsNumber a (search rules) (search rules) refl tt (λ t. tt) (λ v i. number-complete cs v i);
     }

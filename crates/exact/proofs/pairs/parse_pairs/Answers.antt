@@ -18,6 +18,6 @@ returns c =
     let parts = rw (p.first, p.second) at bounds in
     let a = rw (c.then_ignore.ensures.second, c.just.ensures, c.just-2.ensures, c.int.ensures) at parts in
     record {
-      exact = exactly-by_words HoldsPairs a refl (((tt, tt, λ w rest h f. eq_stops w rest h), tt, λ w rest h f. tt), tt, λ w rest h f. newline_stops w rest h, λ w rest h f. tt, λ z. never z) (λ t. tt, tt, refl, refl) (λ v w s. pairs-sound cs v s) (λ v i. pairs-complete cs (pairs_of v) i);
-      read_back = gives_back-by_words pairs_of IsPairs a refl (((tt, tt, λ w rest h f. eq_stops w rest h), tt, λ w rest h f. tt), tt, λ w rest h f. newline_stops w rest h, λ w rest h f. tt, λ z. never z) (λ t. tt, tt, refl, refl) (λ v w s. pairs-sound cs v s) (pairs-once cs) (pairs-complete cs);
+      exact = exactly-by_words HoldsPairs a refl (((tt, tt, λ w rest h f. eq_stops w rest h), tt, λ w rest h f. tt), tt, λ w rest h f. newline_stops w rest h, λ w rest h f. tt, λ z. never z) (λ t. tt, tt, tt, tt) (λ v w s. pairs-sound cs v s) (λ v i. pairs-complete cs (pairs_of v) i);
+      read_back = gives_back-by_words pairs_of IsPairs a refl (((tt, tt, λ w rest h f. eq_stops w rest h), tt, λ w rest h f. tt), tt, λ w rest h f. newline_stops w rest h, λ w rest h f. tt, λ z. never z) (λ t. tt, tt, tt, tt) (λ v w s. pairs-sound cs v s) (pairs-once cs) (pairs-complete cs);
     }
