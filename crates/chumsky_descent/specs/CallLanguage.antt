@@ -6,8 +6,8 @@ use Rattle.chumsky_input.specs.declared.stop.Stop.TheVariants.{TooDeep}
 use Rattle.chumsky_input.specs.Outcome.{Meaning, Outcome, Verdict, Halt, EndsAfterStart}
 use Rattle.chumsky_combinator.specs.Part.{Onward}
 use Rattle.chumsky_combinator.specs.PartLaws.{onward-ends}
-use Rattle.chumsky_parser.specs.Ending.{Ending, Refused, Answers}
-use Rattle.chumsky_parser.specs.Language.{Language, Described, Accepts, TakesOnly, IsBelow, unsaid, of_unsaid}
+use Rattle.chumsky_parser.specs.Ending.{Ending, Refused, Answers, DoesNotEnd}
+use Rattle.chumsky_parser.specs.Language.{Language, Described, Accepts, IsBelow, unsaid, of_unsaid}
 use Rattle.chumsky_moves.specs.PartsMove.{onward-moves}
 use Rattle.chumsky_descent.specs.CallLaws.{call-ends}
 use Rattle.chumsky_descent.specs.Calls.{Body, IsTooDeep, CallOf, KeepsLanguage, Intended, Said, Nothing, Means, Steady, Exact, Together, DoesCall}
@@ -35,7 +35,7 @@ module _ {Tok V : Type 0} (intended : Intended Tok V) where
   call_language grammar (suc depth) = grammar (call_language grammar depth)
 
   -- a language is as intended, and no text of fewer tokens than the depth is refused: its words are those, with these values;
-  -- what may follow them may; it is unambiguous; and it moves where that is intended
+  -- what may follow them may; it is unambiguous; it ends nowhere on those texts; and it moves where that is intended
   pub record IsIntended (l : Language Tok V) (depth : ℕ) : Type 0 where
     pub said : l.said ≡ true
     pub moves : intended.moves ≡ true → l.moves ≡ true
@@ -43,12 +43,28 @@ module _ {Tok V : Type 0} (intended : Intended Tok V) where
     pub given : (w : List Tok) (v : V) → l.stands_for w v → intended.stands_for w v
     pub each : (w : List Tok) → intended.word w → l.word w
     pub follows : (rest : List Tok) → intended.follow rest → l.follow rest
+    pub fails : (ts : List Tok) → intended.fails ts → DoesNotEnd (l.ends ts)
     pub unambiguous : l.unambiguous
     pub refused : (k : ℕ) → k < depth → IsBelow l.refused_from k
 
-  -- the body makes of a language that is as intended one that is, where a call takes only such words
+  -- the body makes of a language that is as intended one that is
   abbrev pub KeepsIntended : (Language Tok V → Language Tok V) → Type 1
-  KeepsIntended grammar = (call : Language Tok V) (depth : ℕ) → IsIntended call depth → TakesOnly call.ends intended.word → IsIntended (grammar call) (suc depth)
+  KeepsIntended grammar = (call : Language Tok V) (depth : ℕ) → IsIntended call depth → IsIntended (grammar call) (suc depth)
+
+  -- so a call under any depth is as intended
+  pub call-is_intended : (grammar : Language Tok V → Language Tok V) → KeepsIntended grammar → (depth : ℕ) → IsIntended (call_language grammar depth) depth
+  call-is_intended grammar step zero = record {
+    said = refl;
+    moves = λ e. refl;
+    only = λ w i. i;
+    given = λ w v i. i;
+    each = λ w i. i;
+    follows = λ rest i. i;
+    fails = λ ts i. tt;
+    unambiguous = tt;
+    refused = λ k l. omega (arith, l);
+  }
+  call-is_intended grammar step (suc depth) = step (call_language grammar depth) depth (call-is_intended grammar step depth)
 
 module _ {Tok Cx St Er V : Type 0} {spare : Type 0} where
   too_deep-accepts : (intended : Intended Tok V) → Accepts (Onward (IsTooDeep {Tok = Tok} {Cx = Cx} {St = St} {Er = Er} {V = V})) (too_deep intended) spare
@@ -83,17 +99,6 @@ module _ {Tok Cx St Er V : Type 0} {spare : Type 0} where
   pub call-accepts : (body : Body Tok Cx St Er V) (intended : Intended Tok V) (grammar : Language Tok V → Language Tok V) → KeepsLanguage spare body grammar → (depth : ℕ) → Accepts (CallOf body depth) (call_language intended grammar depth) spare
   call-accepts body intended grammar keeps zero = too_deep-accepts intended
   call-accepts body intended grammar keeps (suc depth) = onward-accepts _ _ (keeps depth (call_language intended grammar depth) (call-ends body depth) (call-accepts body intended grammar keeps depth))
-
-  -- a call of a function whose body keeps its intended language has it
-  module _ (body : Body Tok Cx St Er V) (intended : Intended Tok V) (grammar : Language Tok V → Language Tok V) (keeps : KeepsLanguage spare body grammar) (step : KeepsIntended intended grammar) where
-    call_takes_only : (depth : ℕ) → IsIntended intended (call_language intended grammar depth) depth → TakesOnly (call_language intended grammar depth).ends intended.word
-    call_takes_only depth i = record {
-      taken = λ ts rest e. let b = ((call-accepts body intended grammar keeps depth).described i.said).only.taken ts rest e in record { word = b.word; all = b.all; is = i.only b.word b.is };
-    }
-
-    pub call-is_intended : (depth : ℕ) → IsIntended intended (call_language intended grammar depth) depth
-    call-is_intended zero = record { said = refl; moves = λ e. refl; only = λ w i. i; given = λ w v i. i; each = λ w i. i; follows = λ rest i. i; unambiguous = tt; refused = λ k l. omega (arith, l) }
-    call-is_intended (suc depth) = let i = call-is_intended depth in step (call_language intended grammar depth) depth i (call_takes_only depth i)
 
 module _ {Tok Cx St Er : Type 0} where
   -- the language of a call of a function of which this is said

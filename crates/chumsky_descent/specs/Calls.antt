@@ -54,11 +54,12 @@ module _ {Tok Cx St Er V : Type 0} where
   KeepsLanguage spare body grammar = (depth : ℕ) (call : Language Tok V) → EndsAfterStart (CallOf body depth) → Accepts (CallOf body depth) call spare → Accepts (body depth (CallOf body depth)) (grammar call) spare
 
 -- the language that a function is intended to have, under any depth: its words, the values that they stand for, and what may
--- follow them; and whether it takes a token wherever it succeeds
+-- follow them; texts on which it ends nowhere; and whether it takes a token wherever it succeeds
 pub record Intended (Tok V : Type 0) : Type 1 where
   pub word : List Tok → Type 0
   pub stands_for : List Tok → V → Type 0
   pub follow : List Tok → Type 0
+  pub fails : List Tok → Type 0
   pub moves : Bool
 
 -- what is said of a function: nothing; what its body may do; that it is steady too, with the outputs that count as the same; the

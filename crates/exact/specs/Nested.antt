@@ -1,6 +1,6 @@
 -- Pairs of brackets within one another, and the language of the function that reads them.
 -- Main words: IsNested, IsTooDeep, pair_language. Laws: NestedLaws.antt.
-use Rattle.std.specs.Prelude.{◌≡◌, ℕ, zero, suc, ◌<◌, true, List, [], ◌∷◌, ◌++◌, ⊤}
+use Rattle.std.specs.Prelude.{◌≡◌, ℕ, zero, suc, ◌<◌, nat_eq, true, false, List, [], ◌∷◌, ◌++◌, ⊤}
 use Rattle.chumsky_parser.specs.Language.{Language}
 use Rattle.chumsky_parser.specs.SequenceLanguage.{between_language}
 use Rattle.chumsky_combinator.specs.MappedLanguage.{ignored_language}
@@ -21,9 +21,14 @@ pub record IsNested (cs : List ℕ) (value : Unit {0}) : Type 0 where
 abbrev pub IsTooDeep : ℕ → List ℕ → Type 0
 IsTooDeep limit cs = (around : ℕ) → suc around < limit → cs ≡ nested around → ⊥
 
+-- the first, if there is one, does not open a pair
+abbrev pub OpensNone : List ℕ → Type 0
+OpensNone [] = ⊤
+OpensNone (c ∷ cs) = nat_eq 91 c ≡ false
+
 -- these are the words of the function, whatever follows
 abbrev pub pairs : Intended ℕ (Unit {0})
-pairs = record { word = λ w. IsNested w tt; stands_for = IsNested; follow = λ rest. ⊤; moves = true }
+pairs = record { word = λ w. IsNested w tt; stands_for = IsNested; follow = λ rest. ⊤; fails = OpensNone; moves = true }
 
 -- `call.or_not().delimited_by(just('['), just(']')).ignored()`
 abbrev pub pair_language : Language ℕ ℕ → Language ℕ ℕ → Language ℕ (Unit {0}) → Language ℕ (Unit {0})

@@ -1,16 +1,16 @@
 -- The function that reads pairs accepts just these.
--- Main laws: pairs-intended, pairs-complete. Read first: Nested.antt.
-use Rattle.std.proofs.Common.{◌≡◌, ℕ, zero, suc, true, Some, None, ◌<◌, List, [], ◌∷◌, ◌++◌, append_assoc, refl, ◌∙◌, ap, arith, inl, inr}
+-- Main laws: pairs-intended, pairs-refused. Read first: Nested.antt.
+use Rattle.std.proofs.Common.{◌≡◌, ℕ, zero, suc, true, None, ◌<◌, List, [], ◌∷◌, ◌++◌, append_assoc, refl, sym, arith, inl, inr}
+use Rattle.std.proofs.lemmas.List.{append-nil}
 use Rattle.std.specs.Prelude.{nat_eq}
-use Rattle.chumsky_parser.specs.Ending.{Ending, At, DoesNotEnd}
+use Rattle.chumsky_parser.specs.Ending.{Ending, At, Refused, DoesNotEnd}
 use Rattle.chumsky_parser.specs.FurtherLaws.{both-below, behind-below}
-use Rattle.chumsky_parser.specs.Language.{Language, TakesOnly, IsBelow, sooner}
+use Rattle.chumsky_parser.specs.Language.{Language, sooner}
 use Rattle.chumsky_parser.specs.Words.{Joined}
-use Rattle.chumsky_parser.specs.WordsLaws.{takes-none}
 use Rattle.chumsky_primitive.specs.PrimitiveLanguage.{literal_language, Equals}
 use Rattle.chumsky_primitive.specs.Literals.{equals-same}
-use Rattle.chumsky_descent.specs.CallLanguage.{call_language, IsIntended, KeepsIntended}
-use Rattle.exact.specs.Nested.{nested, IsNested, pairs, pair_language}
+use Rattle.chumsky_descent.specs.CallLanguage.{call_language, IsIntended, call-is_intended}
+use Rattle.exact.specs.Nested.{nested, IsNested, IsTooDeep, OpensNone, pairs, pair_language}
 
 module _ (copies other : ℕ → Type 0) (free freed : Type 0) where
   abbrev opening : Language ℕ ℕ
@@ -22,7 +22,7 @@ module _ (copies other : ℕ → Type 0) (free freed : Type 0) where
   abbrev grammar : Language ℕ (Unit {0}) → Language ℕ (Unit {0})
   grammar = pair_language opening closing
 
-  module _ (call : Language ℕ (Unit {0})) (depth : ℕ) (i : IsIntended pairs call depth) (only : TakesOnly call.ends pairs.word) where
+  module _ (call : Language ℕ (Unit {0})) (depth : ℕ) (i : IsIntended pairs call depth) where
     is_pairs : (w : List ℕ) → (grammar call).word w → IsNested w tt
     is_pairs w j =
         let o : j.first ≡ 91 ∷ [] = equals-same (91 ∷ []) j.first j.is_first in
@@ -42,13 +42,13 @@ module _ (copies other : ℕ → Type 0) (free freed : Type 0) where
       is_second = record { first = nested n; second = 93 ∷ []; all = refl; is_first = inl (i.each (nested n) (record { around = n; is = refl })); is_second = (refl, tt) };
     }
 
-    opens : (n : ℕ) (w rest ts : List ℕ) → w ≡ nested n → 93 ∷ ts ≡ w ++ rest → ⊥
-    opens zero w rest ts e d = let z : 93 ∷ ts ≡ nested zero ++ rest = d ∙ ap (λ u. u ++ rest) e in absurd (cc z)
-    opens (suc n) w rest ts e d = let z : 93 ∷ ts ≡ nested (suc n) ++ rest = d ∙ ap (λ u. u ++ rest) e in absurd (cc z)
-
-    -- no pair begins with a bracket that closes
+    -- a bracket that closes opens none
     none_inside : (w rest : List ℕ) → Equals nat_eq (93 ∷ []) w → DoesNotEnd (call.ends (w ++ rest))
-    none_inside w rest j = let e : w ≡ 93 ∷ [] = equals-same (93 ∷ []) w j in rw e (takes-none only (93 ∷ rest) (λ u left p d. opens p.around u left rest p.is d))
+    none_inside w rest j = let e : w ≡ 93 ∷ [] = equals-same (93 ∷ []) w j in rw e (i.fails (93 ∷ rest) refl)
+
+    fails : (ts : List ℕ) → OpensNone ts → DoesNotEnd ((grammar call).ends ts)
+    fails [] n = tt
+    fails (c ∷ cs) n = rw n tt
 
     kept : IsIntended pairs (grammar call) (suc depth)
     kept = record {
@@ -58,13 +58,14 @@ module _ (copies other : ℕ → Type 0) (free freed : Type 0) where
       given = λ w v j. let d = is_pairs w j in record { around = d.around; is = d.is };
       each = λ w j. is_word w j.around j.is;
       follows = λ rest f. tt;
+      fails = fails;
       unambiguous = (tt, (i.unambiguous, tt, λ w rest j f. (i.follows (w ++ rest) tt, none_inside w rest j)), λ w rest j f. tt);
       refused = behind-below (sooner call.refused_from None) depth (λ k l. both-below call.refused_from None k (i.refused k l) tt);
     }
 
   -- the function has the language that is intended
-  pub pairs-intended : KeepsIntended pairs grammar
-  pairs-intended call depth i only = kept call depth i only
+  pub pairs-intended : (depth : ℕ) → IsIntended pairs (call_language pairs grammar depth) depth
+  pairs-intended = call-is_intended pairs grammar kept
 
   -- pairs are taken under as many calls as they need
   taken : (n limit : ℕ) (rest : List ℕ) → suc n < limit → (call_language pairs grammar limit).ends (nested n ++ rest) ≡ At rest
@@ -72,3 +73,9 @@ module _ (copies other : ℕ → Type 0) (free freed : Type 0) where
   taken zero (suc zero) rest l = absurd (omega (arith, l))
   taken zero (suc (suc limit)) rest l = refl
   taken (suc n) (suc limit) rest l = rw (append_assoc (nested n) (93 ∷ []) rest, taken n limit (93 ∷ rest) (omega (arith, l))) refl
+
+  -- so what is refused is too deep
+  pub pairs-refused : (limit : ℕ) (cs : List ℕ) → (call_language pairs grammar limit).ends cs ≡ Refused → IsTooDeep limit cs
+  pairs-refused limit cs r n l e =
+      let t : (call_language pairs grammar limit).ends cs ≡ At [] = rw (e, sym (append-nil (nested n))) (taken n limit [] l) in
+      absurd (cc (t, r))

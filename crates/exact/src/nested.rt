@@ -1,7 +1,7 @@
 //! Pairs of brackets within one another, by a function that calls itself.
 ghost use Rattle.std.specs.Str.{chars};
-ghost use Rattle.chumsky.specs.Accepted.{ExactlyWithin};
-ghost use Rattle.exact.specs.Nested.{IsNested};
+ghost use Rattle.chumsky.specs.Accepted.{ExactlyUnless};
+ghost use Rattle.exact.specs.Nested.{IsNested, IsTooDeep};
 
 use chumsky::combinator::run_part;
 use chumsky::extra::EmptyText;
@@ -30,7 +30,7 @@ impl<'src> Recursion<'src, &'src str, (), EmptyText> for OfPair {
     ghost use Rattle.chumsky_combinator.specs.MappedLanguage.{ignored-accepts};
     ghost use Rattle.chumsky_combinator.specs.OptionalLanguage.{or_not-accepts};
     ghost use Rattle.chumsky_descent.specs.Calls.{Exact};
-    ghost use Rattle.exact.specs.Nested.{pair_language};
+    ghost use Rattle.exact.specs.Nested.{pairs, pair_language};
 
     ghost says = { λ errors states. Exact SameUnit
         (λ depth call. IgnoringFirst (Between
@@ -40,6 +40,7 @@ impl<'src> Recursion<'src, &'src str, (), EmptyText> for OfPair {
         (λ depth call. ignoring_first-agrees _ _ _ SameUnit
         (between-agrees _ _ _ _ _ _ (just-agrees _ _ _ _ _ _ (91 ∷ [])) (or_none-agrees _ _ _ _ SameUnit call) (just-agrees _ _ _ _ _ _ (93 ∷ [])))
         (gives-agrees tt SameUnit tt))
+        pairs
         (pair_language
         (⟦<Just<char, &'src str, EmptyText> as Parser<'src, &'src str, char, EmptyText>>⟧.language (record { seq = 91; of = record {} }))
         (⟦<Just<char, &'src str, EmptyText> as Parser<'src, &'src str, char, EmptyText>>⟧.language (record { seq = 93; of = record {} })))
@@ -60,14 +61,14 @@ fn pair<'src>(
     run_part(&pair, wanted, inp)
 }
 
-/// Accepts pairs of brackets within one another, as `[[[]]]`, of which `limit` calls suffice to read them: one for each, and
-/// one that finds no other within. No other text is accepted; a run is refused for memory, or of a text that is none.
+/// Accepts pairs of brackets within one another, as `[[[]]]`, and no other text. A run is refused for memory, or of a text that is
+/// no pairs that `limit` calls suffice to read: one for each, and one that finds no other within.
 pub fn parse_nested(
     alloc: Global,
     text: &str,
     limit: usize,
 ) -> Result<ParseResult<(), EmptyErr>, Stop>
-    ensures { ExactlyWithin (IsNested limit) (chars text.now) result }
+    ensures { ExactlyUnless IsNested (chars text.now) (IsTooDeep limit (chars text.now)) result }
 {
     recursive_as::<OfPair, _, _, _, EmptyText>(pair, limit).parse(alloc, text)
 }
