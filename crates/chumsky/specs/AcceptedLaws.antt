@@ -1,7 +1,8 @@
 -- What a caller of `parse` makes of its answer: that it is exactly as a relation of texts and values of his own.
--- Main laws: exactly-by_words, exactly-by_ends, unless-by_words, unless-by_ends, never_refuses-by_words, never_refuses-by_ends.
+-- Main laws: exactly-by_words, exactly-by_ends, unless-by_words, unless-by_ends, refused-long, never_refuses-by_words, never_refuses-by_ends.
 -- Read first: Accepted.antt.
-use Rattle.std.proofs.Common.{◌≡◌, Option, Some, None, List, [], ◌∷◌, length, ap, subst, sym, ◌∙◌, inl, inr}
+use Rattle.std.proofs.Common.{◌≡◌, ℕ, ◌<◌, ◌≤◌, nat_lt, Bool, true, false, Option, Some, None, List, [], length, refl, arith, subst, sym, inl, inr}
+use Rattle.std.proofs.lemmas.Bool.Decides.{nat_tests}
 use Rattle.std.specs.Prelude.{⊤, ◌⊎◌, Result, Ok, Err, IsOk}
 use Rattle.chumsky_input.specs.declared.stop.Stop.{Stop}
 use Rattle.chumsky_parser.specs.Ending.{Ending, At, Refused, EndsOrRefused}
@@ -39,6 +40,14 @@ module _ {V Tok Er : Type 0} {l : Language Tok V} {ts : List Tok} {spare : Type 
   -- what is never refused for something else than memory
   pub decided_by : l.refused_from ≡ None → l.ends ts ≡ Refused → ⊥
   decided_by n e = a.decided (subst (λ m. IsBelow m (length ts)) (sym n) tt) e
+
+  -- what refuses no text of fewer tokens than a limit, as a function that calls itself under it, refuses longer ones alone
+  pub refused-long : (limit : ℕ) → ((k : ℕ) → k < limit → IsBelow l.refused_from k) → l.ends ts ≡ Refused → limit ≤ length ts
+  refused-long limit h e = by_length (nat_lt (length ts) limit) refl
+    where
+      by_length : (c : Bool) → nat_lt (length ts) limit ≡ c → limit ≤ length ts
+      by_length true c = let k : length ts < limit = grind (arith, nat_tests) in absurd (a.decided (h (length ts) k) e)
+      by_length false c = grind (arith, nat_tests)
 
   -- where a value is given of the text as the parser reads it, and a text with a value is taken whole
   pub exactly-by_ends : l.refused_from ≡ None → Sound → ((v : V) → P ts v → l.ends ts ≡ At []) → Exactly P ts result
