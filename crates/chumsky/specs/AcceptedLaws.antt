@@ -15,6 +15,19 @@ never_short : {Tok : Type 0} (x : Ending (List Tok)) → EndsOrRefused x [] → 
 never_short {Tok} x (inl e) f = let g : FallsShort {Tok = Tok} (At []) = subst FallsShort e f in g
 never_short {Tok} x (inr e) f = let g : FallsShort {Tok = Tok} Refused = subst FallsShort e f in g
 
+module _ {V W Tok Er : Type 0} {gives : W → Option V} {l : Language Tok V} {ts : List Tok} {spare : Type 0} {result : Result (ParseResult W Er) Stop} (a : AnswersText gives l ts spare result) where
+  -- what is never refused for something else than memory
+  pub decided_by : l.refused_from ≡ None → l.ends ts ≡ Refused → ⊥
+  decided_by n e = a.decided (subst (λ m. IsBelow m (length ts)) (sym n) tt) e
+
+  -- what refuses no text of fewer tokens than a limit, as a function that calls itself under it, refuses longer ones alone
+  pub refused-long : (limit : ℕ) → ((k : ℕ) → k < limit → IsBelow l.refused_from k) → l.ends ts ≡ Refused → limit ≤ length ts
+  refused-long limit h e = by_length (nat_lt (length ts) limit) refl
+    where
+      by_length : (c : Bool) → nat_lt (length ts) limit ≡ c → limit ≤ length ts
+      by_length true c = let k : length ts < limit = grind (arith, nat_tests) in absurd (a.decided (h (length ts) k) e)
+      by_length false c = grind (arith, nat_tests)
+
 module _ {V Tok Er : Type 0} {l : Language Tok V} {ts : List Tok} {spare : Type 0} {result : Result (ParseResult V Er) Stop} (P : List Tok → V → Type 0) (a : AnswersText Some l ts spare result) where
   -- each value of the text as the parser reads it is one of which P, and each text with such a value is taken whole, unless it is refused
   abbrev Sound : Type 0
@@ -37,25 +50,13 @@ module _ {V Tok Er : Type 0} {l : Language Tok V} {ts : List Tok} {spare : Type 
   exact_for_memory (Err s) (inl e) = e
   exact_for_memory (Err s) (inr e) = absurd e
 
-  -- what is never refused for something else than memory
-  pub decided_by : l.refused_from ≡ None → l.ends ts ≡ Refused → ⊥
-  decided_by n e = a.decided (subst (λ m. IsBelow m (length ts)) (sym n) tt) e
-
-  -- what refuses no text of fewer tokens than a limit, as a function that calls itself under it, refuses longer ones alone
-  pub refused-long : (limit : ℕ) → ((k : ℕ) → k < limit → IsBelow l.refused_from k) → l.ends ts ≡ Refused → limit ≤ length ts
-  refused-long limit h e = by_length (nat_lt (length ts) limit) refl
-    where
-      by_length : (c : Bool) → nat_lt (length ts) limit ≡ c → limit ≤ length ts
-      by_length true c = let k : length ts < limit = grind (arith, nat_tests) in absurd (a.decided (h (length ts) k) e)
-      by_length false c = grind (arith, nat_tests)
-
   -- where a value is given of the text as the parser reads it, and a text with a value is taken whole
   pub exactly-by_ends : l.refused_from ≡ None → Sound → ((v : V) → P ts v → l.ends ts ≡ At []) → Exactly P ts result
-  exactly-by_ends n sound complete = exact_for_memory result (exact_answer sound (λ v p. inl (complete v p)) (decided_by n) result a.output)
+  exactly-by_ends n sound complete = exact_for_memory result (exact_answer sound (λ v p. inl (complete v p)) (decided_by a n) result a.output)
 
   -- of an unambiguous language it is enough to look at its words
   pub exactly-by_words : l.refused_from ≡ None → l.unambiguous → l.follow [] → ((v : V) → l.word ts → l.stands_for ts v → P ts v) → ((v : V) → P ts v → l.word ts) → Exactly P ts result
-  exactly-by_words n u f sound complete = exact_for_memory result (exact_answer (λ v e w x s. sound v w s) (λ v p. a.accepted u f (complete v p)) (decided_by n) result a.output)
+  exactly-by_words n u f sound complete = exact_for_memory result (exact_answer (λ v e w x s. sound v w s) (λ v p. a.accepted u f (complete v p)) (decided_by a n) result a.output)
 
   -- and of a parser that may be refused, where that means that the text is too deep
   pub unless-by_ends : {too_deep : Type 0} → (l.ends ts ≡ Refused → too_deep) → Sound → ((v : V) → P ts v → l.ends ts ≡ At []) → ExactlyUnless P ts too_deep result
@@ -68,4 +69,4 @@ module _ {V Tok Er : Type 0} {l : Language Tok V} {ts : List Tok} {spare : Type 
   never_refuses-by_ends q t complete v p = a.answered q t (complete v p)
 
   pub never_refuses-by_words : spare → l.takes_no_memory → l.refused_from ≡ None → l.unambiguous → l.follow [] → ((v : V) → P ts v → l.word ts) → NeverRefuses P ts result
-  never_refuses-by_words q t n u f complete = never_refuses-by_ends q t (λ v p. ends-unless (a.accepted u f (complete v p)) (decided_by n))
+  never_refuses-by_words q t n u f complete = never_refuses-by_ends q t (λ v p. ends-unless (a.accepted u f (complete v p)) (decided_by a n))

@@ -34,4 +34,4 @@ module _ {Tok V X Er : Type 0} {l : Language Tok V} {ts : List Tok} {spare : Typ
 
   -- of an unambiguous language, where a word stands for values with P alone, a text has one value with P, and is a word where it has one
   pub gives_back-by_words : l.refused_from ≡ None → l.unambiguous → l.follow [] → ((v : V) → l.word ts → l.stands_for ts v → P ts (of v)) → ((x y : X) → P ts x → P ts y → x ≡ y) → ((x : X) → P ts x → l.word ts) → (x : X) → P ts x → GivesBack of x result
-  gives_back-by_words n u f sound once complete x p = let w = complete x p in given_back x (ends-unless (a.accepted u f w) (decided_by P a n)) (λ v s. once (of v) x (sound v w s) p) result a.output
+  gives_back-by_words n u f sound once complete x p = let w = complete x p in given_back x (ends-unless (a.accepted u f w) (decided_by a n)) (λ v s. once (of v) x (sound v w s) p) result a.output
