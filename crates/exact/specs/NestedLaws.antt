@@ -1,12 +1,11 @@
 -- The function that reads pairs accepts just these.
 -- Main laws: pairs-intended, pairs-refused. Read first: Nested.antt.
-use Rattle.std.proofs.Common.{◌≡◌, ℕ, zero, suc, true, None, ◌<◌, List, [], ◌∷◌, ◌++◌, append_assoc, refl, sym, arith, inl, inr}
+use Rattle.std.proofs.Common.{◌≡◌, ℕ, zero, suc, None, ◌<◌, List, [], ◌∷◌, ◌++◌, append_assoc, refl, sym, arith, inl, inr}
 use Rattle.std.proofs.lemmas.List.{append-nil}
 use Rattle.std.specs.Prelude.{nat_eq}
-use Rattle.chumsky_parser.specs.Ending.{Ending, At, Refused, DoesNotEnd}
+use Rattle.chumsky_parser.specs.Ending.{At, Refused, DoesNotEnd}
 use Rattle.chumsky_parser.specs.FurtherLaws.{both-below, behind-below}
 use Rattle.chumsky_parser.specs.Language.{Language, sooner}
-use Rattle.chumsky_parser.specs.Words.{Joined}
 use Rattle.chumsky_primitive.specs.PrimitiveLanguage.{literal_language, Equals}
 use Rattle.chumsky_primitive.specs.Literals.{equals-same}
 use Rattle.chumsky_descent.specs.CallLanguage.{call_language, IsIntended, call-is_intended}

@@ -4,7 +4,7 @@ use Rattle.std.proofs.Common.{◌≡◌, Option, Some, None, List, [], subst, in
 use Rattle.std.specs.Prelude.{Result, Ok, Err}
 use Rattle.chumsky_input.specs.declared.stop.Stop.{Stop}
 use Rattle.chumsky_input.specs.declared.stop.Stop.TheVariants.{Memory}
-use Rattle.chumsky_parser.specs.Ending.{Ending, At}
+use Rattle.chumsky_parser.specs.Ending.{At}
 use Rattle.chumsky_parser.specs.Language.{Language}
 use Rattle.chumsky_parser.specs.WordsLaws.{ends-unless}
 use Rattle.chumsky_parser.specs.declared.result.ParseResult.{ParseResult}
