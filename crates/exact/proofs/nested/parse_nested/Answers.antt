@@ -1,4 +1,4 @@
-use Rattle.std.specs.Prelude.{◌≡◌, ⊤}
+use Rattle.std.specs.Prelude.{◌≡◌, [], ⊤}
 use Rattle.std.specs.Str.{chars}
 use Rattle.chumsky.specs.AcceptedLaws.{unless-by_words}
 use Rattle.exact.specs.Nested.{IsNested}
