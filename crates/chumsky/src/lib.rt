@@ -300,6 +300,11 @@ pub mod memory_laws {
         to_slice_is_never_out_of_memory, to_span_is_never_out_of_memory,
         try_map_is_never_out_of_memory,
     };
+    pub use chumsky_recovery::laws::{
+        closes_is_out_of_memory_only_to_nest, recover_with_is_out_of_memory_only_to_tell,
+        skip_then_retry_until_is_never_out_of_memory, skip_until_is_never_out_of_memory,
+        via_parser_is_never_out_of_memory,
+    };
 }
 
 /// When parsers under contexts, states, configurations and nested inputs are ready and steady, as in `laws`.

@@ -12,3 +12,4 @@ pub mod RecoveryLaws
 pub mod Nested
 pub mod NestedLaws
 pub mod RecoveryMoves
+pub mod RecoverySpares

@@ -1,12 +1,14 @@
 -- Tokens up to the delimiter that closes what is open.
--- Main words: role_found, TakesFitting, TakesNested. Read first: Just.antt of the primitives.
-use Rattle.std.specs.Prelude.{◌≡◌, ℕ, zero, suc, Bool, cond, Option, Some, None, List, [], ◌∷◌, ◌++◌, ◌⊎◌, ⊤, slice_get, map}
+-- Main words: role_found, TakesFitting, TakesNested, OutOnlyToNest. Read first: Just.antt of the primitives.
+use Rattle.std.specs.Prelude.{◌≡◌, ◌≤◌, ℕ, zero, suc, Bool, cond, Option, Some, None, List, [], ◌∷◌, ◌++◌, ◌⊎◌, ⊤, slice_get, map}
 use Rattle.std.specs.List.{list_any}
 use Rattle.chumsky_input.specs.declared.error.Error as error_trait
 use Rattle.chumsky_input.specs.declared.inspector.Inspector as inspector_trait
 use Rattle.chumsky_input.specs.declared.input.Input as input_trait
+use Rattle.chumsky_input.specs.declared.stop.Stop.TheVariants.{Memory}
+use Rattle.chumsky_input.specs.Layout.{Layout}
 use Rattle.chumsky_input.specs.Wanted as wanted
-use Rattle.chumsky_input.specs.Outcome.{Meaning, Beginning, Outcome, Yes}
+use Rattle.chumsky_input.specs.Outcome.{Meaning, Beginning, Outcome, Yes, Halt}
 use Rattle.chumsky_parser.specs.Chained.{Chained, Given}
 use Rattle.chumsky_parser.specs.Failure.{Refuses, Misses, expects}
 use Rattle.chumsky_primitive.specs.Just.{past, told}
@@ -36,6 +38,19 @@ module _ {T Tok : Type 0} (has : T → Tok → Bool) where
   abbrev pub role_found : List (T × T) → T → Option Tok → Option (Role T)
   role_found pairs innermost None = None
   role_found pairs innermost (Some t) = cond (has innermost t) (Some role.Closes) (role_among pairs t)
+
+  -- one of the tokens from here on opens a delimiter
+  pub record SomeOpens (pairs : List (T × T)) (ts : Layout Tok) (here : ℕ) : Type 0 where
+    pub place : ℕ
+    pub onward : here ≤ place
+    pub token : Tok
+    pub closing : T
+    pub stands : slice_get ts.list place ≡ Some token
+    pub opens : role_among pairs token ≡ Some (role.Opens closing)
+
+  -- a refusal for memory is one where a token opens a delimiter
+  abbrev pub OutOnlyToNest : {Cx St Er V : Type 0} → List (T × T) → Meaning Tok Cx St Er V → Type 0
+  OutOnlyToNest {Cx} {St} {Er} {V} pairs m = (b : Beginning Tok Cx St) (o : Outcome V Er St) → m b o → o.verdict ≡ Halt Memory → SomeOpens pairs b.tokens b.start
 
 module _ {I Tok Sp Cu Er St Mk Cx T : Type 0} (source : input_trait.Ghosts I Cu Tok Sp) (errors : error_trait.Ghosts Er I Tok Sp) (states : inspector_trait.Ghosts St I Mk Tok Sp) (has : T → Tok → Bool) (members : T → List Tok) (pairs : List (T × T)) where
   -- a token that fits is taken; what does not is gone back from, where the innermost closing delimiter was expected

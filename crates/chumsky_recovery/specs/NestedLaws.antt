@@ -19,7 +19,7 @@ module _ {I Tok Sp Cu Er St Mk Cx T : Type 0} (source : input_trait.Ghosts I Cu 
   fits_end None i t b o (inl r) a = absurd (subst IsAnswer r.1 a)
   fits_end None i t b o (inr h) a = misses-ends (λ x y. x ≡ y) (omega arith) h a
 
-  fitting-ends : (i : T) → EndsAfterStart (TakesFitting {Cx = Cx} source errors states has members pairs i)
+  pub fitting-ends : (i : T) → EndsAfterStart (TakesFitting {Cx = Cx} source errors states has members pairs i)
   fitting-ends i b o h a = elim h.by_token [ inl r ↦ absurd (subst IsAnswer r.1 a) | inr k ↦ fits_end _ i _ b o k a ]
 
   module _ (next : T → List T → Meaning Tok Cx states.Seen errors.Seen (Unit {0})) (h : (j : T) (os : List T) → EndsAfterStart (next j os)) where

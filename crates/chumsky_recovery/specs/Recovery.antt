@@ -1,10 +1,11 @@
 -- What a parser with a strategy answers, by what its parser does.
--- Main words: AnswersOf, TellsEach, IsQuietValue, FailsAsPart, DoesAsPart, and the laws whose names end in In. Read first: Recovered.antt.
+-- Main words: AnswersOf, QuietIsPart, FailsAsPart, DoesAsPart, OutOnlyToTell, and the laws whose names end in In. Read first: Recovered.antt.
 use Rattle.std.specs.Prelude.{◌≡◌, Option, [], ◌∷◌, ◌++◌, ◌⊎◌, option_to_list}
 use Rattle.chumsky_input.specs.declared.error.Error as error_trait
 use Rattle.chumsky_input.specs.declared.inspector.Inspector as inspector_trait
+use Rattle.chumsky_input.specs.declared.stop.Stop.TheVariants.{Memory}
 use Rattle.chumsky_input.specs.Words.{Does}
-use Rattle.chumsky_input.specs.Outcome.{Meaning, Beginning, Outcome, Yes, No, Agree, IsAnswer}
+use Rattle.chumsky_input.specs.Outcome.{Meaning, Beginning, Outcome, Yes, No, Halt, Agree, IsAnswer}
 use Rattle.chumsky_input.specs.Primary.{primary}
 use Rattle.chumsky_shield.specs.Shielded.{as_one}
 use Rattle.chumsky_recovery.specs.Recovered.{Final, error_of}
@@ -42,6 +43,21 @@ module _ {Tok Cx St Mk Er V : Type 0} (merged : Er → Er → Er) (final : Final
   -- each answer of the whole is one of these three
   abbrev pub AnswersOf : Meaning Tok Cx St Er V → Type 0
   AnswersOf whole = (b : Beginning Tok Cx St) (o : Outcome V Er St) → whole b o → IsAnswer o.verdict → Unneeded b o ⊎ Needed b o ⊎ InVain b o
+
+module _ {Tok Cx St Mk Er V : Type 0} (mark : St → Mk) (back : St → Mk → St) (part help : Meaning Tok Cx St Er V) where
+  -- the part failed and the help succeeded, so that an error is to be emitted
+  pub record Untold (b : Beginning Tok Cx St) : Type 0 where
+    pub value : Option V
+    pub failure : Outcome V Er St
+    pub meant : part b failure
+    pub fails : failure.verdict ≡ No
+    pub did : Outcome V Er St
+    pub helps : help (record b { state = back failure.state (mark b.state) }) did
+    pub succeeds : did.verdict ≡ Yes value
+
+  -- a refusal for memory is one where an error is to be emitted
+  abbrev pub OutOnlyToTell : Meaning Tok Cx St Er V → Type 0
+  OutOnlyToTell whole = (b : Beginning Tok Cx St) (o : Outcome V Er St) → whole b o → o.verdict ≡ Halt Memory → Untold b
 
 module _ {Tok Cx St Er V : Type 0} (part whole : Meaning Tok Cx St Er V) where
   -- a success beside which nothing was emitted is the part's own: it has the same value, end and state

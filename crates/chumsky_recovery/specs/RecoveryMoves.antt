@@ -1,18 +1,17 @@
 -- A parser with a strategy moves where it succeeds, since the parser and the strategy do.
 -- Main laws: recovered-moves, skip_until-moves, skip_then_retry-moves, nested-moves. Read first: Moves.antt of what moves.
-use Rattle.std.proofs.Common.{◌≡◌, ◌≢◌, ℕ, zero, suc, ◌≤◌, ◌<◌, Bool, true, false, nat_eq, Option, Some, None, List, [], ◌∷◌, refl, sym, ◌∙◌, ap, subst, arith, inl, inr}
+use Rattle.std.proofs.Common.{◌≡◌, ◌≢◌, ℕ, zero, suc, ◌≤◌, ◌<◌, Bool, true, false, nat_eq, Option, Some, None, List, [], refl, sym, ◌∙◌, ap, subst, arith, inl, inr}
 use Rattle.std.proofs.lemmas.Bool.{eqb-false}
-use Rattle.std.specs.Prelude.{slice_get}
 use Rattle.chumsky_input.specs.declared.error.Error as error_trait
 use Rattle.chumsky_input.specs.declared.inspector.Inspector as inspector_trait
 use Rattle.chumsky_input.specs.declared.input.Input as input_trait
 use Rattle.chumsky_input.specs.Outcome.{Meaning, Beginning, Outcome, Verdict, Yes, No, Halt, Clash, EndsAfterStart}
 use Rattle.chumsky_parser.specs.Chained.{Chained, Asked, Given, Follows, from}
-use Rattle.chumsky_parser.specs.Choice.{ElseFrom, OrElse}
+use Rattle.chumsky_parser.specs.Choice.{ElseFrom}
 use Rattle.chumsky_parser.specs.Ignoring.{Gives, IgnoringFirst}
 use Rattle.chumsky_parser.specs.IgnoringLaws.{gives-ends}
 use Rattle.chumsky_parser.specs.Laws.{given-ends}
-use Rattle.chumsky_primitive.specs.Just.{past, told}
+use Rattle.chumsky_primitive.specs.Just.{past}
 use Rattle.chumsky_parser.specs.Progress.{IsYes}
 use Rattle.chumsky_shield.specs.MapErr.{YesAsOne}
 use Rattle.chumsky_shield.specs.Shielded.{NoAsOne}
@@ -23,10 +22,10 @@ use Rattle.chumsky_shield.specs.ShieldedMoves.{clash-yes, shielded-moves}
 use Rattle.chumsky_recovery.specs.Recovered.{Final, Helped, ElseHelp, OrHelp, MarkedOrHelp, MeansRecovered}
 use Rattle.chumsky_recovery.specs.Turns.{Turn, Again, Last, AfterTurn, TurnsUpTo, AllTurns}
 use Rattle.chumsky_recovery.specs.TurnsLaws.{after_turn-ends, turns-end}
-use Rattle.chumsky_recovery.specs.Seeking.{GoesOnIf, SkipsOn, Seeks, FallsBack, MeansSkipUntil, Forgets, Unheard, Retries, AfterSeek, RetryTurn, MeansSkipThenRetry}
+use Rattle.chumsky_recovery.specs.Seeking.{GoesOnIf, SkipsOn, Seeks, FallsBack, MeansSkipUntil, Forgets, Unheard, AfterSeek, RetryTurn, MeansSkipThenRetry}
 use Rattle.chumsky_recovery.specs.SeekingLaws.{seeks-end, falls_back-ends, retries-end, retry_turn-ends}
 use Rattle.chumsky_recovery.specs.declared.nested_delimiters.Role.{Role}
-use Rattle.chumsky_recovery.specs.Nested.{role_found, Fits, TakesFitting, TokensUpTo, TakesFrom, TakesNested}
+use Rattle.chumsky_recovery.specs.Nested.{role_found, Fits, TakesFitting, TokensUpTo, TakesNested}
 use Rattle.chumsky_recovery.specs.NestedLaws.{after_role-ends, tokens-end}
 
 -- what has a verdict that is no yes does not say yes
