@@ -8,11 +8,13 @@ use chumsky::inspector::{RollbackState, SimpleState, TruncateState};
 use chumsky::pratt::{infix, left, postfix, prefix};
 use chumsky::prelude::*;
 use chumsky::primitive::{select, select_ref};
+use chumsky::recovery::Closes;
 use chumsky::recursive::{BuildError, CloseError, DefineError, SepCfg};
 use chumsky::span::SimpleSpan;
 use chumsky::util::MaybeRef;
 use chumsky::{DefaultExpected, IterParserDebug, Stop};
 use std::alloc::Global;
+use std::marker::PhantomData;
 
 /// Primitives.
 pub fn sweep_clone_primitive(alloc: Global, row: usize, _check: bool, again: bool) -> Line {
@@ -130,6 +132,25 @@ pub fn sweep_clone_recovered(alloc: Global, row: usize, _check: bool, again: boo
             cloning.show(a.ignored().recover_with(skipped));
         }
         2 => cloning.show(a.recover_with(skip_then_retry_until(b.ignored(), c.ignored()))),
+        3 => {
+            let (start, end) = (cloning.text(), cloning.text());
+            let others = [(cloning.text(), cloning.text())];
+            cloning.show(Closes {
+                start,
+                end,
+                others,
+                of: PhantomData::<(&str, RichText)>,
+            });
+        }
+        4 => {
+            let nested = nested_delimiters::<_, _, &str, _, _, RichText>(
+                '[',
+                ']',
+                [('(', ')')],
+                |span: SimpleSpan| span.end,
+            );
+            cloning.show(b.map(|_| 0).recover_with(via_parser(nested)));
+        }
         _ => cloning.none(),
     }
     cloning.line()

@@ -91,6 +91,36 @@ fn an_alternative_that_fails_lets_go(rt: HostRuntime) {
 }
 
 #[test]
+fn what_a_strategy_does_not_take_is_let_go(rt: HostRuntime) {
+    let counts = make_counts(&rt);
+    let replaced = letter(&rt, 'a', &counts)
+        .then_ignore(just('b'))
+        .recover_with(via_parser(letter(&rt, 'a', &counts)));
+    assert_clones(
+        &rt,
+        &replaced,
+        &counts,
+        &[("ab", 1, 0), ("a", 2, 0), ("c", 0, 0), ("ac", 2, 0)],
+    );
+    // Nothing is made of what is skipped, nor of what it is skipped to.
+    let skipped = just('a').ignored().recover_with(skip_until(
+        letter(&rt, 'x', &counts).ignored(),
+        letter(&rt, ';', &counts).ignored(),
+        || (),
+    ));
+    assert_clones(&rt, &skipped, &counts, &[("xx;", 0, 0), ("xx", 0, 0)]);
+    let retried = letter(&rt, 'a', &counts)
+        .then_ignore(just('b'))
+        .recover_with(skip_then_retry_until(any().ignored(), just(';').ignored()));
+    assert_clones(
+        &rt,
+        &retried,
+        &counts,
+        &[("ab", 1, 0), ("xab", 1, 0), ("axaxab", 3, 0), ("ax;", 1, 0)],
+    );
+}
+
+#[test]
 fn a_mapper_has_its_argument_for_itself(rt: HostRuntime) {
     let counts = make_counts(&rt);
     let mapped = letter(&rt, 'a', &counts).map(|it| it.letter());

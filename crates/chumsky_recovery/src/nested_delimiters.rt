@@ -32,6 +32,21 @@ pub struct Closes<T, const N: usize, I, E> {
     pub of: PhantomData<(I, E)>,
 }
 
+impl<T: Clone, const N: usize, I, E> Clone for Closes<T, N, I, E> {
+    ghost is_clone = { λ x y. T.is_clone x.start y.start × T.is_clone x.end y.end × ⟦<[(T, T); N] as Clone>⟧.is_clone x.others y.others };
+
+    ghost is_infallible = { λ x. T.is_infallible x.start × T.is_infallible x.end × ⟦<[(T, T); N] as Clone>⟧.is_infallible x.others };
+
+    fn clone(&self) -> Result<Closes<T, N, I, E>, AllocError> {
+        Ok(Closes {
+            start: self.start.clone()?,
+            end: self.end.clone()?,
+            others: self.others.clone()?,
+            of: PhantomData,
+        })
+    }
+}
+
 /// What is between two delimiters, made an output of by its span.
 pub type NestedDelimiters<T, const N: usize, I, S, F, O, E> = Map<
     ToSpan<IgnoreThen<Just<T, I, E>, Closes<T, N, I, E>, T>, ()>,
