@@ -9,6 +9,8 @@ mod covered;
 #[cfg(test)]
 mod grammars;
 #[cfg(test)]
+mod mapped;
+#[cfg(test)]
 mod nested;
 #[cfg(test)]
 mod spanned_tokens;

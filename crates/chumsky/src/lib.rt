@@ -21,6 +21,8 @@ pub mod input {
     pub use chumsky_input::input::{BorrowInput, Input, SliceInput, Tokens, ValueInput};
     pub use chumsky_input::input_ref::{Checkpoint, Finished, InputRef, Located};
     pub use chumsky_input::map_extra::MapExtra;
+    pub use chumsky_input::mapped_input::{MappedInput, Pairs, TakesApart, map_input};
+    pub use chumsky_input::offset_text::{OffsetText, text_at};
     pub use chumsky_input::spanned_tokens::{SpannedTokens, split_spanned};
     pub use chumsky_input::stop::Failure;
     pub use chumsky_parser::input_ref_ext::InputRefExt;

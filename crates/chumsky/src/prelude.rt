@@ -12,6 +12,8 @@ pub use chumsky_group::make::group;
 pub use chumsky_input::error::{EmptyErr, Error};
 pub use chumsky_input::extra;
 pub use chumsky_input::input::Input;
+pub use chumsky_input::mapped_input::{MappedInput, map_input};
+pub use chumsky_input::offset_text::{OffsetText, text_at};
 pub use chumsky_input::rich::Rich;
 pub use chumsky_input::simple::{Cheap, Simple};
 pub use chumsky_input::span::{SimpleSpan, Spanned};

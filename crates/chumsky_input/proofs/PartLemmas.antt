@@ -1,7 +1,8 @@
 -- A part of tokens with spans.
-use Rattle.std.proofs.Common.{◌≡◌, ℕ, zero, suc, ◌+◌, ◌-◌, List, [], ◌∷◌, Some, map, slice_get, take, drop, refl, ◌∙◌, ap, subst, arith}
+use Rattle.std.proofs.Common.{◌≡◌, ℕ, zero, suc, ◌+◌, ◌-◌, List, [], ◌∷◌, Some, map, slice_get, take, drop, refl, sym, ◌∙◌, ap, subst, arith}
 use Rattle.std.proofs.lemmas.Bool.{lt-ltb, le-ltb}
 use Rattle.std.proofs.lemmas.List.{drop-map, take-map}
+use Rattle.std.proofs.lemmas.Option.{slice_get-map}
 use native.Mathlib.Numerals.{unary_clauses}
 use Rattle.chumsky_input.specs.Layout.{inner, point, spanned_from, token_layout, with_spans, part_of}
 use Rattle.chumsky_input.specs.declared.span.SimpleSpan.{SimpleSpan}
@@ -56,3 +57,14 @@ module _ {T : Type 0} where
   part_seen ts us end other last i j same e =
       let own : ◌≡◌ {A = List (Spanned T SimpleSpan) × SimpleSpan} (take (j - i) (drop i ts), last) (part_of (token_layout ts end) i j) = rw (spans_of_part ts end i (j - i), no_span ts end j, e) refl in
       own ∙ ap (λ l. part_of l i j) same
+
+module _ {A T : Type 0} where
+  -- the token in the element at a place
+  pub token_in : (apart : A → Spanned T SimpleSpan) (es : List A) (place : ℕ) (element : A) (token : T) → slice_get es place ≡ Some element → token ≡ (apart element).inner → Some token ≡ slice_get (map inner (map apart es)) place
+  token_in apart es place element token here is = rw (slice_get-map inner (map apart es) place, slice_get-map apart es place, here, is) refl
+
+  -- a part of elements that are taken apart
+  pub mapped_part_seen : (apart : A → Spanned T SimpleSpan) (es : List A) (us : List (Spanned T SimpleSpan)) (end other last : SimpleSpan) (i j : ℕ) → token_layout (map apart es) end ≡ token_layout us other → last ≡ point end (slice_get (map apart es) j)
+      → ◌≡◌ {A = List (Spanned T SimpleSpan) × SimpleSpan} (map apart (take (j - i) (drop i es)), last) (part_of (token_layout us other) i j)
+  mapped_part_seen apart es us end other last i j same e =
+      rw (sym (take-map apart (j - i) (drop i es)), sym (drop-map apart i es)) (part_seen (map apart es) us end other last i j same e)

@@ -5,6 +5,7 @@ ghost use Rattle.std.specs.Str.{bytes_eq, encode_utf8_all};
 ghost use Rattle.chumsky_input.specs.Layout.{Layout};
 
 use chumsky_input::input::SliceInput;
+use chumsky_input::offset_text::OffsetText;
 
 /// A token of a text: a `char`, or a byte, which stands for the character of its number below 128.
 pub trait Char: Copy {
@@ -93,6 +94,15 @@ pub trait TextInput<'src>: SliceInput<'src> {
 }
 
 impl<'src> TextInput<'src> for &'src str {
+    ghost spells = { λ text tokens. bytes_eq text (encode_utf8_all tokens) };
+
+    #[inline]
+    fn is_text(slice: &&'src str, text: &str) -> bool {
+        *text == **slice
+    }
+}
+
+impl<'src> TextInput<'src> for OffsetText<'src> {
     ghost spells = { λ text tokens. bytes_eq text (encode_utf8_all tokens) };
 
     #[inline]
