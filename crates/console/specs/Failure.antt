@@ -2,8 +2,19 @@
 use Rattle.std.specs.Prelude.{ℕ, Bool, true, false, List, ◌++◌, Result, Ok, Err, codes}
 use Rattle.chumsky_input.specs.declared.stop.Stop.{Stop}
 use Rattle.chumsky_input.specs.declared.stop.Stop.TheVariants as Why
+use Rattle.chumsky_rules.specs.declared.errors.BuildError.TheVariants as building
+use Rattle.chumsky_rules.specs.declared.errors.RecursiveError.{RecursiveError}
+use Rattle.chumsky_rules.specs.declared.errors.RecursiveError.TheVariants as rules
 use Rattle.console.specs.declared.failure.Failure.{Failure}
 use Rattle.console.specs.declared.failure.Failure.TheVariants.{Words, Unreadable, NotUtf8, Unwritable, NoGrammar, Refused}
+
+-- rules that get no memory are a refusal
+abbrev pub failure_of_rules : RecursiveError → Failure
+failure_of_rules rules.Declare = Refused Why.Memory
+failure_of_rules (rules.Build building.Memory) = Refused Why.Memory
+failure_of_rules (rules.Build (building.ForeignNode n)) = NoGrammar
+failure_of_rules (rules.Build (building.ForeignRule n)) = NoGrammar
+failure_of_rules (rules.Define error) = NoGrammar
 
 abbrev pub failure_text : Failure → List ℕ
 failure_text Words = codes "wrong words"

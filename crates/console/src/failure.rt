@@ -1,10 +1,12 @@
 //! Why a program gives no answer, and the statuses that programs end with.
 ghost use Rattle.std.specs.Prelude.{◌≡◌, [], ◌∷◌, ◌++◌, Some, OnOk};
 ghost use Rattle.std.specs.Io.KnownBytes.{Appends};
-ghost use Rattle.console.specs.Failure.{failure_text, complaint, status_of, failure_status};
+ghost use Rattle.chumsky_input.specs.declared.stop.Stop.TheVariants as Why;
+ghost use Rattle.console.specs.Failure.{failure_text, complaint, status_of, failure_status, failure_of_rules};
+ghost use Rattle.console.specs.declared.failure.Failure.TheVariants.{Refused};
 
 use chumsky::Stop;
-use chumsky::recursive::RecursiveError;
+use chumsky::recursive::{BuildError, RecursiveError};
 use std::alloc::AllocError;
 use std::fmt::Display;
 use std::io::Write;
@@ -40,20 +42,33 @@ pub enum Failure {
 }
 
 impl From<Stop> for Failure {
+    ghost from_gives = { λ stop failure. failure ≡ Refused stop };
+
     fn from(stop: Stop) -> Failure {
         Failure::Refused(stop)
     }
 }
 
 impl From<AllocError> for Failure {
+    ghost from_gives = { λ _ failure. failure ≡ Refused Why.Memory };
+
     fn from(_error: AllocError) -> Failure {
         Failure::Refused(Stop::Memory)
     }
 }
 
 impl From<RecursiveError> for Failure {
-    fn from(_error: RecursiveError) -> Failure {
-        Failure::NoGrammar
+    ghost from_gives = { λ error failure. failure ≡ failure_of_rules error };
+
+    fn from(error: RecursiveError) -> Failure {
+        match error {
+            RecursiveError::Declare | RecursiveError::Build(BuildError::Memory) => {
+                Failure::Refused(Stop::Memory)
+            }
+            RecursiveError::Build(BuildError::ForeignNode(_))
+            | RecursiveError::Build(BuildError::ForeignRule(_))
+            | RecursiveError::Define(_) => Failure::NoGrammar,
+        }
     }
 }
 
