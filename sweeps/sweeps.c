@@ -169,7 +169,7 @@ static const struct {
 } clones[] = {
     {"clone_primitive", 10}, {"clone_sequence", 14}, {"clone_mapped", 17},
     {"clone_items", 14},     {"clone_under", 10},    {"clone_value", 14},
-    {"clone_recovered", 5},  {"clone_operators", 4},
+    {"clone_recovered", 5},  {"clone_operators", 7},
 };
 
 /* The judge. */

@@ -5,7 +5,7 @@ use arrayvec::ArrayVec;
 use chumsky::combinator::RepeatedCfg;
 use chumsky::extra::RichText;
 use chumsky::inspector::{RollbackState, SimpleState, TruncateState};
-use chumsky::pratt::{infix, left, postfix, prefix};
+use chumsky::pratt::{infix, infix_with, left, postfix, postfix_with, prefix, prefix_with};
 use chumsky::prelude::*;
 use chumsky::primitive::{select, select_ref};
 use chumsky::recovery::Closes;
@@ -86,6 +86,9 @@ pub fn sweep_clone_operators(alloc: Global, row: usize, _check: bool, again: boo
                 infix(left(1), c, |x: String, _: String, _: String| x),
             )));
         }
+        4 => cloning.show(a.pratt((prefix_with(1, b, |_: String, x: String, _| x),))),
+        5 => cloning.show(a.pratt((postfix_with(1, b, |x: String, _: String, _| x),))),
+        6 => cloning.show(a.pratt((infix_with(left(1), b, |x: String, _: String, _: String, _| x),))),
         _ => cloning.none(),
     }
     cloning.line()

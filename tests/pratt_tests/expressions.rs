@@ -158,6 +158,7 @@ fn operators_without_associativity_do_not_follow_one_another(rt: HostRuntime) {
         ("1<2<3", "error 3..4 expected '+', '&', end of input found '<'"),
         ("1<2&1<2<3", "error 7..8 expected '+', '&', end of input found '<'"),
         ("1<2&3<4&5<6", "ok 82644"),
+        ("1&2<3<4", "ok 1166"),
     ];
     assert_answers(&rt, &compared, &rows);
 }
@@ -198,7 +199,7 @@ fn what_would_go_on_for_ever_is_refused(rt: HostRuntime) {
 }
 
 /// How many operators nest: few enough for runs that check each access.
-const NESTED: usize = 10_000;
+const NESTED: usize = 100_000;
 
 /// A text, so many times.
 fn add_times(text: &mut String, part: &str) -> Result<(), AllocError> {
@@ -220,7 +221,7 @@ fn prefix_operators_do_not_nest_on_the_stack(rt: HostRuntime) {
     text.push('1').expect(&rt, "want of memory");
     let parsed = turned.parse(rt.alloc(), text.as_str()).expect(&rt, "a refusal");
     assert!(rt; !parsed.has_errors());
-    assert!(rt; parsed.output() == Some(&10_000));
+    assert!(rt; parsed.output() == Some(&100_000));
     let checked = turned.check(rt.alloc(), text.as_str()).expect(&rt, "a refusal");
     assert!(rt; !checked.has_errors());
 }
@@ -235,7 +236,7 @@ fn right_operands_do_not_nest_on_the_stack(rt: HostRuntime) {
     add_times(&mut text, "^0").expect(&rt, "want of memory");
     let parsed = towers.parse(rt.alloc(), text.as_str()).expect(&rt, "a refusal");
     assert!(rt; !parsed.has_errors());
-    assert!(rt; parsed.output() == Some(&10_000));
+    assert!(rt; parsed.output() == Some(&100_000));
     let checked = towers.check(rt.alloc(), text.as_str()).expect(&rt, "a refusal");
     assert!(rt; !checked.has_errors());
     text.push('^').expect(&rt, "want of memory");

@@ -118,10 +118,16 @@ pub mod primitive {
 /// Operators by precedence: see `ParserExt::pratt`.
 pub mod pratt {
     pub use chumsky_pratt::fixity::{Associativity, Fixity, left, none, right};
+    pub use chumsky_pratt::folder_with::InfixFolderWith;
     pub use chumsky_pratt::folders::{InfixFolder, PostfixFolder, PrefixFolder};
-    pub use chumsky_pratt::make::{infix, infix_by, postfix, postfix_by, prefix, prefix_by};
+    pub use chumsky_pratt::list::FoundAt;
+    pub use chumsky_pratt::make::{
+        infix, infix_by, infix_with, postfix, postfix_by, postfix_with, prefix, prefix_by,
+        prefix_with,
+    };
     pub use chumsky_pratt::operands::Operands;
     pub use chumsky_pratt::operator::{HasOutput, Infix, Operator, Postfix, Prefix};
+    pub use chumsky_pratt::operator_with::{InfixWith, PostfixWith, PrefixWith};
     pub use chumsky_pratt::pratt::Pratt;
     pub use chumsky_pratt::row::{Found, HasFound, LastOperator, OperatorAnd, Operators};
     pub use chumsky_pratt::rows::IntoRow;
@@ -134,8 +140,9 @@ pub mod pratt {
             the_stronger_binds_first, without_operators_an_expression_is_its_atom,
         };
         pub use chumsky_pratt::steady::{
-            infix_is_steady, operators_are_steady, postfix_is_steady, pratt_is_steady,
-            prefix_is_steady,
+            infix_is_steady, infix_with_is_steady, operators_are_steady,
+            operators_of_a_list_are_steady, postfix_is_steady, postfix_with_is_steady,
+            pratt_is_steady, prefix_is_steady, prefix_with_is_steady,
         };
     }
 }

@@ -272,10 +272,10 @@ pub trait ParserExt<'src, I, O, E>: Sized {
     /// Reads an expression: outputs of this parser, the atoms, with operators before, after and between them, which bind by
     /// their powers (`chumsky::pratt`). `digit.pratt((prefix(3, just('-'), |_, n| -n), infix(left(1), just('+'), |a, _, b|
     /// a + b), infix(left(2), just('*'), |a, _, b| a * b)))` on `-1+2*3` gives `5`. Operators are tried in the order of the
-    /// tuple, of one to eight, but for those too weak for where they stand. One whose operand fails is gone back from, and
-    /// the expression ends before it; that failure stays. Where neither a prefix operator with its operand nor an atom
-    /// stands it fails as the atom does. An operator that takes no token may be refused (`Stop::NoProgress`). Operands nest
-    /// in memory, not on the machine's stack.
+    /// tuple, of one to eight, or of the array, `Vec` or slice of operators of one type, but for those too weak for where
+    /// they stand. One whose operand fails is gone back from, and the expression ends before it; that failure stays. Where
+    /// neither a prefix operator with its operand nor an atom stands it fails as the atom does. An operator that takes no
+    /// token may be refused (`Stop::NoProgress`). Operands nest in memory, not on the machine's stack.
     #[inline]
     final fn pratt<T: IntoRow>(self, operators: T) -> Pratt<Self, T::Row>
         ensures atom { result.atom ≡ self }

@@ -1,5 +1,5 @@
 -- What the steps of reading an expression lead to.
-use Rattle.std.proofs.Common.{◌≡◌, ℕ, zero, suc, ◌+◌, ◌<◌, ◌≤◌, Bool, Option, Some, None, length, refl, sym, ap, subst, ◌∙◌, Result, Ok, Err, inl, inr, arith}
+use Rattle.std.proofs.Common.{◌≡◌, ℕ, zero, suc, ◌+◌, ◌<◌, ◌≤◌, Bool, Option, length, refl, sym, ap, subst, ◌∙◌, Result, Ok, Err, inl, inr, arith}
 use Rattle.chumsky_input.specs.Layout.{same_list}
 use Rattle.std.proofs.Math.Nat.{eq-or-lt_of_le}
 use Rattle.chumsky_input.specs.declared.stop.Fault.{Fault}
@@ -7,19 +7,20 @@ use Rattle.chumsky_input.specs.declared.stop.Fault.TheVariants as fault
 use Rattle.chumsky_input.specs.declared.stop.Stop.{Stop}
 use Rattle.chumsky_input.specs.declared.stop.Stop.TheVariants.{Memory, NoProgress}
 use Rattle.chumsky_input.specs.Held.{Held, Marks}
-use Rattle.chumsky_input.specs.Outcome.{Meaning, Beginning, Outcome}
+use Rattle.chumsky_input.specs.Outcome.{Meaning, Beginning, Outcome, EndsAfterStart}
 use Rattle.chumsky_input.specs.Run.{Ran, marked_here, gone_back, begin}
-use Rattle.chumsky_parser.specs.Chained.{Chained, Given}
+use Rattle.chumsky_parser.specs.Chained.{Chained}
 use Rattle.chumsky_parser.specs.Choice.{AttemptFrom}
-use Rattle.chumsky_parser.proofs.ChainedLemmas.{ran-weaker, ran-given, chained, failed}
+use Rattle.chumsky_parser.specs.Showing.{GivenShown}
+use Rattle.chumsky_parser.proofs.ChainedLemmas.{ran-weaker, chained, failed}
 use Rattle.chumsky_parser.proofs.ChoiceLemmas.{attempt-stands, attempt-after, attempt-unrestored, stands_at-after, stands_at-marked, ran-marked, ran-not_marked}
 use Rattle.chumsky_parser.proofs.FailureLemmas.{ran-halts, ran-stops}
+use Rattle.chumsky_parser.proofs.OnwardLemmas.{ran-onward}
 use Rattle.chumsky_pratt.specs.declared.fixity.Fixity.{Fixity}
 use Rattle.chumsky_pratt.specs.declared.fixity.Fixity.TheVariants.{Prefix, Postfix, Infix}
-use Rattle.chumsky_pratt.specs.declared.operands.Operands.{Operands}
 use Rattle.chumsky_pratt.specs.declared.operands.Operands.TheVariants.{After}
-use Rattle.chumsky_pratt.specs.Expression.{Syntax, any_power, all_there, left_at, Onward, Waiting, Folded, AfterPrefix, TryPrefix, Head, AllRounds, Level, Below, Expression}
-use Rattle.chumsky_pratt.specs.Showing.{MakesOf}
+use Rattle.chumsky_pratt.specs.Expression.{Syntax, any_power, all_there, left_at, Onward, Waiting, AfterPrefix, TryPrefix, Head, AllRounds, Level, Below, Expression}
+use Rattle.chumsky_pratt.specs.ExpressionLaws.{head-ends, level-ends, below-ends}
 use Rattle.chumsky_pratt.specs.Climbing.{Begun, tokens_left, Leads, operand_of, whole, prefixes, TriesPrefixes, HasValue, WaitsPrefix}
 
 module _ {Tok Cx St Er V : Type 0} {merged : Er → Er → Er} {quiet : Type 0} {wanted : Bool} where
@@ -35,13 +36,6 @@ module _ {Tok Cx St Er V : Type 0} {merged : Er → Er → Er} {quiet : Type 0} 
 
   pub not_onward : (place : ℕ) (part : Meaning Tok Cx St Er V) {now : Held Tok Cx St Er} → now.place ≤ place → Ran merged quiet (Onward place part) wanted now now (Err (fault.Stop NoProgress))
   not_onward place part {now} l = ran-weaker merged quiet _ (Onward place part) wanted now now (Err (fault.Stop NoProgress)) (λ o k. inr (l, k)) (ran-stops NoProgress)
-
-  -- what was given for an operator and its operands
-  pub folded : {F : Type 0} (gives : F → Operands V → V → Type 0) (p : Option (F × Operands V)) (v : Option V) {now : Held Tok Cx St Er} → MakesOf gives p v → Ran merged quiet (Folded gives p) wanted now now (Ok v)
-  folded gives (Some p) v {now} m =
-      let h : Ran merged quiet (Folded gives (Some p)) wanted now now (Ok (Some m.0)) = ran-weaker merged quiet (Given (Some m.0)) (Folded gives (Some p)) wanted now now (Ok (Some m.0)) (λ o k. (m.0, m.1, k)) ran-given in
-      rw m.2 h
-  folded gives None v {now} m = let h : Ran merged quiet (Folded gives None) wanted now now (Ok None) = ran-given in rw m h
 
 module _ {Tok Cx St Mk Er F V : Type 0} (s : Syntax Tok Cx St Mk Er F V) where
   -- an expression, where fewer tokens are left
@@ -72,8 +66,10 @@ module _ {Tok Cx St Mk Er F V : Type 0} (merged : Er → Er → Er) (quiet : Typ
     headless : {new : Held Tok Cx St Er} {f : Fault} → Ran merged quiet Heads wanted l.held new (Err f) → Ran merged quiet (whole merged quiet s wanted l) wanted l.held new (Err f)
     headless h = leveled (failed h refl refl)
 
-    headed : {new : Held Tok Cx St Er} (x : Option V) → Ran merged quiet Heads wanted l.held new (Ok x) → HasValue merged quiet s wanted l x any_power new
-    headed x h = record { tokens = h.same.tokens; leads = λ fin r k. leveled (chained h refl k) }
+    headed : EndsAfterStart s.atom → ((i : ℕ) → EndsAfterStart (s.reads i)) → {new : Held Tok Cx St Er} (x : Option V) → Ran merged quiet Heads wanted l.held new (Ok x) → HasValue merged quiet s wanted l x any_power new
+    headed atom_ends reads_end {new} x h =
+        let ends : EndsAfterStart Heads = head-ends s atom_ends reads_end (operand_of merged quiet s wanted l) (below-ends s atom_ends reads_end (tokens_left l.held)) l.held.place in
+        record { tokens = h.same.tokens; order = ran-onward merged quiet Heads ends wanted l.held new x h; leads = λ fin r k. leveled (chained h refl k) }
 
     -- an expression begins
     pub begins : (m : Marks Tok Mk) → m ≡ marked_here s.mark l.held → TriesPrefixes merged quiet s wanted l m 0 l.held
@@ -96,8 +92,8 @@ module _ {Tok Cx St Mk Er F V : Type 0} (merged : Er → Er → Er) (quiet : Typ
       atom_left (suc count) e d h = absurd (omega (arith, e, d))
 
       -- past the last prefix operator the atom
-      pub atom_ok : next ≡ s.number → {new : Held Tok Cx St Er} (x : Option V) → Ran merged quiet s.atom wanted now new (Ok x) → HasValue merged quiet s wanted l x any_power new
-      atom_ok e x h = headed x (atom_left t.count t.counted e t.leads _ _ h)
+      pub atom_ok : EndsAfterStart s.atom → ((i : ℕ) → EndsAfterStart (s.reads i)) → next ≡ s.number → {new : Held Tok Cx St Er} (x : Option V) → Ran merged quiet s.atom wanted now new (Ok x) → HasValue merged quiet s wanted l x any_power new
+      atom_ok atom_ends reads_end e x h = headed atom_ends reads_end x (atom_left t.count t.counted e t.leads _ _ h)
 
       pub atom_err : next ≡ s.number → {new : Held Tok Cx St Er} {f : Fault} → Ran merged quiet s.atom wanted now new (Err f) → Ran merged quiet (whole merged quiet s wanted l) wanted l.held new (Err f)
       atom_err e h = headless (atom_left t.count t.counted e t.leads _ _ h)
@@ -192,16 +188,23 @@ module _ {Tok Cx St Mk Er F V : Type 0} (merged : Er → Er → Er) (quiet : Typ
       there : t.index < s.number
       there = omega (arith, t.counted, t.is_next)
 
-      operated : {new : Held Tok Cx St Er} {r : Result (Option V) Fault} → Ran merged quiet (Chained (operand_of merged quiet s wanted l inner.least) (λ v. Folded s.gives (all_there f (After v)))) wanted inner.held new r
+      operated : {new : Held Tok Cx St Er} {r : Result (Option V) Fault} → Ran merged quiet (Chained (operand_of merged quiet s wanted l inner.least) (λ v. GivenShown s.gives l.held.place (all_there f (After v)))) wanted inner.held new r
           → Ran merged quiet (AfterPrefix s (operand_of merged quiet s wanted l) l.held.place t.index inner.least) wanted t.here new r
       operated h = chained t.read.read refl (onward l.held.place _ t.read.onward (waiting _ h))
 
-      -- its operand has a value
-      pub prefix_ok : {now : Held Tok Cx St Er} (v y : Option V) → Ran merged quiet (whole merged quiet s wanted inner) wanted inner.held now (Ok v) → MakesOf s.gives (all_there f (After v)) y → HasValue merged quiet s wanted l y any_power now
-      prefix_ok {now} v y h g =
-          let r = operated (chained (operand_ran l inner t.read.room h) refl (folded s.gives (all_there f (After v)) y g)) in
+      -- its operand has a value, which ends past where its expression began; and it is folded
+      pub prefix_order : EndsAfterStart s.atom → ((i : ℕ) → EndsAfterStart (s.reads i)) → {now : Held Tok Cx St Er} (v : Option V) → Ran merged quiet (whole merged quiet s wanted inner) wanted inner.held now (Ok v) → l.held.place ≤ now.place
+      prefix_order atom_ends reads_end {now} v h =
+          let ends : EndsAfterStart (whole merged quiet s wanted inner) = level-ends s atom_ends reads_end (operand_of merged quiet s wanted inner) (below-ends s atom_ends reads_end (tokens_left inner.held)) inner.least in
+          let on : inner.held.place ≤ now.place = ran-onward merged quiet (whole merged quiet s wanted inner) ends wanted inner.held now v h in
+          omega (arith, on, t.read.onward)
+
+      pub prefix_ok : EndsAfterStart s.atom → ((i : ℕ) → EndsAfterStart (s.reads i)) → {now new : Held Tok Cx St Er} (v y : Option V) → Ran merged quiet (whole merged quiet s wanted inner) wanted inner.held now (Ok v)
+          → Ran merged quiet (GivenShown s.gives l.held.place (all_there f (After v))) wanted now new (Ok y) → HasValue merged quiet s wanted l y any_power new
+      prefix_ok atom_ends reads_end {now} {new} v y h g =
+          let r = operated (chained (operand_ran l inner t.read.room h) refl g) in
           let i = tries m t.index t.here was there inner.least t.fixity in
-          headed y (i.2 now (Ok y) (attempt-stands merged quiet s.back s.safe m.mark (AfterPrefix s (operand_of merged quiet s wanted l) l.held.place t.index inner.least) (prefixes merged quiet s wanted l m.mark i.0 (suc t.index)) wanted t.here now (Ok y) r (λ e. cc)))
+          headed atom_ends reads_end y (i.2 new (Ok y) (attempt-stands merged quiet s.back s.safe m.mark (AfterPrefix s (operand_of merged quiet s wanted l) l.held.place t.index inner.least) (prefixes merged quiet s wanted l m.mark i.0 (suc t.index)) wanted t.here new (Ok y) r (λ e. cc)))
 
       not_operated : {now : Held Tok Cx St Er} {g : Fault} → Ran merged quiet (whole merged quiet s wanted inner) wanted inner.held now (Err g) → Ran merged quiet (AfterPrefix s (operand_of merged quiet s wanted l) l.held.place t.index inner.least) wanted t.here now (Err g)
       not_operated h = operated (failed (operand_ran l inner t.read.room h) refl refl)

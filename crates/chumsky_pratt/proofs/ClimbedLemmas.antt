@@ -1,10 +1,11 @@
 -- Where a reading stands: among the tokens of its goal; and the answer where nothing waits.
-use Rattle.std.proofs.Common.{◌≡◌, ℕ, Bool, Option, List, [], ◌∷◌, ◌++◌, reverse, ap, ◌∙◌, subst, Result, Some, None}
+use Rattle.std.proofs.Common.{◌≡◌, ℕ, ◌≤◌, Bool, Option, List, [], ◌∷◌, ◌++◌, reverse, ap, sym, ◌∙◌, subst, Result, Ok, Err, IfOk, Some, None, arith}
 use Rattle.chumsky_input.specs.declared.error.Error as error_trait
 use Rattle.chumsky_input.specs.declared.inspector.Inspector as inspector_trait
 use Rattle.chumsky_input.specs.declared.input.Input as input_trait
 use Rattle.chumsky_input.specs.declared.stop.Fault.{Fault}
 use Rattle.chumsky_input.specs.Held.{Held, marks}
+use Rattle.chumsky_input.specs.Outcome.{EndsAfterStart}
 use Rattle.chumsky_input.specs.Run.{Ran}
 use Rattle.chumsky_pratt.specs.declared.machine.Frame.{Frame}
 use Rattle.chumsky_pratt.specs.declared.machine.Frame.TheVariants as frame
@@ -17,7 +18,7 @@ use Rattle.chumsky_pratt.specs.Kinds.{answer_of}
 use Rattle.chumsky_pratt.specs.Showing.{shown_by}
 use Rattle.chumsky_pratt.specs.Climbing.{Begun, whole, Waits, Climbs}
 use Rattle.chumsky_pratt.proofs.AnswerLemmas.{heard}
-use Rattle.chumsky_pratt.proofs.ClimbLemmas.{expressed, prefix_tokens}
+use Rattle.chumsky_pratt.proofs.ClimbLemmas.{expressed, prefix_tokens, prefix_order}
 use Rattle.chumsky_pratt.proofs.RoundLemmas.{infix_tokens}
 
 module _ {I Tok Sp Cu Er St Cx Mk F V A B : Type 0} (source : input_trait.Ghosts I Cu Tok Sp) (errors : error_trait.Ghosts Er I Tok Sp) (states : inspector_trait.Ghosts St I Mk Tok Sp) (s : Syntax Tok Cx states.Seen states.Marked errors.Seen F V) (wanted : Bool) (shown : A → Option V) (found : B → Option F) where
@@ -54,6 +55,34 @@ module _ {I Tok Sp Cu Er St Cx Mk F V A B : Type 0} (source : input_trait.Ghosts
   last_infix_tokens goal old new p now r e w =
       let k : Climbs source errors states s wanted shown found goal (frame.Between p ∷ reverse new) now (todo.Answer r) = heard source errors states s wanted shown found goal old new (frame.Between p) now (todo.Answer r) e w in
       infix_tokens _ _ _ _ k.2.0 _ _ _ _ _ _ _ k.2.2 k.1
+
+  -- where its expression began stands among them too, and not past where the run stands; that of an infix operator not past
+  -- where the operator began
+  pub last_prefix_since : (goal : Begun Tok Cx states.Seen errors.Seen) (old new : List (Frame A B Cu Mk)) (p : PrefixFrame B Cu Mk) (now : Held Tok Cx states.Seen errors.Seen) (r : Result A Fault) → old ≡ new ++ frame.Before p ∷ []
+      → Climbs source errors states s wanted shown found goal (reverse old) now (todo.Answer r) → source.cursor_tokens p.level.start ≡ now.tokens
+  last_prefix_since goal old new p now r e w =
+      let k : Climbs source errors states s wanted shown found goal (frame.Before p ∷ reverse new) now (todo.Answer r) = heard source errors states s wanted shown found goal old new (frame.Before p) now (todo.Answer r) e w in
+      k.2.1.tokens ∙ sym k.2.2.read.tokens ∙ sym k.1.same.tokens
+
+  pub last_infix_since : (goal : Begun Tok Cx states.Seen errors.Seen) (old new : List (Frame A B Cu Mk)) (p : InfixFrame A B Cu Mk) (now : Held Tok Cx states.Seen errors.Seen) (r : Result A Fault) → old ≡ new ++ frame.Between p ∷ []
+      → Climbs source errors states s wanted shown found goal (reverse old) now (todo.Answer r) → source.cursor_tokens p.level.start ≡ now.tokens
+  last_infix_since goal old new p now r e w =
+      let k : Climbs source errors states s wanted shown found goal (frame.Between p ∷ reverse new) now (todo.Answer r) = heard source errors states s wanted shown found goal old new (frame.Between p) now (todo.Answer r) e w in
+      k.2.1.tokens ∙ sym k.2.2.read.tokens ∙ sym k.1.same.tokens
+
+  pub last_prefix_order : EndsAfterStart s.atom → ((i : ℕ) → EndsAfterStart (s.reads i)) → (goal : Begun Tok Cx states.Seen errors.Seen) (old new : List (Frame A B Cu Mk)) (p : PrefixFrame B Cu Mk) (now : Held Tok Cx states.Seen errors.Seen) (r : Result A Fault) → old ≡ new ++ frame.Before p ∷ []
+      → Climbs source errors states s wanted shown found goal (reverse old) now (todo.Answer r) → IfOk r (λ _. source.place p.level.start ≤ now.place)
+  last_prefix_order atom_ends reads_end goal old new p now (Ok a) e w =
+      let k : Climbs source errors states s wanted shown found goal (frame.Before p ∷ reverse new) now (todo.Answer (Ok a)) = heard source errors states s wanted shown found goal old new (frame.Before p) now (todo.Answer (Ok a)) e w in
+      let on = prefix_order _ _ _ _ k.2.0 _ _ _ _ k.2.2 atom_ends reads_end _ k.1 in
+      omega (arith, on, k.2.1.place)
+  last_prefix_order atom_ends reads_end goal old new p now (Err f) e w = tt
+
+  pub last_infix_order : (goal : Begun Tok Cx states.Seen errors.Seen) (old new : List (Frame A B Cu Mk)) (p : InfixFrame A B Cu Mk) (now : Held Tok Cx states.Seen errors.Seen) (r : Result A Fault) → old ≡ new ++ frame.Between p ∷ []
+      → Climbs source errors states s wanted shown found goal (reverse old) now (todo.Answer r) → source.place p.level.start ≤ source.place p.before.cursor
+  last_infix_order goal old new p now r e w =
+      let k : Climbs source errors states s wanted shown found goal (frame.Between p ∷ reverse new) now (todo.Answer r) = heard source errors states s wanted shown found goal old new (frame.Between p) now (todo.Answer r) e w in
+      omega (arith, k.2.1.place, k.2.2.order, k.2.2.at)
 
 -- what comes next is the answer that it has
 pub answered : {A Cu Mk : Type 0} (next : Todo A Cu Mk) (r : Result A Fault) → answer_of next ≡ Some r → next ≡ todo.Answer r

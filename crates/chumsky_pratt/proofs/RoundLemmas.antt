@@ -10,16 +10,16 @@ use Rattle.chumsky_input.specs.Outcome.{Meaning}
 use Rattle.chumsky_input.specs.Run.{Ran, marked_here, gone_back}
 use Rattle.chumsky_parser.specs.Chained.{Chained, Given}
 use Rattle.chumsky_parser.specs.Choice.{AttemptFrom}
+use Rattle.chumsky_parser.specs.Showing.{GivenShown}
 use Rattle.chumsky_parser.proofs.ChainedLemmas.{ran-weaker, ran-given, chained, failed}
 use Rattle.chumsky_parser.proofs.ChoiceLemmas.{attempt-stands, attempt-after, attempt-unrestored, stands_at-after, stands_at-marked, ran-marked, ran-not_marked}
 use Rattle.chumsky_pratt.specs.declared.fixity.Fixity.{Fixity}
 use Rattle.chumsky_pratt.specs.declared.fixity.Fixity.TheVariants.{Prefix, Postfix, Infix}
 use Rattle.chumsky_pratt.specs.declared.operands.Operands.TheVariants.{Before, Around}
 use Rattle.chumsky_pratt.specs.Operators.{bound_by}
-use Rattle.chumsky_pratt.specs.Expression.{Syntax, Turn, Rests, Goes, all_there, Onward, Folded, AfterPostfix, AfterInfix, TryPostfix, TryInfix, Rounds}
-use Rattle.chumsky_pratt.specs.Showing.{MakesOf}
+use Rattle.chumsky_pratt.specs.Expression.{Syntax, Turn, Rests, Goes, all_there, Onward, AfterPostfix, AfterInfix, TryPostfix, TryInfix, Rounds}
 use Rattle.chumsky_pratt.specs.Climbing.{Begun, Leads, operand_of, whole, rounds_of, round_of, infixes, postfixes, HasValue, TriesPostfixes, TriesInfixes, WaitsInfix}
-use Rattle.chumsky_pratt.proofs.ClimbLemmas.{waiting-lacks, waiting, onward, not_onward, folded, operand_ran}
+use Rattle.chumsky_pratt.proofs.ClimbLemmas.{waiting-lacks, waiting, onward, not_onward, operand_ran}
 
 module _ {Tok Cx St Mk Er F V : Type 0} (merged : Er → Er → Er) (quiet : Type 0) (s : Syntax Tok Cx St Mk Er F V) (wanted : Bool) (l : Begun Tok Cx St Er) where
   abbrev op : ℕ → Meaning Tok Cx St Er V
@@ -36,10 +36,11 @@ module _ {Tok Cx St Mk Er F V : Type 0} (merged : Er → Er → Er) (quiet : Typ
     rested : {new : Held Tok Cx St Er} → Ran merged quiet Turned wanted turn new (Ok (Some Rests)) → Ran merged quiet (whole merged quiet s wanted l) wanted l.held new (Ok x)
     rested {new} h = after new (Ok x) (ran-weaker merged quiet (Rounds s op l.held.place l.least (suc zero) below x) (rounds_of merged quiet s wanted l below x) wanted turn new (Ok x) (λ o k. record { rounds = suc zero; run = k }) (chained h refl ran-given))
 
-    gone_round : {now : Held Tok Cx St Er} (bound : ℕ) (y : Option V) → Ran merged quiet Turned wanted turn now (Ok (Some (Goes bound y))) → HasValue merged quiet s wanted l y bound now
-    gone_round {now} bound y h =
+    gone_round : {now : Held Tok Cx St Er} (bound : ℕ) (y : Option V) → Ran merged quiet Turned wanted turn now (Ok (Some (Goes bound y))) → l.held.place ≤ now.place → HasValue merged quiet s wanted l y bound now
+    gone_round {now} bound y h order =
         record {
           tokens = h.same.tokens ∙ began;
+          order = order;
           leads = λ fin r k.
               let n = k.meant.rounds in
               let rest : Ran merged quiet (Rounds s op l.held.place l.least n bound y) wanted now fin r = record { outcome = k.outcome; meant = k.meant.run; answered = k.answered; state = k.state; left = k.left; same = k.same } in
@@ -58,6 +59,7 @@ module _ {Tok Cx St Mk Er F V : Type 0} (merged : Er → Er → Er) (quiet : Typ
           at = ap (λ (z : Marks Tok Mk). z.place) e;
           tokens = v.tokens;
           began = v.tokens;
+          order = v.order;
           leads = λ new r h. ran-weaker merged quiet _ (round_of merged quiet s wanted l below x) wanted now new r (λ o k. record { run = k })
               (ran-marked merged quiet s.mark s.safe (λ k. postfixes merged quiet s wanted l now.place x below k s.number 0) wanted now m new r e h);
           after = v.leads;
@@ -76,7 +78,7 @@ module _ {Tok Cx St Mk Er F V : Type 0} (merged : Er → Er → Er) (quiet : Typ
 
     -- past the last postfix operator infix ones
     pub to_infixes : next ≡ s.number → TriesInfixes merged quiet s wanted l x below m 0 now
-    to_infixes e = record { turn = t.turn; count = s.number; counted = omega arith; stands = t.stands; at = t.at; tokens = t.tokens; began = t.began; leads = last_postfix t.count t.counted e t.leads; after = t.after }
+    to_infixes e = record { turn = t.turn; count = s.number; counted = omega arith; stands = t.stands; at = t.at; tokens = t.tokens; began = t.began; order = t.order; leads = last_postfix t.count t.counted e t.leads; after = t.after }
 
     pub postfix_before : next ≤ s.number
     postfix_before = omega (arith, t.counted)
@@ -92,7 +94,7 @@ module _ {Tok Cx St Mk Er F V : Type 0} (merged : Er → Er → Er) (quiet : Typ
     at_postfix (suc count) e d h = (count, omega (arith, e), h)
 
     beyond_postfix : (k : ℕ) → suc next + k ≡ s.number → Leading (postfixes merged quiet s wanted l t.turn.place x below m.mark k (suc next)) → (to : ℕ) → to ≡ suc next → TriesPostfixes merged quiet s wanted l x below m to now
-    beyond_postfix k e h to i = rw i (record { turn = t.turn; count = k; counted = e; stands = t.stands; at = t.at; tokens = t.tokens; began = t.began; leads = h; after = t.after })
+    beyond_postfix k e h to i = rw i (record { turn = t.turn; count = k; counted = e; stands = t.stands; at = t.at; tokens = t.tokens; began = t.began; order = t.order; leads = h; after = t.after })
 
     -- what is no postfix operator is passed over, and one that is too weak
     pub no_postfix_prefix : next < s.number → (p : ℕ) → s.stands next ≡ Prefix p → (to : ℕ) → to ≡ suc next → TriesPostfixes merged quiet s wanted l x below m to now
@@ -143,6 +145,7 @@ module _ {Tok Cx St Mk Er F V : Type 0} (merged : Er → Er → Er) (quiet : Typ
             at = t.at;
             tokens = ap (λ (z : Held Tok Cx St Er). z.tokens) e ∙ h.same.tokens ∙ t.tokens;
             began = t.began;
+            order = t.order;
             leads = λ fin r j. k.2 fin r (attempt-after merged quiet s.back s.safe m ReadPostfix wanted now new (postfixes merged quiet s wanted l t.turn.place x below m.mark k.0 (suc next)) bk fin r t.stands h e j);
             after = t.after;
           })
@@ -155,8 +158,10 @@ module _ {Tok Cx St Mk Er F V : Type 0} (merged : Er → Er → Er) (quiet : Typ
       pub postfix_stays : {new : Held Tok Cx St Er} (g : Option F) → Ran merged quiet (s.reads next) wanted now new (Ok g) → new.place ≤ t.turn.place → Ran merged quiet (whole merged quiet s wanted l) wanted l.held new (Err (fault.Stop NoProgress))
       postfix_stays g h e = stopped x below t.turn t.began t.after (stands_postfix (chained h refl (not_onward t.turn.place _ e)) (λ e. cc))
 
-      pub postfix_goes : {new : Held Tok Cx St Er} (g : Option F) (y : Option V) → Ran merged quiet (s.reads next) wanted now new (Ok g) → t.turn.place < new.place → MakesOf s.gives (all_there g (Before x)) y → HasValue merged quiet s wanted l y below new
-      postfix_goes g y h e n = gone_round x below t.turn t.began t.after below y (stands_postfix (chained h refl (onward t.turn.place _ e (chained (folded s.gives (all_there g (Before x)) y n) refl ran-given))) (λ e. cc))
+      pub postfix_goes : {mid new : Held Tok Cx St Er} (g : Option F) (y : Option V) → Ran merged quiet (s.reads next) wanted now mid (Ok g) → t.turn.place < mid.place → Ran merged quiet (GivenShown s.gives l.held.place (all_there g (Before x))) wanted mid new (Ok y)
+          → new.place ≡ mid.place → HasValue merged quiet s wanted l y below new
+      postfix_goes g y h e n p =
+          gone_round x below t.turn t.began t.after below y (stands_postfix (chained h refl (onward t.turn.place _ e (chained n refl ran-given))) (λ e. cc)) (omega (arith, t.order, e, p))
 
   module _ (x : Option V) (below : ℕ) (m : Marks Tok Mk) (next : ℕ) (now : Held Tok Cx St Er) (t : TriesInfixes merged quiet s wanted l x below m next now) where
     abbrev LeadingIn : Meaning Tok Cx St Er (Turn V) → Type 0
@@ -184,7 +189,7 @@ module _ {Tok Cx St Mk Er F V : Type 0} (merged : Er → Er → Er) (quiet : Typ
     at_infix (suc count) e d h = (count, omega (arith, e), h)
 
     beyond_infix : (k : ℕ) → suc next + k ≡ s.number → LeadingIn (rest_of k (suc next)) → (to : ℕ) → to ≡ suc next → TriesInfixes merged quiet s wanted l x below m to now
-    beyond_infix k e h to i = rw i (record { turn = t.turn; count = k; counted = e; stands = t.stands; at = t.at; tokens = t.tokens; began = t.began; leads = h; after = t.after })
+    beyond_infix k e h to i = rw i (record { turn = t.turn; count = k; counted = e; stands = t.stands; at = t.at; tokens = t.tokens; began = t.began; order = t.order; leads = h; after = t.after })
 
     pub no_infix_prefix : next < s.number → (p : ℕ) → s.stands next ≡ Prefix p → (to : ℕ) → to ≡ suc next → TriesInfixes merged quiet s wanted l x below m to now
     no_infix_prefix d p f to i =
@@ -235,6 +240,7 @@ module _ {Tok Cx St Mk Er F V : Type 0} (merged : Er → Er → Er) (quiet : Typ
             at = t.at;
             tokens = ap (λ (z : Held Tok Cx St Er). z.tokens) e ∙ h.same.tokens ∙ t.tokens;
             began = t.began;
+            order = t.order;
             leads = λ fin r j. k.2 fin r (attempt-after merged quiet s.back s.safe m ReadInfix wanted now new (rest_of k.0 (suc next)) bk fin r t.stands h e j);
             after = t.after;
           })
@@ -275,6 +281,7 @@ module _ {Tok Cx St Mk Er F V : Type 0} (merged : Er → Er → Er) (quiet : Typ
             bound = b;
             here_tokens = t.tokens;
             began = t.began;
+            order = t.order;
             read = record { stands = t.stands; read = h; onward = e; room = omega (arith, e, w, long); tokens = tokens };
             leads = λ fin r n. t.leads fin r (subst (λ c. Ran merged quiet (rest_of c next) wanted now fin r) (sym (count_is t.count t.counted k.0 k.1)) n);
             after = t.after;
@@ -282,7 +289,7 @@ module _ {Tok Cx St Mk Er F V : Type 0} (merged : Er → Er → Er) (quiet : Typ
 
   module _ (f : Option F) (m : Marks Tok Mk) (next : ℕ) (x : Option V) (below then_below : ℕ) (inner : Begun Tok Cx St Er) (t : WaitsInfix merged quiet s wanted l f m next x below then_below inner) where
     abbrev was_tried : TriesInfixes merged quiet s wanted l x below m t.index t.here
-    was_tried = record { turn = t.turn; count = suc t.count; counted = omega (arith, t.counted, t.is_next); stands = t.read.stands; at = t.at; tokens = t.here_tokens; began = t.began; leads = t.leads; after = t.after }
+    was_tried = record { turn = t.turn; count = suc t.count; counted = omega (arith, t.counted, t.is_next); stands = t.read.stands; at = t.at; tokens = t.here_tokens; began = t.began; order = t.order; leads = t.leads; after = t.after }
 
     was_there : t.index < s.number
     was_there = omega (arith, t.counted, t.is_next)
@@ -291,7 +298,7 @@ module _ {Tok Cx St Mk Er F V : Type 0} (merged : Er → Er → Er) (quiet : Typ
     Bound = bound_by t.chains below t.left
 
     abbrev Operand : Meaning Tok Cx St Er (Turn V)
-    Operand = Chained (op inner.least) (λ v. Onward t.turn.place (Chained (Folded s.gives (all_there f (Around x v))) (λ y. Given (Some (Goes Bound y)))))
+    Operand = Chained (op inner.least) (λ v. Onward t.turn.place (Chained (GivenShown s.gives l.held.place (all_there f (Around x v))) (λ y. Given (Some (Goes Bound y)))))
 
     operated : {new : Held Tok Cx St Er} {r : Result (Option (Turn V)) Fault} → Ran merged quiet Operand wanted inner.held new r → Ran merged quiet (AfterInfix s op l.held.place t.turn.place x Bound t.index inner.least) wanted t.here new r
     operated h = chained t.read.read refl (onward l.held.place _ t.read.onward (waiting _ h))
@@ -300,10 +307,11 @@ module _ {Tok Cx St Mk Er F V : Type 0} (merged : Er → Er → Er) (quiet : Typ
     not_operated h = operated (failed (operand_ran merged quiet s wanted l inner t.read.room h) refl refl)
 
     -- its operand has a value
-    pub infix_ok : {now : Held Tok Cx St Er} (v y : Option V) → Ran merged quiet (whole merged quiet s wanted inner) wanted inner.held now (Ok v) → t.turn.place < now.place → MakesOf s.gives (all_there f (Around x v)) y → HasValue merged quiet s wanted l y then_below now
-    infix_ok {now} v y h e g =
-        let r = operated (chained (operand_ran merged quiet s wanted l inner t.read.room h) refl (onward t.turn.place _ e (chained (folded s.gives (all_there f (Around x v)) y g) refl ran-given))) in
-        let k : HasValue merged quiet s wanted l y Bound now = gone_round x below t.turn t.began t.after Bound y (stands_infix x below m t.index t.here was_tried was_there t.left inner.least t.chains t.fixity t.enough t.under r (λ e. cc)) in
+    pub infix_ok : {now new : Held Tok Cx St Er} (v y : Option V) → Ran merged quiet (whole merged quiet s wanted inner) wanted inner.held now (Ok v) → t.turn.place < now.place
+        → Ran merged quiet (GivenShown s.gives l.held.place (all_there f (Around x v))) wanted now new (Ok y) → new.place ≡ now.place → HasValue merged quiet s wanted l y then_below new
+    infix_ok {now} {new} v y h e g p =
+        let r = operated (chained (operand_ran merged quiet s wanted l inner t.read.room h) refl (onward t.turn.place _ e (chained g refl ran-given))) in
+        let k : HasValue merged quiet s wanted l y Bound new = gone_round x below t.turn t.began t.after Bound y (stands_infix x below m t.index t.here was_tried was_there t.left inner.least t.chains t.fixity t.enough t.under r (λ e. cc)) (omega (arith, t.order, e, p)) in
         rw t.bound k
 
     pub infix_still : {now : Held Tok Cx St Er} (v : Option V) → Ran merged quiet (whole merged quiet s wanted inner) wanted inner.held now (Ok v) → now.place ≤ t.turn.place → Ran merged quiet (whole merged quiet s wanted l) wanted l.held now (Err (fault.Stop NoProgress))

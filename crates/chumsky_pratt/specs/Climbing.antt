@@ -75,6 +75,7 @@ module _ {Tok Cx St Mk Er F V : Type 0} (merged : Er → Er → Er) (quiet : Typ
   -- a value is there
   pub record HasValue (l : Begun Tok Cx St Er) (x : Option V) (below : ℕ) (now : Held Tok Cx St Er) : Type 0 where
     pub tokens : now.tokens ≡ l.held.tokens
+    pub order : l.held.place ≤ now.place
     pub leads : Leads (rounds_of l below x) now (whole l) l.held
 
   -- postfix operators are tried after a value, from an index on, in a round that began there
@@ -86,6 +87,7 @@ module _ {Tok Cx St Mk Er F V : Type 0} (merged : Er → Er → Er) (quiet : Typ
     pub at : m.place ≡ turn.place
     pub tokens : now.tokens ≡ l.held.tokens
     pub began : turn.tokens ≡ l.held.tokens
+    pub order : l.held.place ≤ turn.place
     pub leads : Leads (postfixes l turn.place x below m.mark count next) now (round_of l below x) turn
     pub after : Leads (rounds_of l below x) turn (whole l) l.held
 
@@ -98,6 +100,7 @@ module _ {Tok Cx St Mk Er F V : Type 0} (merged : Er → Er → Er) (quiet : Typ
     pub at : m.place ≡ turn.place
     pub tokens : now.tokens ≡ l.held.tokens
     pub began : turn.tokens ≡ l.held.tokens
+    pub order : l.held.place ≤ turn.place
     pub leads : Leads (infixes l turn.place x below m.mark count next) now (round_of l below x) turn
     pub after : Leads (rounds_of l below x) turn (whole l) l.held
 
@@ -137,6 +140,7 @@ module _ {Tok Cx St Mk Er F V : Type 0} (merged : Er → Er → Er) (quiet : Typ
     pub under : left < below
     pub bound : then_below ≡ bound_by chains below left
     pub began : turn.tokens ≡ l.held.tokens
+    pub order : l.held.place ≤ turn.place
     pub here_tokens : here.tokens ≡ l.held.tokens
     pub read : ReadFrom l f m index here inner
     pub leads : Leads (infixes l turn.place x below m.mark (suc count) index) here (round_of l below x) turn

@@ -6,6 +6,7 @@ use Rattle.chumsky_input.specs.Outcome.{Meaning, Beginning, Outcome}
 use Rattle.chumsky_parser.specs.Chained.{Chained, Given}
 use Rattle.chumsky_parser.specs.Choice.{AttemptFrom, ByMark}
 use Rattle.chumsky_parser.specs.Failure.{Refuses, Stops}
+use Rattle.chumsky_parser.specs.Showing.{GivesShown, GivenShown}
 use Rattle.chumsky_pratt.specs.declared.fixity.Fixity.{Fixity}
 use Rattle.chumsky_pratt.specs.declared.fixity.Fixity.TheVariants.{Prefix, Postfix, Infix}
 use Rattle.chumsky_pratt.specs.declared.operands.Operands.{Operands}
@@ -13,7 +14,8 @@ use Rattle.chumsky_pratt.specs.declared.operands.Operands.TheVariants.{After, Be
 use Rattle.chumsky_pratt.specs.Operators.{bound_by}
 
 -- of what expressions are made: atoms and a number of operators, how each stands, what reading one does, and what is given
--- for what was read and its operands; with how a state is marked and gone back to
+-- for what was read and its operands, and for what is shown of the run from where the first operand or the operator began;
+-- with how a state is marked and gone back to
 pub record Syntax (Tok Cx St Mk Er F V : Type 0) : Type 1 where
   pub mark : St → Mk
   pub back : St → Mk → St
@@ -22,7 +24,7 @@ pub record Syntax (Tok Cx St Mk Er F V : Type 0) : Type 1 where
   pub number : ℕ
   pub stands : ℕ → Fixity
   pub reads : ℕ → Meaning Tok Cx St Er F
-  pub gives : F → Operands V → V → Type 0
+  pub gives : GivesShown Tok Cx St (F × Operands V) V
 
 -- what a round of operators after a value does: nothing; or it gives another value, and a bound of the powers of infix
 -- operators after that
@@ -58,11 +60,6 @@ module _ {Tok Cx St Er V : Type 0} where
   abbrev pub Waiting : Meaning Tok Cx St Er V → Meaning Tok Cx St Er V
   Waiting part b o = Refuses ⊤ b.state o ⊎ part b o
 
-  -- what is given for an operator and its operands, where all are there
-  abbrev pub Folded : {F : Type 0} → (F → Operands V → V → Type 0) → Option (F × Operands V) → Meaning Tok Cx St Er V
-  Folded gives (Some p) b o = (v : V) × gives p.0 p.1 v × Given (Some v) b o
-  Folded gives None b o = Given None b o
-
   -- after a round: the value, if it did nothing, or what follows the one that it gave
   abbrev pub AfterTurn : Option V → (ℕ → Option V → Meaning Tok Cx St Er V) → Option (Turn V) → Meaning Tok Cx St Er V
   AfterTurn x next (Some Rests) = Given x
@@ -78,16 +75,16 @@ module _ {Tok Cx St Mk Er F V : Type 0} (s : Syntax Tok Cx St Mk Er F V) where
   module _ (operand : ℕ → Meaning Tok Cx St Er V) (start : ℕ) where
     -- a prefix operator of an expression that began here, and its operand, an expression of its power
     abbrev pub AfterPrefix : ℕ → ℕ → Meaning Tok Cx St Er V
-    AfterPrefix i power = Chained (s.reads i) (λ f. Onward start (Waiting (Chained (operand power) (λ v. Folded s.gives (all_there f (After v))))))
+    AfterPrefix i power = Chained (s.reads i) (λ f. Onward start (Waiting (Chained (operand power) (λ v. GivenShown s.gives start (all_there f (After v))))))
 
     -- a postfix operator after a value that ended here
     abbrev pub AfterPostfix : ℕ → Option V → ℕ → ℕ → Meaning Tok Cx St Er (Turn V)
-    AfterPostfix at x below i = Chained (s.reads i) (λ f. Onward at (Chained (Folded s.gives (all_there f (Before x))) (λ y. Given (Some (Goes below y)))))
+    AfterPostfix at x below i = Chained (s.reads i) (λ f. Onward at (Chained (GivenShown s.gives start (all_there f (Before x))) (λ y. Given (Some (Goes below y)))))
 
     -- an infix operator after a value that ended here, and its right operand, an expression of its right power
     abbrev pub AfterInfix : ℕ → Option V → ℕ → ℕ → ℕ → Meaning Tok Cx St Er (Turn V)
     AfterInfix at x below i power = Chained (s.reads i)
-        (λ f. Onward start (Waiting (Chained (operand power) (λ v. Onward at (Chained (Folded s.gives (all_there f (Around x v))) (λ y. Given (Some (Goes below y))))))))
+        (λ f. Onward start (Waiting (Chained (operand power) (λ v. Onward at (Chained (GivenShown s.gives start (all_there f (Around x v))) (λ y. Given (Some (Goes below y))))))))
 
     -- a prefix operator is tried; others are passed over
     abbrev pub TryPrefix : Mk → ℕ → Fixity → Meaning Tok Cx St Er V → Meaning Tok Cx St Er V

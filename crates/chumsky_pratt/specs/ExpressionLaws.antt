@@ -3,25 +3,28 @@ use Rattle.std.proofs.Common.{◌≡◌, ℕ, zero, suc, ◌≤◌, ◌++◌, Op
 use Rattle.chumsky_input.specs.Layout.{Layout}
 use Rattle.std.specs.Prelude.{⊤}
 use Rattle.chumsky_input.specs.declared.stop.Stop.TheVariants.{NoProgress}
+use Rattle.chumsky_input.specs.Extra.{Shown}
 use Rattle.chumsky_input.specs.Outcome.{Meaning, Beginning, Outcome, Verdict, Yes, No, Halt, Clash, SameValue, SameAnswer, Alike, Agree, EndsAfterStart, Agreeing, IsAnswer}
 use Rattle.chumsky_parser.specs.Chained.{Chained, Given}
 use Rattle.chumsky_parser.specs.Choice.{ElseFrom, AttemptFrom, ByMark}
 use Rattle.chumsky_parser.specs.ChoiceLaws.{attempt-ends, agree-weaker}
 use Rattle.chumsky_parser.specs.FailureLaws.{stops-ends}
 use Rattle.chumsky_parser.specs.Laws.{chained-ends, chained-agrees, given-ends, given-agrees}
+use Rattle.chumsky_parser.specs.Showing.{GivesShown, OnlyAnswers, GivenShown}
+use Rattle.chumsky_parser.specs.ShowingLaws.{shown-ends, shown-agrees}
 use Rattle.chumsky_pratt.specs.declared.fixity.Fixity.{Fixity}
 use Rattle.chumsky_pratt.specs.declared.fixity.Fixity.TheVariants.{Prefix, Postfix, Infix}
 use Rattle.chumsky_pratt.specs.declared.operands.Operands.{Operands}
 use Rattle.chumsky_pratt.specs.declared.operands.Operands.TheVariants.{After, Before, Around}
 use Rattle.chumsky_pratt.specs.Operators.{bound_by}
-use Rattle.chumsky_pratt.specs.Expression.{Syntax, Turn, Rests, Goes, any_power, all_there, left_at, Onward, Waiting, Folded, AfterTurn, From, AfterPrefix, AfterPostfix, AfterInfix, TryPrefix, TryPostfix, TryInfix, Head, Round, Rounds, AllRounds, Level, Below, Expression}
+use Rattle.chumsky_pratt.specs.Expression.{Syntax, Turn, Rests, Goes, any_power, all_there, left_at, Onward, Waiting, AfterTurn, From, AfterPrefix, AfterPostfix, AfterInfix, TryPrefix, TryPostfix, TryInfix, Head, Round, Rounds, AllRounds, Level, Below, Expression}
 
--- values that are the same: of atoms that are, or of operators that are with operands that are
-pub data SameExpression {F V : Type 0} (same : V → V → Type 0) (found : F → F → Type 0) (gives : F → Operands V → V → Type 0) : V → V → Type 0 where
+-- values that are the same: of atoms that are, or of operators that are with operands that are, shown one run
+pub data SameExpression {Tok Cx St F V : Type 0} (same : V → V → Type 0) (found : F → F → Type 0) (gives : GivesShown Tok Cx St (F × Operands V) V) : V → V → Type 0 where
   OfAtoms : {v w : V} → same v w → SameExpression same found gives v w
-  OfAfter : {f g : F} {x y v w : V} → found f g → SameExpression same found gives x y → gives f (After x) v → gives g (After y) w → SameExpression same found gives v w
-  OfBefore : {f g : F} {x y v w : V} → found f g → SameExpression same found gives x y → gives f (Before x) v → gives g (Before y) w → SameExpression same found gives v w
-  OfAround : {f g : F} {x y u z v w : V} → found f g → SameExpression same found gives x y → SameExpression same found gives u z → gives f (Around x u) v → gives g (Around y z) w → SameExpression same found gives v w
+  OfAfter : {f g : F} {x y v w : V} {run : Shown Tok Cx St} {s t : St} → found f g → SameExpression same found gives x y → gives (f, After x) run v s → gives (g, After y) run w t → SameExpression same found gives v w
+  OfBefore : {f g : F} {x y v w : V} {run : Shown Tok Cx St} {s t : St} → found f g → SameExpression same found gives x y → gives (f, Before x) run v s → gives (g, Before y) run w t → SameExpression same found gives v w
+  OfAround : {f g : F} {x y u z v w : V} {run : Shown Tok Cx St} {s t : St} → found f g → SameExpression same found gives x y → SameExpression same found gives u z → gives (f, Around x u) run v s → gives (g, Around y z) run w t → SameExpression same found gives v w
 
 module _ {Tok Cx St Er V : Type 0} where
   onward-ends : (place : ℕ) (m : Meaning Tok Cx St Er V) → EndsAfterStart m → EndsAfterStart (Onward place m)
@@ -31,10 +34,6 @@ module _ {Tok Cx St Er V : Type 0} where
   pub waiting-ends : (m : Meaning Tok Cx St Er V) → EndsAfterStart m → EndsAfterStart (Waiting m)
   waiting-ends m h b o (inl r) a = absurd (subst IsAnswer r.1 a)
   waiting-ends m h b o (inr k) a = h b o k a
-
-  pub folded-ends : {F : Type 0} (gives : F → Operands V → V → Type 0) (p : Option (F × Operands V)) → EndsAfterStart (Folded {Tok = Tok} {Cx = Cx} {St = St} {Er = Er} gives p)
-  folded-ends gives (Some p) b o m a = given-ends (Some m.0) b o m.2 a
-  folded-ends gives None b o m a = given-ends None b o m a
 
   after_turn-ends : (x : Option V) (next : ℕ → Option V → Meaning Tok Cx St Er V) → ((below : ℕ) (y : Option V) → EndsAfterStart (next below y)) → (t : Option (Turn V)) → EndsAfterStart (AfterTurn x next t)
   after_turn-ends x next h (Some Rests) = given-ends x
@@ -53,15 +52,15 @@ module _ {Tok Cx St Mk Er F V : Type 0} (s : Syntax Tok Cx St Mk Er F V) (atom_e
 
   module _ (operand : ℕ → Meaning Tok Cx St Er V) (operand_ends : (power : ℕ) → EndsAfterStart (operand power)) (start : ℕ) where
     after_prefix-ends : (i power : ℕ) → EndsAfterStart (AfterPrefix s operand start i power)
-    after_prefix-ends i power = chained-ends (s.reads i) _ (reads_end i) (λ f. onward-ends start _ (waiting-ends _ (chained-ends (operand power) _ (operand_ends power) (λ v. folded-ends s.gives (all_there f (After v))))))
+    after_prefix-ends i power = chained-ends (s.reads i) _ (reads_end i) (λ f. onward-ends start _ (waiting-ends _ (chained-ends (operand power) _ (operand_ends power) (λ v. shown-ends s.gives start (all_there f (After v))))))
 
     after_postfix-ends : (at : ℕ) (x : Option V) (below i : ℕ) → EndsAfterStart (AfterPostfix s operand start at x below i)
-    after_postfix-ends at x below i = chained-ends (s.reads i) _ (reads_end i) (λ f. onward-ends at _ (chained-ends _ _ (folded-ends s.gives (all_there f (Before x))) (λ y. given-ends (Some (Goes below y)))))
+    after_postfix-ends at x below i = chained-ends (s.reads i) _ (reads_end i) (λ f. onward-ends at _ (chained-ends _ _ (shown-ends s.gives start (all_there f (Before x))) (λ y. given-ends (Some (Goes below y)))))
 
     after_infix-ends : (at : ℕ) (x : Option V) (below i power : ℕ) → EndsAfterStart (AfterInfix s operand start at x below i power)
     after_infix-ends at x below i power =
         chained-ends (s.reads i) _ (reads_end i)
-        (λ f. onward-ends start _ (waiting-ends _ (chained-ends (operand power) _ (operand_ends power) (λ v. onward-ends at _ (chained-ends _ _ (folded-ends s.gives (all_there f (Around x v))) (λ y. given-ends (Some (Goes below y))))))))
+        (λ f. onward-ends start _ (waiting-ends _ (chained-ends (operand power) _ (operand_ends power) (λ v. onward-ends at _ (chained-ends _ _ (shown-ends s.gives start (all_there f (Around x v))) (λ y. given-ends (Some (Goes below y))))))))
 
     try_prefix-ends : (m : Mk) (i : ℕ) (f : Fixity) (next : Meaning Tok Cx St Er V) → EndsAfterStart next → EndsAfterStart (TryPrefix s operand start m i f next)
     try_prefix-ends m i (Prefix power) next h = attempt-ends s.back s.safe m (AfterPrefix s operand start i power) next (after_prefix-ends i power) h
@@ -82,7 +81,7 @@ module _ {Tok Cx St Mk Er F V : Type 0} (s : Syntax Tok Cx St Mk Er F V) (atom_e
         | inr k ↦ h b o k.1 a
       ]
 
-    head-ends : EndsAfterStart (Head s operand start)
+    pub head-ends : EndsAfterStart (Head s operand start)
     head-ends b o m a = by_mark-ends s.mark s.safe _ b o (λ k. from-ends (TryPrefix s operand start k) (try_prefix-ends k) s.number 0 s.atom atom_ends) m.run a
 
     round-ends : (least below : ℕ) (x : Option V) → EndsAfterStart (Round s operand start least below x)
@@ -95,7 +94,7 @@ module _ {Tok Cx St Mk Er F V : Type 0} (s : Syntax Tok Cx St Mk Er F V) (atom_e
     rounds-end least zero below x b o m a = absurd m
     rounds-end least (suc n) below x b o m a = chained-ends (Round s operand start least below x) (AfterTurn x (Rounds s operand start least n)) (round-ends least below x) (after_turn-ends x (Rounds s operand start least n) (rounds-end least n)) b o m a
 
-  level-ends : (operand : ℕ → Meaning Tok Cx St Er V) → ((power : ℕ) → EndsAfterStart (operand power)) → (least : ℕ) → EndsAfterStart (Level s operand least)
+  pub level-ends : (operand : ℕ → Meaning Tok Cx St Er V) → ((power : ℕ) → EndsAfterStart (operand power)) → (least : ℕ) → EndsAfterStart (Level s operand least)
   level-ends operand h least b o m a = chained-ends (Head s operand b.start) (AllRounds s operand b.start least any_power) (head-ends operand h b.start) (λ x c q n z. rounds-end operand h b.start least n.rounds any_power x c q n.run z) b o m.run a
 
   pub below-ends : (n least : ℕ) → EndsAfterStart (Below s n least)
@@ -158,7 +157,7 @@ module _ {Tok Cx St Er V : Type 0} (same : V → V → Type 0) where
   by_mark-agrees mark safe part part' h b c o q l (inr k) (inl r) a z = absurd (subst IsAnswer r.1 z)
   by_mark-agrees mark safe part part' h b c o q l (inr k) (inr j) a z = h (mark b.state) b c o q l k (subst (λ i. part' (mark i) c q) (sym l.state) j) a z
 
-module _ {F V : Type 0} (same : V → V → Type 0) (found : F → F → Type 0) (gives : F → Operands V → V → Type 0) where
+module _ {Tok Cx St F V : Type 0} (same : V → V → Type 0) (found : F → F → Type 0) (gives : GivesShown Tok Cx St (F × Operands V) V) where
   abbrev Same : V → V → Type 0
   Same = SameExpression same found gives
 
@@ -200,22 +199,21 @@ module _ {F V : Type 0} (same : V → V → Type 0) (found : F → F → Type 0)
   around-there (Some f) (Some g) (Some x) (Some y) (Some u) None e d k = tt
   around-there (Some f) (Some g) (Some x) (Some y) (Some u) (Some z) e d k = (e, (d, k))
 
-  made-same : (f g : F) (x y : Operands V) (v w : V) → found f g → SameOperands x y → gives f x v → gives g y w → Same v w
-  made-same f g (After x) (After y) v w e d h k = OfAfter e d h k
-  made-same f g (After x) (Before y) v w e d h k = absurd d
-  made-same f g (After x) (Around y z) v w e d h k = absurd d
-  made-same f g (Before x) (After y) v w e d h k = absurd d
-  made-same f g (Before x) (Before y) v w e d h k = OfBefore e d h k
-  made-same f g (Before x) (Around y z) v w e d h k = absurd d
-  made-same f g (Around x u) (After y) v w e d h k = absurd d
-  made-same f g (Around x u) (Before y) v w e d h k = absurd d
-  made-same f g (Around x u) (Around y z) v w e d h k = OfAround e d.0 d.1 h k
+  made-same : (f g : F) (x y : Operands V) (run : Shown Tok Cx St) (v w : V) (s t : St) → found f g → SameOperands x y → gives (f, x) run v s → gives (g, y) run w t → Same v w
+  made-same f g (After x) (After y) run v w s t e d h k = OfAfter e d h k
+  made-same f g (After x) (Before y) run v w s t e d h k = absurd d
+  made-same f g (After x) (Around y z) run v w s t e d h k = absurd d
+  made-same f g (Before x) (After y) run v w s t e d h k = absurd d
+  made-same f g (Before x) (Before y) run v w s t e d h k = OfBefore e d h k
+  made-same f g (Before x) (Around y z) run v w s t e d h k = absurd d
+  made-same f g (Around x u) (After y) run v w s t e d h k = absurd d
+  made-same f g (Around x u) (Before y) run v w s t e d h k = absurd d
+  made-same f g (Around x u) (Around y z) run v w s t e d h k = OfAround e d.0 d.1 h k
 
-  folded-agrees : {Tok Cx St Er : Type 0} (p q : Option (F × Operands V)) → SameValue SameMade p q → Agreeing Same (Folded {Tok = Tok} {Cx = Cx} {St = St} {Er = Er} gives p) (Folded gives q)
-  folded-agrees (Some p) (Some q) e b c o r l m n a z = given-agrees Same (Some m.0) (Some n.0) (made-same p.0 q.0 p.1 q.1 m.0 n.0 e.0 e.1 m.1 n.1) b c o r l m.2 n.2 a z
-  folded-agrees (Some p) None e b c o r l m n a z = given-agrees Same (Some m.0) None tt b c o r l m.2 n a z
-  folded-agrees None (Some q) e b c o r l m n a z = given-agrees Same None (Some n.0) tt b c o r l m n.2 a z
-  folded-agrees None None e b c o r l m n a z = given-agrees Same None None tt b c o r l m n a z
+  -- what is given of them is the same
+  pub folded-agrees : OnlyAnswers gives → {Er : Type 0} (from from' : ℕ) → from ≡ from' → (p q : Option (F × Operands V)) → SameValue SameMade p q → Agreeing Same (GivenShown {Tok = Tok} {Cx = Cx} {St = St} {Er = Er} gives from p) (GivenShown gives from' q)
+  folded-agrees one from from' d p q e =
+      shown-agrees gives one SameMade Same (λ v w k. made-same k.first.0 k.second.0 k.first.1 k.second.1 k.shown v w k.state k.other_state k.alike.0 k.alike.1 k.from_first k.from_second) from from' d p q e
 
   -- rounds that did the same
   abbrev SameTurn : Turn V → Turn V → Type 0
@@ -224,7 +222,7 @@ module _ {F V : Type 0} (same : V → V → Type 0) (found : F → F → Type 0)
   SameTurn (Goes below x) Rests = ⊥
   SameTurn (Goes below x) (Goes below' y) = (below ≡ below') × SameValue Same x y
 
-module _ {Tok Cx St Mk Er F V : Type 0} (s : Syntax Tok Cx St Mk Er F V) (same : V → V → Type 0) (found : F → F → Type 0) (atom_agrees : Agreeing same s.atom s.atom) (reads_agree : (i : ℕ) → Agreeing found (s.reads i) (s.reads i)) where
+module _ {Tok Cx St Mk Er F V : Type 0} (s : Syntax Tok Cx St Mk Er F V) (same : V → V → Type 0) (found : F → F → Type 0) (one : OnlyAnswers s.gives) (atom_agrees : Agreeing same s.atom s.atom) (reads_agree : (i : ℕ) → Agreeing found (s.reads i) (s.reads i)) where
   abbrev Counted : V → V → Type 0
   Counted = SameExpression same found s.gives
 
@@ -239,14 +237,14 @@ module _ {Tok Cx St Mk Er F V : Type 0} (s : Syntax Tok Cx St Mk Er F V) (same :
 
   module _ (operand : ℕ → Meaning Tok Cx St Er V) (operands_agree : (power : ℕ) → Agreeing Counted (operand power) (operand power)) (start : ℕ) where
     goes-agree : (below : ℕ) (p q : Option (F × Operands V)) → SameValue (SameMade same found s.gives) p q
-        → Agreeing Turns (Chained (Folded {Tok = Tok} {Cx = Cx} {St = St} {Er = Er} s.gives p) (λ y. Given (Some (Goes below y)))) (Chained (Folded s.gives q) (λ y. Given (Some (Goes below y))))
-    goes-agree below p q e = chained-agrees _ _ _ _ Counted Turns (folded-agrees same found s.gives p q e) (λ v w d. given-agrees Turns (Some (Goes below v)) (Some (Goes below w)) (refl, d))
+        → Agreeing Turns (Chained (GivenShown {Tok = Tok} {Cx = Cx} {St = St} {Er = Er} s.gives start p) (λ y. Given (Some (Goes below y)))) (Chained (GivenShown s.gives start q) (λ y. Given (Some (Goes below y))))
+    goes-agree below p q e = chained-agrees _ _ _ _ Counted Turns (folded-agrees same found s.gives one start start refl p q e) (λ v w d. given-agrees Turns (Some (Goes below v)) (Some (Goes below w)) (refl, d))
 
     after_prefix-agrees : (i power : ℕ) → Agreeing Counted (AfterPrefix s operand start i power) (AfterPrefix s operand start i power)
     after_prefix-agrees i power =
         chained-agrees (s.reads i) (s.reads i) _ _ found Counted (reads_agree i)
         (λ f g e. onward-agrees Counted start _ _ (waiting-agrees Counted _ _ (chained-agrees (operand power) (operand power) _ _ Counted Counted (operands_agree power)
-        (λ v w d. folded-agrees same found s.gives (all_there f (After v)) (all_there g (After w)) (after-there same found s.gives f g v w e d)))))
+        (λ v w d. folded-agrees same found s.gives one start start refl (all_there f (After v)) (all_there g (After w)) (after-there same found s.gives f g v w e d)))))
 
     module _ (least at below : ℕ) (x x' : Option V) (e : SameValue Counted x x') where
       after_postfix-agrees : (i : ℕ) → Agreeing Turns (AfterPostfix s operand start at x below i) (AfterPostfix s operand start at x' below i)

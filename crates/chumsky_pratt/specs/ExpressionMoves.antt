@@ -8,11 +8,13 @@ use Rattle.chumsky_parser.specs.Laws.{chained-ends}
 use Rattle.chumsky_parser.specs.Progress.{IsYes}
 use Rattle.chumsky_parser.specs.Progress.{Moves}
 use Rattle.chumsky_parser.specs.ProgressLaws.{yes-answers}
+use Rattle.chumsky_parser.specs.Showing.{GivenShown}
+use Rattle.chumsky_parser.specs.ShowingLaws.{shown-ends}
 use Rattle.chumsky_pratt.specs.declared.fixity.Fixity.{Fixity}
 use Rattle.chumsky_pratt.specs.declared.fixity.Fixity.TheVariants.{Prefix, Postfix, Infix}
 use Rattle.chumsky_pratt.specs.declared.operands.Operands.TheVariants.{After}
-use Rattle.chumsky_pratt.specs.Expression.{Syntax, any_power, all_there, Onward, Waiting, Folded, From, TryPrefix, Head, AllRounds, Below, Expression}
-use Rattle.chumsky_pratt.specs.ExpressionLaws.{waiting-ends, folded-ends, rounds-end, below-ends}
+use Rattle.chumsky_pratt.specs.Expression.{Syntax, any_power, all_there, Onward, Waiting, From, TryPrefix, Head, AllRounds, Below, Expression}
+use Rattle.chumsky_pratt.specs.ExpressionLaws.{waiting-ends, rounds-end, below-ends}
 
 -- a verdict that is no yes
 no_yes : {V Er St : Type 0} (o : Outcome V Er St) {v : Verdict V Er} → o.verdict ≡ v → (IsYes v → ⊥) → IsYes o.verdict → ⊥
@@ -24,11 +26,11 @@ module _ {Tok Cx St Mk Er F V : Type 0} (s : Syntax Tok Cx St Mk Er F V) (atom_e
     abbrev Past : Meaning Tok Cx St Er V → Type 0
     Past m = (b : Beginning Tok Cx St) (o : Outcome V Er St) → b.start ≡ start → m b o → IsYes o.verdict → start < o.end
 
-    waited-ends : (power : ℕ) (f : Option F) → EndsAfterStart (Waiting (Chained (operand power) (λ v. Folded {Tok = Tok} {Cx = Cx} {St = St} {Er = Er} s.gives (all_there f (After v)))))
-    waited-ends power f = waiting-ends _ (chained-ends (operand power) _ (operand_ends power) (λ v. folded-ends s.gives (all_there f (After v))))
+    waited-ends : (power : ℕ) (f : Option F) → EndsAfterStart (Waiting (Chained (operand power) (λ v. GivenShown {Tok = Tok} {Cx = Cx} {St = St} {Er = Er} s.gives start (all_there f (After v)))))
+    waited-ends power f = waiting-ends _ (chained-ends (operand power) _ (operand_ends power) (λ v. shown-ends s.gives start (all_there f (After v))))
 
     operand_past : (power : ℕ) (b : Beginning Tok Cx St) (p : Outcome F Er St) (o : Outcome V Er St) (v : Verdict F Er)
-        → Follows v (λ f. Onward start (Waiting (Chained (operand power) (λ v. Folded s.gives (all_there f (After v)))))) b p o → IsYes o.verdict → start < o.end
+        → Follows v (λ f. Onward start (Waiting (Chained (operand power) (λ v. GivenShown s.gives start (all_there f (After v)))))) b p o → IsYes o.verdict → start < o.end
     operand_past power b p o (Yes f) g y =
         let verdict : o.verdict ≡ g.0.verdict = ap (λ (x : Outcome V Er St). x.verdict) g.2 in
         let last : o.end ≡ g.0.end = ap (λ (x : Outcome V Er St). x.end) g.2 in

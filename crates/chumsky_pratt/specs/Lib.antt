@@ -5,6 +5,8 @@ pub mod Doing
 pub mod Showing
 pub mod Built
 pub mod Kinds
+pub mod CalledWithThree
+pub mod Listed
 pub mod Climbing
 pub mod Weight
 pub mod PrecedenceLaws

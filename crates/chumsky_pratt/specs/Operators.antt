@@ -1,8 +1,10 @@
 -- How operators stand, what reading one of a row does, and what is given for it and its operands.
-use Rattle.std.proofs.Common.{◌≡◌, ℕ, zero, suc, ◌+◌, ◌*◌, ◌<◌, ◌^◌, Bool, true, false, Option, Some, None, option_map, arith}
+use Rattle.std.proofs.Common.{◌≡◌, ℕ, zero, suc, ◌+◌, ◌*◌, Bool, true, false, Option, Some, None, option_map}
+use Rattle.chumsky_input.specs.Extra.{Shown}
 use Rattle.chumsky_input.specs.Outcome.{Meaning, SameValue, EndsAfterStart, Agreeing}
 use Rattle.chumsky_parser.specs.Chained.{Chained, Given}
 use Rattle.chumsky_parser.specs.Laws.{chained-ends, chained-agrees, given-ends, given-agrees}
+use Rattle.chumsky_parser.specs.Showing.{GivesShown, OnlyAnswers}
 use Rattle.chumsky_pratt.specs.declared.fixity.Fixity.{Fixity}
 use Rattle.chumsky_pratt.specs.declared.fixity.Fixity.TheVariants as fixity
 use Rattle.chumsky_pratt.specs.declared.fixity.Associativity.{Associativity}
@@ -49,23 +51,67 @@ module _ {O W : Type 0} where
 abbrev pub OnlyOne : {F V : Type 0} → (F → Operands V → V → Type 0) → Type 0
 OnlyOne {F} {V} gives = (f : F) (x : Operands V) (z z' : V) → gives f x z → gives f x z' → z ≡ z'
 
-module _ {A B V : Type 0} (here : A → Operands V → V → Type 0) (there : B → Operands V → V → Type 0) where
-  abbrev pub GivesAnd : Found A B → Operands V → V → Type 0
-  GivesAnd (Here f) x z = here f x z
-  GivesAnd (There f) x z = there f x z
+-- the first of some operands
+abbrev pub first_of : {V : Type 0} → Operands V → V
+first_of (After a) = a
+first_of (Before a) = a
+first_of (Around a b) = a
 
-  pub gives_and-one : OnlyOne here → OnlyOne there → OnlyOne GivesAnd
-  gives_and-one h k (Here f) x z z' = h f x z z'
-  gives_and-one h k (There f) x z z' = k f x z z'
+module _ {Tok Cx St F V : Type 0} where
+  -- what is given for an operator and its operands, whatever is shown of the run, whose state stays
+  abbrev pub Unshown : (F → Operands V → V → Type 0) → GivesShown Tok Cx St (F × Operands V) V
+  Unshown gives p x z s = gives p.0 p.1 z × (s ≡ x.state)
+
+  pub unshown-one : (gives : F → Operands V → V → Type 0) → OnlyOne gives → OnlyAnswers (Unshown gives)
+  unshown-one gives one p x z z' s t m n = (one p.0 p.1 z z' m.0 n.0, m.1)
+
+module _ {Tok Cx St O W : Type 0} where
+  -- what is given for an operator, its operands and what is shown of the run; of operands that are not its own the first,
+  -- and then the state stays
+  abbrev pub WithPrefix : GivesShown Tok Cx St (W × O) O → W → Operands O → Shown Tok Cx St → O → St → Type 0
+  WithPrefix gives w (After a) x z s = gives (w, a) x z s
+  WithPrefix gives w (Before a) x z s = (z ≡ a) × (s ≡ x.state)
+  WithPrefix gives w (Around a b) x z s = (z ≡ a) × (s ≡ x.state)
+
+  abbrev pub GivesPrefixWith : GivesShown Tok Cx St (W × O) O → GivesShown Tok Cx St (W × Operands O) O
+  GivesPrefixWith gives p = WithPrefix gives p.0 p.1
+
+  abbrev pub WithPostfix : GivesShown Tok Cx St (O × W) O → W → Operands O → Shown Tok Cx St → O → St → Type 0
+  WithPostfix gives w (After a) x z s = (z ≡ a) × (s ≡ x.state)
+  WithPostfix gives w (Before a) x z s = gives (a, w) x z s
+  WithPostfix gives w (Around a b) x z s = (z ≡ a) × (s ≡ x.state)
+
+  abbrev pub GivesPostfixWith : GivesShown Tok Cx St (O × W) O → GivesShown Tok Cx St (W × Operands O) O
+  GivesPostfixWith gives p = WithPostfix gives p.0 p.1
+
+  abbrev pub WithInfix : GivesShown Tok Cx St (O × (W × O)) O → W → Operands O → Shown Tok Cx St → O → St → Type 0
+  WithInfix gives w (After a) x z s = (z ≡ a) × (s ≡ x.state)
+  WithInfix gives w (Before a) x z s = (z ≡ a) × (s ≡ x.state)
+  WithInfix gives w (Around a b) x z s = gives (a, (w, b)) x z s
+
+  abbrev pub GivesInfixWith : GivesShown Tok Cx St (O × (W × O)) O → GivesShown Tok Cx St (W × Operands O) O
+  GivesInfixWith gives p = WithInfix gives p.0 p.1
+
+module _ {Tok Cx St A B V : Type 0} (here : GivesShown Tok Cx St (A × Operands V) V) (there : GivesShown Tok Cx St (B × Operands V) V) where
+  abbrev pub GivesFound : Found A B → Operands V → Shown Tok Cx St → V → St → Type 0
+  GivesFound (Here f) x = here (f, x)
+  GivesFound (There f) x = there (f, x)
+
+  abbrev pub GivesAnd : GivesShown Tok Cx St (Found A B × Operands V) V
+  GivesAnd p = GivesFound p.0 p.1
+
+  found-one : OnlyAnswers here → OnlyAnswers there → (f : Found A B) (x : Operands V) (run : Shown Tok Cx St) (z z' : V) (s t : St) → GivesFound f x run z s → GivesFound f x run z' t → (z ≡ z') × (s ≡ run.state)
+  found-one h k (Here f) x = h (f, x)
+  found-one h k (There f) x = k (f, x)
+
+  pub gives_and-one : OnlyAnswers here → OnlyAnswers there → OnlyAnswers GivesAnd
+  gives_and-one h k p = found-one h k p.0 p.1
 
 abbrev pub SameAnd : {A B : Type 0} → (A → A → Type 0) → (B → B → Type 0) → Found A B → Found A B → Type 0
 SameAnd here there (Here f) (Here g) = here f g
 SameAnd here there (Here f) (There g) = ⊥
 SameAnd here there (There f) (Here g) = ⊥
 SameAnd here there (There f) (There g) = there f g
-
-pub one_counted : 1 < 2 ^ 64
-one_counted = omega arith
 
 module _ {Tok Cx St Er A B : Type 0} (here : Meaning Tok Cx St Er A) (there : ℕ → Meaning Tok Cx St Er B) where
   -- the operator of an index is read, and told by its place

@@ -2,15 +2,18 @@
 #![tactic(auto)]
 
 pub mod fixity;
+pub mod folder_with;
 pub mod folders;
 mod kinds;
 pub mod laws;
+pub mod list;
 mod machine;
 pub mod make;
 pub mod moves;
 mod opening;
 pub mod operands;
 pub mod operator;
+pub mod operator_with;
 pub mod pratt;
 pub mod row;
 pub mod rows;

@@ -1,6 +1,7 @@
 //! What comes next, opened: its values, and that they lead to the goal, in the words in which each step asks it.
-ghost use Rattle.std.specs.Prelude.{◌≡◌, ◌∷◌, [], ◌++◌, reverse, Some};
+ghost use Rattle.std.specs.Prelude.{◌≡◌, ◌≤◌, ◌∷◌, [], ◌++◌, reverse, IfOk, Some};
 ghost use Rattle.chumsky_input.specs.Held.{held, marks};
+ghost use Rattle.chumsky_folds.specs.Running.{InTokens, NotPast};
 ghost use Rattle.chumsky_pratt.specs.Climbing.{MayGo};
 ghost use Rattle.chumsky_pratt.specs.Doing.{syntax_of};
 ghost use Rattle.chumsky_pratt.specs.Kinds.{kind_of, last_waiting};
@@ -120,6 +121,8 @@ where
     requires may { MayGo I.Input E.Error.Error E.State.Inspector (syntax_of (P.meaning atom.now) (R.number operators.now) (R.stands operators.now) (R.reads operators.now) (R.gives operators.now) E.Error.Error E.State.Inspector) D.wanted D.shown D.found (reverse stack.now.items) inp.now todo }
     ensures is { todo ≡ Todo.Postfixes result }
     ensures may { MayGo I.Input E.Error.Error E.State.Inspector (syntax_of (P.meaning atom.now) (R.number operators.now) (R.stands operators.now) (R.reads operators.now) (R.gives operators.now) E.Error.Error E.State.Inspector) D.wanted D.shown D.found (reverse stack.now.items) inp.now (Todo.Postfixes result) }
+    ensures since { InTokens I.Input E.Error.Error E.State.Inspector result.level.start inp.now }
+    ensures order { I.place result.level.start ≤ I.place result.before.cursor }
 {
     turning(todo)
 }
@@ -198,6 +201,8 @@ where
     requires may { MayGo I.Input E.Error.Error E.State.Inspector (syntax_of (P.meaning atom.now) (R.number operators.now) (R.stands operators.now) (R.reads operators.now) (R.gives operators.now) E.Error.Error E.State.Inspector) D.wanted D.shown D.found (reverse stack.old.items) inp.now (Todo.Answer answer.now) }
     ensures is { stack.old.items ≡ stack.new.items ++ Frame.Before result ∷ [] }
     ensures tokens { (marks I.Input E.State.Inspector result.before).tokens ≡ (held I.Input E.Error.Error E.State.Inspector inp.now).tokens }
+    ensures since { InTokens I.Input E.Error.Error E.State.Inspector result.level.start inp.now }
+    ensures order { IfOk answer.now (λ _. NotPast I.Input E.Error.Error E.State.Inspector result.level.start inp.now) }
 {
     pop_prefix(stack)
 }
@@ -224,6 +229,8 @@ where
     requires may { MayGo I.Input E.Error.Error E.State.Inspector (syntax_of (P.meaning atom.now) (R.number operators.now) (R.stands operators.now) (R.reads operators.now) (R.gives operators.now) E.Error.Error E.State.Inspector) D.wanted D.shown D.found (reverse stack.old.items) inp.now (Todo.Answer answer.now) }
     ensures is { stack.old.items ≡ stack.new.items ++ Frame.Between result ∷ [] }
     ensures tokens { (marks I.Input E.State.Inspector result.before).tokens ≡ (held I.Input E.Error.Error E.State.Inspector inp.now).tokens }
+    ensures since { InTokens I.Input E.Error.Error E.State.Inspector result.level.start inp.now }
+    ensures order { I.place result.level.start ≤ I.place result.before.cursor }
 {
     pop_infix(stack)
 }

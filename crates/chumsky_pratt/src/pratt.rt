@@ -35,11 +35,11 @@ impl<
 
     ghost steady = { λ p. P.steady p.atom × R.steady p.operators };
 
-    ghost same = { λ p. SameExpression (P.same p.atom) (R.same p.operators) (R.gives p.operators) };
+    ghost same = { λ p. SameExpression (P.same p.atom) (R.same p.operators) (R.gives p.operators E.State.Inspector) };
 
     ghost ends_after_start = { λ p. expression-end _ (P.ends_after_start p.atom) (R.ends_after_start p.operators) 0 };
 
-    ghost agrees = { λ p s. expression-agree _ (P.same p.atom) (R.same p.operators) (P.agrees p.atom s.0) (R.agrees p.operators s.1) 0 };
+    ghost agrees = { λ p s. expression-agree _ (P.same p.atom) (R.same p.operators) (R.gives_one p.operators s.1) (P.agrees p.atom s.0) (R.agrees p.operators s.1) 0 };
 
     ghost accepts = { λ _. of_unsaid };
 

@@ -1,6 +1,7 @@
 //! Operators in a row.
 ghost use Rattle.std.specs.Prelude.{◌≡◌, ◌<◌, ◌^◌, ℕ, true, false, zero, suc};
 ghost use Rattle.chumsky_input.specs.Run.{Runs, with_value, without_value};
+ghost use Rattle.chumsky_folds.specs.Running.{InTokens, NotPast, OnlyState, AnswersSince};
 
 use crate::fixity::Fixity;
 use crate::operands::Operands;
@@ -23,7 +24,7 @@ pub trait Operators<'src, I: Input<'src>, O, E: ParserExtra<I>>: HasFound {
     ghost use Rattle.chumsky_input.specs.Outcome.{EndsAfterStart, Agreeing};
     ghost use Rattle.chumsky_pratt.specs.declared.fixity.Fixity.{Fixity};
     ghost use Rattle.chumsky_pratt.specs.declared.operands.Operands.{Operands};
-    ghost use Rattle.chumsky_pratt.specs.Operators.{OnlyOne};
+    ghost use Rattle.chumsky_parser.specs.Showing.{Makes, OnlyAnswers};
 
     /// That their parsers may be run, and their folders called.
     ghost ready: { Self → Type 0 };
@@ -33,8 +34,8 @@ pub trait Operators<'src, I: Input<'src>, O, E: ParserExtra<I>>: HasFound {
     ghost stands: { Self → ℕ → Fixity };
     /// What reading each may do.
     ghost reads: { Self → ℕ → Does I I.Token I.Span E.Error E.State E.State.Mark E.Context Self.Found };
-    /// What may be given for what was found and its operands.
-    ghost gives: { Self → Self.Found → Operands O → O → Type 0 };
+    /// What may be given for what was found, its operands and what is shown of the run, and the state that may be left.
+    ghost gives: { Self → Makes I I.Token I.Span E.State E.State.Mark E.Context (Self.Found × Operands O) O };
     /// That they answer alike each time.
     ghost steady: { Self → Type 0 };
     /// Which finds count as the same.
@@ -64,13 +65,20 @@ pub trait Operators<'src, I: Input<'src>, O, E: ParserExtra<I>>: HasFound {
         ensures ran { Runs I.Input E.Error.Error E.State.Inspector (reads self.now index E.Error.Error E.State.Inspector) false inp.old inp.new (without_value result) }
         ensures lent { inp.new.state.ghost_name ≡ inp.old.state.ghost_name };
 
-    /// One value of what was found and its operands.
-    fn fold(&self, found: Self::Found, operands: Operands<O>) -> O
-        requires { ready self.now }
-        ensures { gives self.now found operands result };
-
-    /// A `usize` counts them.
-    ghost counted: { (p : Self) → ready p → number p < 2 ^ 64 };
+    /// One value of what was found and its operands, shown what the run took since a cursor of its input.
+    fn fold(
+        &self,
+        found: Self::Found,
+        operands: Operands<O>,
+        since: &I::Cursor,
+        inp: &mut InputRef<'src, '_, I, E>,
+    ) -> O
+        requires ready { ready self.now }
+        requires tokens { InTokens I.Input E.Error.Error E.State.Inspector since.now inp.old }
+        requires order { NotPast I.Input E.Error.Error E.State.Inspector since.now inp.old }
+        ensures gives { AnswersSince I.Input E.Error.Error E.State.Inspector (gives self.now E.State.Inspector (found, operands)) since.now inp.old inp.new result }
+        ensures moves { OnlyState I.Input E.Error.Error E.State.Inspector inp.old inp.new }
+        ensures lent { inp.new.state.ghost_name ≡ inp.old.state.ghost_name };
 
     /// No answer of reading one ends before its start.
     ghost ends_after_start: { (p : Self) (i : ℕ) → EndsAfterStart (reads p i E.Error.Error E.State.Inspector) };
@@ -78,8 +86,8 @@ pub trait Operators<'src, I: Input<'src>, O, E: ParserExtra<I>>: HasFound {
     /// Two answers of reading one of steady operators agree.
     ghost agrees: { (p : Self) → steady p → (i : ℕ) → Agreeing (same p) (reads p i E.Error.Error E.State.Inspector) (reads p i E.Error.Error E.State.Inspector) };
 
-    /// Steady operators give one value for the same.
-    ghost gives_one: { (p : Self) → steady p → OnlyOne (gives p) };
+    /// Steady operators give one value for the same, and leave the state as it is.
+    ghost gives_one: { (p : Self) → steady p → OnlyAnswers (gives p E.State.Inspector) };
 }
 
 /// What is found of an operator or of others.
@@ -116,8 +124,6 @@ impl<'src, I: Input<'src>, O: Drop, E: ParserExtra<I>, T: Operator<'src, I, O, E
     O,
     E,
 > for LastOperator<T> {
-    ghost use Rattle.chumsky_pratt.specs.Operators.{one_counted};
-
     ghost ready = { λ p. T.ready p.operator };
 
     ghost number = { λ _. 1 };
@@ -131,8 +137,6 @@ impl<'src, I: Input<'src>, O: Drop, E: ParserExtra<I>, T: Operator<'src, I, O, E
     ghost steady = { λ p. T.steady p.operator };
 
     ghost same = { λ p. T.same p.operator };
-
-    ghost counted = { λ p r. one_counted };
 
     ghost ends_after_start = { λ p i. T.ends_after_start p.operator };
 
@@ -161,11 +165,21 @@ impl<'src, I: Input<'src>, O: Drop, E: ParserExtra<I>, T: Operator<'src, I, O, E
     }
 
     #[inline]
-    fn fold(&self, found: T::Output, operands: Operands<O>) -> O
-        requires { T.ready self.now.operator }
-        ensures { T.gives self.now.operator found operands result }
+    fn fold(
+        &self,
+        found: T::Output,
+        operands: Operands<O>,
+        since: &I::Cursor,
+        inp: &mut InputRef<'src, '_, I, E>,
+    ) -> O
+        requires ready { T.ready self.now.operator }
+        requires tokens { InTokens I.Input E.Error.Error E.State.Inspector since.now inp.old }
+        requires order { NotPast I.Input E.Error.Error E.State.Inspector since.now inp.old }
+        ensures gives { AnswersSince I.Input E.Error.Error E.State.Inspector (T.gives self.now.operator E.State.Inspector (found, operands)) since.now inp.old inp.new result }
+        ensures moves { OnlyState I.Input E.Error.Error E.State.Inspector inp.old inp.new }
+        ensures lent { inp.new.state.ghost_name ≡ inp.old.state.ghost_name }
     {
-        self.operator.fold(found, operands)
+        self.operator.fold(found, operands, since, inp)
     }
 }
 
@@ -188,13 +202,11 @@ impl<
 
     ghost reads = { λ p. reads_and (T.reads p.operator) (R.reads p.others) };
 
-    ghost gives = { λ p. GivesAnd (T.gives p.operator) (R.gives p.others) };
+    ghost gives = { λ p states. GivesAnd (T.gives p.operator states) (R.gives p.others states) };
 
     ghost steady = { λ p. T.steady p.operator × R.steady p.others };
 
     ghost same = { λ p. SameAnd (T.same p.operator) (R.same p.others) };
-
-    ghost counted = { λ p r. r.2 };
 
     ghost ends_after_start = { λ p. reads-ends _ _ (T.ends_after_start p.operator) (R.ends_after_start p.others) };
 
@@ -240,13 +252,23 @@ impl<
     }
 
     #[inline]
-    fn fold(&self, found: Found<T::Output, R::Found>, operands: Operands<O>) -> O
-        requires { T.ready self.now.operator × R.ready self.now.others × (suc (R.number self.now.others) < 2 ^ 64) }
-        ensures { GivesAnd (T.gives self.now.operator) (R.gives self.now.others) found operands result }
+    fn fold(
+        &self,
+        found: Found<T::Output, R::Found>,
+        operands: Operands<O>,
+        since: &I::Cursor,
+        inp: &mut InputRef<'src, '_, I, E>,
+    ) -> O
+        requires ready { T.ready self.now.operator × R.ready self.now.others × (suc (R.number self.now.others) < 2 ^ 64) }
+        requires tokens { InTokens I.Input E.Error.Error E.State.Inspector since.now inp.old }
+        requires order { NotPast I.Input E.Error.Error E.State.Inspector since.now inp.old }
+        ensures gives { AnswersSince I.Input E.Error.Error E.State.Inspector (GivesAnd (T.gives self.now.operator E.State.Inspector) (R.gives self.now.others E.State.Inspector) (found, operands)) since.now inp.old inp.new result }
+        ensures moves { OnlyState I.Input E.Error.Error E.State.Inspector inp.old inp.new }
+        ensures lent { inp.new.state.ghost_name ≡ inp.old.state.ghost_name }
     {
         match found {
-            Found::Here(here) => self.operator.fold(here, operands),
-            Found::There(there) => self.others.fold(there, operands),
+            Found::Here(here) => self.operator.fold(here, operands, since, inp),
+            Found::There(there) => self.others.fold(there, operands, since, inp),
         }
     }
 }

@@ -1,9 +1,9 @@
-//! Tuples of operators as rows.
+//! Tuples and lists of operators as rows.
 ghost use Rattle.std.specs.Prelude.{◌≡◌};
 
 use crate::row::{LastOperator, OperatorAnd};
 
-/// Some operators that make a row: a tuple of one to eight.
+/// Some operators that make a row: a tuple of one to eight, or those of one type in a `Vec`, an array or a slice.
 pub trait IntoRow {
     type Row;
 
@@ -279,5 +279,38 @@ impl<A, B, C, D, F, G, H, J> IntoRow for (A, B, C, D, F, G, H, J) {
             others: row,
         };
         row
+    }
+}
+
+impl<T> IntoRow for Vec<T> {
+    type Row = Vec<T>;
+
+    ghost row_is = { λ t row. row ≡ t };
+
+    #[inline]
+    fn into_row(self) -> Vec<T> {
+        self
+    }
+}
+
+impl<T, const N: usize> IntoRow for [T; N] {
+    type Row = [T; N];
+
+    ghost row_is = { λ t row. row ≡ t };
+
+    #[inline]
+    fn into_row(self) -> [T; N] {
+        self
+    }
+}
+
+impl<'p, T> IntoRow for &'p [T] {
+    type Row = &'p [T];
+
+    ghost row_is = { λ t row. row ≡ t };
+
+    #[inline]
+    fn into_row(self) -> &'p [T] {
+        self
     }
 }

@@ -1,13 +1,17 @@
 //! When expressions and their operators are ready, and when they are steady, each the contract of a function that does
 //! nothing. And what is known of two outputs that count as the same.
-ghost use Rattle.std.specs.Prelude.{◌<◌, ◌^◌, suc};
+ghost use Rattle.std.specs.Prelude.{◌<◌, ◌^◌, suc, All};
+ghost use Rattle.chumsky_parser.specs.Showing.{OnlyAnswers};
 ghost use Rattle.chumsky_pratt.specs.ExpressionLaws.{SameExpression};
-ghost use Rattle.chumsky_pratt.specs.Operators.{OnlyOne, GivesPrefix, GivesPostfix, GivesInfix};
+ghost use Rattle.chumsky_pratt.specs.Operators.{OnlyOne, GivesPrefix, GivesPostfix, GivesInfix, GivesPrefixWith, GivesPostfixWith, GivesInfixWith};
 
+use crate::folder_with::InfixFolderWith;
 use crate::folders::{InfixFolder, PostfixFolder, PrefixFolder};
 use crate::operator::{Infix, Operator, Postfix, Prefix};
+use crate::operator_with::{InfixWith, PostfixWith, PrefixWith};
 use crate::pratt::Pratt;
 use crate::row::{OperatorAnd, Operators};
+use chumsky_folds::folder_with::{FolderWith, RightFolderWith};
 use chumsky_input::extra::ParserExtra;
 use chumsky_input::input::Input;
 use chumsky_parser::parser::Parser;
@@ -23,7 +27,7 @@ pub fn pratt_is_steady<
 >(pratt: &Pratt<P, R>)
     ensures ready { P.ready pratt.now.atom → R.ready pratt.now.operators → ⟦<Pratt<P, R> as Parser<'src, I, O, E>>⟧.ready pratt.now }
     ensures steady { P.steady pratt.now.atom → R.steady pratt.now.operators → ⟦<Pratt<P, R> as Parser<'src, I, O, E>>⟧.steady pratt.now }
-    ensures same { (x y : O) → ⟦<Pratt<P, R> as Parser<'src, I, O, E>>⟧.same pratt.now x y → SameExpression (P.same pratt.now.atom) (R.same pratt.now.operators) (R.gives pratt.now.operators) x y }
+    ensures same { (x y : O) → ⟦<Pratt<P, R> as Parser<'src, I, O, E>>⟧.same pratt.now x y → SameExpression (P.same pratt.now.atom) (R.same pratt.now.operators) (R.gives pratt.now.operators E.State.Inspector) x y }
 {}
 
 /// Operators in a row, as a tuple of them makes it.
@@ -37,6 +41,24 @@ pub fn operators_are_steady<
 >(row: &OperatorAnd<T, R>)
     ensures ready { T.ready row.now.operator → R.ready row.now.others → suc (R.number row.now.others) < 2 ^ 64 → ⟦<OperatorAnd<T, R> as Operators<'src, I, O, E>>⟧.ready row.now }
     ensures steady { T.steady row.now.operator → R.steady row.now.others → ⟦<OperatorAnd<T, R> as Operators<'src, I, O, E>>⟧.steady row.now }
+{}
+
+/// Operators of one type in a slice, a `Vec` or an array.
+pub fn operators_of_a_list_are_steady<
+    'src,
+    'p,
+    I: Input<'src>,
+    O: Drop,
+    E: ParserExtra<I>,
+    T: Operator<'src, I, O, E>,
+    const N: usize,
+>(slice: &&'p [T], vec: &Vec<T>, array: &[T; N])
+    ensures ready_slice { All T.ready slice.now.now → ⟦<&'p [T] as Operators<'src, I, O, E>>⟧.ready slice.now }
+    ensures ready_vec { All T.ready vec.now.items → ⟦<Vec<T> as Operators<'src, I, O, E>>⟧.ready vec.now }
+    ensures ready_array { All T.ready array.now → ⟦<[T; N] as Operators<'src, I, O, E>>⟧.ready array.now }
+    ensures slice { All T.steady slice.now.now → ⟦<&'p [T] as Operators<'src, I, O, E>>⟧.steady slice.now }
+    ensures vec { All T.steady vec.now.items → ⟦<Vec<T> as Operators<'src, I, O, E>>⟧.steady vec.now }
+    ensures array { All T.steady array.now → ⟦<[T; N] as Operators<'src, I, O, E>>⟧.steady array.now }
 {}
 
 /// `prefix(power, op, f)`, where `f` gives one output for each operator and operand.
@@ -79,4 +101,46 @@ pub fn infix_is_steady<
 >(operator: &Infix<P, F, O, W>)
     ensures ready { P.ready operator.now.parser → F.callable operator.now.folder → ⟦<Infix<P, F, O, W> as Operator<'src, I, O, E>>⟧.ready operator.now }
     ensures steady { P.steady operator.now.parser → OnlyOne (GivesInfix (F.gives operator.now.folder)) → ⟦<Infix<P, F, O, W> as Operator<'src, I, O, E>>⟧.steady operator.now }
+{}
+
+/// `prefix_with(..)`, where `f` gives one output for each operator and operand and each run that it is shown, and keeps the state.
+pub fn prefix_with_is_steady<
+    'src,
+    I: Input<'src>,
+    O: Drop,
+    W: Drop,
+    E: ParserExtra<I>,
+    P: Parser<'src, I, W, E>,
+    F: RightFolderWith<'src, I, W, O, E>,
+>(prefix: &PrefixWith<P, F, O, W>)
+    ensures ready { P.ready prefix.now.parser → F.callable prefix.now.folder → ⟦<PrefixWith<P, F, O, W> as Operator<'src, I, O, E>>⟧.ready prefix.now }
+    ensures steady { P.steady prefix.now.parser → OnlyAnswers (GivesPrefixWith (F.gives prefix.now.folder E.State.Inspector)) → ⟦<PrefixWith<P, F, O, W> as Operator<'src, I, O, E>>⟧.steady prefix.now }
+{}
+
+/// `postfix_with(..)`, likewise.
+pub fn postfix_with_is_steady<
+    'src,
+    I: Input<'src>,
+    O: Drop,
+    W: Drop,
+    E: ParserExtra<I>,
+    P: Parser<'src, I, W, E>,
+    F: FolderWith<'src, I, O, W, E>,
+>(postfix: &PostfixWith<P, F, O, W>)
+    ensures ready { P.ready postfix.now.parser → F.callable postfix.now.folder → ⟦<PostfixWith<P, F, O, W> as Operator<'src, I, O, E>>⟧.ready postfix.now }
+    ensures steady { P.steady postfix.now.parser → OnlyAnswers (GivesPostfixWith (F.gives postfix.now.folder E.State.Inspector)) → ⟦<PostfixWith<P, F, O, W> as Operator<'src, I, O, E>>⟧.steady postfix.now }
+{}
+
+/// `infix_with(..)`, likewise.
+pub fn infix_with_is_steady<
+    'src,
+    I: Input<'src>,
+    O: Drop,
+    W: Drop,
+    E: ParserExtra<I>,
+    P: Parser<'src, I, W, E>,
+    F: InfixFolderWith<'src, I, O, W, E>,
+>(operator: &InfixWith<P, F, O, W>)
+    ensures ready { P.ready operator.now.parser → F.callable operator.now.folder → ⟦<InfixWith<P, F, O, W> as Operator<'src, I, O, E>>⟧.ready operator.now }
+    ensures steady { P.steady operator.now.parser → OnlyAnswers (GivesInfixWith (F.gives operator.now.folder E.State.Inspector)) → ⟦<InfixWith<P, F, O, W> as Operator<'src, I, O, E>>⟧.steady operator.now }
 {}

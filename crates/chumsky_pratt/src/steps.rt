@@ -1,6 +1,7 @@
 //! The steps of reading an expression.
-ghost use Rattle.std.specs.Prelude.{◌≡◌, ◌<◌, ◌≤◌, ◌+◌, [], ◌∷◌, length, reverse, IfOk, IfErr, Some};
+ghost use Rattle.std.specs.Prelude.{◌≡◌, ◌<◌, ◌≤◌, ◌+◌, ◌^◌, [], ◌∷◌, length, reverse, IfOk, IfErr, Some};
 ghost use Rattle.chumsky_input.specs.Held.{held, marks};
+ghost use Rattle.chumsky_folds.specs.Running.{InTokens, NotPast};
 ghost use Rattle.chumsky_pratt.specs.Climbing.{MayGo, GoesOn, WaitsFor};
 ghost use Rattle.chumsky_pratt.specs.Doing.{syntax_of};
 ghost use Rattle.chumsky_pratt.specs.Kinds.{answer_of};
@@ -185,6 +186,7 @@ where
     requires operators { R.ready operators.now }
     requires may { MayGo I.Input E.Error.Error E.State.Inspector (syntax_of (P.meaning atom.now) (R.number operators.now) (R.stands operators.now) (R.reads operators.now) (R.gives operators.now) E.Error.Error E.State.Inspector) D.wanted D.shown D.found (reverse stack.old.items) inp.old (Todo.Prefixes (record { level = level; before = before; next = next })) }
     requires there { next < R.number operators.now }
+    requires fits { next + 1 < 2 ^ 64 }
     requires fixity { R.stands operators.now next ≡ Fixity.Prefix power }
     ensures goes { GoesOn I.Input E.Error.Error E.State.Inspector (syntax_of (P.meaning atom.now) (R.number operators.now) (R.stands operators.now) (R.reads operators.now) (R.gives operators.now) E.Error.Error E.State.Inspector) D.wanted D.shown D.found (reverse stack.old.items) inp.old (Todo.Prefixes (record { level = level; before = before; next = next })) (reverse stack.new.items) inp.new result }
     ensures lighter { total (R.number operators.now) (length (I.cursor_tokens inp.old.cursor).list) I.Input stack.new.items inp.new.cursor result < total (R.number operators.now) (length (I.cursor_tokens inp.old.cursor).list) I.Input stack.old.items inp.old.cursor (Todo.Prefixes (record { level = level; before = before; next = next })) }
@@ -279,6 +281,8 @@ where
     requires atom { P.ready atom.now }
     requires operators { R.ready operators.now }
     requires may { MayGo I.Input E.Error.Error E.State.Inspector (syntax_of (P.meaning atom.now) (R.number operators.now) (R.stands operators.now) (R.reads operators.now) (R.gives operators.now) E.Error.Error E.State.Inspector) D.wanted D.shown D.found (reverse stack.old.items) inp.old (Todo.Postfixes p) }
+    requires since { InTokens I.Input E.Error.Error E.State.Inspector p.level.start inp.old }
+    requires order { I.place p.level.start ≤ I.place p.before.cursor }
     ensures goes { GoesOn I.Input E.Error.Error E.State.Inspector (syntax_of (P.meaning atom.now) (R.number operators.now) (R.stands operators.now) (R.reads operators.now) (R.gives operators.now) E.Error.Error E.State.Inspector) D.wanted D.shown D.found (reverse stack.old.items) inp.old (Todo.Postfixes p) (reverse stack.new.items) inp.new result }
     ensures lighter { total (R.number operators.now) (length (I.cursor_tokens inp.old.cursor).list) I.Input stack.new.items inp.new.cursor result < total (R.number operators.now) (length (I.cursor_tokens inp.old.cursor).list) I.Input stack.old.items inp.old.cursor (Todo.Postfixes p) }
     ensures lent { inp.new.state.ghost_name ≡ inp.old.state.ghost_name }
@@ -357,8 +361,11 @@ where
     requires operators { R.ready operators.now }
     requires may { MayGo I.Input E.Error.Error E.State.Inspector (syntax_of (P.meaning atom.now) (R.number operators.now) (R.stands operators.now) (R.reads operators.now) (R.gives operators.now) E.Error.Error E.State.Inspector) D.wanted D.shown D.found (reverse stack.old.items) inp.old (Todo.Postfixes (record { level = level; value = value; below = below; before = before; next = next })) }
     requires there { next < R.number operators.now }
+    requires fits { next + 1 < 2 ^ 64 }
     requires fixity { R.stands operators.now next ≡ Fixity.Postfix power }
     requires enough { level.least ≤ power }
+    requires since { InTokens I.Input E.Error.Error E.State.Inspector level.start inp.old }
+    requires order { I.place level.start ≤ I.place before.cursor }
     ensures goes { GoesOn I.Input E.Error.Error E.State.Inspector (syntax_of (P.meaning atom.now) (R.number operators.now) (R.stands operators.now) (R.reads operators.now) (R.gives operators.now) E.Error.Error E.State.Inspector) D.wanted D.shown D.found (reverse stack.old.items) inp.old (Todo.Postfixes (record { level = level; value = value; below = below; before = before; next = next })) (reverse stack.new.items) inp.new result }
     ensures lighter { total (R.number operators.now) (length (I.cursor_tokens inp.old.cursor).list) I.Input stack.new.items inp.new.cursor result < total (R.number operators.now) (length (I.cursor_tokens inp.old.cursor).list) I.Input stack.old.items inp.old.cursor (Todo.Postfixes (record { level = level; value = value; below = below; before = before; next = next })) }
     ensures lent { inp.new.state.ghost_name ≡ inp.old.state.ghost_name }
@@ -368,7 +375,7 @@ where
             if I::place(&inp.cursor) <= I::place(&before.cursor) {
                 return Todo::Answer(Err(Fault::Stop(Stop::NoProgress)));
             }
-            let output = way.fold(operators, found, Operands::Before(value));
+            let output = way.fold(operators, found, Operands::Before(value), &level.start, inp);
             Todo::Value(Holding {
                 level,
                 value: output,
@@ -500,6 +507,7 @@ where
     requires operators { R.ready operators.now }
     requires may { MayGo I.Input E.Error.Error E.State.Inspector (syntax_of (P.meaning atom.now) (R.number operators.now) (R.stands operators.now) (R.reads operators.now) (R.gives operators.now) E.Error.Error E.State.Inspector) D.wanted D.shown D.found (reverse stack.old.items) inp.old (Todo.Infixes (record { level = level; value = value; below = below; before = before; next = next })) }
     requires there { next < R.number operators.now }
+    requires fits { next + 1 < 2 ^ 64 }
     requires fixity { R.stands operators.now next ≡ Fixity.Infix left right chains }
     requires enough { level.least ≤ left }
     requires under { left < below }
@@ -600,6 +608,8 @@ where
     requires atom { P.ready atom.now }
     requires operators { R.ready operators.now }
     requires tokens { (marks I.Input E.State.Inspector p.before).tokens ≡ (held I.Input E.Error.Error E.State.Inspector inp.old).tokens }
+    requires since { InTokens I.Input E.Error.Error E.State.Inspector p.level.start inp.old }
+    requires order { IfOk answer (λ _. NotPast I.Input E.Error.Error E.State.Inspector p.level.start inp.old) }
     ensures goes { GoesOn I.Input E.Error.Error E.State.Inspector (syntax_of (P.meaning atom.now) (R.number operators.now) (R.stands operators.now) (R.reads operators.now) (R.gives operators.now) E.Error.Error E.State.Inspector) D.wanted D.shown D.found (Frame.Before p ∷ reverse stack.old.items) inp.old (Todo.Answer answer) (reverse stack.new.items) inp.new result }
     ensures lighter { total (R.number operators.now) (length (I.cursor_tokens inp.old.cursor).list) I.Input stack.new.items inp.new.cursor result < weights (R.number operators.now) (length (I.cursor_tokens inp.old.cursor).list) I.Input (Frame.Before p ∷ stack.old.items) }
     ensures lent { inp.new.state.ghost_name ≡ inp.old.state.ghost_name }
@@ -612,7 +622,13 @@ where
     } = p;
     match answer {
         Ok(operand) => {
-            let output = way.fold(operators, found, Operands::After(operand));
+            let output = way.fold(
+                operators,
+                found,
+                Operands::After(operand),
+                &level.start,
+                inp,
+            );
             Todo::Value(Holding {
                 level,
                 value: output,
@@ -652,6 +668,8 @@ where
     requires atom { P.ready atom.now }
     requires operators { R.ready operators.now }
     requires tokens { (marks I.Input E.State.Inspector p.before).tokens ≡ (held I.Input E.Error.Error E.State.Inspector inp.old).tokens }
+    requires since { InTokens I.Input E.Error.Error E.State.Inspector p.level.start inp.old }
+    requires order { I.place p.level.start ≤ I.place p.before.cursor }
     ensures goes { GoesOn I.Input E.Error.Error E.State.Inspector (syntax_of (P.meaning atom.now) (R.number operators.now) (R.stands operators.now) (R.reads operators.now) (R.gives operators.now) E.Error.Error E.State.Inspector) D.wanted D.shown D.found (Frame.Between p ∷ reverse stack.old.items) inp.old (Todo.Answer answer) (reverse stack.new.items) inp.new result }
     ensures lighter { total (R.number operators.now) (length (I.cursor_tokens inp.old.cursor).list) I.Input stack.new.items inp.new.cursor result < weights (R.number operators.now) (length (I.cursor_tokens inp.old.cursor).list) I.Input (Frame.Between p ∷ stack.old.items) }
     ensures lent { inp.new.state.ghost_name ≡ inp.old.state.ghost_name }
@@ -670,7 +688,13 @@ where
             if I::place(&inp.cursor) <= I::place(&before.cursor) {
                 return Todo::Answer(Err(Fault::Stop(Stop::NoProgress)));
             }
-            let output = way.fold(operators, found, Operands::Around(value, operand));
+            let output = way.fold(
+                operators,
+                found,
+                Operands::Around(value, operand),
+                &level.start,
+                inp,
+            );
             Todo::Value(Holding {
                 level,
                 value: output,

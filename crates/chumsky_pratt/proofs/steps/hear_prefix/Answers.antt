@@ -5,7 +5,7 @@ use Rattle.chumsky_pratt.proofs.ClimbLemmas.{prefix_ok, prefix_stops, prefix_fai
 use Rattle.chumsky_pratt.proofs.steps.hear_prefix.Goals as goal
 
 pub returns-in-Ok-clause-goes : goal.returns-in-Ok-clause-goes
-returns-in-Ok-clause-goes g c = λ to w. (w.2.0, w.2.1, prefix_ok _ _ _ _ w.2.0 _ _ _ _ w.2.2 _ _ (rw c.in-Ok.is at w.1) c.fold-output.ensures, w.2.3)
+returns-in-Ok-clause-goes g c = λ to w. (w.2.0, w.2.1, prefix_ok _ _ _ _ w.2.0 _ _ _ _ w.2.2 ((g.met.P.Parser c.lifetimes (search rules)).ends_after_start _) ((g.met.R.Operators c.lifetimes (search rules)).ends_after_start _) _ _ (rw c.in-Ok.is at w.1) (rw w.2.1.place at c.fold-output.ensures.ran), w.2.3)
 
 pub returns-in-Err-Stop-clause-goes : goal.returns-in-Err-Stop-clause-goes
 returns-in-Err-Stop-clause-goes g c = λ to w. (w.2.0, prefix_stops _ _ _ _ w.2.0 _ _ _ _ w.2.2 _ (let e : c.args.answer ≡ Err (fault.Stop c.in-Err-Stop.stop) = search rules in rw e at w.1), w.2.3)

@@ -20,12 +20,6 @@ returns-in-Ok-rewind-clause-goes g c = λ to w. (w.0, w.1, infix_fails _ _ _ _ w
 pub returns-in-Err-clause-goes : goal.returns-in-Err-clause-goes
 returns-in-Err-clause-goes g c = λ to w. (w.0, infix_lacks _ _ _ _ w.0 _ _ _ _ _ w.2 c.requires.there _ _ _ c.requires.fixity (omega (arith, c.requires.enough, w.1.least)) c.requires.under (infix_unread _ _ _ _ w.0 _ _ _ _ _ w.2 c.requires.there _ _ _ c.requires.fixity (omega (arith, c.requires.enough, w.1.least)) c.requires.under (rw (c.in-Err-Fail.is ∙ ap Err c.in-Err-Fail.field-0-is) at c.operator.ensures.ran)) c.in-Err.ensures.back.0 c.in-Err.ensures.back.1, w.3)
 
-pub overflow_add-next : goal.overflow_add-next
-overflow_add-next g c = omega (arith, c.requires.there, (g.met.R.Operators c.lifetimes (search rules)).counted _ c.requires.operators)
-
-pub overflow_add-result : goal.overflow_add-result
-overflow_add-result g c = omega (arith, c.requires.there, (g.met.R.Operators c.lifetimes (search rules)).counted _ c.requires.operators)
-
 pub returns-else-place-clause-goes : goal.returns-else-place-clause-goes
 returns-else-place-clause-goes g c = λ to w. waited _ _ _ _ _ _ _ to w.0 _ _ _ _ _ _ c.wait.ensures (w.0, w.1, infix_waits _ _ _ _ w.0 _ _ _ _ _ w.2 c.requires.there _ _ _ c.requires.fixity (omega (arith, c.requires.enough, w.1.least)) c.requires.under _ (rw c.in-Ok.is at c.operator.ensures.ran) (omega (arith, c.if-place.false, c.place.ensures, c.place-in-Ok.ensures, w.1.place)) ((g.met.I.Input c.lifetimes (search rules)).within _) _ (omega arith) _ c.bound_after-then_below.ensures, w.3) (infix_unpushed _ _ _ _ w.0 _ _ _ _ _ w.2 c.requires.there _ _ _ c.requires.fixity (omega (arith, c.requires.enough, w.1.least)) c.requires.under _ (rw c.in-Ok.is at c.operator.ensures.ran) (omega (arith, c.if-place.false, c.place.ensures, c.place-in-Ok.ensures, w.1.place))) w.3
 

@@ -1,0 +1,322 @@
+//! Operators of one type in a slice, a `Vec` or an array, as rows.
+ghost use Rattle.std.specs.Prelude.{◌≡◌, ◌<◌, true, false, length, All};
+ghost use Rattle.chumsky_input.specs.Run.{Runs, with_value, without_value};
+ghost use Rattle.chumsky_folds.specs.Running.{InTokens, NotPast, OnlyState, AnswersSince};
+ghost use Rattle.chumsky_pratt.specs.Listed.{fixity_in, GivesIn, gives_in, reads_in};
+
+use crate::fixity::Fixity;
+use crate::operands::Operands;
+use crate::operator::{HasOutput, Operator};
+use crate::row::{HasFound, Operators};
+use chumsky_input::extra::ParserExtra;
+use chumsky_input::input::Input;
+use chumsky_input::input_ref::InputRef;
+use chumsky_input::stop::PResult;
+
+/// What is found of a list of operators: what was read of one, and its index.
+#[derive(Drop)]
+pub struct FoundAt<A> {
+    pub index: usize,
+    pub found: A,
+}
+
+/// How the operator of an index stands.
+#[inline]
+fn fixity_at<'src, I: Input<'src>, O, E: ParserExtra<I>, T: Operator<'src, I, O, E>>(
+    operators: &[T],
+    index: usize,
+) -> Fixity
+    requires { index < length operators.now }
+    ensures { result ≡ fixity_in T.stands operators.now index }
+{
+    let operator = &operators[index];
+    operator.fixity()
+}
+
+/// Reads the operator of an index.
+#[inline]
+fn emit_at<'src, I: Input<'src>, O, E: ParserExtra<I>, T: Operator<'src, I, O, E>>(
+    operators: &[T],
+    index: usize,
+    inp: &mut InputRef<'src, '_, I, E>,
+) -> PResult<FoundAt<T::Output>>
+    requires ready { All T.ready operators.now }
+    requires there { index < length operators.now }
+    ensures ran { Runs I.Input E.Error.Error E.State.Inspector
+        (reads_in T.reads operators.now index E.Error.Error E.State.Inspector)
+        true inp.old inp.new (with_value result) }
+    ensures lent { inp.new.state.ghost_name ≡ inp.old.state.ghost_name }
+{
+    let operator = &operators[index];
+    let found = operator.read_emit(inp)?;
+    Ok(FoundAt { index, found })
+}
+
+/// The same without its output.
+#[inline]
+fn check_at<'src, I: Input<'src>, O, E: ParserExtra<I>, T: Operator<'src, I, O, E>>(
+    operators: &[T],
+    index: usize,
+    inp: &mut InputRef<'src, '_, I, E>,
+) -> PResult<()>
+    requires ready { All T.ready operators.now }
+    requires there { index < length operators.now }
+    ensures ran { Runs I.Input E.Error.Error E.State.Inspector
+        (reads_in T.reads operators.now index E.Error.Error E.State.Inspector)
+        false inp.old inp.new (without_value result) }
+    ensures lent { inp.new.state.ghost_name ≡ inp.old.state.ghost_name }
+{
+    let operator = &operators[index];
+    operator.read_check(inp)
+}
+
+/// One value of what was found and its operands; where no operator has its index, the first operand.
+#[inline]
+fn fold_at<'src, I: Input<'src>, O: Drop, E: ParserExtra<I>, T: Operator<'src, I, O, E>>(
+    operators: &[T],
+    found: FoundAt<T::Output>,
+    operands: Operands<O>,
+    since: &I::Cursor,
+    inp: &mut InputRef<'src, '_, I, E>,
+) -> O
+    requires ready { All T.ready operators.now }
+    requires tokens { InTokens I.Input E.Error.Error E.State.Inspector since.now inp.old }
+    requires order { NotPast I.Input E.Error.Error E.State.Inspector since.now inp.old }
+    ensures gives { AnswersSince I.Input E.Error.Error E.State.Inspector
+        (GivesIn (λ t. T.gives t E.State.Inspector) operators.now (found, operands)) since.now inp.old inp.new result }
+    ensures moves { OnlyState I.Input E.Error.Error E.State.Inspector inp.old inp.new }
+    ensures lent { inp.new.state.ghost_name ≡ inp.old.state.ghost_name }
+{
+    let FoundAt { index, found } = found;
+    match operators.get(index) {
+        Some(operator) => operator.fold(found, operands, since, inp),
+        None => operands.first(),
+    }
+}
+
+impl<T: HasOutput> HasFound for Vec<T> {
+    type Found = FoundAt<T::Output>;
+}
+
+impl<'src, I: Input<'src>, O: Drop, E: ParserExtra<I>, T: Operator<'src, I, O, E>> Operators<
+    'src,
+    I,
+    O,
+    E,
+> for Vec<T> {
+    ghost use Rattle.chumsky_pratt.specs.Listed.{SameIn, reads_in-ends, reads_in-agree, gives_in-one};
+
+    ghost ready = { λ p. All T.ready p.items };
+
+    ghost number = { λ p. length p.items };
+
+    ghost stands = { λ p. fixity_in T.stands p.items };
+
+    ghost reads = { λ p. reads_in T.reads p.items };
+
+    ghost gives = { λ p. gives_in T.gives p.items };
+
+    ghost steady = { λ p. All T.steady p.items };
+
+    ghost same = { λ p. SameIn T.same p.items };
+
+    ghost ends_after_start = { λ p. reads_in-ends _ T.ends_after_start p.items };
+
+    ghost agrees = { λ p s. reads_in-agree _ T.steady T.same T.agrees p.items s };
+
+    ghost gives_one = { λ p s. gives_in-one _ T.steady T.gives_one p.items s };
+
+    #[inline]
+    fn count(&self) -> usize {
+        self.len()
+    }
+
+    #[inline]
+    fn fixity(&self, index: usize) -> Fixity {
+        fixity_at::<I, O, E, T>(self.as_slice(), index)
+    }
+
+    #[inline]
+    fn read_emit(
+        &self,
+        index: usize,
+        inp: &mut InputRef<'src, '_, I, E>,
+    ) -> PResult<FoundAt<T::Output>> {
+        emit_at::<I, O, E, T>(self.as_slice(), index, inp)
+    }
+
+    #[inline]
+    fn read_check(&self, index: usize, inp: &mut InputRef<'src, '_, I, E>) -> PResult<()> {
+        check_at::<I, O, E, T>(self.as_slice(), index, inp)
+    }
+
+    #[inline]
+    fn fold(
+        &self,
+        found: FoundAt<T::Output>,
+        operands: Operands<O>,
+        since: &I::Cursor,
+        inp: &mut InputRef<'src, '_, I, E>,
+    ) -> O
+        requires ready { All T.ready self.now.items }
+        requires tokens { InTokens I.Input E.Error.Error E.State.Inspector since.now inp.old }
+        requires order { NotPast I.Input E.Error.Error E.State.Inspector since.now inp.old }
+        ensures gives { AnswersSince I.Input E.Error.Error E.State.Inspector (gives_in T.gives self.now.items E.State.Inspector (found, operands)) since.now inp.old inp.new result }
+        ensures moves { OnlyState I.Input E.Error.Error E.State.Inspector inp.old inp.new }
+        ensures lent { inp.new.state.ghost_name ≡ inp.old.state.ghost_name }
+    {
+        fold_at::<I, O, E, T>(self.as_slice(), found, operands, since, inp)
+    }
+}
+
+impl<T: HasOutput, const N: usize> HasFound for [T; N] {
+    type Found = FoundAt<T::Output>;
+}
+
+impl<
+    'src,
+    I: Input<'src>,
+    O: Drop,
+    E: ParserExtra<I>,
+    T: Operator<'src, I, O, E>,
+    const N: usize,
+> Operators<'src, I, O, E> for [T; N] {
+    ghost use Rattle.chumsky_pratt.specs.Listed.{SameIn, reads_in-ends, reads_in-agree, gives_in-one};
+
+    ghost ready = { λ p. All T.ready p };
+
+    ghost number = { λ p. length p };
+
+    ghost stands = { λ p. fixity_in T.stands p };
+
+    ghost reads = { λ p. reads_in T.reads p };
+
+    ghost gives = { λ p. gives_in T.gives p };
+
+    ghost steady = { λ p. All T.steady p };
+
+    ghost same = { λ p. SameIn T.same p };
+
+    ghost ends_after_start = { λ p. reads_in-ends _ T.ends_after_start p };
+
+    ghost agrees = { λ p s. reads_in-agree _ T.steady T.same T.agrees p s };
+
+    ghost gives_one = { λ p s. gives_in-one _ T.steady T.gives_one p s };
+
+    #[inline]
+    fn count(&self) -> usize {
+        self.len()
+    }
+
+    #[inline]
+    fn fixity(&self, index: usize) -> Fixity {
+        fixity_at::<I, O, E, T>(self, index)
+    }
+
+    #[inline]
+    fn read_emit(
+        &self,
+        index: usize,
+        inp: &mut InputRef<'src, '_, I, E>,
+    ) -> PResult<FoundAt<T::Output>> {
+        emit_at::<I, O, E, T>(self, index, inp)
+    }
+
+    #[inline]
+    fn read_check(&self, index: usize, inp: &mut InputRef<'src, '_, I, E>) -> PResult<()> {
+        check_at::<I, O, E, T>(self, index, inp)
+    }
+
+    #[inline]
+    fn fold(
+        &self,
+        found: FoundAt<T::Output>,
+        operands: Operands<O>,
+        since: &I::Cursor,
+        inp: &mut InputRef<'src, '_, I, E>,
+    ) -> O
+        requires ready { All T.ready self.now }
+        requires tokens { InTokens I.Input E.Error.Error E.State.Inspector since.now inp.old }
+        requires order { NotPast I.Input E.Error.Error E.State.Inspector since.now inp.old }
+        ensures gives { AnswersSince I.Input E.Error.Error E.State.Inspector (gives_in T.gives self.now E.State.Inspector (found, operands)) since.now inp.old inp.new result }
+        ensures moves { OnlyState I.Input E.Error.Error E.State.Inspector inp.old inp.new }
+        ensures lent { inp.new.state.ghost_name ≡ inp.old.state.ghost_name }
+    {
+        fold_at::<I, O, E, T>(self, found, operands, since, inp)
+    }
+}
+
+impl<T: HasOutput> HasFound for &[T] {
+    type Found = FoundAt<T::Output>;
+}
+
+impl<'src, I: Input<'src>, O: Drop, E: ParserExtra<I>, T: Operator<'src, I, O, E>> Operators<
+    'src,
+    I,
+    O,
+    E,
+> for &[T] {
+    ghost use Rattle.chumsky_pratt.specs.Listed.{SameIn, reads_in-ends, reads_in-agree, gives_in-one};
+
+    ghost ready = { λ p. All T.ready p.now };
+
+    ghost number = { λ p. length p.now };
+
+    ghost stands = { λ p. fixity_in T.stands p.now };
+
+    ghost reads = { λ p. reads_in T.reads p.now };
+
+    ghost gives = { λ p. gives_in T.gives p.now };
+
+    ghost steady = { λ p. All T.steady p.now };
+
+    ghost same = { λ p. SameIn T.same p.now };
+
+    ghost ends_after_start = { λ p. reads_in-ends _ T.ends_after_start p.now };
+
+    ghost agrees = { λ p s. reads_in-agree _ T.steady T.same T.agrees p.now s };
+
+    ghost gives_one = { λ p s. gives_in-one _ T.steady T.gives_one p.now s };
+
+    #[inline]
+    fn count(&self) -> usize {
+        self.len()
+    }
+
+    #[inline]
+    fn fixity(&self, index: usize) -> Fixity {
+        fixity_at::<I, O, E, T>(self, index)
+    }
+
+    #[inline]
+    fn read_emit(
+        &self,
+        index: usize,
+        inp: &mut InputRef<'src, '_, I, E>,
+    ) -> PResult<FoundAt<T::Output>> {
+        emit_at::<I, O, E, T>(self, index, inp)
+    }
+
+    #[inline]
+    fn read_check(&self, index: usize, inp: &mut InputRef<'src, '_, I, E>) -> PResult<()> {
+        check_at::<I, O, E, T>(self, index, inp)
+    }
+
+    #[inline]
+    fn fold(
+        &self,
+        found: FoundAt<T::Output>,
+        operands: Operands<O>,
+        since: &I::Cursor,
+        inp: &mut InputRef<'src, '_, I, E>,
+    ) -> O
+        requires ready { All T.ready self.now.now }
+        requires tokens { InTokens I.Input E.Error.Error E.State.Inspector since.now inp.old }
+        requires order { NotPast I.Input E.Error.Error E.State.Inspector since.now inp.old }
+        ensures gives { AnswersSince I.Input E.Error.Error E.State.Inspector (gives_in T.gives self.now.now E.State.Inspector (found, operands)) since.now inp.old inp.new result }
+        ensures moves { OnlyState I.Input E.Error.Error E.State.Inspector inp.old inp.new }
+        ensures lent { inp.new.state.ghost_name ≡ inp.old.state.ghost_name }
+    {
+        fold_at::<I, O, E, T>(self, found, operands, since, inp)
+    }
+}
