@@ -6,5 +6,6 @@ mod json;
 mod labels;
 mod moves;
 mod nested;
+mod statements;
 mod strategies;
 mod wide;

@@ -3,6 +3,7 @@
 use answers::extras::Own;
 use answers::leaves::{any_char, just_char};
 use chumsky::prelude::*;
+use examples::statements::parse_statements;
 use std::alloc::{AllocError, AllocGlobal, Global};
 use std::process::Abort;
 
@@ -61,4 +62,12 @@ fn delimiters_nest_a_hundred_thousand_deep(rt: HostRuntime) {
     let nested = nested_delimiters::<_, 0, _, _, _, Own>('[', ']', [], |span: SimpleSpan| span.end);
     let parsed = nested.parse(rt.alloc(), text.as_str()).expect(&rt, "a refusal");
     assert_eq!(rt; parsed.output, Some(2 * MANY));
+}
+
+#[test]
+fn ten_thousand_statements_of_a_language_are_reported(rt: HostRuntime) {
+    let text = times(rt.alloc(), "let;print x;", 10_000).expect(&rt, "memory");
+    let parsed = parse_statements(rt.alloc(), text.as_str()).expect(&rt, "a refusal");
+    assert_eq!(rt; parsed.errors.len(), 10_000);
+    assert_eq!(rt; parsed.output().map(|statements| statements.len()), Some(10_000));
 }

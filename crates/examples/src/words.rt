@@ -1,4 +1,4 @@
-//! Words that stand for values, and texts without what is around them.
+//! Words that stand for values, texts without what is around them, and values that may be wanting.
 use chumsky::combinator::{Mapper, To};
 use chumsky::extra::RichText;
 use chumsky::prelude::*;
@@ -19,5 +19,15 @@ pub struct Trimmed;
 impl<'src> Mapper<&'src str, &'src str> for Trimmed {
     fn apply(&self, text: &'src str) -> &'src str {
         text.trim()
+    }
+}
+
+/// A value that is there, beside those that a strategy stands for with `None`.
+#[derive(Clone, Copy)]
+pub struct ToSome;
+
+impl<O> Mapper<O, Option<O>> for ToSome {
+    fn apply(&self, value: O) -> Option<O> {
+        Some(value)
     }
 }
