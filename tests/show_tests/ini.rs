@@ -20,12 +20,12 @@ fn sections_hold_names_and_values(rt: HostRuntime) {
 }
 
 #[test]
-fn what_is_no_section_is_an_error(rt: HostRuntime) {
+fn each_line_that_is_wrong_has_its_own_error_and_the_rest_are_read(rt: HostRuntime) {
     let rows = [
         (
             "port = 8080",
             1,
-            "input:1:1: expected whitespace, a comment, a section or end of input, found 'p'\nport = 8080\n^\n",
+            "input:1:1: expected a section, found 'p'\nport = 8080\n^\n",
         ),
         (
             "[server\nport = 1",
@@ -35,12 +35,24 @@ fn what_is_no_section_is_an_error(rt: HostRuntime) {
         (
             "[a]\nport\n",
             1,
-            "input:2:5: expected something else or '=', found '\\n'\nport\n    ^\n",
+            "[a]\ninput:2:5: expected something else or '=', found '\\n'\nport\n    ^\n",
         ),
         (
-            "[a]\n= 1\n",
+            "[a] x = 1\n[b]] y = 2 ; kept\n",
             1,
-            "input:2:1: expected whitespace, a comment, a name, a section or end of input, found '='\n= 1\n^\n",
+            "[a]\nx = 1\n[b]\ninput:2:4: expected a name, found ']'\n[b]] y = 2 ; kept\n   ^\n",
+        ),
+        // What stands below a wrong head belongs to no section.
+        (
+            "[a]\n= 1\nx = 2\n; here\n][b]\n[]\nz = 3\n[c\nn\n[d]\ny = 2\nrest",
+            1,
+            "[a]\nx = 2\n[d]\ny = 2\n\
+             input:2:1: expected a name, found '='\n= 1\n^\n\
+             input:5:1: expected a name, found ']'\n][b]\n^\n\
+             input:6:2: expected a name, found ']'\n[]\n ^\n\
+             input:8:3: expected something else or ']', found '\\n'\n[c\n  ^\n\
+             input:9:2: expected something else or '=', found '\\n'\nn\n ^\n\
+             input:12:5: expected something else or '=', found end of input\nrest\n    ^\n",
         ),
     ];
     assert_shown(&rt, "ini", &rows);

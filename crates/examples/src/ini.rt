@@ -1,8 +1,8 @@
-//! Settings in sections, as INI files have them.
+//! Settings in sections, as INI files have them. A line that can't be read is an error of its own, and the lines after it are read.
 ghost use Rattle.std.specs.Prelude.{◌≡◌, [], IfOk, IsTrue, is_some};
 
-use crate::words::Trimmed;
-use chumsky::combinator::{Part, part_of, run_part};
+use crate::words::{ToSome, Trimmed};
+use chumsky::combinator::{Mapper, Part, part_of, run_part};
 use chumsky::extra::RichText;
 use chumsky::input::InputRef;
 use chumsky::prelude::*;
@@ -62,24 +62,86 @@ impl<'src> Part<'src, &'src str, &'src str, RichText> for Name {
     }
 }
 
-/// A name and its value, which is the rest of the line without the spaces around it.
+/// The rest of a line that can't be read, and the gap after it, in place of a value.
 #[derive(Clone, Copy)]
-struct Entry;
+struct Skipped;
 
-impl<'src> IsParser<&'src str, (&'src str, &'src str), RichText> for Entry {}
+impl<'src, O: Copy> IsParser<&'src str, Option<O>, RichText> for Skipped {}
 
-impl<'src> Part<'src, &'src str, (&'src str, &'src str), RichText> for Entry {
+impl<'src, O: Copy> Part<'src, &'src str, Option<O>, RichText> for Skipped {
     fn run(
         &self,
         wanted: bool,
         inp: &mut InputRef<'src, '_, &'src str, RichText>,
-    ) -> PResult<Option<(&'src str, &'src str)>> {
+    ) -> PResult<Option<Option<O>>> {
+        let rest = none_of("\n").repeated().then(part_of(Gap)).to(None);
+        run_part(&rest, wanted, inp)
+    }
+}
+
+/// A name and its value, which is the rest of the line without the spaces around it.
+#[derive(Clone, Copy)]
+struct Entry;
+
+impl<'src> IsParser<&'src str, Option<(&'src str, &'src str)>, RichText> for Entry {}
+
+impl<'src> Part<'src, &'src str, Option<(&'src str, &'src str)>, RichText> for Entry {
+    fn run(
+        &self,
+        wanted: bool,
+        inp: &mut InputRef<'src, '_, &'src str, RichText>,
+    ) -> PResult<Option<Option<(&'src str, &'src str)>>> {
         let rest = none_of("\n").repeated().to_slice().map_by(Trimmed);
         let entry = part_of(Name)
             .then_ignore(just('='))
             .then(rest)
-            .then_ignore(part_of(Gap));
+            .then_ignore(part_of(Gap))
+            .map_by(ToSome);
+        let entry = none_of("[")
+            .rewind()
+            .ignore_then(entry.recover_with(via_parser(part_of(Skipped))));
         run_part(&entry, wanted, inp)
+    }
+}
+
+/// The name of a section in brackets.
+#[derive(Clone, Copy)]
+struct Head;
+
+impl<'src> IsParser<&'src str, Option<&'src str>, RichText> for Head {}
+
+impl<'src> Part<'src, &'src str, Option<&'src str>, RichText> for Head {
+    fn run(
+        &self,
+        wanted: bool,
+        inp: &mut InputRef<'src, '_, &'src str, RichText>,
+    ) -> PResult<Option<Option<&'src str>>> {
+        let head = part_of(Name)
+            .delimited_by(just('[').labelled("a section"), just(']'))
+            .then_ignore(part_of(Gap))
+            .map_by(ToSome);
+        let head = any()
+            .rewind()
+            .ignore_then(head.recover_with(via_parser(part_of(Skipped))));
+        run_part(&head, wanted, inp)
+    }
+}
+
+/// Makes a section of its name and its entries. Without a name there is none.
+#[derive(Clone, Copy)]
+struct ToSection;
+
+impl<'src> Mapper<(Option<&'src str>, Section<'src>), Option<(&'src str, Section<'src>)>>
+    for ToSection {
+    fn apply(
+        &self,
+        headed: (Option<&'src str>, Section<'src>),
+    ) -> Option<(&'src str, Section<'src>)> {
+        let (name, entries) = headed;
+        match name {
+            Some(name) => Some((name, entries)),
+            None => None,
+        }
     }
 }
 
@@ -87,32 +149,32 @@ impl<'src> Part<'src, &'src str, (&'src str, &'src str), RichText> for Entry {
 #[derive(Clone, Copy)]
 struct Headed;
 
-impl<'src> IsParser<&'src str, (&'src str, Section<'src>), RichText> for Headed {}
+impl<'src> IsParser<&'src str, Option<(&'src str, Section<'src>)>, RichText> for Headed {}
 
-impl<'src> Part<'src, &'src str, (&'src str, Section<'src>), RichText> for Headed {
+impl<'src> Part<'src, &'src str, Option<(&'src str, Section<'src>)>, RichText> for Headed {
     fn run(
         &self,
         wanted: bool,
         inp: &mut InputRef<'src, '_, &'src str, RichText>,
-    ) -> PResult<Option<(&'src str, Section<'src>)>> {
-        let head = part_of(Name)
-            .delimited_by(just('[').labelled("a section"), just(']'))
-            .then_ignore(part_of(Gap));
-        let entries = part_of(Entry).repeated().collect::<Section<'src>>();
-        run_part(&head.then(entries), wanted, inp)
+    ) -> PResult<Option<Option<(&'src str, Section<'src>)>>> {
+        let entries = part_of(Entry)
+            .repeated()
+            .flatten()
+            .collect::<Section<'src>>();
+        run_part(&part_of(Head).then(entries).map_by(ToSection), wanted, inp)
     }
 }
 
-/// Sections by name, each a map of names to values. Of two sections of one name, and of two values, the later stands.
+/// Sections by name, each a map of names to values. Of two sections of one name, and of two values, the later stands. Each line
+/// that can't be read is an error; where it should have been the name of a section, the entries below it are left out.
 pub fn parse_ini<'src>(
     alloc: Global,
     text: &'src str,
 ) -> Result<ParseResult<Ini<'src>, Rich<char>>, Stop>
     ensures { IfOk result (λ parsed. parsed.errors.items ≡ [] → IsTrue (is_some parsed.output)) }
 {
-    part_of(Gap)
-        .ignore_then(part_of(Headed).repeated().collect::<Ini<'src>>())
-        .parse(alloc, text)
+    let sections = part_of(Headed).repeated().flatten().collect::<Ini<'src>>();
+    part_of(Gap).ignore_then(sections).parse(alloc, text)
 }
 
 /// Sections as a text, in the order of their names.

@@ -2,13 +2,12 @@
 ghost use Rattle.std.specs.Prelude.{◌≡◌, [], IfOk, IsTrue, is_some};
 
 use crate::digits::TwoDigits;
-use crate::words::Trimmed;
+use crate::words::{ToSome, Trimmed};
 use chumsky::combinator::{Part, Picker, part_of, run_part};
 use chumsky::extra::RichText;
 use chumsky::input::InputRef;
 use chumsky::prelude::*;
-use chumsky::primitive::Reader;
-use chumsky::{Failure, PResult, Stop};
+use chumsky::{PResult, Stop};
 use std::alloc::Global;
 use std::fmt;
 use std::fmt::{Display, Formatter};
@@ -129,24 +128,21 @@ impl<'src> Part<'src, &'src str, Line<'src>, RichText> for WholeLine {
     }
 }
 
-/// A line. One that isn't right is emitted as an error and left out, with all that stands on it.
+/// A line. One that isn't right is an error, and is left out with all that stands on it.
 #[derive(Clone, Copy)]
 struct AnyLine;
 
-impl<'src> Reader<'src, &'src str, Option<Line<'src>>, RichText> for AnyLine {
-    fn read(
+impl<'src> IsParser<&'src str, Option<Line<'src>>, RichText> for AnyLine {}
+
+impl<'src> Part<'src, &'src str, Option<Line<'src>>, RichText> for AnyLine {
+    fn run(
         &self,
+        wanted: bool,
         inp: &mut InputRef<'src, '_, &'src str, RichText>,
-    ) -> Result<Option<Line<'src>>, Failure<Rich<char>>> {
-        match inp.parse(part_of(WholeLine)) {
-            Ok(line) => Ok(Some(line)),
-            Err(Failure::Error(error)) => {
-                inp.check(none_of("\r\n").repeated())?;
-                inp.emit(error)?;
-                Ok(None)
-            }
-            Err(Failure::Stop(stop)) => Err(Failure::Stop(stop)),
-        }
+    ) -> PResult<Option<Option<Line<'src>>>> {
+        let to_its_end = via_parser(none_of("\r\n").repeated().to(None));
+        let line = part_of(WholeLine).map_by(ToSome).recover_with(to_its_end);
+        run_part(&line, wanted, inp)
     }
 }
 
@@ -159,7 +155,7 @@ pub fn parse_log<'src>(
 {
     let line = none_of("\r\n")
         .rewind()
-        .ignore_then(custom_by(AnyLine))
+        .ignore_then(part_of(AnyLine))
         .or_not()
         .map(|line: Option<Option<Line>>| line.flatten());
     line.separated_by(text::newline())
