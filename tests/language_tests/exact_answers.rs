@@ -6,6 +6,8 @@ use exact::level::{Level, parse_level};
 use exact::nested::parse_nested;
 use exact::number::parse_number;
 use exact::pairs::parse_pairs;
+use exact::trees::{Tree, parse_tree};
+use std::alloc::{AllocError, Global};
 use std::test::Fail;
 
 #[test]
@@ -111,6 +113,52 @@ fn pairs_of_names_and_numbers_are_read_a_line_each(rt: HostRuntime) -> Result<()
     for text in ["\n", "a", "a=", "=1", "a=01", "a=b", "1=a", "a=1\n\n", "\na=1", "a=1 ", "a =1", "a=1\n\nb=2", "a=-1", "ä=1"] {
         let parsed = parse_pairs(alloc, text)?;
         assert!(rt; parsed.into_output().is_none(), "{text}");
+    }
+    Ok(())
+}
+
+/// How a tree is written.
+fn written(alloc: Global, tree: &Tree) -> Result<String, AllocError> {
+    match tree {
+        Tree::Number(number) => format!(in alloc; "{number}"),
+        Tree::List(trees) => {
+            let mut text = String::new(alloc);
+            for tree in trees {
+                text.push_str(if text.is_empty() { "[" } else { "," })?;
+                text.push_str(written(alloc, tree)?.as_str())?;
+            }
+            text.push_str(if trees.is_empty() { "[]" } else { "]" })?;
+            Ok(text)
+        }
+    }
+}
+
+#[test]
+fn lists_within_lists_are_read_and_no_other_text_is(rt: HostRuntime) -> Result<(), Fail> {
+    let alloc = rt.alloc();
+    for text in ["7", "0", "4294967295", "[]", "[1]", "[[]]", "[1,[2,30],[]]", "[[],[[]],[0,[10]]]", "[1,1,1,1,1,1,1,1]"] {
+        let parsed = parse_tree(alloc, text, text.len() + 1)?;
+        let tree = parsed.into_output();
+        assert!(rt; tree.is_some(), "{text}");
+        if let Some(tree) = tree {
+            assert_eq!(rt; written(alloc, &tree)?.as_str(), text);
+        }
+    }
+    for text in ["", "x", "07", "4294967296", "[", "]", "[1", "1]", "[1,]", "[,1]", "[,]", "[1,,2]", "[1 ]", " 1", "1,2", "[1][2]", "[[1]", "[4294967296]", "[00]", "-1", "[٠]"] {
+        let parsed = parse_tree(alloc, text, 100)?;
+        assert!(rt; parsed.into_output().is_none(), "{text}");
+    }
+    Ok(())
+}
+
+#[test]
+fn a_list_within_lists_is_refused_that_is_deeper_than_the_limit(rt: HostRuntime) -> Result<(), Fail> {
+    let alloc = rt.alloc();
+    for (text, calls) in [("7", 1), ("[]", 2), ("[[]]", 3), ("[7,[7]]", 3), ("[[[[]]]]", 5)] {
+        let parsed = parse_tree(alloc, text, calls)?;
+        assert!(rt; parsed.into_output().is_some(), "{text}");
+        let refused = matches!(parse_tree(alloc, text, calls - 1), Err(Stop::TooDeep));
+        assert!(rt; refused, "{text}");
     }
     Ok(())
 }

@@ -13,3 +13,6 @@ pub mod Number
 pub mod NumberLaws
 pub mod Pairs
 pub mod PairsLaws
+pub mod Trees
+pub mod TreesBody
+pub mod TreesLaws

@@ -7,3 +7,4 @@ pub mod level;
 pub mod nested;
 pub mod number;
 pub mod pairs;
+pub mod trees;
