@@ -1,6 +1,6 @@
 //! What JSON is, on texts whose answers are known from outside.
 use crate::printed::{Refusal, assert_lines, nested, printed};
-use json_tree::{Json, JsonText, Refused, read_json};
+use json_tree::{Json, JsonText, read_json};
 use std::alloc::{AllocError, Global};
 use std::test::Fail;
 
@@ -16,10 +16,7 @@ fn indented(alloc: Global, text: &str) -> Result<String, AllocError> {
 
 /// What is printed of a text.
 fn shown(alloc: Global, text: &str, indented: bool) -> Result<String, AllocError> {
-    let parsed = read_json(alloc, text).map_err(|refused| match refused {
-        Refused::Running(stop) => Refusal::Run(stop),
-        _ => Refusal::Rules,
-    });
+    let parsed = read_json(alloc, text).map_err(Refusal::Run);
     printed(alloc, text, parsed, |json: &Json| {
         let json = JsonText { json, indented };
         format!(in alloc; "{json}\n")
@@ -214,16 +211,19 @@ fn what_is_wrong_is_told_at_its_place(rt: HostRuntime) {
     assert_lines(&rt, in_line, &rows);
 }
 
+/// Lists and objects count alike.
 #[test]
 fn what_is_too_deep_is_refused_and_nothing_crashes(rt: HostRuntime) -> Result<(), Fail> {
     let alloc = rt.alloc();
-    let text = nested(alloc, 1000, "[", "", "]")?;
-    let lines = in_line(alloc, text.as_str())?;
-    assert_eq!(rt; lines.as_str().trim_end(), text.as_str());
-    for depth in [1001, 100_000] {
-        let text = nested(alloc, depth, "[", "", "]")?;
+    for (opening, inside, closing) in [("[", "", "]"), ("{\"a\":", "1", "}")] {
+        let text = nested(alloc, 150, opening, inside, closing)?;
         let lines = in_line(alloc, text.as_str())?;
-        assert_eq!(rt; lines.as_str(), "refused: TooDeep");
+        assert_eq!(rt; lines.as_str().trim_end(), text.as_str());
+        for depth in [151, 100_000] {
+            let text = nested(alloc, depth, opening, inside, closing)?;
+            let lines = in_line(alloc, text.as_str())?;
+            assert_eq!(rt; lines.as_str(), "refused: TooDeep");
+        }
     }
     Ok(())
 }

@@ -1,6 +1,6 @@
 //! JSON to a tree, by `json_tree`, run.
 use chumsky::prelude::*;
-use json_tree::{Json, Refused, check_json, read_json};
+use json_tree::{Json, check_json, read_json};
 use std::alloc::{AllocError, Global};
 
 /// Writes values, with a space before each.
@@ -52,15 +52,6 @@ fn write_errors(alloc: Global, errors: &[Rich<char>], out: &mut String) -> Resul
     Ok(())
 }
 
-/// The name of a refusal.
-fn refusal(alloc: Global, refused: Refused) -> Result<String, AllocError> {
-    match refused {
-        Refused::Running(stop) => format!(in alloc; "{stop:?}"),
-        Refused::Building(error) => format!(in alloc; "{error:?}"),
-        Refused::Closing(error) => format!(in alloc; "{error:?}"),
-    }
-}
-
 /// What is read of a text, and what is wrong with it.
 fn read(alloc: Global, text: &str) -> Result<String, AllocError> {
     match read_json(alloc, text) {
@@ -72,7 +63,7 @@ fn read(alloc: Global, text: &str) -> Result<String, AllocError> {
             write_errors(alloc, parsed.errors.as_slice(), &mut out)?;
             Ok(out)
         }
-        Err(refused) => refusal(alloc, refused),
+        Err(stop) => format!(in alloc; "{stop:?}"),
     }
 }
 
@@ -84,7 +75,7 @@ fn check(alloc: Global, text: &str) -> Result<String, AllocError> {
             write_errors(alloc, checked.errors.as_slice(), &mut out)?;
             Ok(out)
         }
-        Err(refused) => refusal(alloc, refused),
+        Err(stop) => format!(in alloc; "{stop:?}"),
     }
 }
 
@@ -163,8 +154,8 @@ fn nested(
 }
 
 #[test]
-fn a_thousand_levels_are_read_and_one_more_is_too_deep(rt: HostRuntime) {
-    let levels = [(1_000, false), (1_001, true), (20_000, true)];
+fn a_hundred_and_fifty_levels_are_read_and_one_more_is_too_deep(rt: HostRuntime) {
+    let levels = [(150, false), (151, true), (20_000, true)];
     let kinds = [
         ("[", "", "]", "(list (list "),
         ("{\"a\":", "1", "}", "(map a=(map a="),

@@ -3,7 +3,7 @@
 #![tactic(auto)]
 
 use chumsky::report::Report;
-use json_tree::{JsonText, Refused, read_json};
+use json_tree::{JsonText, read_json};
 use std::alloc::Global;
 use std::io::Read;
 use std::process::ExitCode;
@@ -27,11 +27,10 @@ fn answer(rt: &HostRuntime, indented: bool) -> io::Result<ExitCode> {
     rt.reader().read_to_string(&mut text)?;
     let parsed = match read_json(rt.alloc(), text.as_str()) {
         Ok(parsed) => parsed,
-        Err(Refused::Running(stop)) => {
+        Err(stop) => {
             println!(rt; "refused: {stop:?}")?;
             return Ok(ExitCode::from(2));
         }
-        Err(_) => return Ok(ExitCode::from(2)),
     };
     for error in parsed.errors() {
         let report = Report {

@@ -9,20 +9,9 @@ use chumsky::extra::RichText;
 use chumsky::input::InputRef;
 use chumsky::prelude::*;
 use chumsky::primitive::Select;
-use chumsky::recursive::MayStay;
 use chumsky::text::Kind;
 use chumsky::util::Plain;
 use std::char;
-
-/// What a node of the grammar gives.
-#[derive(Drop)]
-pub enum Value {
-    /// A comma, a colon or a bracket.
-    Mark,
-    Json(Json),
-    Member(String, Json),
-    Items(Vec<Value>),
-}
 
 /// Spaces, tabs and ends of lines.
 #[derive(Clone, Copy)]
@@ -173,46 +162,58 @@ impl<'src> Part<'src, &'src str, String, RichText> for Number {
     }
 }
 
-/// A leaf of the grammar, with the space around it.
+/// A value that is no list and no object, with the space around it.
 #[derive(Clone, Copy)]
-pub enum Leaf {
-    Text,
-    Number,
-    Word,
-    Mark(char),
-}
+pub struct Scalar;
 
-impl<'src> IsParser<&'src str, Value, RichText> for Leaf {}
+impl<'src> IsParser<&'src str, Json, RichText> for Scalar {}
 
-impl<'src> Part<'src, &'src str, Value, RichText> for Leaf {
+impl<'src> Part<'src, &'src str, Json, RichText> for Scalar {
     fn run(
         &self,
         wanted: bool,
         inp: &mut InputRef<'src, '_, &'src str, RichText>,
-    ) -> PResult<Option<Value>> {
-        match *self {
-            Leaf::Text => {
-                let text = part_of(Quoted).map(|text| Value::Json(Json::Text(text)));
-                run_part(&text.labelled("a string").padded_with(Space), wanted, inp)
-            }
-            Leaf::Number => {
-                let number = part_of(Number).map(|number| Value::Json(Json::Number(number)));
-                run_part(&number.labelled("a number").padded_with(Space), wanted, inp)
-            }
-            Leaf::Word => {
-                let word = choice((
-                    just("null").map(|_| Value::Json(Json::Null)),
-                    just("true").map(|_| Value::Json(Json::Bool(true))),
-                    just("false").map(|_| Value::Json(Json::Bool(false))),
-                ));
-                run_part(&word.padded_with(Space), wanted, inp)
-            }
-            Leaf::Mark(mark) => {
-                let mark = just(mark).map(|_| Value::Mark);
-                run_part(&mark.padded_with(Space), wanted, inp)
-            }
-        }
+    ) -> PResult<Option<Json>> {
+        let scalar = choice((
+            part_of(Quoted).map(Json::Text).labelled("a string"),
+            part_of(Number).map(Json::Number).labelled("a number"),
+            just("null").map(|_| Json::Null),
+            just("true").map(|_| Json::Bool(true)),
+            just("false").map(|_| Json::Bool(false)),
+        ));
+        run_part(&scalar.padded_with(Space), wanted, inp)
     }
 }
 
-impl MayStay for Leaf {}
+/// The name of a member and its colon, with the space around them.
+#[derive(Clone, Copy)]
+pub struct Name;
+
+impl<'src> IsParser<&'src str, String, RichText> for Name {}
+
+impl<'src> Part<'src, &'src str, String, RichText> for Name {
+    fn run(
+        &self,
+        wanted: bool,
+        inp: &mut InputRef<'src, '_, &'src str, RichText>,
+    ) -> PResult<Option<String>> {
+        let name = part_of(Quoted).labelled("a string").padded_with(Space);
+        run_part(&name.then_ignore(part_of(Mark(':'))), wanted, inp)
+    }
+}
+
+/// A comma, a colon or a bracket, with the space around it.
+#[derive(Clone, Copy)]
+pub struct Mark(pub char);
+
+impl<'src> IsParser<&'src str, char, RichText> for Mark {}
+
+impl<'src> Part<'src, &'src str, char, RichText> for Mark {
+    fn run(
+        &self,
+        wanted: bool,
+        inp: &mut InputRef<'src, '_, &'src str, RichText>,
+    ) -> PResult<Option<char>> {
+        run_part(&just(self.0).padded_with(Space), wanted, inp)
+    }
+}
