@@ -136,6 +136,30 @@ impl<'src> Fallback<Option<Statement<'src>>> for NoStatement {
     }
 }
 
+/// A statement, or where it can't be read nothing, with an error: it ends at its `;`, or with the text.
+#[derive(Clone, Copy)]
+struct AnyStatement;
+
+impl<'src> IsParser<&'src str, Option<Statement<'src>>, RichText> for AnyStatement {}
+
+impl<'src> Part<'src, &'src str, Option<Statement<'src>>, RichText> for AnyStatement {
+    fn run(
+        &self,
+        wanted: bool,
+        inp: &mut InputRef<'src, '_, &'src str, RichText>,
+    ) -> PResult<Option<Option<Statement<'src>>>> {
+        let to_its_end = skip_until(
+            none_of(";").ignored(),
+            just(';').ignored().or(end()),
+            NoStatement,
+        );
+        let statement = part_of(WholeStatement)
+            .map_by(ToSome)
+            .recover_with(to_its_end);
+        run_part(&any().rewind().ignore_then(statement), wanted, inp)
+    }
+}
+
 /// The statements that are right, and an error for each other one, which ends at its `;`, or with the text.
 pub fn parse_statements<'src>(
     alloc: Global,
@@ -143,17 +167,7 @@ pub fn parse_statements<'src>(
 ) -> Result<ParseResult<Vec<Statement<'src>>, Rich<char>>, Stop>
     ensures { IfOk result (λ parsed. parsed.errors.items ≡ [] → IsTrue (is_some parsed.output)) }
 {
-    let to_its_end = skip_until(
-        none_of(";").ignored(),
-        just(';').ignored().or(end()),
-        NoStatement,
-    );
-    let statement = part_of(WholeStatement)
-        .map_by(ToSome)
-        .recover_with(to_its_end);
-    let statements = any()
-        .rewind()
-        .ignore_then(statement)
+    let statements = part_of(AnyStatement)
         .then_ignore(text::whitespace())
         .repeated()
         .flatten()
