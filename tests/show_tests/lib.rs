@@ -1,4 +1,4 @@
-//! What the program `show` prints, word for word.
+//! What the programs `show`, `calc`, `format_json` and `format_lisp` print, word for word, and their statuses.
 
 #[cfg(test)]
 mod ini;

@@ -1,21 +1,203 @@
-//! How the program is asked, and what it says where it gives no answer.
-use crate::shown::shown;
+//! How programs are asked, what they say where they give no answer, and the statuses that they end with.
+use crate::shown::{assert_ran, words_of};
+use console::failure::{Failure, status_of};
+use console::run::{Program, run};
+use programs::calc::Calc;
+use programs::format_json::FormatJson;
+use programs::format_lisp::FormatLisp;
+use programs::show::Show;
+use std::alloc::{AllocError, Global};
+use std::io;
+use std::io::{ErrorKind, Read, Write};
+use std::process::Abort;
+use std::test::Fail;
+
+/// Fails, for a reason.
+#[derive(Drop)]
+struct Failing {
+    kind: ErrorKind,
+}
+
+impl Read for Failing {
+    fn read(&mut self, buf: &mut [u8]) -> io::Result<usize> {
+        Err(io::Error::from(self.kind))
+    }
+}
+
+impl Write for Failing {
+    fn write(&mut self, buf: &[u8]) -> io::Result<usize> {
+        Err(io::Error::from(self.kind))
+    }
+
+    fn flush(&mut self) -> io::Result<()> {
+        Err(io::Error::from(self.kind))
+    }
+}
+
+#[test]
+fn what_is_accepted_is_printed(rt: HostRuntime) {
+    assert_ran(&rt, &Calc, &[("", b"2 * (3 + 4)\n", 0, "14\n", "")]);
+    assert_ran(
+        &rt,
+        &FormatJson,
+        &[
+            ("", b"[1, {\"a\": null}]", 0, "[1,{\"a\":null}]\n", ""),
+            ("--indented", b"[1]", 0, "[\n  1\n]\n", ""),
+        ],
+    );
+    assert_ran(&rt, &FormatLisp, &[("", b"(a  b) c", 0, "(a b)\nc\n", "")]);
+    assert_ran(&rt, &Show, &[("ini", b"[a]\nb=c", 0, "[a]\nb = c\n", "")]);
+}
+
+#[test]
+fn errors_are_reported_beside_the_output(rt: HostRuntime) {
+    let by_zero = "input:1:3: division by zero\n1 / 0\n  ^\n";
+    assert_ran(&rt, &Calc, &[("", b"1 / 0", 1, "", by_zero)]);
+    let no_value =
+        "input:1:2: expected a string, a number, 'n', 't', 'f', '[', '{' or ']', found 'x'\n[x\n ^\n";
+    assert_ran(&rt, &FormatJson, &[("", b"[x", 1, "", no_value)]);
+    let no_list =
+        "input:1:1: expected whitespace, a comment, an atom, '(', '\\'' or end of input, found ')'\n)\n^\n";
+    assert_ran(&rt, &FormatLisp, &[("", b")", 1, "", no_list)]);
+}
 
 #[test]
 fn other_words_are_answered_by_what_words_there_are(rt: HostRuntime) {
-    let usage = b"usage: show ini|log\n".as_slice();
     for line in ["", "yaml", "ini log", "ini --indent"] {
-        let answer = shown(rt.alloc(), line, b"1").expect(&rt, "want of memory");
-        assert_eq!(rt; answer.status, 2, "of {line}");
-        assert_eq!(rt; answer.err.as_slice(), usage, "of {line}");
-        assert_eq!(rt; answer.out.len(), 0, "of {line}");
+        assert_ran(&rt, &Show, &[(line, b"1", 2, "", "usage: show ini|log\n")]);
+    }
+    assert_ran(&rt, &Calc, &[("1+1", b"1", 2, "", "usage: calc\n")]);
+    assert_ran(
+        &rt,
+        &FormatLisp,
+        &[("--indented", b"1", 2, "", "usage: format_lisp\n")],
+    );
+    for line in ["--indent", "--indented --indented"] {
+        assert_ran(
+            &rt,
+            &FormatJson,
+            &[(line, b"1", 2, "", "usage: format_json [--indented]\n")],
+        );
     }
 }
 
 #[test]
 fn what_is_no_text_is_not_read(rt: HostRuntime) {
-    let answer = shown(rt.alloc(), "ini", b"[\xFF]").expect(&rt, "want of memory");
-    assert_eq!(rt; answer.status, 2);
-    assert_eq!(rt; answer.err.as_slice(), b"input is not UTF-8\n".as_slice());
-    assert_eq!(rt; answer.out.len(), 0);
+    let told = "input is not UTF-8\n";
+    assert_ran(&rt, &Calc, &[("", b"1\xFF", 2, "", told)]);
+    assert_ran(&rt, &FormatJson, &[("", b"[\xFF]", 2, "", told)]);
+    assert_ran(&rt, &FormatLisp, &[("", b"(\xFF)", 2, "", told)]);
+    assert_ran(&rt, &Show, &[("ini", b"[\xFF]", 2, "", told)]);
+}
+
+/// Whether a program whose input can't be read for this reason ends with the status, a line on `err` and no output.
+fn says_of_input<P: Program>(
+    program: &P,
+    alloc: Global,
+    line: &str,
+    kind: ErrorKind,
+    status: u8,
+    told: &str,
+) -> Result<bool, AllocError> {
+    let words = words_of(alloc, line)?;
+    let (mut out, mut err) = (Vec::new(alloc), Vec::new(alloc));
+    let mut input = Failing { kind };
+    let ended = run(
+        program,
+        alloc,
+        words.as_slice(),
+        &mut input,
+        &mut out,
+        &mut err,
+    );
+    Ok(ended == status && out.is_empty() && err.as_slice() == told.as_bytes())
+}
+
+/// Whether a program says of its input that it can't be read, and that there is no memory for it.
+fn tells_of_input<P: Program>(program: &P, alloc: Global, line: &str) -> Result<bool, AllocError> {
+    let torn = ErrorKind::Other;
+    let starved = ErrorKind::OutOfMemory;
+    Ok(
+        says_of_input(program, alloc, line, torn, 2, "cannot read input\n")?
+            && says_of_input(program, alloc, line, starved, 3, "refused: out of memory\n")?,
+    )
+}
+
+#[test]
+fn input_that_cannot_be_read_is_told(rt: HostRuntime) -> Result<(), Fail> {
+    let alloc = rt.alloc();
+    assert!(rt; tells_of_input(&Calc, alloc, "")?);
+    assert!(rt; tells_of_input(&FormatJson, alloc, "")?);
+    assert!(rt; tells_of_input(&FormatLisp, alloc, "")?);
+    assert!(rt; tells_of_input(&Show, alloc, "log")?);
+    Ok(())
+}
+
+/// Whether a program whose output can't be written says so.
+fn tells_of_output<P: Program>(
+    program: &P,
+    alloc: Global,
+    line: &str,
+    text: &str,
+) -> Result<bool, AllocError> {
+    let words = words_of(alloc, line)?;
+    let mut out = Failing {
+        kind: ErrorKind::Other,
+    };
+    let (mut input, mut err) = (text.as_bytes(), Vec::new(alloc));
+    let ended = run(
+        program,
+        alloc,
+        words.as_slice(),
+        &mut input,
+        &mut out,
+        &mut err,
+    );
+    Ok(ended == 2 && err.as_slice() == b"cannot write output\n".as_slice())
+}
+
+#[test]
+fn output_that_cannot_be_written_is_told(rt: HostRuntime) -> Result<(), Fail> {
+    let alloc = rt.alloc();
+    assert!(rt; tells_of_output(&Calc, alloc, "", "1")?);
+    assert!(rt; tells_of_output(&FormatJson, alloc, "", "1")?);
+    assert!(rt; tells_of_output(&FormatLisp, alloc, "", "1")?);
+    assert!(rt; tells_of_output(&Show, alloc, "ini", "[a]")?);
+    Ok(())
+}
+
+#[test]
+fn a_line_that_cannot_be_written_changes_no_status(rt: HostRuntime) {
+    let mut err = Failing {
+        kind: ErrorKind::Other,
+    };
+    assert_eq!(rt; status_of(&mut err, "calc", Err(Failure::Words)), 2);
+    assert_eq!(rt; status_of(&mut err, "calc", Err(Failure::NoGrammar)), 3);
+}
+
+/// So many opening brackets.
+fn opened(alloc: Global, bracket: char, count: usize) -> Result<String, AllocError> {
+    let mut text = String::new(alloc);
+    for _ in 0..count {
+        text.push(bracket)?;
+    }
+    Ok(text)
+}
+
+#[test]
+fn what_is_nested_too_deeply_is_refused(rt: HostRuntime) -> Result<(), Fail> {
+    let told = "refused: too deep\n";
+    let lists = opened(rt.alloc(), '(', 200)?;
+    assert_ran(
+        &rt,
+        &FormatLisp,
+        &[("", lists.as_str().as_bytes(), 3, "", told)],
+    );
+    let lists = opened(rt.alloc(), '[', 2_000)?;
+    assert_ran(
+        &rt,
+        &FormatJson,
+        &[("", lists.as_str().as_bytes(), 3, "", told)],
+    );
+    Ok(())
 }

@@ -1,0 +1,45 @@
+//! The program `calc`.
+use arithmetic::{Refused, parse_arithmetic};
+use console::failure::Failure;
+use console::run::Program;
+use console::text::{print_line, read_text, report};
+use std::alloc::Global;
+use std::io::{Read, Write};
+
+/// Works out the sum that the input has.
+#[derive(Clone, Copy)]
+pub struct Calc;
+
+impl Program for Calc {
+    fn usage(&self) -> &'static str {
+        "calc"
+    }
+
+    fn answer<R: Read, W: Write, E: Write>(
+        &self,
+        alloc: Global,
+        words: &[String],
+        input: &mut R,
+        out: &mut W,
+        err: &mut E,
+    ) -> Result<bool, Failure> {
+        if !words.is_empty() {
+            return Err(Failure::Words);
+        }
+        let text = read_text(alloc, input)?;
+        let parsed = parse_arithmetic(alloc, text.as_str()).map_err(refusal)?;
+        if let Some(number) = parsed.output() {
+            print_line(out, number)?;
+        }
+        report(alloc, err, text.as_str(), parsed.errors.as_slice())
+    }
+}
+
+/// Why there is no sum.
+fn refusal(refused: Refused) -> Failure {
+    match refused {
+        Refused::Running(stop) => Failure::from(stop),
+        Refused::Building(error) => Failure::from(error),
+        Refused::Closing(_) => Failure::NoGrammar,
+    }
+}

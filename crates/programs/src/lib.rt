@@ -1,0 +1,7 @@
+//! What the programs `calc`, `format_json`, `format_lisp` and `show` do, over any input and any outputs.
+#![tactic(auto)]
+
+pub mod calc;
+pub mod format_json;
+pub mod format_lisp;
+pub mod show;
