@@ -67,7 +67,7 @@ fn say_run(alloc: Global, words: &[String], text: &str, line: &mut Line) {
     let mut left = text.as_bytes();
     let mut printed = Line::new();
     let mut complaint = Line::new();
-    let status = run(alloc, words, &mut left, &mut printed, &mut complaint);
+    let status = run(alloc, words, &mut left, &mut printed, &mut complaint).status;
     if status == 3 && printed.written() == b"refused Memory|".as_slice() {
         say_stop(line, Stop::Memory);
     } else {

@@ -1,5 +1,5 @@
 //! What the program `chk` answers, word for word.
-use chk_run::run::run;
+use chk_run::run::{Ended, run};
 use std::alloc::{AllocError, AllocGlobal, Global};
 use std::io;
 use std::io::{ErrorKind, Read, Write};
@@ -10,6 +10,7 @@ use std::test::Fail;
 #[derive(Drop)]
 struct Outcome {
     status: u8,
+    told: bool,
     out: Vec<u8>,
     err: Vec<u8>,
 }
@@ -27,8 +28,13 @@ fn run_on(alloc: Global, words: &[&str], input: &[u8]) -> Result<Outcome, AllocE
     let mut left = input;
     let mut out = Vec::new(alloc);
     let mut err = Vec::new(alloc);
-    let status = run(alloc, words.as_slice(), &mut left, &mut out, &mut err);
-    Ok(Outcome { status, out, err })
+    let Ended { status, told } = run(alloc, words.as_slice(), &mut left, &mut out, &mut err);
+    Ok(Outcome {
+        status,
+        told,
+        out,
+        err,
+    })
 }
 
 /// Gives an `a`, and then fails.
@@ -92,6 +98,7 @@ fn assert_prints<R: Abort + AllocGlobal>(
         let got = run_on(rt.alloc(), words, text.as_bytes())?;
         assert_eq!(rt; got.out.as_slice(), line.as_bytes(), "at {text:?}");
         assert_eq!(rt; got.status, *status, "at {text:?}");
+        assert!(rt; got.told, "at {text:?}");
         assert_eq!(rt; got.err.len(), 0, "at {text:?}");
     }
     Ok(())
@@ -231,11 +238,7 @@ fn parses_settings(rt: HostRuntime) -> Result<(), Fail> {
         ("ab=xy\nc=[]\n", 0, "ok ab=xy c=[]\n"),
         ("a=000\n", 0, "ok a=0\n"),
         ("a=1", 1, NO_LINE_END),
-        (
-            "a=18446744073709551615\n",
-            0,
-            "ok a=18446744073709551615\n",
-        ),
+        ("a=18446744073709551615\n", 0, "ok a=18446744073709551615\n"),
         (
             "a=18446744073709551616\n",
             1,
@@ -269,9 +272,9 @@ fn checks_settings(rt: HostRuntime) -> Result<(), Fail> {
 }
 
 #[test]
-fn two_thousand_lists_within_one_another_are_read(rt: HostRuntime) -> Result<(), Fail> {
+fn ten_thousand_lists_within_one_another_are_read(rt: HostRuntime) -> Result<(), Fail> {
     let alloc = rt.alloc();
-    let lists = nested(alloc, 2_000)?;
+    let lists = nested(alloc, 10_000)?;
     let text = format!(in alloc; "a={lists}\n")?;
     let line = format!(in alloc; "ok a={lists}\n")?;
     assert_prints(
@@ -298,9 +301,15 @@ fn is_usage(alloc: Global, words: &[&str]) -> Result<bool, AllocError> {
     let mut out = Vec::new(alloc);
     let mut err = Vec::new(alloc);
     let mut torn = Torn { given: false };
-    let status = run(alloc, words.as_slice(), &mut torn, &mut out, &mut err);
+    let ended = run(alloc, words.as_slice(), &mut torn, &mut out, &mut err);
     let usage = b"usage: chk parse|check NAME\n";
-    Ok(status == 2 && out.is_empty() && err.as_slice() == usage.as_slice() && !torn.given)
+    Ok(
+        ended.status == 2
+            && ended.told
+            && out.is_empty()
+            && err.as_slice() == usage.as_slice()
+            && !torn.given,
+    )
 }
 
 #[test]
@@ -322,6 +331,7 @@ fn input_is_utf_8(rt: HostRuntime) -> Result<(), Fail> {
     for input in [b"\xff\xfe".as_slice(), b"ab\xc3", b"a\xed\xa0\x80"] {
         let got = run_on(rt.alloc(), &["parse", "ab"], input)?;
         assert_eq!(rt; got.status, 2);
+        assert!(rt; got.told);
         assert_eq!(rt; got.out.len(), 0);
         assert_eq!(rt; got.err.as_slice(), b"input is not UTF-8\n".as_slice());
     }
@@ -336,8 +346,8 @@ fn a_read_that_fails_is_told(rt: HostRuntime) -> Result<(), Fail> {
         let mut out = Vec::new(alloc);
         let mut err = Vec::new(alloc);
         let mut torn = Torn { given };
-        let status = run(alloc, words.as_slice(), &mut torn, &mut out, &mut err);
-        assert_eq!(rt; status, 2);
+        let ended = run(alloc, words.as_slice(), &mut torn, &mut out, &mut err);
+        assert_eq!(rt; ended.status, 2);
         assert_eq!(rt; out.len(), 0);
         assert_eq!(rt; err.as_slice(), b"cannot read input\n".as_slice());
     }
@@ -351,8 +361,8 @@ fn want_of_memory_is_a_refusal(rt: HostRuntime) -> Result<(), Fail> {
         let words = owned(alloc, &[command, "ab"])?;
         let mut out = Vec::new(alloc);
         let mut err = Vec::new(alloc);
-        let status = run(alloc, words.as_slice(), &mut Starved, &mut out, &mut err);
-        assert_eq!(rt; status, 3);
+        let ended = run(alloc, words.as_slice(), &mut Starved, &mut out, &mut err);
+        assert_eq!(rt; ended.status, 3);
         assert_eq!(rt; out.as_slice(), b"refused Memory\n".as_slice());
         assert_eq!(rt; err.len(), 0);
     }
@@ -366,8 +376,8 @@ fn a_refusal_that_cannot_be_written_is_a_failure(rt: HostRuntime) -> Result<(), 
     let kept = Vec::new(alloc);
     let mut out = Brittle { writes: 0, kept };
     let mut err = Vec::new(alloc);
-    let status = run(alloc, words.as_slice(), &mut Starved, &mut out, &mut err);
-    assert_eq!(rt; status, 2);
+    let ended = run(alloc, words.as_slice(), &mut Starved, &mut out, &mut err);
+    assert_eq!(rt; ended.status, 2);
     assert_eq!(rt; err.len(), 0);
     Ok(())
 }
@@ -385,12 +395,15 @@ fn writes_needed(
         let kept = Vec::new(alloc);
         let mut out = Brittle { writes, kept };
         let mut err = Vec::new(alloc);
-        let status = run(alloc, words.as_slice(), &mut left, &mut out, &mut err);
+        let ended = run(alloc, words.as_slice(), &mut left, &mut out, &mut err);
         let kept = out.kept.as_slice();
         if !err.is_empty() || !line.as_bytes().starts_with(kept) {
             return Ok(None);
         }
-        if status != 2 {
+        if ended.told == (ended.status == 2) {
+            return Ok(None);
+        }
+        if ended.told {
             return Ok((kept.len() == line.len()).then_some(writes));
         }
     }
@@ -424,8 +437,8 @@ fn a_message_that_cannot_be_written_changes_nothing(rt: HostRuntime) -> Result<(
         let mut out = Vec::new(alloc);
         let kept = Vec::new(alloc);
         let mut err = Brittle { writes: 0, kept };
-        let status = run(alloc, words.as_slice(), &mut left, &mut out, &mut err);
-        assert_eq!(rt; status, 2);
+        let ended = run(alloc, words.as_slice(), &mut left, &mut out, &mut err);
+        assert_eq!(rt; ended.status, 2);
         assert_eq!(rt; out.len(), 0);
     }
     Ok(())
@@ -442,10 +455,16 @@ fn stands_cut_short<R: Read>(
     let mut out = Vec::new(alloc);
     let kept = Vec::new(alloc);
     let mut err = Brittle { writes: 1, kept };
-    let status = run(alloc, words.as_slice(), input, &mut out, &mut err);
+    let ended = run(alloc, words.as_slice(), input, &mut out, &mut err);
     let kept = err.kept.as_slice();
     let cut_short = !kept.is_empty() && kept.len() < message.len();
-    Ok(status == 2 && out.is_empty() && cut_short && message.as_bytes().starts_with(kept))
+    Ok(
+        ended.status == 2
+            && !ended.told
+            && out.is_empty()
+            && cut_short
+            && message.as_bytes().starts_with(kept),
+    )
 }
 
 #[test]

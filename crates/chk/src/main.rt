@@ -2,38 +2,39 @@
 //! answers.
 #![tactic(auto)]
 
-use chk_run::run::{refuse, run};
+use chk_run::run::{FAILED, refuse, run};
 use chk_run::show::Refusal;
 use chumsky::Stop;
+use console::failure::Failure;
+use console::run::{buffer, words_of};
 use std::alloc::Global;
-use std::io::ErrorKind;
+use std::io;
+use std::io::Write;
 use std::process::ExitCode;
-use std::{env, io};
 
-/// The words after the program's name.
-fn words(rt: &HostRuntime, alloc: Global) -> io::Result<Vec<String>> {
-    let mut args = env::args(rt)?;
-    let _program = args.next();
-    Ok(args.collect(alloc)?)
+/// Runs the program on some words, through a buffer before the standard output. The result is its exit status.
+fn status_of(rt: &HostRuntime, alloc: Global, words: &[String]) -> Result<u8, Failure> {
+    let mut out = buffer(alloc, io::writer(rt))?;
+    let ended = run(alloc, words, &mut rt.reader(), &mut out, &mut rt.stderr());
+    match out.flush() {
+        Ok(()) => Ok(ended.status),
+        Err(_) => Ok(FAILED),
+    }
 }
 
-/// A word that isn't UTF-8 is wrong, as no words are.
+/// The status of a run on the process's words. Words that aren't UTF-8 are wrong, as no words are.
+fn answer(rt: &HostRuntime, alloc: Global) -> Result<u8, Failure> {
+    match words_of(rt, alloc) {
+        Err(Failure::Words) => status_of(rt, alloc, &[]),
+        words => status_of(rt, alloc, words?.as_slice()),
+    }
+}
+
+/// Without memory for the words or the buffer the run is refused.
 fn main(rt: HostRuntime) -> ExitCode {
-    let alloc = rt.alloc();
-    let mut out = io::writer(&rt);
-    let words = match words(&rt, alloc) {
-        Ok(words) => words,
-        Err(error) if error.kind() == ErrorKind::OutOfMemory => {
-            return ExitCode::from(refuse(&mut out, Refusal::Run(Stop::Memory)));
-        }
-        Err(_) => Vec::new(alloc),
+    let status = match answer(&rt, rt.alloc()) {
+        Ok(status) => status,
+        Err(_) => refuse(&mut io::writer(&rt), Refusal::Run(Stop::Memory)).status,
     };
-    let status = run(
-        alloc,
-        words.as_slice(),
-        &mut rt.reader(),
-        &mut out,
-        &mut rt.stderr(),
-    );
     ExitCode::from(status)
 }

@@ -1,11 +1,11 @@
 -- What is printed of an answer, and the status that goes with it.
 use Rattle.std.specs.Prelude.{◌≡◌, ℕ, List, [], ◌∷◌, ◌++◌, flat_map, Option, Some, None, codes, decimal}
 use Rattle.std.specs.Char.{encode_utf8}
-use Rattle.std.specs.Cow.{cow_str_bytes}
-use Rattle.std.specs.declared.borrow.CowStr.{CowStr}
 use Rattle.std.specs.Io.KnownBytes.{Appends}
 use Rattle.chumsky_input.specs.declared.rich.Rich.{Rich}
 use Rattle.chk_run.specs.Show.{error_text}
+use Rattle.chk_run.specs.Texts.{text_bytes}
+use Rattle.chk_run.specs.declared.texts.Text.{Text}
 
 -- the lines of some errors, one after another
 abbrev pub error_lines : List (Rich ℕ) → List ℕ
@@ -25,17 +25,11 @@ abbrev pub count_text : ℕ → List ℕ
 count_text n = codes "ok " ++ decimal n
 
 -- what the line of an output of `settings` says
-abbrev pub settings_text : {Al : Type 0} → CowStr Al → List ℕ
-settings_text s = codes "ok" ++ cow_str_bytes s
+abbrev pub settings_text : Text → List ℕ
+settings_text s = codes "ok" ++ text_bytes s
 
 -- of an output without errors its line is printed, with status 0; else the lines of the errors, with status 1
 abbrev pub Tells : Option (List ℕ) → Option (List ℕ) → List (Rich ℕ) → Option (List ℕ) → ℕ → Type 0
 Tells old new [] (Some line) status = (status ≡ 0) × Appends old new (line ++ 10 ∷ [])
 Tells old new [] None status = (status ≡ 1) × Appends old new []
 Tells old new (e ∷ es) line status = (status ≡ 1) × Appends old new (error_lines (e ∷ es))
-
--- so it is of some errors and some line
-pub record TellsSome (old new : Option (List ℕ)) (status : ℕ) : Type 0 where
-  pub errors : List (Rich ℕ)
-  pub line : Option (List ℕ)
-  pub told : Tells old new errors line status

@@ -1,4 +1,7 @@
 //! How a grammar is run: one tree of parsers serves both commands.
+ghost use Rattle.std.specs.Prelude.{IfOk};
+ghost use Rattle.chk_run.specs.Request.{IsAnswerTo};
+
 use chumsky::Stop;
 use chumsky::extra::RichText;
 use chumsky::prelude::*;
@@ -29,6 +32,7 @@ pub fn run_parser<'src, O: Drop, P>(
 where
     P: IsParser<&'src str, O, RichText> + Parser<'src, &'src str, O, RichText>,
     requires { P.ready parser.now }
+    ensures { IfOk result (λ answer. IsAnswerTo command answer) }
 {
     match command {
         Command::Parse => Ok(Answer::Parsed(parser.parse(alloc, text)?)),

@@ -5,6 +5,8 @@ mod ab;
 mod grammar;
 mod list;
 mod loops;
+mod request;
 pub mod run;
 mod settings;
 pub mod show;
+mod texts;

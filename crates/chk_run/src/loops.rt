@@ -1,5 +1,6 @@
 //! The grammar `loops`: plus signs and pairs of brackets, one after another, with the same between the brackets.
 ghost use Rattle.std.specs.Prelude.{IfOk, ⊤};
+ghost use Rattle.chk_run.specs.Request.{IsAnswerTo};
 
 use crate::grammar::{Answer, Command, run_parser};
 use crate::show::Refusal;
@@ -78,7 +79,9 @@ fn loops(rules: &mut Rules) -> Result<Recursive, RecursiveError> {
 }
 
 /// How many pairs of brackets the text has.
-pub fn run_loops(alloc: Global, command: Command, text: &str) -> Result<Answer<usize>, Refusal> {
+pub fn run_loops(alloc: Global, command: Command, text: &str) -> Result<Answer<usize>, Refusal>
+    ensures { IfOk result (λ answer. IsAnswerTo command answer) }
+{
     let mut rules = Rules::new(alloc);
     let Ok(start) = loops(&mut rules) else {
         return Err(Refusal::Run(Stop::Memory));

@@ -1,20 +1,23 @@
 //! The grammar `settings`: lines of a name, `=` and a value. A value is a number, a name, or values in brackets, with commas
 //! between them and maybe one after the last.
-ghost use Rattle.std.specs.Prelude.{◌≡◌, ◌++◌, All, IfOk, flat_map, string_bytes, ⊤, IsOk};
-ghost use Rattle.std.specs.Cow.{cow_str_bytes};
+ghost use Rattle.std.specs.Prelude.{◌≡◌, ◌++◌, All, IfOk, flat_map, decimal, ⊤, IsOk};
+ghost use Rattle.std.specs.Char.{encode_utf8};
 ghost use Rattle.chk_run.specs.Settings.{InBrackets, Printed, ReadsNumber};
+ghost use Rattle.chk_run.specs.Request.{IsAnswerTo};
+ghost use Rattle.chk_run.specs.Texts.{text_bytes};
 
 use crate::grammar::{Answer, Command, run_parser};
 use crate::show::Refusal;
+use crate::texts::Text;
 use chumsky::Stop;
-use chumsky::combinator::{Map, Mapper, Repeated, To, ToSlice};
+use chumsky::combinator::{Map, Mapper, Repeated, ToSlice};
 use chumsky::extra::RichText;
 use chumsky::prelude::*;
 use chumsky::primitive::{Just, OneOf};
 use chumsky::recursive::{BuildError, Leaves, Moving, Node, RecursiveError, SepCfg, Values};
 use either::Either;
 use std::alloc::{AllocError, Global};
-use std::borrow::CowStr;
+use std::collections::VecDeque;
 use std::marker::PhantomData;
 use std::ops::RangeInclusive;
 
@@ -43,99 +46,119 @@ const LIST: usize = 2;
 /// The fallible mapper: what is printed of digits.
 const NUMBER: usize = 0;
 
-/// Values are texts to print. That of a name or a number is the slice of the input that it was read from, until a mapper makes
-/// another of it; that of a mark, as `=`, is empty.
+/// Values are texts to print, which grow at both ends, so that lists within one another are not copied from level to level. That
+/// of a name is the slice of the input that it was read from, until a mapper makes another of it; that of a mark, as `=`, is
+/// empty.
 #[derive(Drop)]
 struct Texts<'src> {
     of: PhantomData<&'src str>,
 }
 
 impl<'src> Values<SimpleSpan, Rich<char>> for Texts<'src> {
-    type Value = CowStr<'src>;
+    type Value = Text<'src>;
 
-    ghost pair_gives = { λ _ p text. cow_str_bytes text ≡ cow_str_bytes p.0 ++ cow_str_bytes p.1 };
+    ghost pair_gives = { λ _ p text. text_bytes text ≡ text_bytes p.0 ++ text_bytes p.1 };
 
-    ghost map_gives = { λ _ mapper value text. Printed mapper (cow_str_bytes value) (cow_str_bytes text) };
+    ghost map_gives = { λ _ mapper value text. Printed mapper (text_bytes value) (text_bytes text) };
 
-    ghost list_gives = { λ _ items text. cow_str_bytes text ≡ flat_map cow_str_bytes items };
+    ghost list_gives = { λ _ items text. text_bytes text ≡ flat_map text_bytes items };
 
-    ghost try_gives = { λ _ _ digits span r. ReadsNumber (cow_str_bytes digits) span r };
+    ghost try_gives = { λ _ _ digits span r. ReadsNumber (text_bytes digits) span r };
 
     fn pair(
         &self,
         alloc: Global,
-        first: CowStr<'src>,
-        second: CowStr<'src>,
-    ) -> Result<CowStr<'src>, AllocError> {
-        let mut text = first.into_owned(alloc)?;
-        text.push_str(second.as_str())?;
-        Ok(CowStr::Owned(text))
+        first: Text<'src>,
+        second: Text<'src>,
+    ) -> Result<Text<'src>, AllocError> {
+        first.join(alloc, second)
     }
 
-    fn option(&self, _alloc: Global, text: Option<CowStr<'src>>) -> Result<CowStr<'src>, AllocError>
+    fn option(&self, _alloc: Global, text: Option<Text<'src>>) -> Result<Text<'src>, AllocError>
         ensures gives { IfOk result (λ _. ⊤) }
         ensures memory { ⊥ → IsOk result }
     {
-        Ok(text.unwrap_or(CowStr::Borrowed("")))
+        Ok(text.unwrap_or(Text::Slice("")))
     }
 
-    fn unit(&self, _alloc: Global) -> Result<CowStr<'src>, AllocError> {
-        Ok(CowStr::Borrowed(""))
+    fn unit(&self, _alloc: Global) -> Result<Text<'src>, AllocError> {
+        Ok(Text::Slice(""))
     }
 
     fn map(
         &self,
         alloc: Global,
         mapper: usize,
-        text: CowStr<'src>,
-    ) -> Result<CowStr<'src>, AllocError> {
-        Ok(CowStr::Owned(printed(alloc, mapper, text)?))
+        text: Text<'src>,
+    ) -> Result<Text<'src>, AllocError> {
+        printed(alloc, mapper, text)
     }
 
-    fn list(&self, alloc: Global, items: Vec<CowStr<'src>>) -> Result<CowStr<'src>, AllocError>
-        ensures gives { IfOk result (λ text. cow_str_bytes text ≡ flat_map cow_str_bytes items.entry.items) }
+    fn list(&self, alloc: Global, items: Vec<Text<'src>>) -> Result<Text<'src>, AllocError>
+        ensures gives { IfOk result (λ text. text_bytes text ≡ flat_map text_bytes items.entry.items) }
         ensures memory { ⊥ → IsOk result }
     {
-        let mut text = String::new(alloc);
-        for item in items.as_slice() {
-            text.push_str(item.as_str())?;
+        let mut text = Text::Slice("");
+        for item in items {
+            text = text.join(alloc, item)?;
         }
-        Ok(CowStr::Owned(text))
+        Ok(text)
     }
 
     fn try_map(
         &self,
         alloc: Global,
         _mapper: usize,
-        digits: CowStr<'src>,
+        digits: Text<'src>,
         span: SimpleSpan,
-    ) -> Result<Result<CowStr<'src>, Rich<char>>, AllocError> {
+    ) -> Result<Result<Text<'src>, Rich<char>>, AllocError> {
+        let digits = format!(in alloc; "{digits}")?;
         match digits.as_str().parse::<u64>() {
-            Ok(number) => Ok(Ok(CowStr::Owned(format!(in alloc; "{number}")?))),
+            Ok(number) => Ok(Ok(decimal(alloc, number)?)),
             Err(_) => Ok(Err(Rich::custom_in(alloc, span, "number too large")?)),
         }
     }
 }
 
-/// What the mapper of a number prints of a text.
-fn printed(alloc: Global, mapper: usize, text: CowStr<'_>) -> Result<String, AllocError>
-    ensures { IfOk result (λ made. Printed mapper (cow_str_bytes text.entry) (string_bytes made)) }
+/// A number in digits.
+fn decimal<'src>(alloc: Global, number: u64) -> Result<Text<'src>, AllocError>
+    ensures { IfOk result (λ text. text_bytes text ≡ decimal number) }
 {
+    let digits = format!(in alloc; "{number}")?;
+    Ok(Text::Made(Text::Slice(digits.as_str()).into_chars(alloc)?))
+}
+
+/// What the mapper of a number prints of a text.
+fn printed<'src>(alloc: Global, mapper: usize, text: Text<'src>) -> Result<Text<'src>, AllocError>
+    ensures { IfOk result (λ made. Printed mapper (text_bytes text.entry) (text_bytes made)) }
+{
+    let mut chars = text.into_chars(alloc)?;
     match mapper {
-        SETTING => format!(in alloc; " {text}="),
-        ITEM => format!(in alloc; "{text},"),
-        _ => in_brackets(alloc, text),
+        SETTING => {
+            chars.push_front(' ')?;
+            chars.push_back('=')?;
+            Ok(Text::Made(chars))
+        }
+        ITEM => {
+            chars.push_back(',')?;
+            Ok(Text::Made(chars))
+        }
+        _ => in_brackets(chars),
     }
 }
 
 /// Items that end in a comma each, in brackets and without the last comma.
-fn in_brackets(alloc: Global, items: CowStr<'_>) -> Result<String, AllocError>
-    ensures { IfOk result (λ text. InBrackets (cow_str_bytes items.entry) (string_bytes text)) }
+fn in_brackets<'src>(items: VecDeque<char>) -> Result<Text<'src>, AllocError>
+    ensures { IfOk result (λ text. InBrackets (flat_map encode_utf8 items.items) (text_bytes text)) }
 {
-    let mut inside = items.into_owned(alloc)?;
-    match inside.pop() {
-        Some(_) => format!(in alloc; "[{inside}]"),
-        None => String::from_str(alloc, "[]"),
+    let mut inside = items;
+    match inside.pop_back() {
+        Some(_) => {
+            inside.push_front('[')?;
+            inside.push_back(']')?;
+            Ok(Text::Made(inside))
+        }
+        None => Ok(Text::Slice("[]")),
     }
 }
 
@@ -197,9 +220,9 @@ fn settings(rules: &mut Rules) -> Result<Recursive, RecursiveError> {
 #[derive(Clone, Copy)]
 struct Taken;
 
-impl<'src> Mapper<&'src str, CowStr<'src>> for Taken {
-    fn apply(&self, slice: &'src str) -> CowStr<'src> {
-        CowStr::Borrowed(slice)
+impl<'src> Mapper<&'src str, Text<'src>> for Taken {
+    fn apply(&self, slice: &'src str) -> Text<'src> {
+        Text::Slice(slice)
     }
 }
 
@@ -209,7 +232,7 @@ type Word<'src> = Map<
     ToSlice<Repeated<Characters<'src>, char, &'src str, RichText>, ()>,
     &'src str,
     Taken,
-    CowStr<'src>,
+    Text<'src>,
 >;
 
 /// One of these characters or more.
@@ -221,18 +244,28 @@ fn word<'src>(characters: RangeInclusive<char>) -> Word<'src> {
         .map_by(Taken)
 }
 
-type Mark<'src> = To<Just<char, &'src str, RichText>, char, CowStr<'src>>;
+/// The text of a mark, which is empty.
+#[derive(Clone, Copy)]
+struct Unsaid;
+
+impl<'src> Mapper<char, Text<'src>> for Unsaid {
+    fn apply(&self, _mark: char) -> Text<'src> {
+        Text::Slice("")
+    }
+}
+
+type Mark<'src> = Map<Just<char, &'src str, RichText>, char, Unsaid, Text<'src>>;
 
 /// A character that says no more than that it is there.
 fn mark<'src>(mark: char) -> Mark<'src> {
-    just(mark).to(CowStr::Borrowed(""))
+    just(mark).map_by(Unsaid)
 }
 
 /// The settings of the text, by these leaves.
 fn run_over<
     'src,
-    P: Moving<'src, &'src str, CowStr<'src>, RichText>,
-    Q: Moving<'src, &'src str, CowStr<'src>, RichText>,
+    P: Moving<'src, &'src str, Text<'src>, RichText>,
+    Q: Moving<'src, &'src str, Text<'src>, RichText>,
 >(
     rules: &Rules,
     start: Recursive,
@@ -240,8 +273,9 @@ fn run_over<
     alloc: Global,
     command: Command,
     text: &'src str,
-) -> Result<Answer<CowStr<'src>>, Refusal>
-    requires { All ⟦<Either<P, Q> as Parser<'src, &'src str, CowStr<'src>, RichText>>⟧.ready leaves.now }
+) -> Result<Answer<Text<'src>>, Refusal>
+    requires { All ⟦<Either<P, Q> as Parser<'src, &'src str, Text<'src>, RichText>>⟧.ready leaves.now }
+    ensures { IfOk result (λ answer. IsAnswerTo command answer) }
 {
     let actions = Leaves {
         leaves,
@@ -258,7 +292,9 @@ pub fn run_settings<'src>(
     alloc: Global,
     command: Command,
     text: &'src str,
-) -> Result<Answer<CowStr<'src>>, Refusal> {
+) -> Result<Answer<Text<'src>>, Refusal>
+    ensures { IfOk result (λ answer. IsAnswerTo command answer) }
+{
     let mut rules = Rules::new(alloc);
     let Ok(start) = settings(&mut rules) else {
         return Err(Refusal::Run(Stop::Memory));

@@ -2,7 +2,7 @@
 use console::failure::Failure;
 use console::run::Program;
 use console::text::{print_line, read_text, report};
-use json_tree::{JsonText, Refused, read_json};
+use json_tree::{JsonText, read_json};
 use std::alloc::Global;
 use std::io::{Read, Write};
 
@@ -25,7 +25,7 @@ impl Program for FormatJson {
     ) -> Result<bool, Failure> {
         let indented = indented(words).ok_or(Failure::Words)?;
         let text = read_text(alloc, input)?;
-        let parsed = read_json(alloc, text.as_str()).map_err(refusal)?;
+        let parsed = read_json(alloc, text.as_str())?;
         if let Some(json) = parsed.output() {
             print_line(out, JsonText { json, indented })?;
         }
@@ -39,14 +39,5 @@ fn indented(words: &[String]) -> Option<bool> {
         [] => Some(false),
         [word] if word.as_str() == "--indented" => Some(true),
         _ => None,
-    }
-}
-
-/// Why there is no value.
-fn refusal(refused: Refused) -> Failure {
-    match refused {
-        Refused::Running(stop) => Failure::from(stop),
-        Refused::Building(error) => Failure::from(error),
-        Refused::Closing(_) => Failure::NoGrammar,
     }
 }

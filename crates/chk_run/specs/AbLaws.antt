@@ -1,0 +1,59 @@
+-- The parser of `ab` accepts just its texts.
+-- Main laws: ab-sound, ab-word, ab-complete, exactly-checked. Read first: Ab.antt.
+use Rattle.std.proofs.Common.{◌≡◌, ℕ, true, nat_eq, Option, Some, None, List, [], ◌∷◌, ◌++◌, ◌⊎◌, inl, inr, refl, subst, ◌∙◌}
+use Rattle.std.specs.Prelude.{⊤, Result, Ok}
+use Rattle.chumsky_input.specs.declared.stop.Stop.{Stop}
+use Rattle.chumsky_parser.specs.Ending.{Ending, At}
+use Rattle.chumsky_parser.specs.Language.{Language}
+use Rattle.chumsky_parser.specs.Words.{Joined, IsOne, then_ends, either_ends}
+use Rattle.chumsky_primitive.specs.Literals.{equals-same}
+use Rattle.chumsky_primitive.specs.PrimitiveLanguage.{Equals, literal_ends, one_ends}
+use Rattle.chumsky_parser.specs.declared.result.ParseResult.{ParseResult}
+use Rattle.chumsky.specs.Accepted.{FallsShort, AnswersText, IsAnswerOf, IsOutputOf, IsExactly}
+use Rattle.chk_run.specs.Ab.{IsAb, IsSomeAb}
+
+module _ (a b d : List ℕ) (ea : a ≡ 97 ∷ []) (eb : b ≡ 98 ∷ []) (ed : d ≡ 98 ∷ []) where
+  -- a word of the parser is of two characters of `ab`, which are its value
+  pub ab-sound : (A B D : ℕ → Type 0) (C : ℕ → ℕ → Type 0) → ((c : ℕ) → A c → c ≡ 97) → ((c : ℕ) → B c → c ≡ 98) → ((c : ℕ) → D c → c ≡ 98) → ((t c : ℕ) → C t c → c ≡ t) → (cs : List ℕ) (v : ℕ × ℕ)
+      → (Joined (λ u. Equals nat_eq a u × A v.0) (λ u. Equals nat_eq b u × B v.1) cs ⊎ Joined (λ u. Equals nat_eq d u × D v.0) (IsOne (λ t. true) (λ t. C t v.1)) cs) → IsAb cs v
+  ab-sound A B D C fa fb fd fc cs v (inl j) =
+      let first : j.first ≡ 97 ∷ [] = equals-same a j.first j.is_first.0 ∙ ea in
+      let second : j.second ≡ 98 ∷ [] = equals-same b j.second j.is_second.0 ∙ eb in
+      let x : v.0 ≡ 97 = fa v.0 j.is_first.1 in
+      let y : v.1 ≡ 98 = fb v.1 j.is_second.1 in
+      (rw (j.all, first, second, x, y) refl, inl (x, y))
+  ab-sound A B D C fa fb fd fc cs v (inr j) =
+      let first : j.first ≡ 98 ∷ [] = equals-same d j.first j.is_first.0 ∙ ed in
+      let second : j.second ≡ j.is_second.token ∷ [] = j.is_second.all in
+      let x : v.0 ≡ 98 = fd v.0 j.is_first.1 in
+      let y : v.1 ≡ j.is_second.token = fc j.is_second.token v.1 j.is_second.is in
+      (rw (j.all, first, second, x, y) refl, inr x)
+
+  -- so it is where no value is asked for
+  pub ab-word : (cs : List ℕ) → (Joined (Equals nat_eq a) (Equals nat_eq b) cs ⊎ Joined (Equals nat_eq d) (IsOne (λ t. true) (λ t. ⊤)) cs) → IsSomeAb cs (tt {0})
+  ab-word cs (inl j) =
+      let first : j.first ≡ 97 ∷ [] = equals-same a j.first j.is_first ∙ ea in
+      let second : j.second ≡ 98 ∷ [] = equals-same b j.second j.is_second ∙ eb in
+      ((97, 98), (rw (j.all, first, second) refl, inl (refl, refl)))
+  ab-word cs (inr j) =
+      let first : j.first ≡ 98 ∷ [] = equals-same d j.first j.is_first ∙ ed in
+      let second : j.second ≡ j.is_second.token ∷ [] = j.is_second.all in
+      ((98, j.is_second.token), (rw (j.all, first, second) refl, inr refl))
+
+  -- and each such text is taken whole
+  pub ab-complete : (cs : List ℕ) (p : ℕ × ℕ) → IsAb cs p → either_ends (then_ends (literal_ends nat_eq a) (literal_ends nat_eq b)) (then_ends (literal_ends nat_eq d) (one_ends (λ t. true))) cs ≡ At []
+  ab-complete cs p (e, inl s) = rw (e, s.0, s.1, ea, eb) refl
+  ab-complete cs p (e, inr s) = rw (e, s, ea, ed) refl
+
+never_short : (x : Ending (List ℕ)) → x ≡ At [] → FallsShort x → ⊥
+never_short x e f = let g : FallsShort {Tok = ℕ} (At []) = subst FallsShort e f in g
+
+checked_output : (l : Language ℕ (ℕ × ℕ)) (cs : List ℕ) → (l.word cs → IsSomeAb cs (tt {0})) → ((p : ℕ × ℕ) → IsAb cs p → l.ends cs ≡ At [])
+    → (o : Option (Unit {0})) → IsOutputOf {W = Unit {0}} (λ w. None) l cs o → IsExactly IsSomeAb cs o
+checked_output l cs sound complete (Some u) i = sound i.1
+checked_output l cs sound complete None i = λ v p. never_short (l.ends cs) (complete p.0 p.1) i
+
+-- a `check` is exact where its words are of such a text, and each such text is taken whole
+pub exactly-checked : {Er : Type 0} {l : Language ℕ (ℕ × ℕ)} {cs : List ℕ} {spare : Type 0} {result : Result (ParseResult (Unit {0}) Er) Stop} → AnswersText {W = Unit {0}} (λ w. None) l cs spare result
+    → (l.word cs → IsSomeAb cs (tt {0})) → ((p : ℕ × ℕ) → IsAb cs p → l.ends cs ≡ At []) → (parsed : ParseResult (Unit {0}) Er) → result ≡ Ok parsed → IsExactly IsSomeAb cs parsed.output
+exactly-checked {l = l} {cs = cs} a sound complete parsed is = checked_output l cs sound complete parsed.output (subst (IsAnswerOf (λ w. None) l cs) is a.output)
