@@ -1,0 +1,148 @@
+//! The works, each with what it should answer.
+use chk_run::run::run as run_chk;
+use chumsky::Stop;
+use chumsky::extra::RichText;
+use chumsky::prelude::*;
+use chumsky::report::Report;
+use console::run::run;
+use programs::show::Show;
+use std::alloc::{AllocError, Global};
+
+/// What is run.
+#[derive(Clone, Copy)]
+pub enum Work {
+    /// `show log` on lines that are wrong.
+    WrongLines,
+    /// A report of an error at the end of a line.
+    LongLine,
+    /// `chk parse settings` on lists within one another.
+    DeepSettings,
+    /// `chk parse settings` on lists that each hold a name before the next.
+    LongSettings,
+    /// The error of a set of tokens that are not ASCII.
+    WideSet,
+    /// The error of a choice among such tokens.
+    WideChoice,
+}
+
+/// How many times as long ten times as much may take where time grows as the size, or as its logarithm times it.
+const LINEAR: u128 = 30;
+
+/// And where it grows as the square, as it does with the alternatives of a choice.
+const SQUARE: u128 = 300;
+
+/// Each work, its name, how many lines, characters, lists or tokens the smaller of its inputs has, and how many times as long the
+/// larger may take.
+pub const WORKS: [(Work, &str, usize, u128); 6] = [
+    (Work::WrongLines, "wrong_lines", 2_000, LINEAR),
+    (Work::LongLine, "long_line", 100_000, LINEAR),
+    (Work::DeepSettings, "deep_settings", 500, LINEAR),
+    (Work::LongSettings, "long_settings", 500, LINEAR),
+    (Work::WideSet, "wide_set", 1_000, LINEAR),
+    (Work::WideChoice, "wide_choice", 1_000, SQUARE),
+];
+
+/// Runs a work of a size. Says whether it answers as it should.
+pub fn run_work(alloc: Global, work: Work, size: usize) -> Result<bool, AllocError> {
+    match work {
+        Work::WrongLines => wrong_lines(alloc, size),
+        Work::LongLine => long_line(alloc, size),
+        Work::DeepSettings => nested_settings(alloc, "[", size),
+        Work::LongSettings => nested_settings(alloc, "[x,", size),
+        Work::WideSet => wide_set(alloc, size),
+        Work::WideChoice => wide_choice(alloc, size),
+    }
+}
+
+/// The words of a line.
+fn words_of(alloc: Global, line: &str) -> Result<Vec<String>, AllocError> {
+    let mut words = Vec::new(alloc);
+    for word in line.split(' ') {
+        words.push(String::from_str(alloc, word)?)?;
+    }
+    Ok(words)
+}
+
+fn wrong_lines(alloc: Global, lines: usize) -> Result<bool, AllocError> {
+    let text = "x\n".repeat(alloc, lines)?;
+    let words = words_of(alloc, "log")?;
+    let mut input = text.as_bytes();
+    let (mut out, mut err) = (Vec::new(alloc), Vec::new(alloc));
+    let status = run(
+        &Show,
+        alloc,
+        words.as_slice(),
+        &mut input,
+        &mut out,
+        &mut err,
+    );
+    Ok(status == 1 && err.len() > lines * 40)
+}
+
+fn long_line(alloc: Global, characters: usize) -> Result<bool, AllocError> {
+    let text = "x".repeat(alloc, characters)?;
+    let text = text.as_str();
+    let parser = just::<_, &str, RichText>('x').repeated().then(just('y'));
+    let Ok(parsed) = parser.parse(alloc, text) else {
+        return Ok(false);
+    };
+    let mut said = 0;
+    for error in parsed.errors() {
+        let report = format!(in alloc;
+            "{}",
+            Report {
+                name: "input",
+                text,
+                error
+            }
+        )?;
+        said += report.len();
+    }
+    Ok(said > 160 && said < 1_000)
+}
+
+fn nested_settings(alloc: Global, opening: &str, lists: usize) -> Result<bool, AllocError> {
+    let opened = opening.repeat(alloc, lists)?;
+    let closed = "]".repeat(alloc, lists)?;
+    let text = format!(in alloc; "a={opened}{closed}\n")?;
+    let words = words_of(alloc, "parse settings")?;
+    let mut input = text.as_bytes();
+    let (mut out, mut err) = (Vec::new(alloc), Vec::new(alloc));
+    let ended = run_chk(alloc, words.as_slice(), &mut input, &mut out, &mut err);
+    Ok(ended.status == 0 && out.len() > lists)
+}
+
+/// So many characters, of which none is ASCII.
+fn characters(alloc: Global, count: usize) -> Result<Vec<char>, AllocError> {
+    let mut all = Vec::new(alloc);
+    for number in 0..count {
+        let number = u32::try_from(number).unwrap_or(0);
+        all.push(char::from_u32(0x1_0000 + number).unwrap_or('x'))?;
+    }
+    Ok(all)
+}
+
+/// Whether the errors of a text are one that expects so many.
+fn expects(parsed: Result<ParseResult<(), Rich<char>>, Stop>, count: usize) -> bool {
+    match parsed {
+        Ok(parsed) => {
+            let expected = parsed.errors().map(|error| error.expected().len());
+            expected.max() == Some(count)
+        }
+        Err(_) => false,
+    }
+}
+
+fn wide_set(alloc: Global, tokens: usize) -> Result<bool, AllocError> {
+    let set = characters(alloc, tokens)?;
+    let parser = one_of::<_, &str, RichText>(set.as_slice());
+    Ok(expects(parser.check(alloc, "a"), tokens))
+}
+
+fn wide_choice(alloc: Global, tokens: usize) -> Result<bool, AllocError> {
+    let mut leaves = Vec::new(alloc);
+    for token in characters(alloc, tokens)? {
+        leaves.push(just::<_, &str, RichText>(token))?;
+    }
+    Ok(expects(choice(leaves).check(alloc, "a"), tokens))
+}
