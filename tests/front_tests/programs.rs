@@ -1,6 +1,6 @@
 //! What the programs of a text are, read in two stages.
 use chumsky::report::Report;
-use crate::read::read_program;
+use front::read::read_program;
 use std::alloc::{AllocError, AllocGlobal, Global};
 use std::process::Abort;
 

@@ -1,22 +1,22 @@
-//! Tokens as a program.
-ghost use Rattle.std.specs.Prelude.{◌≡◌, [], IfOk, IsTrue, is_some, ⊤};
+//! What the functions of the grammar run. Each is handed the calls that stand in it, so that in the functions that call each other
+//! no builder stands.
+ghost use Rattle.std.specs.Prelude.{⊤};
 
-use crate::leaves::{Between, ItemEnd, Name, Operand, Run, Sign, Tokens, Tree, WrongItem};
+use crate::leaves::{Between, Extra, ItemEnd, Name, Operand, Run, Sign, Tokens, Tree, WrongItem};
 use crate::syntax::Expression;
 use crate::token::Token;
+use chumsky::PResult;
 use chumsky::combinator::{part_of, run_part};
 use chumsky::container::Container;
-use chumsky::extra::RichTokens;
 use chumsky::pratt::{infix, left, prefix};
 use chumsky::prelude::*;
 use chumsky::recursive::{RunsUnder, Unsaid};
-use chumsky::{PResult, Stop};
 use std::alloc::{AllocError, Global};
 
 /// Expressions, one after another.
 #[derive(Drop)]
 pub struct Expressions {
-    items: Vec<Expression>,
+    pub items: Vec<Expression>,
 }
 
 impl Container<Tree> for Expressions {
@@ -34,6 +34,13 @@ impl Container<Tree> for Expressions {
         self.items.push(tree?)?;
         Ok(())
     }
+}
+
+/// Arguments, and the span of their brackets.
+#[derive(Drop)]
+pub struct Arguments {
+    list: Expressions,
+    span: SimpleSpan,
 }
 
 /// What a minus makes of its operand.
@@ -74,23 +81,15 @@ fn bound(alloc: Global, name: SimpleSpan, value: Tree, span: SimpleSpan) -> Tree
     Ok(Expression::Let(name, Box::new(alloc, value?)?, span))
 }
 
-/// Arguments, and the span of their brackets.
-#[derive(Drop)]
-struct Arguments {
-    list: Expressions,
-    span: SimpleSpan,
-}
-
 /// Expressions in brackets, with a `,` between them and perhaps one at the end.
-#[cycle(program)]
-fn argument_list<'src>(
-    inp: &mut Run<'src, '_>,
-    wanted: bool,
-    depth: usize,
-) -> PResult<Option<Arguments>>
-    ensures { ⟦<Unsaid as RunsUnder<'src, Tokens<'src>, Arguments, RichTokens<Token>>>⟧.runs depth wanted inp.old inp.new result }
+pub fn run_arguments<
+    'src,
+    P: IsParser<Tokens<'src>, Tree, Extra> + Parser<'src, Tokens<'src>, Tree, Extra>,
+>(expression: &P, wanted: bool, inp: &mut Run<'src, '_>) -> PResult<Option<Arguments>>
+    requires { P.ready expression.now }
+    ensures { ⟦<Unsaid as RunsUnder<'src, Tokens<'src>, Arguments, Extra>>⟧.runs 0 wanted inp.old inp.new result }
 {
-    let list = recursive(expression, depth)
+    let list = expression
         .separated_by(part_of(Sign::Mark(',')))
         .allow_trailing()
         .collect::<Expressions>()
@@ -102,50 +101,52 @@ fn argument_list<'src>(
     run_part(&list, wanted, inp)
 }
 
-/// The items of a block.
-#[cycle(program)]
-fn block<'src>(inp: &mut Run<'src, '_>, wanted: bool, depth: usize) -> PResult<Option<Tree>>
-    ensures { ⟦<Unsaid as RunsUnder<'src, Tokens<'src>, Tree, RichTokens<Token>>>⟧.runs depth wanted inp.old inp.new result }
+/// An operand, an expression in brackets, or a block of items.
+pub fn run_atom<
+    'src,
+    P: IsParser<Tokens<'src>, Tree, Extra> + Parser<'src, Tokens<'src>, Tree, Extra>,
+    Q: IsParser<Tokens<'src>, Expressions, Extra> + Parser<'src, Tokens<'src>, Expressions, Extra>,
+>(expression: &P, items: &Q, wanted: bool, inp: &mut Run<'src, '_>) -> PResult<Option<Tree>>
+    requires expression { P.ready expression.now }
+    requires items { Q.ready items.now }
+    ensures { ⟦<Unsaid as RunsUnder<'src, Tokens<'src>, Tree, Extra>>⟧.runs 0 wanted inp.old inp.new result }
 {
-    let block = recursive(items, depth)
+    let bracketed = expression.delimited_by(part_of(Sign::Opening('(')), part_of(Sign::Mark(')')));
+    let block = items
         .delimited_by(part_of(Sign::Opening('{')), part_of(Sign::Mark('}')))
         .map_with(|list: Expressions, extra| Ok(Expression::Block(list.items, extra.span())));
-    run_part(&block, wanted, inp)
-}
-
-/// An operand, an expression in brackets or a block.
-#[cycle(program)]
-fn atom<'src>(inp: &mut Run<'src, '_>, wanted: bool, depth: usize) -> PResult<Option<Tree>>
-    ensures { ⟦<Unsaid as RunsUnder<'src, Tokens<'src>, Tree, RichTokens<Token>>>⟧.runs depth wanted inp.old inp.new result }
-{
-    let bracketed = recursive(expression, depth).delimited_by(
-        part_of(Sign::Opening('(')),
-        part_of(Sign::Mark(')')),
-    );
-    let atom = choice((part_of(Operand), bracketed, recursive(block, depth)));
+    let atom = choice((part_of(Operand), bracketed, block));
     run_part(&atom, wanted, inp)
 }
 
 /// An atom, and any number of calls of it.
-#[cycle(program)]
-fn call<'src>(inp: &mut Run<'src, '_>, wanted: bool, depth: usize) -> PResult<Option<Tree>>
-    ensures { ⟦<Unsaid as RunsUnder<'src, Tokens<'src>, Tree, RichTokens<Token>>>⟧.runs depth wanted inp.old inp.new result }
+pub fn run_call<
+    'src,
+    P: IsParser<Tokens<'src>, Tree, Extra> + Parser<'src, Tokens<'src>, Tree, Extra>,
+    Q: IsParser<Tokens<'src>, Arguments, Extra> + Parser<'src, Tokens<'src>, Arguments, Extra>,
+>(atom: &P, arguments: &Q, wanted: bool, inp: &mut Run<'src, '_>) -> PResult<Option<Tree>>
+    requires atom { P.ready atom.now }
+    requires arguments { Q.ready arguments.now }
+    ensures { ⟦<Unsaid as RunsUnder<'src, Tokens<'src>, Tree, Extra>>⟧.runs 0 wanted inp.old inp.new result }
 {
     let alloc = inp.alloc();
-    let call = recursive(atom, depth).foldl(
-        recursive(argument_list, depth).repeated(),
+    let call = atom.foldl(
+        arguments.repeated(),
         |callee: Tree, arguments: Arguments| called(alloc, callee, arguments),
     );
     run_part(&call, wanted, inp)
 }
 
 /// Calls, with signs between and before them.
-#[cycle(program)]
-fn expression<'src>(inp: &mut Run<'src, '_>, wanted: bool, depth: usize) -> PResult<Option<Tree>>
-    ensures { ⟦<Unsaid as RunsUnder<'src, Tokens<'src>, Tree, RichTokens<Token>>>⟧.runs depth wanted inp.old inp.new result }
+pub fn run_expression<
+    'src,
+    P: IsParser<Tokens<'src>, Tree, Extra> + Parser<'src, Tokens<'src>, Tree, Extra>,
+>(call: &P, wanted: bool, inp: &mut Run<'src, '_>) -> PResult<Option<Tree>>
+    requires { P.ready call.now }
+    ensures { ⟦<Unsaid as RunsUnder<'src, Tokens<'src>, Tree, Extra>>⟧.runs 0 wanted inp.old inp.new result }
 {
     let alloc = inp.alloc();
-    let expression = recursive(call, depth).pratt((
+    let expression = call.pratt((
         prefix(
             3,
             part_of(Sign::Opening('-')),
@@ -165,62 +166,42 @@ fn expression<'src>(inp: &mut Run<'src, '_>, wanted: bool, depth: usize) -> PRes
     run_part(&expression, wanted, inp)
 }
 
-/// A binding, as `let a = 1`.
-#[cycle(program)]
-fn binding<'src>(inp: &mut Run<'src, '_>, wanted: bool, depth: usize) -> PResult<Option<Tree>>
-    ensures { ⟦<Unsaid as RunsUnder<'src, Tokens<'src>, Tree, RichTokens<Token>>>⟧.runs depth wanted inp.old inp.new result }
+/// A binding, as `let a = 1`, or an expression, up to where an item ends.
+pub fn run_item<
+    'src,
+    P: IsParser<Tokens<'src>, Tree, Extra> + Parser<'src, Tokens<'src>, Tree, Extra>,
+>(expression: &P, wanted: bool, inp: &mut Run<'src, '_>) -> PResult<Option<Tree>>
+    requires { P.ready expression.now }
+    ensures { ⟦<Unsaid as RunsUnder<'src, Tokens<'src>, Tree, Extra>>⟧.runs 0 wanted inp.old inp.new result }
 {
     let alloc = inp.alloc();
     let binding = just(Token::Let)
         .ignore_then(part_of(Name))
         .then_ignore(part_of(Sign::Mark('=')))
-        .then(recursive(expression, depth))
+        .then(expression)
         .map_with(|(name, value): (SimpleSpan, Tree), extra| bound(
             alloc,
             name,
             value,
             extra.span(),
         ));
-    run_part(&binding, wanted, inp)
-}
-
-/// A binding or an expression, up to where an item ends.
-#[cycle(program)]
-fn item<'src>(inp: &mut Run<'src, '_>, wanted: bool, depth: usize) -> PResult<Option<Tree>>
-    ensures { ⟦<Unsaid as RunsUnder<'src, Tokens<'src>, Tree, RichTokens<Token>>>⟧.runs depth wanted inp.old inp.new result }
-{
-    let item = recursive(binding, depth).or(recursive(expression, depth));
-    run_part(&item.then_ignore(part_of(ItemEnd)), wanted, inp)
+    let item = binding.or(expression).then_ignore(part_of(ItemEnd));
+    run_part(&item, wanted, inp)
 }
 
 /// Items with a `;` between them, and perhaps one at the end. Where one is wrong, its error is emitted, and what follows the
 /// next `;` is read.
-#[cycle(program)]
-fn items<'src>(inp: &mut Run<'src, '_>, wanted: bool, depth: usize) -> PResult<Option<Expressions>>
-    ensures { ⟦<Unsaid as RunsUnder<'src, Tokens<'src>, Expressions, RichTokens<Token>>>⟧.runs depth wanted inp.old inp.new result }
+pub fn run_items<
+    'src,
+    P: IsParser<Tokens<'src>, Tree, Extra> + Parser<'src, Tokens<'src>, Tree, Extra>,
+>(item: &P, wanted: bool, inp: &mut Run<'src, '_>) -> PResult<Option<Expressions>>
+    requires { P.ready item.now }
+    ensures { ⟦<Unsaid as RunsUnder<'src, Tokens<'src>, Expressions, Extra>>⟧.runs 0 wanted inp.old inp.new result }
 {
-    let items = recursive(item, depth)
+    let items = item
         .recover_with(via_parser(part_of(WrongItem)))
         .separated_by(part_of(Sign::Mark(';')))
         .allow_trailing()
         .collect::<Expressions>();
     run_part(&items, wanted, inp)
-}
-
-/// How many calls may be open at once.
-const DEPTH: usize = 300;
-
-/// The items of the program that tokens are. Where more than three hundred calls would be open at once, as in tokens that are
-/// nested more than some sixty deep, the run is refused with `Stop::TooDeep`.
-pub fn program_of(
-    alloc: Global,
-    tokens: &[Spanned<Token, SimpleSpan>],
-    end: SimpleSpan,
-) -> Result<ParseResult<Vec<Expression>, Rich<Token>>, Stop>
-    ensures { IfOk result (λ parsed. parsed.errors.items ≡ [] → IsTrue (is_some parsed.output)) }
-{
-    let program = recursive::<_, _, _, RichTokens<Token>>(items, DEPTH).map(
-        |list: Expressions| list.items,
-    );
-    program.parse(alloc, split_spanned(tokens, end))
 }

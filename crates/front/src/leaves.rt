@@ -12,8 +12,11 @@ use std::alloc::AllocError;
 /// The tokens of a text, as an input.
 pub type Tokens<'src> = SpannedTokens<'src, Token>;
 
+/// Errors that say what was expected and found among them.
+pub type Extra = RichTokens<Token>;
+
 /// A run over them.
-pub type Run<'src, 'run> = InputRef<'src, 'run, Tokens<'src>, RichTokens<Token>>;
+pub type Run<'src, 'run> = InputRef<'src, 'run, Tokens<'src>, Extra>;
 
 /// An expression, unless the memory for it was refused.
 pub type Tree = Result<Expression, AllocError>;
@@ -22,11 +25,11 @@ pub type Tree = Result<Expression, AllocError>;
 #[derive(Clone, Copy)]
 pub struct Operand;
 
-impl<'src> IsParser<Tokens<'src>, Tree, RichTokens<Token>> for Operand {}
+impl<'src> IsParser<Tokens<'src>, Tree, Extra> for Operand {}
 
-impl<'src> Part<'src, Tokens<'src>, Tree, RichTokens<Token>> for Operand {
+impl<'src> Part<'src, Tokens<'src>, Tree, Extra> for Operand {
     fn run(&self, wanted: bool, inp: &mut Run<'src, '_>) -> PResult<Option<Tree>> {
-        let operand: Select<_, Tokens<'src>, Tree, RichTokens<Token>> = select! {
+        let operand: Select<_, Tokens<'src>, Tree, Extra> = select! {
             Token::Number(number) = extra => number_at(number, extra.span()),
             Token::Name = extra => name_at(extra.span()),
             Token::Text = extra => text_at(extra.span()),
@@ -39,11 +42,11 @@ impl<'src> Part<'src, Tokens<'src>, Tree, RichTokens<Token>> for Operand {
 #[derive(Clone, Copy)]
 pub struct Name;
 
-impl<'src> IsParser<Tokens<'src>, SimpleSpan, RichTokens<Token>> for Name {}
+impl<'src> IsParser<Tokens<'src>, SimpleSpan, Extra> for Name {}
 
-impl<'src> Part<'src, Tokens<'src>, SimpleSpan, RichTokens<Token>> for Name {
+impl<'src> Part<'src, Tokens<'src>, SimpleSpan, Extra> for Name {
     fn run(&self, wanted: bool, inp: &mut Run<'src, '_>) -> PResult<Option<SimpleSpan>> {
-        let name: Select<_, Tokens<'src>, SimpleSpan, RichTokens<Token>> = select! {
+        let name: Select<_, Tokens<'src>, SimpleSpan, Extra> = select! {
             Token::Name = extra => extra.span(),
         };
         run_part(&name.labelled("a name"), wanted, inp)
@@ -61,9 +64,9 @@ pub enum Sign {
     Arguments,
 }
 
-impl<'src> IsParser<Tokens<'src>, SimpleSpan, RichTokens<Token>> for Sign {}
+impl<'src> IsParser<Tokens<'src>, SimpleSpan, Extra> for Sign {}
 
-impl<'src> Part<'src, Tokens<'src>, SimpleSpan, RichTokens<Token>> for Sign {
+impl<'src> Part<'src, Tokens<'src>, SimpleSpan, Extra> for Sign {
     fn run(&self, wanted: bool, inp: &mut Run<'src, '_>) -> PResult<Option<SimpleSpan>> {
         match *self {
             Sign::Mark(sign) => {
@@ -86,9 +89,9 @@ impl<'src> Part<'src, Tokens<'src>, SimpleSpan, RichTokens<Token>> for Sign {
 #[derive(Clone, Copy)]
 pub struct Between(pub char, pub char);
 
-impl<'src> IsParser<Tokens<'src>, char, RichTokens<Token>> for Between {}
+impl<'src> IsParser<Tokens<'src>, char, Extra> for Between {}
 
-impl<'src> Part<'src, Tokens<'src>, char, RichTokens<Token>> for Between {
+impl<'src> Part<'src, Tokens<'src>, char, Extra> for Between {
     fn run(&self, wanted: bool, inp: &mut Run<'src, '_>) -> PResult<Option<char>> {
         let signs = one_of([Token::Sign(self.0), Token::Sign(self.1)]);
         run_part(&signs.map(sign_of).labelled("an operator"), wanted, inp)
@@ -99,9 +102,9 @@ impl<'src> Part<'src, Tokens<'src>, char, RichTokens<Token>> for Between {
 #[derive(Clone, Copy)]
 pub struct ItemEnd;
 
-impl<'src> IsParser<Tokens<'src>, (), RichTokens<Token>> for ItemEnd {}
+impl<'src> IsParser<Tokens<'src>, (), Extra> for ItemEnd {}
 
-impl<'src> Part<'src, Tokens<'src>, (), RichTokens<Token>> for ItemEnd {
+impl<'src> Part<'src, Tokens<'src>, (), Extra> for ItemEnd {
     fn run(&self, wanted: bool, inp: &mut Run<'src, '_>) -> PResult<Option<()>> {
         let sign = one_of([Token::Sign(';'), Token::Sign('}')]).ignored();
         run_part(&sign.or(end()).rewind(), wanted, inp)
@@ -112,9 +115,9 @@ impl<'src> Part<'src, Tokens<'src>, (), RichTokens<Token>> for ItemEnd {
 #[derive(Clone, Copy)]
 pub struct WrongItem;
 
-impl<'src> IsParser<Tokens<'src>, Tree, RichTokens<Token>> for WrongItem {}
+impl<'src> IsParser<Tokens<'src>, Tree, Extra> for WrongItem {}
 
-impl<'src> Part<'src, Tokens<'src>, Tree, RichTokens<Token>> for WrongItem {
+impl<'src> Part<'src, Tokens<'src>, Tree, Extra> for WrongItem {
     fn run(&self, wanted: bool, inp: &mut Run<'src, '_>) -> PResult<Option<Tree>> {
         let skipped = none_of([Token::Sign(';'), Token::Sign('}')])
             .repeated()

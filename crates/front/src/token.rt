@@ -19,7 +19,7 @@ pub enum Token {
 
 /// All of a token counts.
 impl SameClone for Token {
-    ghost use Rattle.front_tests.specs.declared.token.Token.{Token};
+    ghost use Rattle.front.specs.declared.token.Token.{Token};
 
     ghost Seen = { Token };
 

@@ -1,4 +1,6 @@
 //! A text as tokens.
+ghost use Rattle.std.specs.Prelude.{◌≡◌, [], IfOk, IsTrue, is_some};
+
 use crate::token::Token;
 use chumsky::combinator::{Part, part_of, run_part};
 use chumsky::extra::RichText;
@@ -173,7 +175,9 @@ impl<'src> Part<'src, &'src str, Option<Spanned<Token, SimpleSpan>>, RichText> f
 pub fn tokens_of(
     alloc: Global,
     text: &str,
-) -> Result<ParseResult<Vec<Spanned<Token, SimpleSpan>>, Rich<char>>, Stop> {
+) -> Result<ParseResult<Vec<Spanned<Token, SimpleSpan>>, Rich<char>>, Stop>
+    ensures { IfOk result (λ parsed. parsed.errors.items ≡ [] → IsTrue (is_some parsed.output)) }
+{
     let lexemes = part_of(Lexeme).then_ignore(part_of(Gap)).repeated();
     part_of(Gap)
         .ignore_then(lexemes.flatten().collect::<Vec<_>>())
