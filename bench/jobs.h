@@ -24,8 +24,13 @@ JOB(brackets);
 JOB(json);
 JOB(tree);
 
-/* By hand, keys are settings. */
-job_function bench_keys_parse, bench_keys_check;
+/* By hand, keys are settings, and no grammar is rules or functions. */
+#define PARSERS_JOB(name) job_function bench_##name##_parse, bench_##name##_check
+
+PARSERS_JOB(keys);
+PARSERS_JOB(called_brackets);
+PARSERS_JOB(called_json);
+PARSERS_JOB(called_tree);
 
 job_function bench_fail_empty, bench_fail_rich, c_fail, rust_fail;
 

@@ -3,6 +3,8 @@
 #![tactic(auto)]
 
 mod dates;
+mod descent;
+mod descent_trees;
 mod grammars;
 mod headers;
 mod lists;

@@ -17,7 +17,7 @@ use std::char;
 
 /// A value of JSON. A number is its text, and an object has its members in the order of the text.
 #[derive(Drop)]
-enum Tree {
+pub enum Tree {
     Null,
     False,
     True,
@@ -39,7 +39,7 @@ enum Value {
 
 /// Spaces, tabs and ends of lines.
 #[derive(Clone, Copy)]
-struct Blank;
+pub struct Blank;
 
 impl Kind<char> for Blank {
     ghost fits = { λ _. ⊤ };
@@ -119,7 +119,7 @@ impl<'src> Part<'src, &'src str, char, EmptyText> for Escaped {
 
 /// A string between quotes, as the text that it stands for.
 #[derive(Clone, Copy)]
-struct Quoted;
+pub struct Quoted;
 
 impl<'src> IsParser<&'src str, String, EmptyText> for Quoted {}
 
@@ -141,7 +141,7 @@ impl<'src> Part<'src, &'src str, String, EmptyText> for Quoted {
 
 /// A number, as its text.
 #[derive(Clone, Copy)]
-struct Number;
+pub struct Number;
 
 impl<'src> IsParser<&'src str, String, EmptyText> for Number {}
 
@@ -399,7 +399,7 @@ fn run_tree(alloc: Global, bytes: &[u8], wanted: bool) -> u64 {
 }
 
 /// A number that depends on each value of a tree and on where it stands.
-fn weight_of(tree: &Tree) -> u64 {
+pub fn weight_of(tree: &Tree) -> u64 {
     match tree {
         Tree::Null => 1,
         Tree::False => 2,

@@ -1,0 +1,218 @@
+//! Pairs of brackets within one another, and JSON: the grammars of `grammars.rt`, by functions that call themselves.
+use crate::run::once;
+use chumsky::PResult;
+use chumsky::combinator::{Part, part_of, run_part};
+use chumsky::extra::{EmptyText, ParserExtra};
+use chumsky::input::InputRef;
+use chumsky::prelude::*;
+use chumsky::recursive::{RunsUnder, Unsaid};
+use std::alloc::Global;
+
+/// How many calls may be open at once.
+const DEPTH: usize = 1_000;
+
+/// Any number of pairs, one after another and within one another: how many.
+fn brackets<'src>(
+    inp: &mut InputRef<'src, '_, &'src str, EmptyText>,
+    wanted: bool,
+    depth: usize,
+) -> PResult<Option<u64>>
+    ensures { ⟦<Unsaid as RunsUnder<'src, &'src str, u64, EmptyText>>⟧.runs depth wanted inp.old inp.new result }
+{
+    let pair = recursive(brackets, depth)
+        .delimited_by(just('['), just(']'))
+        .map(|count: u64| count.wrapping_add(1));
+    let pairs = pair
+        .repeated()
+        .fold(0, |sum: u64, count: u64| sum.wrapping_add(count));
+    run_part(&pairs, wanted, inp)
+}
+
+/// The number of pairs of brackets.
+#[unsafe(no_mangle)]
+pub extern "C" fn bench_called_brackets_parse(alloc: Global, bytes: &[u8]) -> u64 {
+    run_brackets(alloc, bytes, true)
+}
+
+/// 1 where all brackets are paired.
+#[unsafe(no_mangle)]
+pub extern "C" fn bench_called_brackets_check(alloc: Global, bytes: &[u8]) -> u64 {
+    run_brackets(alloc, bytes, false)
+}
+
+fn run_brackets(alloc: Global, bytes: &[u8], wanted: bool) -> u64 {
+    let Ok(text) = std::str::from_utf8(bytes) else {
+        return 0;
+    };
+    let all = recursive::<_, _, _, EmptyText>(brackets, DEPTH);
+    once(&all, alloc, text, wanted)
+}
+
+/// Letters and digits between quotes, which count one.
+#[derive(Clone, Copy)]
+struct Word;
+
+impl<'src> IsParser<&'src str, u64, EmptyText> for Word {}
+
+impl<'src> Part<'src, &'src str, u64, EmptyText> for Word {
+    #[inline]
+    fn run(
+        &self,
+        wanted: bool,
+        inp: &mut InputRef<'src, '_, &'src str, EmptyText>,
+    ) -> PResult<Option<u64>> {
+        let word = one_of("abcdefghijklmnopqrstuvwxyz0123456789")
+            .repeated()
+            .delimited_by(one_of("\""), one_of("\""));
+        run_part(&word.to(1), wanted, inp)
+    }
+}
+
+/// A word, a number, or the name of a value, which counts one.
+#[derive(Clone, Copy)]
+struct Scalar;
+
+impl<'src> IsParser<&'src str, u64, EmptyText> for Scalar {}
+
+impl<'src> Part<'src, &'src str, u64, EmptyText> for Scalar {
+    #[inline]
+    fn run(
+        &self,
+        wanted: bool,
+        inp: &mut InputRef<'src, '_, &'src str, EmptyText>,
+    ) -> PResult<Option<u64>> {
+        let scalar = choice((
+            part_of(Word),
+            one_of("0123456789").repeated().at_least(1).to(1),
+            just("true").to(1),
+            just("false").to(1),
+            just("null").to(1),
+        ));
+        run_part(&scalar, wanted, inp)
+    }
+}
+
+/// A comma, a colon or a bracket.
+#[derive(Clone, Copy)]
+struct Mark(&'static str);
+
+impl<'src> IsParser<&'src str, char, EmptyText> for Mark {}
+
+impl<'src> Part<'src, &'src str, char, EmptyText> for Mark {
+    #[inline]
+    fn run(
+        &self,
+        wanted: bool,
+        inp: &mut InputRef<'src, '_, &'src str, EmptyText>,
+    ) -> PResult<Option<char>> {
+        run_part(&one_of(self.0), wanted, inp)
+    }
+}
+
+/// An array, of the parser of its items.
+fn run_array<'src, I, E, V>(
+    value: V,
+    wanted: bool,
+    inp: &mut InputRef<'src, '_, I, E>,
+) -> PResult<Option<u64>>
+where
+    I: Input<'src>,
+    I::Token: 'src,
+    E: ParserExtra<I>,
+    V: IsParser<I, u64, E> + Parser<'src, I, u64, E> + Drop,
+    Mark: IsParser<I, char, E> + Part<'src, I, char, E>,
+    requires { V.ready value }
+    ensures { ⟦<Unsaid as RunsUnder<'src, I, u64, E>>⟧.runs 0 wanted inp.old inp.new result }
+{
+    let items = value
+        .separated_by(part_of(Mark(",")))
+        .fold(0, |sum: u64, count: u64| sum.wrapping_add(count))
+        .delimited_by(part_of(Mark("[")), part_of(Mark("]")));
+    run_part(&items, wanted, inp)
+}
+
+/// An object, of the parser of its values.
+fn run_object<'src, I, E, V>(
+    value: V,
+    wanted: bool,
+    inp: &mut InputRef<'src, '_, I, E>,
+) -> PResult<Option<u64>>
+where
+    I: Input<'src>,
+    I::Token: 'src,
+    E: ParserExtra<I>,
+    V: IsParser<I, u64, E> + Parser<'src, I, u64, E> + Drop,
+    Word: IsParser<I, u64, E> + Part<'src, I, u64, E>,
+    Mark: IsParser<I, char, E> + Part<'src, I, char, E>,
+    requires { V.ready value }
+    ensures { ⟦<Unsaid as RunsUnder<'src, I, u64, E>>⟧.runs 0 wanted inp.old inp.new result }
+{
+    let member = part_of(Word)
+        .then_ignore(part_of(Mark(":")))
+        .then(value)
+        .map(|(name, value): (u64, u64)| name.wrapping_add(value));
+    let members = member
+        .separated_by(part_of(Mark(",")))
+        .fold(0, |sum: u64, count: u64| sum.wrapping_add(count))
+        .delimited_by(part_of(Mark("{")), part_of(Mark("}")));
+    run_part(&members, wanted, inp)
+}
+
+#[cycle(json)]
+fn array<'src>(
+    inp: &mut InputRef<'src, '_, &'src str, EmptyText>,
+    wanted: bool,
+    depth: usize,
+) -> PResult<Option<u64>>
+    ensures { ⟦<Unsaid as RunsUnder<'src, &'src str, u64, EmptyText>>⟧.runs depth wanted inp.old inp.new result }
+{
+    run_array(recursive(json, depth), wanted, inp)
+}
+
+#[cycle(json)]
+fn object<'src>(
+    inp: &mut InputRef<'src, '_, &'src str, EmptyText>,
+    wanted: bool,
+    depth: usize,
+) -> PResult<Option<u64>>
+    ensures { ⟦<Unsaid as RunsUnder<'src, &'src str, u64, EmptyText>>⟧.runs depth wanted inp.old inp.new result }
+{
+    run_object(recursive(json, depth), wanted, inp)
+}
+
+/// JSON without spaces: how many words, numbers and names.
+#[cycle(json)]
+fn json<'src>(
+    inp: &mut InputRef<'src, '_, &'src str, EmptyText>,
+    wanted: bool,
+    depth: usize,
+) -> PResult<Option<u64>>
+    ensures { ⟦<Unsaid as RunsUnder<'src, &'src str, u64, EmptyText>>⟧.runs depth wanted inp.old inp.new result }
+{
+    let json = choice((
+        recursive(object, depth),
+        recursive(array, depth),
+        part_of(Scalar),
+    ));
+    run_part(&json, wanted, inp)
+}
+
+/// The number of strings, numbers and words, names of members among them.
+#[unsafe(no_mangle)]
+pub extern "C" fn bench_called_json_parse(alloc: Global, bytes: &[u8]) -> u64 {
+    run_json(alloc, bytes, true)
+}
+
+/// 1 where the text is JSON.
+#[unsafe(no_mangle)]
+pub extern "C" fn bench_called_json_check(alloc: Global, bytes: &[u8]) -> u64 {
+    run_json(alloc, bytes, false)
+}
+
+fn run_json(alloc: Global, bytes: &[u8], wanted: bool) -> u64 {
+    let Ok(text) = std::str::from_utf8(bytes) else {
+        return 0;
+    };
+    let all = recursive::<_, _, _, EmptyText>(json, DEPTH);
+    once(&all, alloc, text, wanted)
+}
