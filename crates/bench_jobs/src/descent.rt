@@ -12,17 +12,34 @@ use std::alloc::Global;
 const DEPTH: usize = 1_000;
 
 /// Any number of pairs, one after another and within one another: how many.
-fn brackets<'src>(
+pub fn brackets<'src>(
     inp: &mut InputRef<'src, '_, &'src str, EmptyText>,
     wanted: bool,
     depth: usize,
 ) -> PResult<Option<u64>>
     ensures { ⟦<Unsaid as RunsUnder<'src, &'src str, u64, EmptyText>>⟧.runs depth wanted inp.old inp.new result }
 {
-    let pair = recursive(brackets, depth)
-        .delimited_by(just('['), just(']'))
-        .map(|count: u64| count.wrapping_add(1));
-    let pairs = pair
+    run_pairs(recursive(brackets, depth), wanted, inp)
+}
+
+/// Pairs, of the parser of what is inside.
+pub fn run_pairs<'src, I, E, V>(
+    inside: V,
+    wanted: bool,
+    inp: &mut InputRef<'src, '_, I, E>,
+) -> PResult<Option<u64>>
+where
+    I: Input<'src>,
+    I::Token: 'src,
+    E: ParserExtra<I>,
+    V: IsParser<I, u64, E> + Parser<'src, I, u64, E> + Drop,
+    Mark: IsParser<I, char, E> + Part<'src, I, char, E>,
+    requires { V.ready inside }
+    ensures { ⟦<Unsaid as RunsUnder<'src, I, u64, E>>⟧.runs 0 wanted inp.old inp.new result }
+{
+    let pairs = inside
+        .delimited_by(part_of(Mark("[")), part_of(Mark("]")))
+        .map(|count: u64| count.wrapping_add(1))
         .repeated()
         .fold(0, |sum: u64, count: u64| sum.wrapping_add(count));
     run_part(&pairs, wanted, inp)
@@ -40,7 +57,7 @@ pub extern "C" fn bench_called_brackets_check(alloc: Global, bytes: &[u8]) -> u6
     run_brackets(alloc, bytes, false)
 }
 
-fn run_brackets(alloc: Global, bytes: &[u8], wanted: bool) -> u64 {
+pub fn run_brackets(alloc: Global, bytes: &[u8], wanted: bool) -> u64 {
     let Ok(text) = std::str::from_utf8(bytes) else {
         return 0;
     };
@@ -110,7 +127,7 @@ impl<'src> Part<'src, &'src str, char, EmptyText> for Mark {
 }
 
 /// An array, of the parser of its items.
-fn run_array<'src, I, E, V>(
+pub fn run_array<'src, I, E, V>(
     value: V,
     wanted: bool,
     inp: &mut InputRef<'src, '_, I, E>,
@@ -132,7 +149,7 @@ where
 }
 
 /// An object, of the parser of its values.
-fn run_object<'src, I, E, V>(
+pub fn run_object<'src, I, E, V>(
     value: V,
     wanted: bool,
     inp: &mut InputRef<'src, '_, I, E>,
@@ -159,7 +176,7 @@ where
 }
 
 #[cycle(json)]
-fn array<'src>(
+pub fn array<'src>(
     inp: &mut InputRef<'src, '_, &'src str, EmptyText>,
     wanted: bool,
     depth: usize,
@@ -170,7 +187,7 @@ fn array<'src>(
 }
 
 #[cycle(json)]
-fn object<'src>(
+pub fn object<'src>(
     inp: &mut InputRef<'src, '_, &'src str, EmptyText>,
     wanted: bool,
     depth: usize,
@@ -182,7 +199,7 @@ fn object<'src>(
 
 /// JSON without spaces: how many words, numbers and names.
 #[cycle(json)]
-fn json<'src>(
+pub fn json<'src>(
     inp: &mut InputRef<'src, '_, &'src str, EmptyText>,
     wanted: bool,
     depth: usize,
@@ -209,7 +226,7 @@ pub extern "C" fn bench_called_json_check(alloc: Global, bytes: &[u8]) -> u64 {
     run_json(alloc, bytes, false)
 }
 
-fn run_json(alloc: Global, bytes: &[u8], wanted: bool) -> u64 {
+pub fn run_json(alloc: Global, bytes: &[u8], wanted: bool) -> u64 {
     let Ok(text) = std::str::from_utf8(bytes) else {
         return 0;
     };

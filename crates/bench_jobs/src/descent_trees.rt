@@ -70,7 +70,7 @@ impl<'src> Part<'src, &'src str, char, EmptyText> for Mark {
 }
 
 /// A list, of the parser of its items.
-fn run_list<'src, I, E, V>(
+pub fn run_list<'src, I, E, V>(
     value: V,
     wanted: bool,
     inp: &mut InputRef<'src, '_, I, E>,
@@ -92,7 +92,7 @@ where
 }
 
 /// An object, of the parser of its values.
-fn run_object<'src, I, E, V>(
+pub fn run_object<'src, I, E, V>(
     value: V,
     wanted: bool,
     inp: &mut InputRef<'src, '_, I, E>,
@@ -116,7 +116,7 @@ where
 }
 
 #[cycle(tree)]
-fn list<'src>(
+pub fn list<'src>(
     inp: &mut InputRef<'src, '_, &'src str, EmptyText>,
     wanted: bool,
     depth: usize,
@@ -127,7 +127,7 @@ fn list<'src>(
 }
 
 #[cycle(tree)]
-fn object<'src>(
+pub fn object<'src>(
     inp: &mut InputRef<'src, '_, &'src str, EmptyText>,
     wanted: bool,
     depth: usize,
@@ -139,7 +139,7 @@ fn object<'src>(
 
 /// A value.
 #[cycle(tree)]
-fn tree<'src>(
+pub fn tree<'src>(
     inp: &mut InputRef<'src, '_, &'src str, EmptyText>,
     wanted: bool,
     depth: usize,
@@ -166,7 +166,7 @@ pub extern "C" fn bench_called_tree_check(alloc: Global, bytes: &[u8]) -> u64 {
     run_tree(alloc, bytes, false)
 }
 
-fn run_tree(alloc: Global, bytes: &[u8], wanted: bool) -> u64 {
+pub fn run_tree(alloc: Global, bytes: &[u8], wanted: bool) -> u64 {
     let Ok(text) = std::str::from_utf8(bytes) else {
         return 0;
     };
