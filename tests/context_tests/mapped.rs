@@ -128,6 +128,30 @@ fn keywords_and_slices_of_a_text_at_an_offset_are_those_of_the_text(rt: HostRunt
     assert_answers(&rt, &call, &rows);
 }
 
+/// A word, or what stands between quotes, with these.
+#[derive(Clone, Copy, Debug, PartialEq, Drop)]
+enum Token<'src> {
+    Ident(&'src str),
+    Quoted(&'src str),
+}
+
+#[test]
+fn slices_and_spans_of_tokens_are_those_of_the_file(rt: HostRuntime) {
+    let ident = none_of::<_, OffsetText, OfChars>(" \"").repeated().at_least(1).to_slice().map(Token::Ident);
+    let quoted = just('"').then(none_of("\"").repeated()).then(just('"')).to_slice().map(Token::Quoted);
+    let token = ident.or(quoted).map_with(|token, extra| (extra.span(), token));
+    let rows = [(
+        text_at(100, "hello \"world\" these are \"test\" tokens"),
+        "ok [(SimpleSpan { start: 100, end: 105 }, Ident(\"hello\")), \
+         (SimpleSpan { start: 106, end: 113 }, Quoted(\"\\\"world\\\"\")), \
+         (SimpleSpan { start: 114, end: 119 }, Ident(\"these\")), \
+         (SimpleSpan { start: 120, end: 123 }, Ident(\"are\")), \
+         (SimpleSpan { start: 124, end: 130 }, Quoted(\"\\\"test\\\"\")), \
+         (SimpleSpan { start: 131, end: 137 }, Ident(\"tokens\"))]",
+    )];
+    assert_answers(&rt, &token.padded().repeated().collect::<Vec<_>>(), &rows);
+}
+
 #[test]
 fn a_report_of_a_line_shows_it_in_its_file(rt: HostRuntime) {
     let alloc = rt.alloc();

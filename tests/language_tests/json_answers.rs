@@ -1,6 +1,7 @@
 //! What JSON is, on texts whose answers are known from outside.
 use crate::printed::{Refusal, assert_lines, nested, printed};
-use json_tree::{Json, JsonText, read_json};
+use chumsky::Stop;
+use json_tree::{Json, JsonText, read_json, read_json_within};
 use std::alloc::{AllocError, Global};
 use std::test::Fail;
 
@@ -223,6 +224,22 @@ fn what_is_too_deep_is_refused_and_nothing_crashes(rt: HostRuntime) -> Result<()
             let text = nested(alloc, depth, opening, inside, closing)?;
             let lines = in_line(alloc, text.as_str())?;
             assert_eq!(rt; lines.as_str(), "refused: TooDeep");
+        }
+    }
+    Ok(())
+}
+
+#[test]
+fn as_many_levels_are_read_as_the_caller_allows(rt: HostRuntime) -> Result<(), Fail> {
+    let alloc = rt.alloc();
+    for levels in [0, 1, 1_000] {
+        for (opening, inside, closing) in [("[", "", "]"), ("{\"a\":", "1", "}")] {
+            let text = nested(alloc, levels, opening, if levels == 0 { "1" } else { inside }, closing)?;
+            let parsed = read_json_within(alloc, text.as_str(), levels);
+            assert!(rt; parsed.is_ok_and(|parsed| parsed.has_output()), "{levels} of {opening}");
+            let text = nested(alloc, levels + 1, opening, inside, closing)?;
+            let parsed = read_json_within(alloc, text.as_str(), levels);
+            assert!(rt; matches!(parsed, Err(Stop::TooDeep)), "{levels} of {opening}");
         }
     }
     Ok(())

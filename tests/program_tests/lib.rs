@@ -15,6 +15,8 @@ mod from_guide;
 #[cfg(test)]
 mod grammars;
 #[cfg(test)]
+mod guide_tokens;
+#[cfg(test)]
 mod input_ref;
 #[cfg(test)]
 mod json;

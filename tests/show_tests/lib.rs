@@ -1,4 +1,4 @@
-//! What the programs `show`, `calc`, `format_json` and `format_lisp` print, word for word, and their statuses.
+//! What the programs `show`, `calc`, `format_json`, `format_lisp` and `format_program` print, word for word, and their statuses.
 
 #[cfg(test)]
 mod ini;

@@ -5,6 +5,7 @@ use console::run::{Program, run};
 use programs::calc::Calc;
 use programs::format_json::FormatJson;
 use programs::format_lisp::FormatLisp;
+use programs::format_program::FormatProgram;
 use programs::show::Show;
 use std::alloc::{AllocError, Global};
 use std::io;
@@ -47,6 +48,12 @@ fn what_is_accepted_is_printed(rt: HostRuntime) {
     );
     assert_ran(&rt, &FormatLisp, &[("", b"(a  b) c", 0, "(a b)\nc\n", "")]);
     assert_ran(&rt, &Show, &[("ini", b"[a]\nb=c", 0, "[a]\nb = c\n", "")]);
+    let rows: [(&str, &[u8], u8, &str, &str); 3] = [
+        ("", b"", 0, "", ""),
+        ("", b"let a=1 /* one */; a+2 *-b(c,d)\n", 0, "let a = 1;\n(a + (2 * -b(c, d)));\n", ""),
+        ("", b"{}; f({a;b})(); (1); \"x;\" // end", 0, "{};\nf({a; b})();\n1;\n\"x;\";\n", ""),
+    ];
+    assert_ran(&rt, &FormatProgram, &rows);
 }
 
 #[test]
@@ -59,6 +66,16 @@ fn errors_are_reported_beside_the_output(rt: HostRuntime) {
     let no_list =
         "input:1:1: expected whitespace, a comment, an atom, '(', '\\'' or end of input, found ')'\n)\n^\n";
     assert_ran(&rt, &FormatLisp, &[("", b")", 1, "", no_list)]);
+    let of_both = "input:1:3: expected an operator, ';', '}' or end of input, found 'a name'\na b; 1 $+ 2\n  ^\n\
+                   input:1:8: this character begins no token\na b; 1 $+ 2\n       ^\n";
+    assert_ran(&rt, &FormatProgram, &[("", b"a b; 1 $+ 2", 1, "a b;\n(1 + 2);\n", of_both)]);
+}
+
+/// What `format_program` prints is a program that it prints alike.
+#[test]
+fn a_program_that_was_formatted_stays_as_it_is(rt: HostRuntime) {
+    let formatted = b"let a = (1 + (2 * -b(c, {d; e})));\n{};\n\"x\"(a)(b);\n";
+    assert_ran(&rt, &FormatProgram, &[("", formatted, 0, "let a = (1 + (2 * -b(c, {d; e})));\n{};\n\"x\"(a)(b);\n", "")]);
 }
 
 #[test]
@@ -71,6 +88,11 @@ fn other_words_are_answered_by_what_words_there_are(rt: HostRuntime) {
         &rt,
         &FormatLisp,
         &[("--indented", b"1", 2, "", "usage: format_lisp\n")],
+    );
+    assert_ran(
+        &rt,
+        &FormatProgram,
+        &[("--indented", b"1", 2, "", "usage: format_program\n")],
     );
     for line in ["--indent", "--indented --indented"] {
         assert_ran(
@@ -87,6 +109,7 @@ fn what_is_no_text_is_not_read(rt: HostRuntime) {
     assert_ran(&rt, &Calc, &[("", b"1\xFF", 2, "", told)]);
     assert_ran(&rt, &FormatJson, &[("", b"[\xFF]", 2, "", told)]);
     assert_ran(&rt, &FormatLisp, &[("", b"(\xFF)", 2, "", told)]);
+    assert_ran(&rt, &FormatProgram, &[("", b"a;\xFF", 2, "", told)]);
     assert_ran(&rt, &Show, &[("ini", b"[\xFF]", 2, "", told)]);
 }
 
@@ -129,6 +152,7 @@ fn input_that_cannot_be_read_is_told(rt: HostRuntime) -> Result<(), Fail> {
     assert!(rt; tells_of_input(&Calc, alloc, "")?);
     assert!(rt; tells_of_input(&FormatJson, alloc, "")?);
     assert!(rt; tells_of_input(&FormatLisp, alloc, "")?);
+    assert!(rt; tells_of_input(&FormatProgram, alloc, "")?);
     assert!(rt; tells_of_input(&Show, alloc, "log")?);
     Ok(())
 }
@@ -162,6 +186,7 @@ fn output_that_cannot_be_written_is_told(rt: HostRuntime) -> Result<(), Fail> {
     assert!(rt; tells_of_output(&Calc, alloc, "", "1")?);
     assert!(rt; tells_of_output(&FormatJson, alloc, "", "1")?);
     assert!(rt; tells_of_output(&FormatLisp, alloc, "", "1")?);
+    assert!(rt; tells_of_output(&FormatProgram, alloc, "", "1")?);
     assert!(rt; tells_of_output(&Show, alloc, "ini", "[a]")?);
     Ok(())
 }
@@ -198,6 +223,12 @@ fn what_is_nested_too_deeply_is_refused(rt: HostRuntime) -> Result<(), Fail> {
         &rt,
         &FormatJson,
         &[("", lists.as_str().as_bytes(), 3, "", told)],
+    );
+    let blocks = opened(rt.alloc(), '{', 200)?;
+    assert_ran(
+        &rt,
+        &FormatProgram,
+        &[("", blocks.as_str().as_bytes(), 3, "", told)],
     );
     Ok(())
 }

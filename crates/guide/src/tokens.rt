@@ -3,6 +3,7 @@ ghost use Rattle.std.specs.Prelude.{◌≡◌, refl};
 
 use chumsky::Stop;
 use chumsky::extra::{ParserExtra, RichText};
+use chumsky::input::Pairs;
 use chumsky::prelude::*;
 use chumsky::util::SameClone;
 use std::alloc::Global;
@@ -69,4 +70,21 @@ pub fn sum_of(alloc: Global, tokens: &[Token]) -> Result<ParseResult<u32, Rich<T
     first
         .foldl(others, |sum: u32, number: u32| sum.wrapping_add(number))
         .parse(alloc, tokens)
+}
+
+/// The sum that such tokens say which a lexer has paired with their spans. An error stands where the text has it, at the end of the
+/// tokens at `end`.
+pub fn sum_of_pairs(
+    alloc: Global,
+    pairs: &[(Token, SimpleSpan)],
+    end: SimpleSpan,
+) -> Result<ParseResult<u32, Rich<Token>>, Stop> {
+    let first = select! { Token::Number(number) => number };
+    let other = select! { Token::Number(number) => number };
+    let others = just::<_, MappedInput<(Token, SimpleSpan), Pairs>, extra::Err<Rich<Token>>>(Token::Plus)
+        .ignore_then(other)
+        .repeated();
+    first
+        .foldl(others, |sum: u32, number: u32| sum.wrapping_add(number))
+        .parse(alloc, map_input::<_, Pairs>(pairs, end))
 }

@@ -104,19 +104,36 @@ fn value<'src>(
     run_part(&json, wanted, inp)
 }
 
-/// How many values may stand within one another, with the item that the innermost list looks for: a hundred and fifty lists.
-const DEPTH: usize = 302;
+/// How many lists and objects may stand within one another. One takes some 1,250 bytes of stack, so all of them fit into 256 kB.
+const LEVELS: usize = 150;
 
-/// Reads a value. One that is nested more deeply is refused with `Stop::TooDeep`.
+/// How many calls may be open at once: two for each list and each object, and two for the innermost value.
+fn calls(levels: usize) -> usize {
+    levels.saturating_mul(2).saturating_add(2)
+}
+
+/// Reads a value. One that is nested more than a hundred and fifty deep is refused with `Stop::TooDeep`.
 pub fn read_json(alloc: Global, text: &str) -> Result<ParseResult<Json, Rich<char>>, Stop>
     ensures { IfOk result (λ parsed. parsed.errors.items ≡ [] → IsTrue (is_some parsed.output)) }
 {
-    recursive::<_, _, _, RichText>(value, DEPTH).parse(alloc, text)
+    read_json_within(alloc, text, LEVELS)
 }
 
-/// The errors of a text, without its value.
+/// Reads a value. One with more than so many lists and objects within one another is refused with `Stop::TooDeep`. Each takes some
+/// 1,250 bytes of stack: a thousand fit where there are 2 MB.
+pub fn read_json_within(
+    alloc: Global,
+    text: &str,
+    levels: usize,
+) -> Result<ParseResult<Json, Rich<char>>, Stop>
+    ensures { IfOk result (λ parsed. parsed.errors.items ≡ [] → IsTrue (is_some parsed.output)) }
+{
+    recursive::<_, _, _, RichText>(value, calls(levels)).parse(alloc, text)
+}
+
+/// The errors of a text, without its value, as `read_json` has them.
 pub fn check_json(alloc: Global, text: &str) -> Result<ParseResult<(), Rich<char>>, Stop>
     ensures { IfOk result (λ parsed. parsed.errors.items ≡ [] → IsTrue (is_some parsed.output)) }
 {
-    recursive::<_, _, _, RichText>(value, DEPTH).check(alloc, text)
+    recursive::<_, _, _, RichText>(value, calls(LEVELS)).check(alloc, text)
 }
