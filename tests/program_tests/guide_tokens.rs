@@ -35,8 +35,8 @@ fn a_report_of_a_line_names_the_line_of_the_file(rt: HostRuntime) {
     assert_line(&rt, setting_at(alloc, 6, "b = 2"), "ok (\"b\", \"2\")");
     let rows = [
         (0, ""),
-        (6, "settings:2:2: expected '=' or whitespace, found 'é'\nbé = x\n ^"),
-        (14, "settings:3:4: expected int or whitespace, found end of input\nc =\n   ^"),
+        (6, "settings:2:2: expected '=', found 'é'\nbé = x\n ^"),
+        (14, "settings:3:4: expected int, found end of input\nc =\n   ^"),
     ];
     for (offset, expected) in rows {
         let reports = wrong_setting(alloc, file, offset).expect(&rt, "refused");

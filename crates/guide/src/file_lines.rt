@@ -19,7 +19,9 @@ pub fn setting_at<'src>(
 
 /// What is wrong with the setting that begins at an offset of a file: a report of each error, which shows the line of the file.
 pub fn wrong_setting(alloc: Global, file: &str, offset: usize) -> Result<Vec<String>, Stop> {
-    let line = file.get(offset..).and_then(|rest: &str| rest.lines().next());
+    let line = file
+        .get(offset..)
+        .and_then(|rest: &str| rest.lines().next());
     let parsed = setting_at(alloc, offset, line.unwrap_or(""))?;
     reports(alloc, file, parsed.errors.as_slice()).map_err(|_| Stop::Memory)
 }

@@ -58,7 +58,8 @@ impl<'src> Part<'src, Trees<'src>, Trees<'src>, Extra> for Inside {
     }
 }
 
-/// The numbers of tokens, and of what stands in their groups: one at least, added up.
+/// The numbers of tokens, and of what stands in their groups: one at least, added up. The group comes first, since of two errors of
+/// one token the first stands, and so that in the group.
 fn sum<'src>(
     inp: &mut InputRef<'src, '_, Trees<'src>, Extra>,
     wanted: bool,
@@ -67,8 +68,8 @@ fn sum<'src>(
     ensures { ⟦<Unsaid as RunsUnder<'src, Trees<'src>, u32, Extra>>⟧.runs depth wanted inp.old inp.new result }
 {
     let group = recursive(sum, depth).nested_in(part_of(Inside));
-    let sum = part_of(Number)
-        .or(group)
+    let sum = group
+        .or(part_of(Number))
         .repeated()
         .at_least(1)
         .fold(0, |sum: u32, number: u32| sum.wrapping_add(number));

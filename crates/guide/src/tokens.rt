@@ -81,8 +81,9 @@ pub fn sum_of_pairs(
 ) -> Result<ParseResult<u32, Rich<Token>>, Stop> {
     let first = select! { Token::Number(number) => number };
     let other = select! { Token::Number(number) => number };
-    let others = just::<_, MappedInput<(Token, SimpleSpan), Pairs>, extra::Err<Rich<Token>>>(Token::Plus)
-        .ignore_then(other)
+    let others = just::<_, MappedInput<(Token, SimpleSpan), Pairs>, extra::Err<Rich<Token>>>(
+        Token::Plus,
+    ).ignore_then(other)
         .repeated();
     first
         .foldl(others, |sum: u32, number: u32| sum.wrapping_add(number))
