@@ -19,11 +19,16 @@ pub fn setting_at<'src>(
 
 /// What is wrong with the setting that begins at an offset of a file: a report of each error, which shows the line of the file.
 pub fn wrong_setting(alloc: Global, file: &str, offset: usize) -> Result<Vec<String>, Stop> {
-    let line = file
-        .get(offset..)
-        .and_then(|rest: &str| rest.lines().next());
-    let parsed = setting_at(alloc, offset, line.unwrap_or(""))?;
+    let parsed = setting_at(alloc, offset, line_at(file, offset))?;
     reports(alloc, file, parsed.errors.as_slice()).map_err(|_| Stop::Memory)
+}
+
+/// The line that begins at an offset of a file.
+fn line_at(file: &str, offset: usize) -> &str {
+    match file.get(offset..) {
+        Some(rest) => rest.lines().next().unwrap_or(""),
+        None => "",
+    }
 }
 
 /// A report of each error of a file.

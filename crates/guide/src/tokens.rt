@@ -72,6 +72,9 @@ pub fn sum_of(alloc: Global, tokens: &[Token]) -> Result<ParseResult<u32, Rich<T
         .parse(alloc, tokens)
 }
 
+/// Tokens that are paired with their spans, as an input.
+pub type TokenPairs<'src> = MappedInput<'src, (Token, SimpleSpan), Pairs>;
+
 /// The sum that such tokens say which a lexer has paired with their spans. An error stands where the text has it, at the end of the
 /// tokens at `end`.
 pub fn sum_of_pairs(
@@ -81,9 +84,8 @@ pub fn sum_of_pairs(
 ) -> Result<ParseResult<u32, Rich<Token>>, Stop> {
     let first = select! { Token::Number(number) => number };
     let other = select! { Token::Number(number) => number };
-    let others = just::<_, MappedInput<(Token, SimpleSpan), Pairs>, extra::Err<Rich<Token>>>(
-        Token::Plus,
-    ).ignore_then(other)
+    let others = just::<_, TokenPairs, extra::Err<Rich<Token>>>(Token::Plus)
+        .ignore_then(other)
         .repeated();
     first
         .foldl(others, |sum: u32, number: u32| sum.wrapping_add(number))
