@@ -11,7 +11,7 @@ module _ {Tok Cx St Er : Type 0} where
   call-ends body zero = onward-ends _
   call-ends body (suc depth) = onward-ends _
 
-  calls-end : {Name : Type 0} {V : Name → Type 0} (bodies : Bodies Tok Cx St Er Name V) (depth : ℕ) (name : Name) → EndsAfterStart (CallsOf bodies depth name)
+  pub calls-end : {Name : Type 0} {V : Name → Type 0} (bodies : Bodies Tok Cx St Er Name V) (depth : ℕ) (name : Name) → EndsAfterStart (CallsOf bodies depth name)
   calls-end bodies zero name = onward-ends _
   calls-end bodies (suc depth) name = onward-ends _
 
