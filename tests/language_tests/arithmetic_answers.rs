@@ -1,7 +1,9 @@
 //! What sums come to.
 use crate::printed::{Refusal, assert_lines, nested, printed};
+use arithmetic::operators::parse_sum;
 use arithmetic::{Refused, parse_arithmetic};
-use std::alloc::{AllocError, Global};
+use std::alloc::{AllocError, AllocGlobal, Global};
+use std::process::Abort;
 use std::test::Fail;
 
 /// What is printed of a sum.
@@ -13,6 +15,20 @@ fn shown(alloc: Global, text: &str) -> Result<String, AllocError> {
     printed(alloc, text, parsed, |number: &i64| {
         format!(in alloc; "{number}\n")
     })
+}
+
+/// The same by operators with their powers.
+fn shown_by_powers(alloc: Global, text: &str) -> Result<String, AllocError> {
+    let parsed = parse_sum(alloc, text).map_err(|stop| Refusal::Run(stop));
+    printed(alloc, text, parsed, |number: &i64| {
+        format!(in alloc; "{number}\n")
+    })
+}
+
+/// Tests what is printed of sums in both ways.
+fn assert_both<R: Abort + AllocGlobal>(rt: &R, rows: &[(&str, &str)]) {
+    assert_lines(rt, shown, rows);
+    assert_lines(rt, shown_by_powers, rows);
 }
 
 #[test]
@@ -31,7 +47,7 @@ fn products_come_before_sums_and_signs_go_from_the_left(rt: HostRuntime) {
         (" 007\n", "7\n"),
         ("((((1))))", "1\n"),
     ];
-    assert_lines(&rt, shown, &rows);
+    assert_both(&rt, &rows);
 }
 
 #[test]
@@ -60,7 +76,7 @@ fn what_is_too_large_is_an_error_where_it_is_made(rt: HostRuntime) {
             "input:1:12: overflow\n3000000000 *\n           ^\n",
         ),
     ];
-    assert_lines(&rt, shown, &rows);
+    assert_both(&rt, &rows);
 }
 
 #[test]
@@ -73,20 +89,12 @@ fn a_division_by_zero_is_an_error_at_its_sign(rt: HostRuntime) {
         ),
         ("7\n% 0 * 3", "input:2:1: division by zero\n% 0 * 3\n^\n"),
     ];
-    assert_lines(&rt, shown, &rows);
+    assert_both(&rt, &rows);
 }
 
 #[test]
 fn what_is_no_sum_is_an_error(rt: HostRuntime) {
     let rows = [
-        (
-            "",
-            "input:1:1: expected a number, '-' or '(', found end of input\n\n^\n",
-        ),
-        (
-            "1 + * 2",
-            "input:1:5: expected a number, '-' or '(', found '*'\n1 + * 2\n    ^\n",
-        ),
         (
             "(1 + 2",
             "input:1:7: expected digit, '*', '/', '%', '+', '-' or ')', found end of input\n(1 + 2\n      ^\n",
@@ -96,7 +104,53 @@ fn what_is_no_sum_is_an_error(rt: HostRuntime) {
             "input:1:3: expected '*', '/', '%', '+', '-' or end of input, found '2'\n1 2\n  ^\n",
         ),
     ];
+    assert_both(&rt, &rows);
+    let rows = [
+        (
+            "",
+            "input:1:1: expected a number, '-' or '(', found end of input\n\n^\n",
+        ),
+        (
+            "1 + * 2",
+            "input:1:5: expected a number, '-' or '(', found '*'\n1 + * 2\n    ^\n",
+        ),
+    ];
     assert_lines(&rt, shown, &rows);
+    let rows = [
+        (
+            "",
+            "input:1:1: expected '-', a number or '(', found end of input\n\n^\n",
+        ),
+        (
+            "1 + * 2",
+            "input:1:5: expected '-', a number or '(', found '*'\n1 + * 2\n    ^\n",
+        ),
+    ];
+    assert_lines(&rt, shown_by_powers, &rows);
+}
+
+/// An error within brackets stands, whatever follows it.
+#[test]
+fn the_first_that_cannot_be_worked_out_is_told(rt: HostRuntime) {
+    let rows = [
+        (
+            "1 / 0 + 2 / 0",
+            "input:1:3: division by zero\n1 / 0 + 2 / 0\n  ^\n",
+        ),
+        (
+            "(1 / 0 x",
+            "input:1:4: division by zero\n(1 / 0 x\n   ^\n",
+        ),
+        (
+            "2 * (1 / 0) * 9223372036854775808",
+            "input:1:8: division by zero\n2 * (1 / 0) * 9223372036854775808\n       ^\n",
+        ),
+        (
+            "1 * 9223372036854775808 x",
+            "input:1:5: number too large\n1 * 9223372036854775808 x\n    ^^^^^^^^^^^^^^^^^^^\n",
+        ),
+    ];
+    assert_both(&rt, &rows);
 }
 
 #[test]
@@ -105,5 +159,17 @@ fn a_thousand_brackets_within_one_another_are_worked_out(rt: HostRuntime) -> Res
     let text = nested(alloc, 1000, "(1+", "1", ")")?;
     let lines = shown(alloc, text.as_str())?;
     assert_eq!(rt; lines.as_str(), "1001\n");
+    Ok(())
+}
+
+#[test]
+fn by_powers_a_hundred_brackets_are_too_deep(rt: HostRuntime) -> Result<(), Fail> {
+    let alloc = rt.alloc();
+    let text = nested(alloc, 99, "(1+", "1", ")")?;
+    let lines = shown_by_powers(alloc, text.as_str())?;
+    assert_eq!(rt; lines.as_str(), "100\n");
+    let text = nested(alloc, 100, "(1+", "1", ")")?;
+    let lines = shown_by_powers(alloc, text.as_str())?;
+    assert_eq!(rt; lines.as_str(), "refused: TooDeep");
     Ok(())
 }

@@ -1,10 +1,16 @@
-//! What a sum comes to, as `2 * (3 + 4) - 1`: sums of products as rules, and numbers that are worked out as they are read.
+//! What a sum comes to, as `2 * (3 + 4) - 1`, in two ways: by operators with their powers and a function that calls itself
+//! (`operators`), and by rules, sums of products (`parse_arithmetic`), where brackets nest in memory. Numbers are worked out as they
+//! are read.
 #![tactic(auto)]
 
 ghost use Rattle.std.specs.Prelude.{◌≡◌, ◌+ℤ◌, ◌-ℤ◌, ◌*ℤ◌, neg_ℤ, int_div, int_rem, FitsSigned, [], IfErr, IfOk, IsTrue, OkIff, is_some, ⊤};
 ghost use Rattle.std.specs.Int.{CanDivide, w64};
 ghost use Rattle.std.specs.Result.{result_ok};
 
+mod leaves;
+pub mod operators;
+
+use crate::leaves::{Number, Sign, Worked};
 use chumsky::combinator::{OfPart, Part, part_of, run_part};
 use chumsky::extra::RichText;
 use chumsky::input::InputRef;
@@ -24,17 +30,17 @@ pub enum Refused {
 
 /// A sign, where it stands, and the number after it.
 #[derive(Clone, Copy)]
-struct Step {
-    sign: char,
-    span: SimpleSpan,
-    number: i64,
+pub(crate) struct Step {
+    pub(crate) sign: char,
+    pub(crate) span: SimpleSpan,
+    pub(crate) number: i64,
 }
 
 /// What a node of the grammar gives.
 #[derive(Drop)]
 enum Value {
-    /// Where digits stand that an `i64` doesn't hold.
-    TooLarge(SimpleSpan),
+    /// Digits that an `i64` doesn't hold.
+    TooLarge(Wrong),
     Sign(char, SimpleSpan),
     Number(i64),
     Step(Step),
@@ -59,27 +65,19 @@ impl<'src> Part<'src, &'src str, Value, RichText> for Leaf {
         inp: &mut InputRef<'src, '_, &'src str, RichText>,
     ) -> PResult<Option<Value>> {
         match *self {
-            Leaf::Number => {
-                let number = text::digits(10)
-                    .spanned()
-                    .map(|digits: Spanned<&str, SimpleSpan>| number_of(digits));
-                run_part(&number.labelled("a number").padded(), wanted, inp)
-            }
-            Leaf::Sign(signs) => {
-                let sign = one_of(signs).spanned().map(sign_of);
-                run_part(&sign.padded(), wanted, inp)
-            }
+            Leaf::Number => run_part(&part_of(Number).map(number_of), wanted, inp),
+            Leaf::Sign(signs) => run_part(&part_of(Sign(signs)).map(sign_of), wanted, inp),
         }
     }
 }
 
 impl MayStay for Leaf {}
 
-/// The number that digits make.
-fn number_of(digits: Spanned<&str, SimpleSpan>) -> Value {
-    match digits.inner.parse::<i64>() {
+/// A number, or where its digits stand.
+fn number_of(worked: Worked) -> Value {
+    match worked {
         Ok(number) => Value::Number(number),
-        Err(_) => Value::TooLarge(digits.span),
+        Err(wrong) => Value::TooLarge(wrong),
     }
 }
 
@@ -151,10 +149,7 @@ impl Values<SimpleSpan, Rich<char>> for Arithmetic {
         _span: SimpleSpan,
     ) -> Result<Result<Value, Rich<char>>, AllocError> {
         let worked_out = match value {
-            Value::TooLarge(span) => Err(Wrong {
-                message: "number too large",
-                span,
-            }),
+            Value::TooLarge(wrong) => Err(wrong),
             Value::Step(step) => prefixed(step),
             Value::Chain(first, steps) => total(first, steps.as_slice()),
             other => return Ok(Ok(other)),
@@ -168,13 +163,13 @@ impl Values<SimpleSpan, Rich<char>> for Arithmetic {
 
 /// What can't be worked out, and where.
 #[derive(Clone, Copy)]
-struct Wrong {
-    message: &'static str,
-    span: SimpleSpan,
+pub(crate) struct Wrong {
+    pub(crate) message: &'static str,
+    pub(crate) span: SimpleSpan,
 }
 
 /// A number after a minus (45), or between brackets.
-fn prefixed(step: Step) -> Result<i64, Wrong>
+pub(crate) fn prefixed(step: Step) -> Result<i64, Wrong>
     ensures minus { step.sign ≡ 45 → OkIff result (FitsSigned w64 (neg_ℤ step.number)) (neg_ℤ step.number) }
     ensures at_its_sign { IfErr result (λ wrong. wrong.span ≡ step.span) }
 {
@@ -185,7 +180,7 @@ fn prefixed(step: Step) -> Result<i64, Wrong>
 }
 
 /// What a sign makes of the numbers before and after it: `+` (43), `-` (45), `*` (42), `/` (47) and `%` (37).
-fn applied(total: i64, step: Step) -> Result<i64, Wrong>
+pub(crate) fn applied(total: i64, step: Step) -> Result<i64, Wrong>
     ensures plus { step.sign ≡ 43 → OkIff result (FitsSigned w64 (total +ℤ step.number)) (total +ℤ step.number) }
     ensures minus { step.sign ≡ 45 → OkIff result (FitsSigned w64 (total -ℤ step.number)) (total -ℤ step.number) }
     ensures times { step.sign ≡ 42 → OkIff result (FitsSigned w64 (total *ℤ step.number)) (total *ℤ step.number) }
@@ -272,7 +267,7 @@ fn sum_rules(rules: &mut Rules) -> Result<Recursive, RecursiveError> {
 }
 
 /// The leaves, in the order of their numbers.
-fn leaves() -> [OfPart<Leaf>; 6] {
+fn numbered_leaves() -> [OfPart<Leaf>; 6] {
     [
         part_of(Leaf::Number),
         part_of(Leaf::Sign("+-")),
@@ -307,7 +302,7 @@ pub fn parse_arithmetic(alloc: Global, text: &str) -> Result<ParseResult<i64, Ri
         Ok(start) => start,
         Err(error) => return Err(Refused::Building(error)),
     };
-    let leaves = leaves();
+    let leaves = numbered_leaves();
     let actions = Leaves {
         leaves: &leaves,
         values: Arithmetic,

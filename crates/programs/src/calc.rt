@@ -1,5 +1,5 @@
 //! The program `calc`.
-use arithmetic::{Refused, parse_arithmetic};
+use arithmetic::operators::parse_sum;
 use console::failure::Failure;
 use console::run::Program;
 use console::text::{print_line, read_text, report};
@@ -27,19 +27,10 @@ impl Program for Calc {
             return Err(Failure::Words);
         }
         let text = read_text(alloc, input)?;
-        let parsed = parse_arithmetic(alloc, text.as_str()).map_err(refusal)?;
+        let parsed = parse_sum(alloc, text.as_str())?;
         if let Some(number) = parsed.output() {
             print_line(out, number)?;
         }
         report(alloc, err, text.as_str(), parsed.errors.as_slice())
-    }
-}
-
-/// Why there is no sum.
-fn refusal(refused: Refused) -> Failure {
-    match refused {
-        Refused::Running(stop) => Failure::from(stop),
-        Refused::Building(error) => Failure::from(error),
-        Refused::Closing(_) => Failure::NoGrammar,
     }
 }

@@ -1,0 +1,57 @@
+//! The leaves, each with the blanks around it.
+use crate::Wrong;
+use chumsky::PResult;
+use chumsky::combinator::{Part, run_part};
+use chumsky::extra::RichText;
+use chumsky::input::InputRef;
+use chumsky::prelude::*;
+use chumsky::span::Spanned;
+
+/// What something comes to, or what can't be worked out in it.
+pub(crate) type Worked = Result<i64, Wrong>;
+
+/// A number.
+#[derive(Clone, Copy)]
+pub(crate) struct Number;
+
+impl<'src> IsParser<&'src str, Worked, RichText> for Number {}
+
+impl<'src> Part<'src, &'src str, Worked, RichText> for Number {
+    fn run(
+        &self,
+        wanted: bool,
+        inp: &mut InputRef<'src, '_, &'src str, RichText>,
+    ) -> PResult<Option<Worked>> {
+        let number = text::digits(10)
+            .spanned()
+            .map(|digits: Spanned<&str, SimpleSpan>| read(digits));
+        run_part(&number.labelled("a number").padded(), wanted, inp)
+    }
+}
+
+/// The number that digits make.
+fn read(digits: Spanned<&str, SimpleSpan>) -> Worked {
+    match digits.inner.parse::<i64>() {
+        Ok(number) => Ok(number),
+        Err(_) => Err(Wrong {
+            message: "number too large",
+            span: digits.span,
+        }),
+    }
+}
+
+/// One of some signs.
+#[derive(Clone, Copy)]
+pub(crate) struct Sign(pub(crate) &'static str);
+
+impl<'src> IsParser<&'src str, Spanned<char, SimpleSpan>, RichText> for Sign {}
+
+impl<'src> Part<'src, &'src str, Spanned<char, SimpleSpan>, RichText> for Sign {
+    fn run(
+        &self,
+        wanted: bool,
+        inp: &mut InputRef<'src, '_, &'src str, RichText>,
+    ) -> PResult<Option<Spanned<char, SimpleSpan>>> {
+        run_part(&one_of(self.0).spanned().padded(), wanted, inp)
+    }
+}

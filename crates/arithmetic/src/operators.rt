@@ -1,0 +1,90 @@
+//! Sums by operators with their powers. What stands in brackets is a sum again, by a function that calls itself.
+ghost use Rattle.std.specs.Prelude.{◌≡◌, [], IfOk, IsTrue, is_some};
+
+use crate::leaves::{Number, Sign, Worked};
+use crate::{Step, applied, prefixed};
+use chumsky::combinator::{part_of, run_part};
+use chumsky::extra::RichText;
+use chumsky::input::InputRef;
+use chumsky::pratt::{infix, left, prefix};
+use chumsky::prelude::*;
+use chumsky::recursive::{RunsUnder, Unsaid};
+use chumsky::span::Spanned;
+use chumsky::{PResult, Stop};
+use std::alloc::Global;
+
+/// A sign with a number after it.
+fn step(sign: Spanned<char, SimpleSpan>, number: i64) -> Step {
+    Step {
+        sign: sign.inner,
+        span: sign.span,
+        number,
+    }
+}
+
+/// What a minus makes of the number after it.
+fn negative(minus: Spanned<char, SimpleSpan>, operand: Worked) -> Worked {
+    prefixed(step(minus, operand?))
+}
+
+/// What a sign makes of the numbers before and after it.
+fn worked_out(before: Worked, sign: Spanned<char, SimpleSpan>, after: Worked) -> Worked {
+    applied(before?, step(sign, after?))
+}
+
+/// A number, or the error of what can't be worked out. Where there is no memory for its message, that is empty.
+fn told(alloc: Global, worked: Worked) -> Result<i64, Rich<char>> {
+    match worked {
+        Ok(number) => Ok(number),
+        Err(wrong) => match String::from_str(alloc, wrong.message) {
+            Ok(message) => Err(Rich::custom(wrong.span, message)),
+            Err(_) => Err(Rich::custom(wrong.span, String::new(alloc))),
+        },
+    }
+}
+
+/// Numbers, and sums in brackets, with signs between and before them.
+fn run_sum<'src, P: IsParser<&'src str, i64, RichText> + Parser<'src, &'src str, i64, RichText>>(
+    sum: &P,
+    wanted: bool,
+    inp: &mut InputRef<'src, '_, &'src str, RichText>,
+) -> PResult<Option<i64>>
+    requires { P.ready sum.now }
+    ensures { ⟦<Unsaid as RunsUnder<'src, &'src str, i64, RichText>>⟧.runs 0 wanted inp.old inp.new result }
+{
+    let alloc = inp.alloc();
+    let number = part_of(Number).try_map(move |worked: Worked, _| told(alloc, worked));
+    let bracketed = sum.delimited_by(part_of(Sign("(")), part_of(Sign(")")));
+    let sum = number.or(bracketed).map(|number: i64| Ok(number)).pratt((
+        prefix(3, part_of(Sign("-")), negative),
+        infix(left(2), part_of(Sign("*/%")), worked_out),
+        infix(left(1), part_of(Sign("+-")), worked_out),
+    ));
+    run_part(
+        &sum.try_map(move |worked: Worked, _| told(alloc, worked)),
+        wanted,
+        inp,
+    )
+}
+
+/// A sum.
+fn sum<'src>(
+    inp: &mut InputRef<'src, '_, &'src str, RichText>,
+    wanted: bool,
+    depth: usize,
+) -> PResult<Option<i64>>
+    ensures { ⟦<Unsaid as RunsUnder<'src, &'src str, i64, RichText>>⟧.runs depth wanted inp.old inp.new result }
+{
+    run_sum(&recursive(sum, depth), wanted, inp)
+}
+
+/// How many sums may stand within one another.
+const DEPTH: usize = 100;
+
+/// What a sum comes to, as `parse_arithmetic` has it; one that is nested more deeply than ninety-nine brackets is refused with
+/// `Stop::TooDeep`.
+pub fn parse_sum(alloc: Global, text: &str) -> Result<ParseResult<i64, Rich<char>>, Stop>
+    ensures { IfOk result (λ parsed. parsed.errors.items ≡ [] → IsTrue (is_some parsed.output)) }
+{
+    recursive::<_, _, _, RichText>(sum, DEPTH).parse(alloc, text)
+}
