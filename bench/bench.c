@@ -432,6 +432,7 @@ int main(int count, char **arguments) {
         ROWS("settings", settings, settings, settings),
         ROWS("keys", keys, settings, settings),
         ROWS("sums", sums, sums, sums),
+        ROWS("sums powers", sums_by_powers, sums, sums),
         ROWS("messages", messages, messages, messages),
         ROWS("spaces", spaces, spaces, spaces),
         ROWS("ints", ints, ints, ints),

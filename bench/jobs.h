@@ -24,10 +24,11 @@ JOB(brackets);
 JOB(json);
 JOB(tree);
 
-/* By hand, keys are settings, and no grammar is rules or functions. */
+/* By hand, keys are settings, sums have no powers, and no grammar is rules or functions. */
 #define PARSERS_JOB(name) job_function bench_##name##_parse, bench_##name##_check
 
 PARSERS_JOB(keys);
+PARSERS_JOB(sums_by_powers);
 PARSERS_JOB(called_brackets);
 PARSERS_JOB(called_json);
 PARSERS_JOB(called_tree);

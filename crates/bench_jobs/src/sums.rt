@@ -4,6 +4,7 @@ use chumsky::PResult;
 use chumsky::combinator::{Part, part_of, run_part};
 use chumsky::extra::EmptyText;
 use chumsky::input::InputRef;
+use chumsky::pratt::{infix, left};
 use chumsky::prelude::*;
 use std::alloc::Global;
 
@@ -17,6 +18,18 @@ pub extern "C" fn bench_sums_parse(alloc: Global, bytes: &[u8]) -> u64 {
 #[unsafe(no_mangle)]
 pub extern "C" fn bench_sums_check(alloc: Global, bytes: &[u8]) -> u64 {
     sums(alloc, bytes, false)
+}
+
+/// The sum of what all lines come to, by operators with their powers.
+#[unsafe(no_mangle)]
+pub extern "C" fn bench_sums_by_powers_parse(alloc: Global, bytes: &[u8]) -> u64 {
+    sums_by_powers(alloc, bytes, true)
+}
+
+/// The number of lines.
+#[unsafe(no_mangle)]
+pub extern "C" fn bench_sums_by_powers_check(alloc: Global, bytes: &[u8]) -> u64 {
+    sums_by_powers(alloc, bytes, false)
 }
 
 fn digit(digit: char) -> u64 {
@@ -83,6 +96,27 @@ fn sums(alloc: Global, bytes: &[u8], wanted: bool) -> u64 {
                 .then(part_of(Product))
                 .repeated();
             let sum = part_of(Product).foldl(terms, plus_or_minus);
+            again(&sum.then_ignore(just('\n')), alloc, text, wanted)
+        }
+        Err(_) => 0,
+    }
+}
+
+fn worked_out(before: u64, sign: char, after: u64) -> u64 {
+    if sign == '*' {
+        times(before, after)
+    } else {
+        plus_or_minus(before, (sign, after))
+    }
+}
+
+fn sums_by_powers(alloc: Global, bytes: &[u8], wanted: bool) -> u64 {
+    match std::str::from_utf8(bytes) {
+        Ok(text) => {
+            let sum = part_of(Number).pratt((
+                infix(left(2), just('*'), worked_out),
+                infix(left(1), one_of::<_, &str, EmptyText>("+-"), worked_out),
+            ));
             again(&sum.then_ignore(just('\n')), alloc, text, wanted)
         }
         Err(_) => 0,
