@@ -1,7 +1,8 @@
 //! The works, each with what it should answer.
 use chk_run::run::run as run_chk;
 use chumsky::Stop;
-use chumsky::extra::RichText;
+use chumsky::extra::{EmptyText, RichText};
+use chumsky::pratt::{infix, prefix, right};
 use chumsky::prelude::*;
 use chumsky::report::Report;
 use console::run::run;
@@ -23,6 +24,10 @@ pub enum Work {
     WideSet,
     /// The error of a choice among such tokens.
     WideChoice,
+    /// A number after minuses.
+    DeepPrefixes,
+    /// Powers of powers, each the right operand of the one before.
+    DeepPowers,
 }
 
 /// How many times as long ten times as much may take where time grows as the size, or as its logarithm times it.
@@ -31,15 +36,17 @@ const LINEAR: u128 = 30;
 /// And where it grows as the square, as it does with the alternatives of a choice.
 const SQUARE: u128 = 300;
 
-/// Each work, its name, how many lines, characters, lists or tokens the smaller of its inputs has, and how many times as long the
-/// larger may take.
-pub const WORKS: [(Work, &str, usize, u128); 6] = [
+/// Each work, its name, how many lines, characters, lists, tokens or operators the smaller of its inputs has, and how many times as
+/// long the larger may take.
+pub const WORKS: [(Work, &str, usize, u128); 8] = [
     (Work::WrongLines, "wrong_lines", 2_000, LINEAR),
     (Work::LongLine, "long_line", 100_000, LINEAR),
     (Work::DeepSettings, "deep_settings", 500, LINEAR),
     (Work::LongSettings, "long_settings", 500, LINEAR),
     (Work::WideSet, "wide_set", 1_000, LINEAR),
     (Work::WideChoice, "wide_choice", 1_000, SQUARE),
+    (Work::DeepPrefixes, "deep_prefixes", 100_000, LINEAR),
+    (Work::DeepPowers, "deep_powers", 100_000, LINEAR),
 ];
 
 /// Runs a work of a size. Says whether it answers as it should.
@@ -51,6 +58,8 @@ pub fn run_work(alloc: Global, work: Work, size: usize) -> Result<bool, AllocErr
         Work::LongSettings => nested_settings(alloc, "[x,", size),
         Work::WideSet => wide_set(alloc, size),
         Work::WideChoice => wide_choice(alloc, size),
+        Work::DeepPrefixes => deep_prefixes(alloc, size),
+        Work::DeepPowers => deep_powers(alloc, size),
     }
 }
 
@@ -145,4 +154,30 @@ fn wide_choice(alloc: Global, tokens: usize) -> Result<bool, AllocError> {
         leaves.push(just::<_, &str, RichText>(token))?;
     }
     Ok(expects(choice(leaves).check(alloc, "a"), tokens))
+}
+
+/// Whether a text has this output and no error.
+fn gives(parsed: Result<ParseResult<usize, EmptyErr>, Stop>, wanted: usize) -> bool {
+    match parsed {
+        Ok(parsed) => !parsed.has_errors() && parsed.output() == Some(&wanted),
+        Err(_) => false,
+    }
+}
+
+fn deep_prefixes(alloc: Global, operators: usize) -> Result<bool, AllocError> {
+    let minuses = "-".repeat(alloc, operators)?;
+    let text = format!(in alloc; "{minuses}1")?;
+    let minus = prefix(1, just('-'), |_: char, count: usize| count.wrapping_add(1));
+    let number = just::<_, &str, EmptyText>('1').to(0usize);
+    let parsed = number.pratt((minus,)).parse(alloc, text.as_str());
+    Ok(gives(parsed, operators))
+}
+
+fn deep_powers(alloc: Global, operators: usize) -> Result<bool, AllocError> {
+    let powers = "1^".repeat(alloc, operators)?;
+    let text = format!(in alloc; "{powers}1")?;
+    let power = infix(right(1), just('^'), |_: usize, _: char, count: usize| count.wrapping_add(1));
+    let number = just::<_, &str, EmptyText>('1').to(0usize);
+    let parsed = number.pratt((power,)).parse(alloc, text.as_str());
+    Ok(gives(parsed, operators))
 }
