@@ -120,7 +120,7 @@ pub mod pratt {
     pub use chumsky_pratt::fixity::{Associativity, Fixity, left, none, right};
     pub use chumsky_pratt::folder_with::InfixFolderWith;
     pub use chumsky_pratt::folders::{InfixFolder, PostfixFolder, PrefixFolder};
-    pub use chumsky_pratt::list::FoundAt;
+    pub use chumsky_pratt::list::{FoundAt, OperatorList};
     pub use chumsky_pratt::make::{
         infix, infix_by, infix_with, postfix, postfix_by, postfix_with, prefix, prefix_by,
         prefix_with,

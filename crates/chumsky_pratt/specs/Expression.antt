@@ -32,7 +32,7 @@ pub data Turn (V : Type 0) : Type 0 where
   Rests : Turn V
   Goes : ℕ → Option V → Turn V
 
--- past the power of every infix operator
+-- past the power of every infix operator, which is at most twice 65,535 and one more
 abbrev pub any_power : ℕ
 any_power = 131072
 

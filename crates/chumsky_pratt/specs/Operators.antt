@@ -26,6 +26,7 @@ infix_fixity (associativity.Left p) = fixity.Infix (p * 2) (p * 2 + 1) true
 infix_fixity (associativity.Right p) = fixity.Infix (p * 2 + 1) (p * 2) true
 infix_fixity (associativity.None p) = fixity.Infix (p * 2) (p * 2 + 1) false
 
+-- how the operator of an index stands, of one before others
 abbrev pub fixity_and : Fixity → (ℕ → Fixity) → ℕ → Fixity
 fixity_and here there zero = here
 fixity_and here there (suc i) = there i
@@ -93,6 +94,7 @@ module _ {Tok Cx St O W : Type 0} where
   GivesInfixWith gives p = WithInfix gives p.0 p.1
 
 module _ {Tok Cx St A B V : Type 0} (here : GivesShown Tok Cx St (A × Operands V) V) (there : GivesShown Tok Cx St (B × Operands V) V) where
+  -- what is given for what was found: as the first operator gives it, or as those after it do
   abbrev pub GivesFound : Found A B → Operands V → Shown Tok Cx St → V → St → Type 0
   GivesFound (Here f) x = here (f, x)
   GivesFound (There f) x = there (f, x)
@@ -107,6 +109,7 @@ module _ {Tok Cx St A B V : Type 0} (here : GivesShown Tok Cx St (A × Operands 
   pub gives_and-one : OnlyAnswers here → OnlyAnswers there → OnlyAnswers GivesAnd
   gives_and-one h k p = found-one h k p.0 p.1
 
+-- what was found counts as the same where both are of the first operator, or both of those after it, and are the same there
 abbrev pub SameAnd : {A B : Type 0} → (A → A → Type 0) → (B → B → Type 0) → Found A B → Found A B → Type 0
 SameAnd here there (Here f) (Here g) = here f g
 SameAnd here there (Here f) (There g) = ⊥

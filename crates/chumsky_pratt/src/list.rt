@@ -1,4 +1,4 @@
-//! Operators of one type in a slice, a `Vec` or an array, as rows.
+//! Operators of one type in a slice, a `Vec` or an array, as a row.
 ghost use Rattle.std.specs.Prelude.{◌≡◌, ◌<◌, true, false, length, All};
 ghost use Rattle.chumsky_input.specs.Run.{Runs, with_value, without_value};
 ghost use Rattle.chumsky_folds.specs.Running.{InTokens, NotPast, OnlyState, AnswersSince};
@@ -12,6 +12,16 @@ use chumsky_input::extra::ParserExtra;
 use chumsky_input::input::Input;
 use chumsky_input::input_ref::InputRef;
 use chumsky_input::stop::PResult;
+use std::convert::AsSlice;
+use std::marker::PhantomData;
+
+/// Operators of one type, in what lends them as a slice: a slice, a `Vec` or an array.
+#[derive(Drop)]
+#[derive_where(Clone, Copy; L)]
+pub struct OperatorList<T, L> {
+    pub operators: L,
+    pub of: PhantomData<T>,
+}
 
 /// What is found of a list of operators: what was read of one, and its index.
 #[derive(Drop)]
@@ -94,82 +104,7 @@ fn fold_at<'src, I: Input<'src>, O: Drop, E: ParserExtra<I>, T: Operator<'src, I
     }
 }
 
-impl<T: HasOutput> HasFound for Vec<T> {
-    type Found = FoundAt<T::Output>;
-}
-
-impl<'src, I: Input<'src>, O: Drop, E: ParserExtra<I>, T: Operator<'src, I, O, E>> Operators<
-    'src,
-    I,
-    O,
-    E,
-> for Vec<T> {
-    ghost use Rattle.chumsky_pratt.specs.Listed.{SameIn, reads_in-ends, reads_in-agree, gives_in-one};
-
-    ghost ready = { λ p. All T.ready p.items };
-
-    ghost number = { λ p. length p.items };
-
-    ghost stands = { λ p. fixity_in T.stands p.items };
-
-    ghost reads = { λ p. reads_in T.reads p.items };
-
-    ghost gives = { λ p. gives_in T.gives p.items };
-
-    ghost steady = { λ p. All T.steady p.items };
-
-    ghost same = { λ p. SameIn T.same p.items };
-
-    ghost ends_after_start = { λ p. reads_in-ends _ T.ends_after_start p.items };
-
-    ghost agrees = { λ p s. reads_in-agree _ T.steady T.same T.agrees p.items s };
-
-    ghost gives_one = { λ p s. gives_in-one _ T.steady T.gives_one p.items s };
-
-    #[inline]
-    fn count(&self) -> usize {
-        self.len()
-    }
-
-    #[inline]
-    fn fixity(&self, index: usize) -> Fixity {
-        fixity_at::<I, O, E, T>(self.as_slice(), index)
-    }
-
-    #[inline]
-    fn read_emit(
-        &self,
-        index: usize,
-        inp: &mut InputRef<'src, '_, I, E>,
-    ) -> PResult<FoundAt<T::Output>> {
-        emit_at::<I, O, E, T>(self.as_slice(), index, inp)
-    }
-
-    #[inline]
-    fn read_check(&self, index: usize, inp: &mut InputRef<'src, '_, I, E>) -> PResult<()> {
-        check_at::<I, O, E, T>(self.as_slice(), index, inp)
-    }
-
-    #[inline]
-    fn fold(
-        &self,
-        found: FoundAt<T::Output>,
-        operands: Operands<O>,
-        since: &I::Cursor,
-        inp: &mut InputRef<'src, '_, I, E>,
-    ) -> O
-        requires ready { All T.ready self.now.items }
-        requires tokens { InTokens I.Input E.Error.Error E.State.Inspector since.now inp.old }
-        requires order { NotPast I.Input E.Error.Error E.State.Inspector since.now inp.old }
-        ensures gives { AnswersSince I.Input E.Error.Error E.State.Inspector (gives_in T.gives self.now.items E.State.Inspector (found, operands)) since.now inp.old inp.new result }
-        ensures moves { OnlyState I.Input E.Error.Error E.State.Inspector inp.old inp.new }
-        ensures lent { inp.new.state.ghost_name ≡ inp.old.state.ghost_name }
-    {
-        fold_at::<I, O, E, T>(self.as_slice(), found, operands, since, inp)
-    }
-}
-
-impl<T: HasOutput, const N: usize> HasFound for [T; N] {
+impl<T: HasOutput, L> HasFound for OperatorList<T, L> {
     type Found = FoundAt<T::Output>;
 }
 
@@ -179,38 +114,38 @@ impl<
     O: Drop,
     E: ParserExtra<I>,
     T: Operator<'src, I, O, E>,
-    const N: usize,
-> Operators<'src, I, O, E> for [T; N] {
+    L: AsSlice<T>,
+> Operators<'src, I, O, E> for OperatorList<T, L> {
     ghost use Rattle.chumsky_pratt.specs.Listed.{SameIn, reads_in-ends, reads_in-agree, gives_in-one};
 
-    ghost ready = { λ p. All T.ready p };
+    ghost ready = { λ p. All T.ready (L.items p.operators) };
 
-    ghost number = { λ p. length p };
+    ghost number = { λ p. length (L.items p.operators) };
 
-    ghost stands = { λ p. fixity_in T.stands p };
+    ghost stands = { λ p. fixity_in T.stands (L.items p.operators) };
 
-    ghost reads = { λ p. reads_in T.reads p };
+    ghost reads = { λ p. reads_in T.reads (L.items p.operators) };
 
-    ghost gives = { λ p. gives_in T.gives p };
+    ghost gives = { λ p. gives_in T.gives (L.items p.operators) };
 
-    ghost steady = { λ p. All T.steady p };
+    ghost steady = { λ p. All T.steady (L.items p.operators) };
 
-    ghost same = { λ p. SameIn T.same p };
+    ghost same = { λ p. SameIn T.same (L.items p.operators) };
 
-    ghost ends_after_start = { λ p. reads_in-ends _ T.ends_after_start p };
+    ghost ends_after_start = { λ p. reads_in-ends _ T.ends_after_start (L.items p.operators) };
 
-    ghost agrees = { λ p s. reads_in-agree _ T.steady T.same T.agrees p s };
+    ghost agrees = { λ p s. reads_in-agree _ T.steady T.same T.agrees (L.items p.operators) s };
 
-    ghost gives_one = { λ p s. gives_in-one _ T.steady T.gives_one p s };
+    ghost gives_one = { λ p s. gives_in-one _ T.steady T.gives_one (L.items p.operators) s };
 
     #[inline]
     fn count(&self) -> usize {
-        self.len()
+        self.operators.as_slice().len()
     }
 
     #[inline]
     fn fixity(&self, index: usize) -> Fixity {
-        fixity_at::<I, O, E, T>(self, index)
+        fixity_at::<I, O, E, T>(self.operators.as_slice(), index)
     }
 
     #[inline]
@@ -219,12 +154,12 @@ impl<
         index: usize,
         inp: &mut InputRef<'src, '_, I, E>,
     ) -> PResult<FoundAt<T::Output>> {
-        emit_at::<I, O, E, T>(self, index, inp)
+        emit_at::<I, O, E, T>(self.operators.as_slice(), index, inp)
     }
 
     #[inline]
     fn read_check(&self, index: usize, inp: &mut InputRef<'src, '_, I, E>) -> PResult<()> {
-        check_at::<I, O, E, T>(self, index, inp)
+        check_at::<I, O, E, T>(self.operators.as_slice(), index, inp)
     }
 
     #[inline]
@@ -235,88 +170,13 @@ impl<
         since: &I::Cursor,
         inp: &mut InputRef<'src, '_, I, E>,
     ) -> O
-        requires ready { All T.ready self.now }
+        requires ready { All T.ready (L.items self.now.operators) }
         requires tokens { InTokens I.Input E.Error.Error E.State.Inspector since.now inp.old }
         requires order { NotPast I.Input E.Error.Error E.State.Inspector since.now inp.old }
-        ensures gives { AnswersSince I.Input E.Error.Error E.State.Inspector (gives_in T.gives self.now E.State.Inspector (found, operands)) since.now inp.old inp.new result }
+        ensures gives { AnswersSince I.Input E.Error.Error E.State.Inspector (gives_in T.gives (L.items self.now.operators) E.State.Inspector (found, operands)) since.now inp.old inp.new result }
         ensures moves { OnlyState I.Input E.Error.Error E.State.Inspector inp.old inp.new }
         ensures lent { inp.new.state.ghost_name ≡ inp.old.state.ghost_name }
     {
-        fold_at::<I, O, E, T>(self, found, operands, since, inp)
-    }
-}
-
-impl<T: HasOutput> HasFound for &[T] {
-    type Found = FoundAt<T::Output>;
-}
-
-impl<'src, I: Input<'src>, O: Drop, E: ParserExtra<I>, T: Operator<'src, I, O, E>> Operators<
-    'src,
-    I,
-    O,
-    E,
-> for &[T] {
-    ghost use Rattle.chumsky_pratt.specs.Listed.{SameIn, reads_in-ends, reads_in-agree, gives_in-one};
-
-    ghost ready = { λ p. All T.ready p.now };
-
-    ghost number = { λ p. length p.now };
-
-    ghost stands = { λ p. fixity_in T.stands p.now };
-
-    ghost reads = { λ p. reads_in T.reads p.now };
-
-    ghost gives = { λ p. gives_in T.gives p.now };
-
-    ghost steady = { λ p. All T.steady p.now };
-
-    ghost same = { λ p. SameIn T.same p.now };
-
-    ghost ends_after_start = { λ p. reads_in-ends _ T.ends_after_start p.now };
-
-    ghost agrees = { λ p s. reads_in-agree _ T.steady T.same T.agrees p.now s };
-
-    ghost gives_one = { λ p s. gives_in-one _ T.steady T.gives_one p.now s };
-
-    #[inline]
-    fn count(&self) -> usize {
-        self.len()
-    }
-
-    #[inline]
-    fn fixity(&self, index: usize) -> Fixity {
-        fixity_at::<I, O, E, T>(self, index)
-    }
-
-    #[inline]
-    fn read_emit(
-        &self,
-        index: usize,
-        inp: &mut InputRef<'src, '_, I, E>,
-    ) -> PResult<FoundAt<T::Output>> {
-        emit_at::<I, O, E, T>(self, index, inp)
-    }
-
-    #[inline]
-    fn read_check(&self, index: usize, inp: &mut InputRef<'src, '_, I, E>) -> PResult<()> {
-        check_at::<I, O, E, T>(self, index, inp)
-    }
-
-    #[inline]
-    fn fold(
-        &self,
-        found: FoundAt<T::Output>,
-        operands: Operands<O>,
-        since: &I::Cursor,
-        inp: &mut InputRef<'src, '_, I, E>,
-    ) -> O
-        requires ready { All T.ready self.now.now }
-        requires tokens { InTokens I.Input E.Error.Error E.State.Inspector since.now inp.old }
-        requires order { NotPast I.Input E.Error.Error E.State.Inspector since.now inp.old }
-        ensures gives { AnswersSince I.Input E.Error.Error E.State.Inspector (gives_in T.gives self.now.now E.State.Inspector (found, operands)) since.now inp.old inp.new result }
-        ensures moves { OnlyState I.Input E.Error.Error E.State.Inspector inp.old inp.new }
-        ensures lent { inp.new.state.ghost_name ≡ inp.old.state.ghost_name }
-    {
-        fold_at::<I, O, E, T>(self, found, operands, since, inp)
+        fold_at::<I, O, E, T>(self.operators.as_slice(), found, operands, since, inp)
     }
 }

@@ -21,27 +21,18 @@ pub fn prefix<P, F: Fn(W, O) -> O, O, W>(power: u16, parser: P, folder: F) -> Pr
     ensures parser { result.parser ≡ parser }
     ensures folder { result.folder ≡ folder }
 {
-    Prefix {
-        power,
-        parser,
-        folder,
-        of: PhantomData,
-    }
+    prefix_by(power, parser, folder)
 }
 
-/// An operator after its operand, of this power: `postfix(4, just('!'), |n, _| factorial(n))` for `3!`.
+/// An operator after its operand, of this power: `postfix(4, just('!'), |n, _| factorial(n))` for `3!`. After a value in an operand
+/// of a stronger operator it is not tried.
 #[inline]
 pub fn postfix<P, F: Fn(O, W) -> O, O, W>(power: u16, parser: P, folder: F) -> Postfix<P, F, O, W>
     ensures power { result.power ≡ power }
     ensures parser { result.parser ≡ parser }
     ensures folder { result.folder ≡ folder }
 {
-    Postfix {
-        power,
-        parser,
-        folder,
-        of: PhantomData,
-    }
+    postfix_by(power, parser, folder)
 }
 
 /// An operator between its operands, of this associativity and its power: `infix(left(1), just('+'), |a, _, b| a + b)` for
@@ -56,16 +47,11 @@ pub fn infix<P, F: Fn(O, W, O) -> O, O, W>(
     ensures parser { result.parser ≡ parser }
     ensures folder { result.folder ≡ folder }
 {
-    Infix {
-        associativity,
-        parser,
-        folder,
-        of: PhantomData,
-    }
+    infix_by(associativity, parser, folder)
 }
 
-/// As `prefix`, by a value of a type with an impl of `PrefixFolder`: the parser's type can then be written down, and what the folder gives
-/// is known where the parser is run.
+/// As `prefix`, by a value of a type with an impl of `PrefixFolder`: the parser's type can then be written down, and what the
+/// folder gives is known where the parser is run.
 #[inline]
 pub fn prefix_by<P, F: PrefixFolder<O, W>, O, W>(
     power: u16,
@@ -84,8 +70,7 @@ pub fn prefix_by<P, F: PrefixFolder<O, W>, O, W>(
     }
 }
 
-/// As `postfix`, by a value of a type with an impl of `PostfixFolder`: the parser's type can then be written down, and what the folder gives
-/// is known where the parser is run.
+/// As `postfix`, by a value of a type with an impl of `PostfixFolder`, likewise.
 #[inline]
 pub fn postfix_by<P, F: PostfixFolder<O, W>, O, W>(
     power: u16,
@@ -104,8 +89,7 @@ pub fn postfix_by<P, F: PostfixFolder<O, W>, O, W>(
     }
 }
 
-/// As `infix`, by a value of a type with an impl of `InfixFolder`: the parser's type can then be written down, and what the folder gives
-/// is known where the parser is run.
+/// As `infix`, by a value of a type with an impl of `InfixFolder`, likewise.
 #[inline]
 pub fn infix_by<P, F: InfixFolder<O, W>, O, W>(
     associativity: Associativity,

@@ -1,7 +1,9 @@
 //! Tuples and lists of operators as rows.
 ghost use Rattle.std.specs.Prelude.{◌≡◌};
 
+use crate::list::OperatorList;
 use crate::row::{LastOperator, OperatorAnd};
+use std::marker::PhantomData;
 
 /// Some operators that make a row: a tuple of one to eight, or those of one type in a `Vec`, an array or a slice.
 pub trait IntoRow {
@@ -283,34 +285,43 @@ impl<A, B, C, D, F, G, H, J> IntoRow for (A, B, C, D, F, G, H, J) {
 }
 
 impl<T> IntoRow for Vec<T> {
-    type Row = Vec<T>;
+    type Row = OperatorList<T, Vec<T>>;
 
-    ghost row_is = { λ t row. row ≡ t };
+    ghost row_is = { λ t row. row.operators ≡ t };
 
     #[inline]
-    fn into_row(self) -> Vec<T> {
-        self
+    fn into_row(self) -> OperatorList<T, Vec<T>> {
+        OperatorList {
+            operators: self,
+            of: PhantomData,
+        }
     }
 }
 
 impl<T, const N: usize> IntoRow for [T; N] {
-    type Row = [T; N];
+    type Row = OperatorList<T, [T; N]>;
 
-    ghost row_is = { λ t row. row ≡ t };
+    ghost row_is = { λ t row. row.operators ≡ t };
 
     #[inline]
-    fn into_row(self) -> [T; N] {
-        self
+    fn into_row(self) -> OperatorList<T, [T; N]> {
+        OperatorList {
+            operators: self,
+            of: PhantomData,
+        }
     }
 }
 
 impl<'p, T> IntoRow for &'p [T] {
-    type Row = &'p [T];
+    type Row = OperatorList<T, &'p [T]>;
 
-    ghost row_is = { λ t row. row ≡ t };
+    ghost row_is = { λ t row. row.operators ≡ t };
 
     #[inline]
-    fn into_row(self) -> &'p [T] {
-        self
+    fn into_row(self) -> OperatorList<T, &'p [T]> {
+        OperatorList {
+            operators: self,
+            of: PhantomData,
+        }
     }
 }

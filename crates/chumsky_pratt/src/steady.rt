@@ -7,6 +7,7 @@ ghost use Rattle.chumsky_pratt.specs.Operators.{OnlyOne, GivesPrefix, GivesPostf
 
 use crate::folder_with::InfixFolderWith;
 use crate::folders::{InfixFolder, PostfixFolder, PrefixFolder};
+use crate::list::OperatorList;
 use crate::operator::{Infix, Operator, Postfix, Prefix};
 use crate::operator_with::{InfixWith, PostfixWith, PrefixWith};
 use crate::pratt::Pratt;
@@ -15,6 +16,7 @@ use chumsky_folds::folder_with::{FolderWith, RightFolderWith};
 use chumsky_input::extra::ParserExtra;
 use chumsky_input::input::Input;
 use chumsky_parser::parser::Parser;
+use std::convert::AsSlice;
 
 /// `a.pratt(..)`. Two outputs are the same where they are built alike, from atoms that are the same, by operators that are.
 pub fn pratt_is_steady<
@@ -46,19 +48,14 @@ pub fn operators_are_steady<
 /// Operators of one type in a slice, a `Vec` or an array.
 pub fn operators_of_a_list_are_steady<
     'src,
-    'p,
     I: Input<'src>,
     O: Drop,
     E: ParserExtra<I>,
     T: Operator<'src, I, O, E>,
-    const N: usize,
->(slice: &&'p [T], vec: &Vec<T>, array: &[T; N])
-    ensures ready_slice { All T.ready slice.now.now → ⟦<&'p [T] as Operators<'src, I, O, E>>⟧.ready slice.now }
-    ensures ready_vec { All T.ready vec.now.items → ⟦<Vec<T> as Operators<'src, I, O, E>>⟧.ready vec.now }
-    ensures ready_array { All T.ready array.now → ⟦<[T; N] as Operators<'src, I, O, E>>⟧.ready array.now }
-    ensures slice { All T.steady slice.now.now → ⟦<&'p [T] as Operators<'src, I, O, E>>⟧.steady slice.now }
-    ensures vec { All T.steady vec.now.items → ⟦<Vec<T> as Operators<'src, I, O, E>>⟧.steady vec.now }
-    ensures array { All T.steady array.now → ⟦<[T; N] as Operators<'src, I, O, E>>⟧.steady array.now }
+    L: AsSlice<T>,
+>(list: &OperatorList<T, L>)
+    ensures ready { All T.ready (L.items list.now.operators) → ⟦<OperatorList<T, L> as Operators<'src, I, O, E>>⟧.ready list.now }
+    ensures steady { All T.steady (L.items list.now.operators) → ⟦<OperatorList<T, L> as Operators<'src, I, O, E>>⟧.steady list.now }
 {}
 
 /// `prefix(power, op, f)`, where `f` gives one output for each operator and operand.
