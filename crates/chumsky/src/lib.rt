@@ -253,6 +253,7 @@ pub mod text {
 /// which leaves move, and why a call on them is refused.
 pub mod recursive {
     pub use crate::moving_part::run_moving;
+    pub use chumsky_descent::hole::Body;
     pub use chumsky_descent::moving::MovingRecursion;
     pub use chumsky_descent::recursive::{
         Called, Recursion, RunsUnder, Unsaid, recursive, recursive_as,

@@ -14,14 +14,14 @@ module _ {Tok Cx St Er spare : Type 0} where
   under_none Nothing b o m = m
   under_none (Means body) b o m = m
   under_none (Steady same body keeps) b o m = m
-  under_none (Exact same body keeps intended grammar accepts) b o m = m
+  under_none (Exact calls bodies are intended grammar keeps) b o m = are.none b o m
   under_none (Together same bodies keep name) b o m = m
 
   under_more : {V : Type 0} (said : Said Tok Cx St Er spare V) (depth : ℕ) (b : Beginning Tok Cx St) (o : Outcome V Er St) → Onward (DoesUnder said depth) b o → DoesCall said (suc depth) b o
   under_more Nothing depth b o m = record { means = tt; ends = m.ends }
   under_more (Means body) depth b o m = m
   under_more (Steady same body keeps) depth b o m = m
-  under_more (Exact same body keeps intended grammar accepts) depth b o m = m
+  under_more (Exact calls bodies are intended grammar keeps) depth b o m = are.one depth b o m
   under_more (Together same bodies keep name) depth b o m = m
 
 module _ {Tok Cx St Er spare V : Type 0} {merged : Er → Er → Er} {safe : Type 0} (said : Said Tok Cx St Er spare V) where

@@ -3,15 +3,14 @@
 use Rattle.std.proofs.Common.{◌≡◌, ℕ, zero, suc, ◌<◌, true, Some, List, refl, arith, inr, subst}
 use Rattle.std.specs.Prelude.{⊤}
 use Rattle.chumsky_input.specs.declared.stop.Stop.TheVariants.{TooDeep}
-use Rattle.chumsky_input.specs.Outcome.{Meaning, Outcome, Verdict, Halt, EndsAfterStart}
+use Rattle.chumsky_input.specs.Outcome.{Meaning, Beginning, Outcome, Halt}
 use Rattle.chumsky_combinator.specs.Part.{Onward}
-use Rattle.chumsky_combinator.specs.PartLaws.{onward-ends}
 use Rattle.chumsky_parser.specs.Ending.{Ending, Refused, Answers, DoesNotEnd}
 use Rattle.chumsky_parser.specs.Language.{Language, Described, Accepts, IsBelow, unsaid, of_unsaid}
-use Rattle.chumsky_moves.specs.PartsMove.{onward-moves}
-use Rattle.chumsky_descent.specs.CallLaws.{call-ends}
-use Rattle.chumsky_descent.specs.Calls.{Body, IsTooDeep, CallOf, KeepsLanguage, Intended, Said, Nothing, Means, Steady, Exact, Together, DoesCall}
-use Rattle.chumsky_descent.specs.Kept.{too_deep-moves, too_deep-spares, onward-spares}
+use Rattle.chumsky_parser.specs.LanguageLaws.{fewer-accepts}
+use Rattle.chumsky_descent.specs.CallLaws.{exact-ends, exact-agrees}
+use Rattle.chumsky_descent.specs.Calls.{IsTooDeep, AreCalls, KeepsLaws, Intended, Said, Nothing, Means, Steady, Exact, Together, DoesCall}
+use Rattle.chumsky_descent.specs.Kept.{too_deep-moves, too_deep-spares}
 
 module _ {Tok V : Type 0} (intended : Intended Tok V) where
   -- the words that are intended, each text refused
@@ -81,24 +80,13 @@ module _ {Tok Cx St Er V : Type 0} {spare : Type 0} where
     sparing = λ q x. too_deep-spares;
   }
 
-  -- what doesn't end before its start is told the same
-  pub onward-accepts : (m : Meaning Tok Cx St Er V) (l : Language Tok V) → Accepts m l spare → Accepts (Onward m) l spare
-  onward-accepts m l h = record {
-    described = λ s. let d = h.described s in record {
-      reads = record { here = λ b w o n. d.reads.here b w o n.means };
-      only = d.only;
-      given = d.given;
-      each = d.each;
-      decided = d.decided;
-      further = d.further;
-    };
-    moving = λ e. onward-moves _ (h.moving e);
-    sparing = λ q x. onward-spares m (h.sparing q x);
-  }
-
-  pub call-accepts : (body : Body Tok Cx St Er V) (intended : Intended Tok V) (grammar : Language Tok V → Language Tok V) → KeepsLanguage spare body grammar → (depth : ℕ) → Accepts (CallOf body depth) (call_language intended grammar depth) spare
-  call-accepts body intended grammar keeps zero = too_deep-accepts intended
-  call-accepts body intended grammar keeps (suc depth) = onward-accepts _ _ (keeps depth (call_language intended grammar depth) (call-ends body depth) (call-accepts body intended grammar keeps depth))
+  -- where the bodies are lawful, each call accepts its language
+  module _ {calls bodies : ℕ → Meaning Tok Cx St Er V} (are : AreCalls calls bodies) (intended : Intended Tok V) (grammar : Language Tok V → Language Tok V) (keeps : KeepsLaws calls bodies spare grammar) where
+    pub exact-accepts : (depth : ℕ) → Accepts (calls depth) (call_language intended grammar depth) spare
+    exact-accepts zero = fewer-accepts _ _ are.is_none (too_deep intended) (too_deep-accepts intended)
+    exact-accepts (suc depth) =
+        let l = keeps depth (call_language intended grammar depth) (record { ends = exact-ends are depth; agrees = exact-agrees are grammar keeps depth; accepts = exact-accepts depth }) in
+        fewer-accepts _ _ (λ b o m. (are.is_one depth b o m).means) (call_language intended grammar (suc depth)) l.accepts
 
 module _ {Tok Cx St Er : Type 0} where
   -- the language of a call of a function of which this is said
@@ -106,7 +94,7 @@ module _ {Tok Cx St Er : Type 0} where
   language_of Nothing depth = unsaid
   language_of (Means body) depth = unsaid
   language_of (Steady same body keeps) depth = unsaid
-  language_of (Exact same body keeps intended grammar accepts) depth = call_language intended grammar depth
+  language_of (Exact calls bodies are intended grammar keeps) depth = call_language intended grammar depth
   language_of (Together same bodies keep name) depth = unsaid
 
   -- a call accepts the language that is said
@@ -114,5 +102,5 @@ module _ {Tok Cx St Er : Type 0} where
   does_call-accepts Nothing depth = of_unsaid
   does_call-accepts (Means body) depth = of_unsaid
   does_call-accepts (Steady same body keeps) depth = of_unsaid
-  does_call-accepts (Exact same body keeps intended grammar accepts) depth = call-accepts body intended grammar accepts depth
+  does_call-accepts (Exact calls bodies are intended grammar keeps) depth = exact-accepts are intended grammar keeps depth
   does_call-accepts (Together same bodies keep name) depth = of_unsaid

@@ -9,10 +9,11 @@ use Rattle.chumsky_input.specs.declared.input.Input as input_trait
 use Rattle.chumsky_input.specs.declared.input_ref.InputRef.{InputRef}
 use Rattle.chumsky_input.specs.declared.stop.Fault.{Fault}
 use Rattle.chumsky_input.specs.declared.stop.Stop.TheVariants.{TooDeep}
-use Rattle.chumsky_input.specs.Outcome.{Meaning, Beginning, Outcome, Halt, Agreeing, EndsAfterStart}
+use Rattle.chumsky_input.specs.Outcome.{Meaning, Beginning, Outcome, Halt, Agreeing}
 use Rattle.chumsky_input.specs.Run.{Runs}
-use Rattle.chumsky_parser.specs.Language.{Language, Accepts}
+use Rattle.chumsky_parser.specs.Language.{Language}
 use Rattle.chumsky_combinator.specs.Part.{Onward}
+use Rattle.chumsky_descent.specs.Lawful.{AnyTwo, Lawful}
 
 -- what the body of a function may do under a depth, of what a call in it may do
 abbrev pub Body : (Tok Cx St Er V : Type 0) → Type 1
@@ -48,10 +49,17 @@ module _ {Tok Cx St Er : Type 0} where
       (depth : ℕ) → ((called : Name) → Agreeing (same called) (CallsOf bodies depth called) (CallsOf bodies depth called))
       → (name : Name) → Agreeing (same name) (bodies name depth (CallsOf bodies depth)) (bodies name depth (CallsOf bodies depth))
 
-module _ {Tok Cx St Er V : Type 0} where
-  -- where a call accepts its language, the body accepts what is made of that
-  abbrev pub KeepsLanguage : Type 0 → Body Tok Cx St Er V → (Language Tok V → Language Tok V) → Type 1
-  KeepsLanguage spare body grammar = (depth : ℕ) (call : Language Tok V) → EndsAfterStart (CallOf body depth) → Accepts (CallOf body depth) call spare → Accepts (body depth (CallOf body depth)) (grammar call) spare
+module _ {Tok Cx St Er V : Type 0} (calls bodies : ℕ → Meaning Tok Cx St Er V) where
+  -- these are the calls of a function, under each depth, and those its bodies: none under 0, and else its body under one less
+  pub record AreCalls : Type 0 where
+    pub none : (b : Beginning Tok Cx St) (o : Outcome V Er St) → Onward IsTooDeep b o → calls zero b o
+    pub is_none : (b : Beginning Tok Cx St) (o : Outcome V Er St) → calls zero b o → Onward IsTooDeep b o
+    pub one : (depth : ℕ) (b : Beginning Tok Cx St) (o : Outcome V Er St) → Onward (bodies depth) b o → calls (suc depth) b o
+    pub is_one : (depth : ℕ) (b : Beginning Tok Cx St) (o : Outcome V Er St) → calls (suc depth) b o → Onward (bodies depth) b o
+
+  -- where a call is lawful with a language, the body is with what is made of that
+  abbrev pub KeepsLaws : Type 0 → (Language Tok V → Language Tok V) → Type 1
+  KeepsLaws spare grammar = (depth : ℕ) (l : Language Tok V) → Lawful spare (calls depth) l → Lawful spare (bodies depth) (grammar l)
 
 -- the language that a function is intended to have, under any depth: its words, the values that they stand for, and what may
 -- follow them; texts on which it ends nowhere; and whether it takes a token wherever it succeeds
@@ -62,15 +70,15 @@ pub record Intended (Tok V : Type 0) : Type 1 where
   pub fails : List Tok → Type 0
   pub moves : Bool
 
--- what is said of a function: nothing; what its body may do; that it is steady too, with the outputs that count as the same; the
--- language that is intended besides, and its own of that of a call in it; and that it is steady of functions that call each other,
--- with the name of this one.
+-- what is said of a function: nothing; what its body may do; that it is steady too, with the outputs that count as the same; what its
+-- calls and its bodies do under each depth, the language that is intended, and its own of that of a call in it; and that it is steady
+-- of functions that call each other, with the name of this one.
 -- That errors and states take no memory is `spare`
 pub data Said (Tok Cx St Er spare : Type 0) : Type 0 → Type 1 where
   Nothing : {V : Type 0} → Said Tok Cx St Er spare V
   Means : {V : Type 0} → Body Tok Cx St Er V → Said Tok Cx St Er spare V
   Steady : {V : Type 0} (same : V → V → Type 0) (body : Body Tok Cx St Er V) → KeepsAgreement same body → Said Tok Cx St Er spare V
-  Exact : {V : Type 0} (same : V → V → Type 0) (body : Body Tok Cx St Er V) → KeepsAgreement same body → (intended : Intended Tok V) (grammar : Language Tok V → Language Tok V) → KeepsLanguage spare body grammar → Said Tok Cx St Er spare V
+  Exact : {V : Type 0} (calls bodies : ℕ → Meaning Tok Cx St Er V) → AreCalls calls bodies → (intended : Intended Tok V) (grammar : Language Tok V → Language Tok V) → KeepsLaws calls bodies spare grammar → Said Tok Cx St Er spare V
   Together : {Name : Type 0} {V : Name → Type 0} (same : (name : Name) → V name → V name → Type 0) (bodies : Bodies Tok Cx St Er Name V)
       → KeepAgreement same bodies → (name : Name) → Said Tok Cx St Er spare (V name)
 
@@ -84,7 +92,7 @@ module _ {Tok Cx St Er : Type 0} where
   DoesCall Nothing depth = CallOf (λ depth call. Anything) depth
   DoesCall (Means body) depth = CallOf body depth
   DoesCall (Steady same body keeps) depth = CallOf body depth
-  DoesCall (Exact same body keeps intended grammar accepts) depth = CallOf body depth
+  DoesCall (Exact calls bodies are intended grammar keeps) depth = calls depth
   DoesCall (Together same bodies keep name) depth = CallsOf bodies depth name
 
   -- what the function does under a depth
@@ -92,7 +100,7 @@ module _ {Tok Cx St Er : Type 0} where
   DoesUnder Nothing depth = Anything
   DoesUnder (Means body) depth = body depth (CallOf body depth)
   DoesUnder (Steady same body keeps) depth = body depth (CallOf body depth)
-  DoesUnder (Exact same body keeps intended grammar accepts) depth = body depth (CallOf body depth)
+  DoesUnder (Exact calls bodies are intended grammar keeps) depth = bodies depth
   DoesUnder (Together same bodies keep name) depth = bodies name depth (CallsOf bodies depth)
 
   -- which outputs count as the same: equal ones, where nothing is said of them
@@ -100,14 +108,14 @@ module _ {Tok Cx St Er : Type 0} where
   same_of Nothing v w = v ≡ w
   same_of (Means body) v w = v ≡ w
   same_of (Steady same body keeps) v w = same v w
-  same_of (Exact same body keeps intended grammar accepts) v w = same v w
+  same_of (Exact calls bodies are intended grammar keeps) v w = AnyTwo v w
   same_of (Together same bodies keep name) v w = same name v w
 
   abbrev pub IsSteady : {spare V : Type 0} → Said Tok Cx St Er spare V → Type 0
   IsSteady Nothing = ⊥
   IsSteady (Means body) = ⊥
   IsSteady (Steady same body keeps) = ⊤
-  IsSteady (Exact same body keeps intended grammar accepts) = ⊤
+  IsSteady (Exact calls bodies are intended grammar keeps) = ⊤
   IsSteady (Together same bodies keep name) = ⊤
 
 -- what is said of a function in the words of the errors and of the states

@@ -25,18 +25,18 @@ module _ {Tok Cx St Er : Type 0} where
 
   -- a call under no depth, and one under one more
   none-moves : {spare V : Type 0} (said : Said Tok Cx St Er spare V) → Moves (DoesCall said zero)
-  none-moves Nothing = too_deep-moves
-  none-moves (Means body) = too_deep-moves
-  none-moves (Steady same body keeps) = too_deep-moves
-  none-moves (Exact same body keeps intended grammar accepts) = too_deep-moves
-  none-moves (Together same bodies keep name) = too_deep-moves
+  none-moves Nothing b o m = too_deep-moves b o m
+  none-moves (Means body) b o m = too_deep-moves b o m
+  none-moves (Steady same body keeps) b o m = too_deep-moves b o m
+  none-moves (Exact calls bodies are intended grammar keeps) b o m = too_deep-moves b o (are.is_none b o m)
+  none-moves (Together same bodies keep name) b o m = too_deep-moves b o m
 
   more-moves : {spare V : Type 0} (said : Said Tok Cx St Er spare V) (depth : ℕ) → Moves (DoesUnder said depth) → Moves (DoesCall said (suc depth))
-  more-moves Nothing depth h = onward-moves _ h
-  more-moves (Means body) depth h = onward-moves _ h
-  more-moves (Steady same body keeps) depth h = onward-moves _ h
-  more-moves (Exact same body keeps intended grammar accepts) depth h = onward-moves _ h
-  more-moves (Together same bodies keep name) depth h = onward-moves _ h
+  more-moves Nothing depth h b o m = onward-moves _ h b o m
+  more-moves (Means body) depth h b o m = onward-moves _ h b o m
+  more-moves (Steady same body keeps) depth h b o m = onward-moves _ h b o m
+  more-moves (Exact calls bodies are intended grammar keeps) depth h b o m = onward-moves _ h b o (are.is_one depth b o m)
+  more-moves (Together same bodies keep name) depth h b o m = onward-moves _ h b o m
 
   -- each call moves, where the function does when they do
   pub call-moves : {spare V : Type 0} (said : Said Tok Cx St Er spare V) → KeepsMoving said → (depth : ℕ) → Moves (DoesCall said depth)
@@ -50,18 +50,18 @@ module _ {Tok Cx St Er : Type 0} where
   too_deep-spares b o m = rw m.means.verdict tt
 
   none-spares : {spare V : Type 0} (said : Said Tok Cx St Er spare V) → NeverOutOfMemory (DoesCall said zero)
-  none-spares Nothing = too_deep-spares
-  none-spares (Means body) = too_deep-spares
-  none-spares (Steady same body keeps) = too_deep-spares
-  none-spares (Exact same body keeps intended grammar accepts) = too_deep-spares
-  none-spares (Together same bodies keep name) = too_deep-spares
+  none-spares Nothing b o m = too_deep-spares b o m
+  none-spares (Means body) b o m = too_deep-spares b o m
+  none-spares (Steady same body keeps) b o m = too_deep-spares b o m
+  none-spares (Exact calls bodies are intended grammar keeps) b o m = too_deep-spares b o (are.is_none b o m)
+  none-spares (Together same bodies keep name) b o m = too_deep-spares b o m
 
   more-spares : {spare V : Type 0} (said : Said Tok Cx St Er spare V) (depth : ℕ) → NeverOutOfMemory (DoesUnder said depth) → NeverOutOfMemory (DoesCall said (suc depth))
-  more-spares Nothing depth h = onward-spares _ h
-  more-spares (Means body) depth h = onward-spares _ h
-  more-spares (Steady same body keeps) depth h = onward-spares _ h
-  more-spares (Exact same body keeps intended grammar accepts) depth h = onward-spares _ h
-  more-spares (Together same bodies keep name) depth h = onward-spares _ h
+  more-spares Nothing depth h b o m = onward-spares _ h b o m
+  more-spares (Means body) depth h b o m = onward-spares _ h b o m
+  more-spares (Steady same body keeps) depth h b o m = onward-spares _ h b o m
+  more-spares (Exact calls bodies are intended grammar keeps) depth h b o m = onward-spares _ h b o (are.is_one depth b o m)
+  more-spares (Together same bodies keep name) depth h b o m = onward-spares _ h b o m
 
   -- each call is never refused for memory, where the function isn't when they aren't
   pub call-spares : {spare V : Type 0} (said : Said Tok Cx St Er spare V) → KeepsSparing said → (depth : ℕ) → NeverOutOfMemory (DoesCall said depth)

@@ -16,8 +16,8 @@ use std::marker::PhantomData;
 ///
 /// `Nothing` is said by `Unsaid`, and where the impl is empty. `Means (λ depth call. ..)` says what the body may do.
 /// `Steady same (λ depth call. ..) (λ depth call. ..)` says also which outputs count as the same, and that two answers of the
-/// body agree where two of the call do; then `check` is known to agree with `parse`. `Exact` says besides which language the
-/// function has, of that of a call in it: which texts it accepts, and with which values.
+/// body agree where two of the call do; then `check` is known to agree with `parse`. `exactly` says which language the function
+/// has: which texts it accepts, and with which values. It takes the body from an impl of `Body`, which stands for it.
 pub trait Recursion<'src, I: Input<'src>, O, E: ParserExtra<I>> {
     ghost use Rattle.chumsky_descent.specs.Calls.{Says, Nothing};
 

@@ -5,6 +5,7 @@ pub mod Bits
 pub mod BitsLaws
 pub mod Date
 pub mod DateLaws
+pub mod Listed
 pub mod Level
 pub mod LevelLaws
 pub mod Nested
@@ -14,5 +15,4 @@ pub mod NumberLaws
 pub mod Pairs
 pub mod PairsLaws
 pub mod Trees
-pub mod TreesBody
 pub mod TreesLaws

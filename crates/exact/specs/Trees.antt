@@ -1,23 +1,17 @@
 -- Numbers in lists within one another: how they are written, and the language of the function that reads them.
--- Main words: IsTree, IsText, trees, tree_language. Laws: TreesLaws.antt. Read first: Number.antt.
-use Rattle.std.specs.Prelude.{◌≡◌, ℕ, zero, suc, ◌||◌, nat_eq, true, false, cond, Bool, Option, None, List, [], ◌∷◌, ◌++◌, codes}
-use Rattle.std.specs.Borrow.{Bor}
+-- Main words: IsTree, IsText, trees, grammar. Laws: TreesLaws.antt. Read first: Number.antt.
+use Rattle.std.specs.Prelude.{ℕ, zero, suc, ◌||◌, nat_eq, true, Bool, Option, List, [], ◌∷◌, ◌++◌, codes}
 use Rattle.std.specs.Char.{is_digit}
 use Rattle.std.specs.Str.{encode_utf8_all}
 use Rattle.std.specs.declared.alloc.Global.{Global}
 use Rattle.std.specs.declared.vec.Vec.{Vec}
-use Rattle.chumsky_parser.specs.ChoiceLanguage.{or_language}
 use Rattle.chumsky_parser.specs.Language.{Language}
-use Rattle.chumsky_parser.specs.SequenceLanguage.{between_language}
 use Rattle.chumsky_parser.specs.Words.{StopsAt}
-use Rattle.chumsky_combinator.specs.MappedLanguage.{map_language}
-use Rattle.chumsky_items.specs.ListLanguage.{collected_language}
-use Rattle.chumsky_items.specs.SeparatedLanguage.{separated_language}
-use Rattle.chumsky_items.specs.Separating.{Bounds}
-use Rattle.chumsky_shield.specs.Picked.{picked_language}
-use Rattle.chumsky_text.specs.Decimals.{unsigned_of, TextSlice}
-use Rattle.chumsky_text.specs.TextLanguage.{word_language}
+use Rattle.chumsky_text.specs.Decimals.{unsigned_of}
 use Rattle.chumsky_descent.specs.Calls.{Intended}
+use Rattle.chumsky_descent.specs.Exactly.{grammar_of}
+use Rattle.exact.specs.contracts.trees.OfTreeBodyRefStrTreeEmptyText.TheImpl.{ghosts, no_dict}
+use denote.Builtin.{unit}
 use Rattle.exact.specs.declared.trees.Tree.{Tree}
 use Rattle.exact.specs.declared.trees.Tree as tree
 use Rattle.exact.specs.Number.{IsNumber}
@@ -54,26 +48,10 @@ begins_tree c = is_digit c 10 || nat_eq 91 c
 abbrev pub trees : Intended ℕ Tree
 trees = record { word = IsText; stands_for = IsTree; follow = StopsAt (λ c. is_digit c 10); fails = StopsAt begins_tree; moves = true }
 
--- which characters begin a number, and which go on with it
-abbrev pub begins_number : ℕ → Bool
-begins_number t = is_digit t 10
-
-abbrev pub in_number : ℕ → ℕ → Bool
-in_number t c = cond (nat_eq t 48) false (is_digit c 10)
-
 -- the number that digits write
 abbrev pub number_of : List ℕ → Option ℕ
 number_of w = unsigned_of 32 (encode_utf8_all w)
 
--- `text::int(10).pick_by(text::decimal::<u32>()).map_by(ToNumber)`
-abbrev pub number_language : Language ℕ Tree
-number_language = map_language (λ n t. t ≡ tree.Number n) (picked_language number_of (word_language {V = Bor (List ℕ)} (TextSlice (λ s. s.now)) begins_number in_number))
-
--- any number of items, with a separator between each two
-abbrev pub any_number : Bounds
-any_number = record { least = 0; most = None; leading = false; trailing = false; free = false }
-
--- `number.or(call.separated_by(comma).collect::<Vec<_>>().delimited_by(opening, closing).map_by(ToList))`
-abbrev pub tree_language : {Tok U : Type 0} → Language Tok Tree → Language Tok U → Language Tok U → Language Tok U → Language Tok Tree → Language Tok Tree
-tree_language number comma opening closing call =
-    or_language number (map_language (λ ts t. t ≡ tree.List ts) (between_language opening (collected_language {C = Vec Tree Global} (separated_language comma call any_number) (λ xs v. v.items ≡ xs) ⊥) closing))
+-- the language of the function's body, of that of a call in it
+abbrev pub grammar : Language ℕ Tree → Language ℕ Tree
+grammar = grammar_of (λ call. (ghosts unit call no_dict).body tt)

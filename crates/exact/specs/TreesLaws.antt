@@ -11,7 +11,7 @@ use Rattle.chumsky_parser.specs.FurtherLaws.{both-below, behind-below}
 use Rattle.chumsky_parser.specs.ItemsLanguage.{ListFrom, IsListFrom}
 use Rattle.chumsky_parser.specs.Language.{Language, sooner}
 use Rattle.chumsky_parser.specs.Words.{Joined, StopsAt}
-use Rattle.chumsky_primitive.specs.PrimitiveLanguage.{literal_language, Equals}
+use Rattle.chumsky_primitive.specs.PrimitiveLanguage.{Equals}
 use Rattle.chumsky_primitive.specs.Literals.{equals-same, same-equals}
 use Rattle.chumsky_items.specs.ListWords.{SeparatedWord, SeparatedEnd}
 use Rattle.chumsky_shield.specs.Picked.{IsPick}
@@ -19,8 +19,9 @@ use Rattle.chumsky_text.specs.Decimals.{IsInt}
 use Rattle.chumsky_descent.specs.CallLanguage.{call_language, IsIntended, call-is_intended}
 use Rattle.exact.specs.declared.trees.Tree.{Tree}
 use Rattle.exact.specs.declared.trees.Tree as tree
-use Rattle.exact.specs.NumberLaws.{number-sound, number-complete}
-use Rattle.exact.specs.Trees.{IsTree, is_number, is_list, AreTrees, no_tree, one_tree, more_trees, IsText, number_text, list_text, AreTexts, no_text, one_text, more_texts, begins_tree, trees, number_of, number_language, tree_language}
+use Rattle.exact.specs.Listed.{listed}
+use Rattle.exact.specs.NumberLaws.{number-sound, number-complete, no_digit-stops}
+use Rattle.exact.specs.Trees.{IsTree, is_number, is_list, AreTrees, no_tree, one_tree, more_trees, IsText, number_text, list_text, AreTexts, no_text, one_text, more_texts, begins_tree, trees, number_of, grammar}
 
 abbrev Is : List ℕ → List ℕ → Type 0
 Is = Equals nat_eq
@@ -35,24 +36,6 @@ mutual
   trees-texts no_tree = no_text
   trees-texts (one_tree i) = one_text (tree-text i)
   trees-texts (more_trees i a) = more_texts (tree-text i) (trees-texts a)
-
--- words of items with a comma between each two: where they are of some V, so is the list
-module _ {V : Type 0} (of : List ℕ → V → Type 0) (Are : List ℕ → List V → Type 0) (none : Are [] []) (one : (w : List ℕ) (v : V) → of w v → Are w (v ∷ []))
-    (more : (w ws : List ℕ) (v u : V) (vs : List V) → of w v → Are ws (u ∷ vs) → Are (w ++ (codes "," ++ ws)) (v ∷ u ∷ vs)) where
-  abbrev ListOf : ℕ → List V → List ℕ → Type 0
-  ListOf = ListFrom (λ k u v. SeparatedWord (Is (codes ",")) false None (λ z. of z v) k u) (SeparatedEnd (Is (codes ",")) false false 0 None)
-
-  with_first : (k : ℕ) (w rest : List ℕ) (v : V) (vs : List V) → of w v → ListOf (suc k) vs rest → Are (w ++ rest) (v ∷ vs)
-  with_first k w rest v [] i l = let e : rest ≡ [] = l.1 in subst (λ z. Are z (v ∷ [])) (sym (append-nil w) ∙ ap (λ z. w ++ z) (sym e)) (one w v i)
-  with_first k w rest v (u ∷ vs) i l =
-      let j = l.is_first.1 in
-      let c : j.first ≡ codes "," = equals-same (codes ",") j.first j.is_first in
-      let e : w ++ (codes "," ++ (j.second ++ l.second)) ≡ w ++ rest = cc (l.all, j.all, c) in
-      subst (λ z. Are z (v ∷ u ∷ vs)) e (more w (j.second ++ l.second) v u vs i (with_first (suc k) j.second l.second u vs j.is_second l.is_second))
-
-  listed : (vs : List V) (w : List ℕ) → ListOf 0 vs w → Are w vs
-  listed [] w l = let e : w ≡ [] = l.1 in subst (λ z. Are z []) (sym e) none
-  listed (v ∷ vs) w l = subst (λ z. Are z (v ∷ vs)) (sym l.all) (with_first 0 l.first l.second v vs l.is_first.1 l.is_second)
 
 -- a text of them is a word of such a list
 module _ (P : List ℕ → Type 0) (is : (w : List ℕ) → IsText w → P w) where
@@ -79,123 +62,98 @@ both_false : (a b : Bool) → (a || b) ≡ false → (a ≡ false) × (b ≡ fal
 both_false true b e = absurd (cc e)
 both_false false b e = (refl, e)
 
--- where no digit follows, none goes on with a number
-stops_all : (t : ℕ) (rest : List ℕ) → StopsAt (λ c. is_digit c 10) rest → StopsAt (λ c. cond (nat_eq t 48) false (is_digit c 10)) rest
-stops_all t [] s = tt
-stops_all t (c ∷ cs) s = by_zero (nat_eq t 48)
-  where
-    by_zero : (z : Bool) → cond z false (is_digit c 10) ≡ false
-    by_zero true = refl
-    by_zero false = s
+by_comma : (P : List ℕ → Type 0) (c : List ℕ) → Is (codes ",") c → P (codes ",") → P c
+by_comma P c i p = let e : c ≡ codes "," = equals-same (codes ",") c i in subst P (sym e) p
 
 picked_number : (w : List ℕ) → IsInt w → (x : Option ℕ) → number_of w ≡ x → IsPick x → IsText w
 picked_number w i (Some n) e p = number_text n (number-sound w n (i, e))
 picked_number w i None e p = absurd p
 
-module _ (copies-c copies-o copies-e : ℕ → Type 0) (free-c free-o free-e : Type 0) where
-  abbrev comma : Language ℕ ℕ
-  comma = literal_language nat_eq (44 ∷ []) copies-c free-c
+module _ (call : Language ℕ Tree) (depth : ℕ) (i : IsIntended trees call depth) where
+  -- what stands between brackets
+  in_brackets : (P : List ℕ → Type 0) (w : List ℕ) → ((v : List ℕ) → P v → IsText (codes "[" ++ (v ++ codes "]"))) → Joined (Is (91 ∷ [])) (Joined P (Is (93 ∷ []))) w → IsText w
+  in_brackets P w text j =
+      let o : j.first ≡ 91 ∷ [] = equals-same (91 ∷ []) j.first j.is_first in
+      let c : j.is_second.second ≡ 93 ∷ [] = equals-same (93 ∷ []) j.is_second.second j.is_second.is_second in
+      let e : codes "[" ++ (j.is_second.first ++ codes "]") ≡ w = cc (j.all, o, j.is_second.all, c) in
+      subst IsText e (text j.is_second.first j.is_second.is_first)
 
-  abbrev opening : Language ℕ ℕ
-  opening = literal_language nat_eq (91 ∷ []) copies-o free-o
+  only : (w : List ℕ) → (grammar call).word w → IsText w
+  only w j = elim j [
+    | inl n ↦ picked_number w n.0 (number_of w) refl n.1
+    | inr l ↦ in_brackets _ w (λ v k. list_text (length k.items) (listed (Is (codes ",")) (λ u z. call.word u) (λ u us. AreTexts u (length us)) no_text (λ u z h. one_text (i.only u h)) (λ u c us z y zs h s a. by_comma (λ x. AreTexts (u ++ (x ++ us)) (suc (suc (length zs)))) c s (more_texts (i.only u h) a)) k.items v k.are)) l
+  ]
 
-  abbrev closing : Language ℕ ℕ
-  closing = literal_language nat_eq (93 ∷ []) copies-e free-e
-
-  abbrev grammar : Language ℕ Tree → Language ℕ Tree
-  grammar = tree_language number_language comma opening closing
-
-  module _ (call : Language ℕ Tree) (depth : ℕ) (i : IsIntended trees call depth) where
-    -- what stands between brackets
-    in_brackets : (P : List ℕ → Type 0) (w : List ℕ) → ((v : List ℕ) → P v → IsText (codes "[" ++ (v ++ codes "]"))) → Joined (Is (91 ∷ [])) (Joined P (Is (93 ∷ []))) w → IsText w
-    in_brackets P w text j =
+  given : (w : List ℕ) (t : Tree) → (grammar call).stands_for w t → IsTree w t
+  given w t j = elim j [
+    | inl m ↦ subst (IsTree w) (sym m.2) (is_number m.0 (number-sound w m.0 m.1))
+    | inr m ↦ (
+        let ts : Vec Tree Global = m.0 in
+        let j = m.1 in
         let o : j.first ≡ 91 ∷ [] = equals-same (91 ∷ []) j.first j.is_first in
         let c : j.is_second.second ≡ 93 ∷ [] = equals-same (93 ∷ []) j.is_second.second j.is_second.is_second in
         let e : codes "[" ++ (j.is_second.first ++ codes "]") ≡ w = cc (j.all, o, j.is_second.all, c) in
-        subst IsText e (text j.is_second.first j.is_second.is_first)
+        let k = j.is_second.is_first in
+        let a : AreTrees j.is_second.first k.items = listed (Is (codes ",")) call.stands_for AreTrees no_tree (λ u z h. one_tree (i.given u z h)) (λ u c us z y zs h s a. by_comma (λ x. AreTrees (u ++ (x ++ us)) (z ∷ y ∷ zs)) c s (more_trees (i.given u z h) a)) k.items j.is_second.first k.is in
+        let b : AreTrees j.is_second.first ts.items = subst (AreTrees j.is_second.first) (sym k.held) a in
+        let d : IsTree w (tree.List ts) = subst (λ z. IsTree z (tree.List ts)) e (is_list ts b) in
+        subst (IsTree w) (sym m.2) d
+        )
+  ]
 
-    only : (w : List ℕ) → (grammar call).word w → IsText w
-    only w j = elim j [
-      | inl n ↦ picked_number w n.0 (number_of w) refl n.1
-      | inr l ↦ in_brackets _ w (λ v k. list_text (length k.items) (listed (λ u z. call.word u) (λ u us. AreTexts u (length us)) no_text (λ u z h. one_text (i.only u h)) (λ u us z y zs h a. more_texts (i.only u h) a) k.items v k.are)) l
-    ]
+  each : (w : List ℕ) → IsText w → (grammar call).word w
+  each w (number_text n m) = inl (number-complete w n m)
+  each _ (list_text {w} n a) = inr (record {
+    first = codes "[";
+    second = w ++ codes "]";
+    all = refl;
+    is_first = same-equals (codes "[");
+    is_second = record { first = w; second = codes "]"; all = refl; is_first = is_list_word call.word i.each a; is_second = same-equals (codes "]") };
+  })
 
-    given : (w : List ℕ) (t : Tree) → (grammar call).stands_for w t → IsTree w t
-    given w t j = elim j [
-      | inl m ↦ subst (IsTree w) (sym m.2) (is_number m.0 (number-sound w m.0 m.1))
-      | inr m ↦ (
-          let ts : Vec Tree Global = m.0 in
-          let j = m.1 in
-          let o : j.first ≡ 91 ∷ [] = equals-same (91 ∷ []) j.first j.is_first in
-          let c : j.is_second.second ≡ 93 ∷ [] = equals-same (93 ∷ []) j.is_second.second j.is_second.is_second in
-          let e : codes "[" ++ (j.is_second.first ++ codes "]") ≡ w = cc (j.all, o, j.is_second.all, c) in
-          let k = j.is_second.is_first in
-          let a : AreTrees j.is_second.first k.items = listed call.stands_for AreTrees no_tree (λ u z h. one_tree (i.given u z h)) (λ u us z y zs h a. more_trees (i.given u z h) a) k.items j.is_second.first k.is in
-          let b : AreTrees j.is_second.first ts.items = subst (AreTrees j.is_second.first) (sym k.held) a in
-          let d : IsTree w (tree.List ts) = subst (λ z. IsTree z (tree.List ts)) e (is_list ts b) in
-          subst (IsTree w) (sym m.2) d
-          )
-    ]
+  fails : (ts : List ℕ) → StopsAt begins_tree ts → DoesNotEnd ((grammar call).ends ts)
+  fails [] s = tt
+  fails (c ∷ cs) s =
+      let p = both_false (is_digit c 10) (nat_eq 91 c) s in
+      let d : is_digit c 10 ≡ false = p.0 in
+      let b : nat_eq 91 c ≡ false = p.1 in
+      rw (d, b) tt
 
-    each : (w : List ℕ) → IsText w → (grammar call).word w
-    each w (number_text n m) = inl (number-complete w n m)
-    each _ (list_text {w} n a) = inr (record {
-      first = codes "[";
-      second = w ++ codes "]";
-      all = refl;
-      is_first = same-equals (codes "[");
-      is_second = record { first = w; second = codes "]"; all = refl; is_first = is_list_word call.word i.each a; is_second = same-equals (codes "]") };
-    })
+  -- neither a comma nor a bracket that closes is a digit, or begins a tree; and no number begins with a bracket
+  comma_stops : (w rest : List ℕ) → Is (44 ∷ []) w → call.follow (w ++ rest)
+  comma_stops w rest j = let e : w ≡ 44 ∷ [] = equals-same (44 ∷ []) w j in rw e (i.follows (44 ∷ rest) refl)
 
-    fails : (ts : List ℕ) → StopsAt begins_tree ts → DoesNotEnd ((grammar call).ends ts)
-    fails [] s = tt
-    fails (c ∷ cs) s =
-        let p = both_false (is_digit c 10) (nat_eq 91 c) s in
-        let d : is_digit c 10 ≡ false = p.0 in
-        let b : nat_eq 91 c ≡ false = p.1 in
-        rw (d, b) tt
+  closing_stops : (w rest : List ℕ) → Is (93 ∷ []) w → call.follow (w ++ rest)
+  closing_stops w rest j = let e : w ≡ 93 ∷ [] = equals-same (93 ∷ []) w j in rw e (i.follows (93 ∷ rest) refl)
 
-    -- neither a comma nor a bracket that closes is a digit, or begins a tree; and no number begins with a bracket
-    comma_stops : (w rest : List ℕ) → Is (44 ∷ []) w → call.follow (w ++ rest)
-    comma_stops w rest j = let e : w ≡ 44 ∷ [] = equals-same (44 ∷ []) w j in rw e (i.follows (44 ∷ rest) refl)
+  no_tree_follows : (w rest : List ℕ) → Is (93 ∷ []) w → DoesNotEnd (call.ends (w ++ rest))
+  no_tree_follows w rest j = let e : w ≡ 93 ∷ [] = equals-same (93 ∷ []) w j in rw e (i.fails (93 ∷ rest) refl)
 
-    closing_stops : (w rest : List ℕ) → Is (93 ∷ []) w → call.follow (w ++ rest)
-    closing_stops w rest j = let e : w ≡ 93 ∷ [] = equals-same (93 ∷ []) w j in rw e (i.follows (93 ∷ rest) refl)
-
-    no_comma : (w rest : List ℕ) → Is (93 ∷ []) w → DoesNotEnd (comma.ends (w ++ rest))
-    no_comma w rest j = let e : w ≡ 93 ∷ [] = equals-same (93 ∷ []) w j in rw e tt
-
-    no_tree_follows : (w rest : List ℕ) → Is (93 ∷ []) w → DoesNotEnd (call.ends (w ++ rest))
-    no_tree_follows w rest j = let e : w ≡ 93 ∷ [] = equals-same (93 ∷ []) w j in rw e (i.fails (93 ∷ rest) refl)
-
-    no_number : (w rest : List ℕ) (P : List ℕ → Type 0) → Joined (Is (91 ∷ [])) P w → DoesNotEnd (number_language.ends (w ++ rest))
-    no_number w rest P j = let e : w ≡ 91 ∷ j.second = cc (j.all, equals-same (91 ∷ []) j.first j.is_first) in rw e tt
-
-    kept : IsIntended trees (grammar call) (suc depth)
-    kept = record {
-      said = rw (i.said, i.moves refl) refl;
-      moves = λ e. refl;
-      only = only;
-      given = given;
-      each = each;
-      follows = λ rest s. (λ t. stops_all t rest s, tt);
-      fails = fails;
-      unambiguous = (
+  kept : IsIntended trees (grammar call) (suc depth)
+  kept = record {
+    said = rw (i.said, i.moves refl) refl;
+    moves = λ e. refl;
+    only = only;
+    given = given;
+    each = each;
+    follows = λ rest s. (λ t. no_digit-stops t rest s, tt);
+    fails = fails;
+    unambiguous = (
+      tt,
+      (
         tt,
         (
+          (i.unambiguous, tt, λ w rest j f. comma_stops w rest j, λ w rest j f. tt, λ e. absurd (cc e)),
           tt,
-          (
-            (i.unambiguous, tt, λ w rest j f. comma_stops w rest j, λ w rest j f. tt, λ e. absurd (cc e)),
-            tt,
-            λ w rest j f. (closing_stops w rest j, tt, no_comma w rest j, no_tree_follows w rest j),
-          ),
-          λ w rest j f. tt,
+          λ w rest j f. (closing_stops w rest j, tt, let e : w ≡ 93 ∷ [] = equals-same (93 ∷ []) w j in rw e tt, no_tree_follows w rest j),
         ),
-        λ w rest j f. no_number w rest _ j,
-      );
-      refused = behind-below (sooner (sooner call.refused_from None) None) depth (λ k l. both-below (sooner call.refused_from None) None k (both-below call.refused_from None k (i.refused k l) tt) tt);
-    }
+        λ w rest j f. tt,
+      ),
+      λ w rest j f. let e : w ≡ 91 ∷ j.second = cc (j.all, equals-same (91 ∷ []) j.first j.is_first) in rw e tt,
+    );
+    refused = behind-below (sooner (sooner call.refused_from None) None) depth (λ k l. both-below (sooner call.refused_from None) None k (both-below call.refused_from None k (i.refused k l) tt) tt);
+  }
 
-  -- the function has the language that is intended
-  pub trees-intended : (depth : ℕ) → IsIntended trees (call_language trees grammar depth) depth
-  trees-intended = call-is_intended trees grammar kept
+-- the function has the language that is intended
+pub trees-intended : (depth : ℕ) → IsIntended trees (call_language trees grammar depth) depth
+trees-intended = call-is_intended trees grammar kept

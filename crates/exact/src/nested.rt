@@ -3,49 +3,50 @@ ghost use Rattle.std.specs.Str.{chars};
 ghost use Rattle.chumsky.specs.Accepted.{ExactlyUnless};
 ghost use Rattle.exact.specs.Nested.{IsNested, IsTooDeep};
 
-use chumsky::combinator::run_part;
+use chumsky::combinator::{DelimitedBy, Ignored, OrNot, run_part};
 use chumsky::extra::EmptyText;
 use chumsky::input::InputRef;
 use chumsky::prelude::*;
-use chumsky::recursive::{Recursion, RunsUnder, recursive_as};
+use chumsky::primitive::Just;
+use chumsky::recursive::{Body, Recursion, RunsUnder, recursive_as};
 use chumsky::{PResult, Stop};
 use chumsky_parser::parser::Parser;
-use chumsky_primitive::just::Just;
 use std::alloc::Global;
 
-/// What the body of `pair` means, and its language.
+/// The parser of a pair of brackets, perhaps with what `P` takes in it.
+pub type PairOf<'src, P> = Ignored<
+    DelimitedBy<
+        OrNot<P>,
+        Just<char, &'src str, EmptyText>,
+        Just<char, &'src str, EmptyText>,
+        char,
+        char,
+    >,
+    Option<()>,
+>;
+
+/// What the body of `pair` is.
 #[derive(Drop)]
 pub struct OfPair;
 
-impl<'src> Recursion<'src, &'src str, (), EmptyText> for OfPair {
-    ghost use Rattle.std.specs.Prelude.{[], ◌∷◌};
-    ghost use Rattle.chumsky_parser.specs.FailureLaws.{SameUnit};
-    ghost use Rattle.chumsky_parser.specs.Ignoring.{Gives, IgnoringFirst, Between};
-    ghost use Rattle.chumsky_parser.specs.IgnoringLaws.{gives-agrees, ignoring_first-agrees, between-agrees};
-    ghost use Rattle.chumsky_primitive.specs.JustLaws.{just-ends, just-agrees};
-    ghost use Rattle.chumsky_combinator.specs.Optional.{OrNone};
-    ghost use Rattle.chumsky_combinator.specs.OptionalLaws.{or_none-ends, or_none-agrees};
-    ghost use Rattle.chumsky_parser.specs.SequenceLanguage.{between-accepts};
-    ghost use Rattle.chumsky_primitive.specs.PrimitiveLanguageLaws.{just-accepts};
-    ghost use Rattle.chumsky_combinator.specs.MappedLanguage.{ignored-accepts};
-    ghost use Rattle.chumsky_combinator.specs.OptionalLanguage.{or_not-accepts};
-    ghost use Rattle.chumsky_descent.specs.Calls.{Exact};
-    ghost use Rattle.exact.specs.Nested.{pairs, pair_language};
+impl<'src, P: Parser<'src, &'src str, (), EmptyText>> Body<'src, &'src str, (), EmptyText, P> for OfPair {
+    ghost use Rattle.chumsky_descent.specs.Body.{told};
 
-    ghost says = { λ errors states. Exact SameUnit
-        (λ depth call. IgnoringFirst (Between
-        (⟦<Just<char, &'src str, EmptyText> as Parser<'src, &'src str, char, EmptyText>>⟧.meaning (record { seq = 91; of = record {} }) errors states)
-        (OrNone states.mark states.back states.takes_no_memory call)
-        (⟦<Just<char, &'src str, EmptyText> as Parser<'src, &'src str, char, EmptyText>>⟧.meaning (record { seq = 93; of = record {} }) errors states)) (Gives tt))
-        (λ depth call. ignoring_first-agrees _ _ _ SameUnit
-        (between-agrees _ _ _ _ _ _ (just-agrees _ _ _ _ _ _ (91 ∷ [])) (or_none-agrees _ _ _ _ SameUnit call) (just-agrees _ _ _ _ _ _ (93 ∷ [])))
-        (gives-agrees tt SameUnit tt))
-        pairs
-        (pair_language
-        (⟦<Just<char, &'src str, EmptyText> as Parser<'src, &'src str, char, EmptyText>>⟧.language (record { seq = 91; of = record {} }))
-        (⟦<Just<char, &'src str, EmptyText> as Parser<'src, &'src str, char, EmptyText>>⟧.language (record { seq = 93; of = record {} })))
-        (λ depth call ends accepts. ignored-accepts _ (between-accepts _ _ _ (just-ends _ _ _ _ _ _ (91 ∷ [])) (or_none-ends _ _ _ _ ends) (just-ends _ _ _ _ _ _ (93 ∷ []))
-        (just-accepts _ _ _ _ _ _ (91 ∷ [])) (or_not-accepts _ _ (λ q. q.1) _ accepts) (just-accepts _ _ _ _ _ _ (93 ∷ [])))) };
+    ghost body = { λ call. told ⟦<PairOf<'src, P> as Parser<'src, &'src str, (), EmptyText>>⟧ (record {
+        parser = record { parser = record { parser = call }; opening = record { seq = 91; of = record {} }; closing = record { seq = 93; of = record {} }; of = record {} };
+        of = record {} }) };
+}
+
+impl<'src> Recursion<'src, &'src str, (), EmptyText> for OfPair {
+    ghost use Rattle.std.specs.Prelude.{codes};
+    ghost use Rattle.chumsky_descent.specs.Exactly.{exactly};
+    ghost use Rattle.chumsky_descent.specs.Lawful.{just-lawful, or_not-lawful, between-lawful, ignored-lawful};
+    ghost use Rattle.exact.specs.contracts.nested.OfPairBodyRefStrUnitEmptyText.TheImpl.{ghosts, no_dict};
+    ghost use denote.Builtin.{unit};
+    ghost use Rattle.exact.specs.Nested.{pairs};
+
+    ghost says = { λ errors states. exactly (λ call. (ghosts unit call no_dict).body tt) errors states pairs
+        (λ call l h. ignored-lawful (between-lawful (just-lawful (codes "[") _ _ _ _ _ _) (or_not-lawful h) (just-lawful (codes "]") _ _ _ _ _ _))) };
 }
 
 /// A pair of brackets, perhaps with another in it.

@@ -4,12 +4,12 @@ ghost use Rattle.std.specs.Str.{chars};
 ghost use Rattle.chumsky.specs.Accepted.{ExactlyUnless};
 ghost use Rattle.exact.specs.Trees.{IsTree};
 
-use chumsky::combinator::{Collect, DelimitedBy, Map, Mapper, PickBy, SeparatedBy, run_part};
+use chumsky::combinator::{Collect, DelimitedBy, Map, Mapper, Or, PickBy, SeparatedBy, run_part};
 use chumsky::extra::EmptyText;
 use chumsky::input::InputRef;
 use chumsky::prelude::*;
 use chumsky::primitive::Just;
-use chumsky::recursive::{Recursion, RunsUnder, recursive_as};
+use chumsky::recursive::{Body, Recursion, RunsUnder, recursive_as};
 use chumsky::text::{DecimalOf, Int, Word};
 use chumsky::{IsParser, PResult, Stop};
 use chumsky_parser::parser::Parser;
@@ -76,35 +76,39 @@ pub type ListParser<'src, P> = Map<
     Tree,
 >;
 
-/// What the body of `any_tree` means, and its language.
+/// The parser of a number, or of a list of what `P` takes.
+pub type TreeOf<'src, P> = Or<NumberParser<'src>, ListParser<'src, P>>;
+
+/// What the body of `any_tree` is.
 #[derive(Drop)]
 pub struct OfTree;
 
-impl<'src> Recursion<'src, &'src str, Tree, EmptyText> for OfTree {
-    ghost use Rattle.std.specs.Prelude.{[], ◌∷◌};
-    ghost use Rattle.chumsky_primitive.specs.JustLaws.{just-ends, just-agrees};
-    ghost use Rattle.chumsky_primitive.specs.PrimitiveLanguageLaws.{just-accepts};
-    ghost use Rattle.chumsky_descent.specs.Calls.{Exact};
-    ghost use Rattle.exact.specs.Trees.{trees, number_language, tree_language};
-    ghost use Rattle.exact.specs.TreesBody.{SameTree, TreeBody, number-agrees, number-accepts, tree-agrees, tree-accepts};
+impl<'src, P: Parser<'src, &'src str, Tree, EmptyText>> Body<'src, &'src str, Tree, EmptyText, P> for OfTree {
+    ghost use Rattle.std.specs.Prelude.{false, None};
+    ghost use Rattle.chumsky_descent.specs.Body.{told};
 
-    ghost says = { λ errors states. Exact SameTree
-        (λ depth call. TreeBody states.mark states.back states.takes_no_memory
-        (⟦<NumberParser<'src> as Parser<'src, &'src str, Tree, EmptyText>>⟧.meaning
-        (record { parser = record { picked = record { parser = record { kind = record { radix = 10 }; of = record {} }; picker = record { of = record {} }; of = record {} } }; mapper = record {}; of = record {} }) errors states)
-        (⟦<Just<char, &'src str, EmptyText> as Parser<'src, &'src str, char, EmptyText>>⟧.meaning (record { seq = 44; of = record {} }) errors states)
-        (⟦<Just<char, &'src str, EmptyText> as Parser<'src, &'src str, char, EmptyText>>⟧.meaning (record { seq = 91; of = record {} }) errors states)
-        (⟦<Just<char, &'src str, EmptyText> as Parser<'src, &'src str, char, EmptyText>>⟧.meaning (record { seq = 93; of = record {} }) errors states) call)
-        (λ depth call. tree-agrees _ _ _ _ _ _ _ _ (number-agrees _ errors states _ _)
-        (just-agrees _ _ _ _ _ _ (44 ∷ [])) (just-agrees _ _ _ _ _ _ (91 ∷ [])) (just-agrees _ _ _ _ _ _ (93 ∷ [])) call)
-        trees
-        (tree_language number_language
-        (⟦<Just<char, &'src str, EmptyText> as Parser<'src, &'src str, char, EmptyText>>⟧.language (record { seq = 44; of = record {} }))
-        (⟦<Just<char, &'src str, EmptyText> as Parser<'src, &'src str, char, EmptyText>>⟧.language (record { seq = 91; of = record {} }))
-        (⟦<Just<char, &'src str, EmptyText> as Parser<'src, &'src str, char, EmptyText>>⟧.language (record { seq = 93; of = record {} })))
-        (λ depth call ends accepts. tree-accepts _ _ _ _ _ _ _ _
-        (just-ends _ _ _ _ _ _ (44 ∷ [])) (just-ends _ _ _ _ _ _ (91 ∷ [])) (just-ends _ _ _ _ _ _ (93 ∷ [])) (number-accepts _ errors states _ _)
-        (just-accepts _ _ _ _ _ _ (44 ∷ [])) (just-accepts _ _ _ _ _ _ (91 ∷ [])) (just-accepts _ _ _ _ _ _ (93 ∷ [])) ends accepts) };
+    ghost body = { λ call. told ⟦<TreeOf<'src, P> as Parser<'src, &'src str, Tree, EmptyText>>⟧ (record {
+        first = record { parser = record { picked = record { parser = record { kind = record { radix = 10 }; of = record {} }; picker = record { of = record {} }; of = record {} } }; mapper = record {}; of = record {} };
+        second = record {
+            parser = record {
+                parser = record {
+                    parser = record { parser = call; separator = record { seq = 44; of = record {} }; at_least = 0; at_most = None; allow_leading = false; allow_trailing = false; of = record {} };
+                    of = record {} };
+                opening = record { seq = 91; of = record {} }; closing = record { seq = 93; of = record {} }; of = record {} };
+            mapper = record {};
+            of = record {} } }) };
+}
+
+impl<'src> Recursion<'src, &'src str, Tree, EmptyText> for OfTree {
+    ghost use Rattle.std.specs.Prelude.{codes};
+    ghost use Rattle.chumsky_descent.specs.Exactly.{exactly};
+    ghost use Rattle.chumsky_descent.specs.Lawful.{just-lawful, decimal-lawful, map-lawful, separated-lawful, between-lawful, or-lawful};
+    ghost use Rattle.exact.specs.contracts.trees.OfTreeBodyRefStrTreeEmptyText.TheImpl.{ghosts, no_dict};
+    ghost use denote.Builtin.{unit};
+    ghost use Rattle.exact.specs.Trees.{trees};
+
+    ghost says = { λ errors states. exactly (λ call. (ghosts unit call no_dict).body tt) errors states trees
+        (λ call l h. or-lawful (map-lawful (decimal-lawful 32)) (map-lawful (between-lawful (just-lawful (codes "[") _ _ _ _ _ _) (separated-lawful h (just-lawful (codes ",") _ _ _ _ _ _)) (just-lawful (codes "]") _ _ _ _ _ _)))) };
 }
 
 /// The parser of a number that a `u32` holds.

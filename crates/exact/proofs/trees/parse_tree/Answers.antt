@@ -1,4 +1,4 @@
-use Rattle.std.specs.Prelude.{◌≡◌, ⊤, []}
+use Rattle.std.specs.Prelude.{[]}
 use Rattle.std.specs.Str.{chars}
 use Rattle.chumsky.specs.AcceptedLaws.{unless-by_words, refused-long}
 use Rattle.exact.specs.Trees.{IsTree}
@@ -8,6 +8,6 @@ use Rattle.exact.proofs.trees.parse_tree.Goals as goal
 pub returns : goal.returns
 returns c =
     let cs = chars c.args.text.now in
-    let i = trees-intended (λ v. v ≡ 44) (λ v. v ≡ 91) (λ v. v ≡ 93) ⊤ ⊤ ⊤ c.args.limit in
-    let a = rw c.recursive_as.ensures.depth at (c.parse.ensures.3.reads (trees-intended (λ v. v ≡ 44) (λ v. v ≡ 91) (λ v. v ≡ 93) ⊤ ⊤ ⊤ c.recursive_as.result.depth).said) in
+    let i = trees-intended c.args.limit in
+    let a = rw c.recursive_as.ensures.depth at (c.parse.ensures.3.reads (trees-intended c.recursive_as.result.depth).said) in
     unless-by_words IsTree a (refused-long a c.args.limit i.refused) i.unambiguous (i.follows [] tt) (λ v w s. i.given cs v s) (λ v t. i.each cs (tree-text t))
