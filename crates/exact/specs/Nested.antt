@@ -1,11 +1,7 @@
 -- Pairs of brackets within one another, and the language of the function that reads them.
--- Main words: IsNested, IsTooDeep, pairs, grammar. Laws: NestedLaws.antt.
+-- Main words: IsNested, IsTooDeep, pairs. Laws: NestedLaws.antt.
 use Rattle.std.specs.Prelude.{◌≡◌, ℕ, zero, suc, ◌<◌, nat_eq, true, false, List, [], ◌∷◌, ◌++◌, ⊤}
-use Rattle.chumsky_parser.specs.Language.{Language}
 use Rattle.chumsky_descent.specs.Calls.{Intended}
-use Rattle.chumsky_descent.specs.Exactly.{grammar_of}
-use Rattle.exact.specs.contracts.nested.OfPairBodyRefStrUnitEmptyText.TheImpl.{ghosts, no_dict}
-use denote.Builtin.{unit}
 
 -- so many pairs of brackets round a pair
 abbrev pub nested : ℕ → List ℕ
@@ -29,7 +25,3 @@ OpensNone (c ∷ cs) = nat_eq 91 c ≡ false
 -- these are the words of the function, whatever follows
 abbrev pub pairs : Intended ℕ (Unit {0})
 pairs = record { word = λ w. IsNested w tt; stands_for = IsNested; follow = λ rest. ⊤; fails = OpensNone; moves = true }
-
--- the language of the function's body, of that of a call in it
-abbrev pub grammar : Language ℕ (Unit {0}) → Language ℕ (Unit {0})
-grammar = grammar_of (λ call. (ghosts unit call no_dict).body tt)

@@ -1,5 +1,5 @@
 -- The function that reads pairs accepts just these.
--- Main laws: pairs-intended, pairs-refused. Read first: Nested.antt.
+-- Main word: grammar. Main laws: pairs-intended, pairs-refused. Read first: Nested.antt.
 use Rattle.std.proofs.Common.{◌≡◌, ℕ, zero, suc, None, ◌<◌, List, [], ◌∷◌, ◌++◌, append_assoc, refl, sym, arith, inl, inr}
 use Rattle.std.proofs.lemmas.List.{append-nil}
 use Rattle.std.specs.Prelude.{nat_eq}
@@ -9,7 +9,14 @@ use Rattle.chumsky_parser.specs.Language.{Language, sooner}
 use Rattle.chumsky_primitive.specs.PrimitiveLanguage.{Equals}
 use Rattle.chumsky_primitive.specs.Literals.{equals-same}
 use Rattle.chumsky_descent.specs.CallLanguage.{call_language, IsIntended, call-is_intended}
-use Rattle.exact.specs.Nested.{nested, IsNested, IsTooDeep, OpensNone, pairs, grammar}
+use Rattle.chumsky_descent.specs.Exactly.{grammar_of}
+use Rattle.exact.specs.Nested.{nested, IsNested, IsTooDeep, OpensNone, pairs}
+use Rattle.exact.specs.contracts.nested.OfPairBodyRefStrUnitEmptyText.TheImpl.{ghosts, no_dict}
+use denote.Builtin.{unit}
+
+-- the language of the function's body, of that of a call in it
+abbrev pub grammar : Language ℕ (Unit {0}) → Language ℕ (Unit {0})
+grammar = grammar_of (λ call. (ghosts unit call no_dict).body tt)
 
 module _ (call : Language ℕ (Unit {0})) (depth : ℕ) (i : IsIntended pairs call depth) where
   is_pairs : (w : List ℕ) → (grammar call).word w → IsNested w tt

@@ -1,17 +1,13 @@
 -- Numbers in lists within one another: how they are written, and the language of the function that reads them.
--- Main words: IsTree, IsText, trees, grammar. Laws: TreesLaws.antt. Read first: Number.antt.
+-- Main words: IsTree, IsText, trees. Laws: TreesLaws.antt. Read first: Number.antt.
 use Rattle.std.specs.Prelude.{ℕ, zero, suc, ◌||◌, nat_eq, true, Bool, Option, List, [], ◌∷◌, ◌++◌, codes}
 use Rattle.std.specs.Char.{is_digit}
 use Rattle.std.specs.Str.{encode_utf8_all}
 use Rattle.std.specs.declared.alloc.Global.{Global}
 use Rattle.std.specs.declared.vec.Vec.{Vec}
-use Rattle.chumsky_parser.specs.Language.{Language}
 use Rattle.chumsky_parser.specs.Words.{StopsAt}
 use Rattle.chumsky_text.specs.Decimals.{unsigned_of}
 use Rattle.chumsky_descent.specs.Calls.{Intended}
-use Rattle.chumsky_descent.specs.Exactly.{grammar_of}
-use Rattle.exact.specs.contracts.trees.OfTreeBodyRefStrTreeEmptyText.TheImpl.{ghosts, no_dict}
-use denote.Builtin.{unit}
 use Rattle.exact.specs.declared.trees.Tree.{Tree}
 use Rattle.exact.specs.declared.trees.Tree as tree
 use Rattle.exact.specs.Number.{IsNumber}
@@ -51,7 +47,3 @@ trees = record { word = IsText; stands_for = IsTree; follow = StopsAt (λ c. is_
 -- the number that digits write
 abbrev pub number_of : List ℕ → Option ℕ
 number_of w = unsigned_of 32 (encode_utf8_all w)
-
--- the language of the function's body, of that of a call in it
-abbrev pub grammar : Language ℕ Tree → Language ℕ Tree
-grammar = grammar_of (λ call. (ghosts unit call no_dict).body tt)

@@ -1,5 +1,5 @@
 -- The function that reads numbers in lists accepts just these.
--- Main laws: trees-intended, tree-text. Read first: Trees.antt.
+-- Main word: grammar. Main laws: trees-intended, tree-text. Read first: Trees.antt.
 use Rattle.std.proofs.Common.{◌≡◌, ℕ, suc, ◌||◌, Bool, true, false, cond, nat_eq, Option, Some, None, List, [], ◌∷◌, ◌++◌, length, refl, sym, ◌∙◌, ap, subst, arith, inl, inr}
 use Rattle.std.specs.Prelude.{codes}
 use Rattle.std.specs.declared.alloc.Global.{Global}
@@ -17,11 +17,18 @@ use Rattle.chumsky_items.specs.ListWords.{SeparatedWord, SeparatedEnd}
 use Rattle.chumsky_shield.specs.Picked.{IsPick}
 use Rattle.chumsky_text.specs.Decimals.{IsInt}
 use Rattle.chumsky_descent.specs.CallLanguage.{call_language, IsIntended, call-is_intended}
+use Rattle.chumsky_descent.specs.Exactly.{grammar_of}
 use Rattle.exact.specs.declared.trees.Tree.{Tree}
 use Rattle.exact.specs.declared.trees.Tree as tree
 use Rattle.exact.specs.Listed.{listed}
 use Rattle.exact.specs.NumberLaws.{number-sound, number-complete, no_digit-stops}
-use Rattle.exact.specs.Trees.{IsTree, is_number, is_list, AreTrees, no_tree, one_tree, more_trees, IsText, number_text, list_text, AreTexts, no_text, one_text, more_texts, begins_tree, trees, number_of, grammar}
+use Rattle.exact.specs.Trees.{IsTree, is_number, is_list, AreTrees, no_tree, one_tree, more_trees, IsText, number_text, list_text, AreTexts, no_text, one_text, more_texts, begins_tree, trees, number_of}
+use Rattle.exact.specs.contracts.trees.OfTreeBodyRefStrTreeEmptyText.TheImpl.{ghosts, no_dict}
+use denote.Builtin.{unit}
+
+-- the language of the function's body, of that of a call in it
+abbrev pub grammar : Language ℕ Tree → Language ℕ Tree
+grammar = grammar_of (λ call. (ghosts unit call no_dict).body tt)
 
 abbrev Is : List ℕ → List ℕ → Type 0
 Is = Equals nat_eq
