@@ -32,7 +32,7 @@ fn worked_out(before: Worked, sign: Spanned<char, SimpleSpan>, after: Worked) ->
     applied(before?, step(sign, after?))
 }
 
-/// A number, or the error of what can't be worked out. Where there is no memory for its message, that is empty.
+/// A number, or the error of what can't be worked out.
 fn told(alloc: Global, worked: Worked) -> Result<i64, Rich<char>> {
     match worked {
         Ok(number) => Ok(number),
@@ -81,8 +81,8 @@ fn sum<'src>(
 /// How many sums may stand within one another.
 const DEPTH: usize = 100;
 
-/// What a sum comes to, as `parse_arithmetic` has it; one that is nested more deeply than ninety-nine brackets is refused with
-/// `Stop::TooDeep`.
+/// What a sum comes to, as `parse_arithmetic` has it: of `2 * (3 + 4) - 1` it is 13. A sum that is nested more deeply than
+/// ninety-nine brackets is refused with `Stop::TooDeep`. Where there is no memory for the message of an error, it is empty.
 pub fn parse_sum(alloc: Global, text: &str) -> Result<ParseResult<i64, Rich<char>>, Stop>
     ensures { IfOk result (λ parsed. parsed.errors.items ≡ [] → IsTrue (is_some parsed.output)) }
 {
