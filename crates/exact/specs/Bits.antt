@@ -2,7 +2,7 @@
 use Rattle.std.specs.Prelude.{◌≡◌, ℕ, ◌<◌, List, length, ◌⊎◌}
 use Rattle.std.specs.declared.alloc.Global.{Global}
 use Rattle.std.specs.declared.vec.Vec.{Vec}
-use Rattle.exact.specs.Rendered.{OfEach}
+use Rattle.chumsky_exact.specs.Rendered.{OfEach}
 
 -- `0` or `1`
 abbrev pub IsBit : ℕ → Type 0

@@ -10,7 +10,7 @@ use Rattle.chumsky_parser.specs.Words.{IsOne, AllPass}
 use Rattle.chumsky_primitive.specs.OneOf.{among}
 use Rattle.chumsky_items.specs.ListLanguage.{Holding}
 use Rattle.chumsky_items.specs.ListWords.{RepeatedWord, RepeatedEnd}
-use Rattle.exact.specs.Rendered.{OfEach, tokens-written, written-tokens}
+use Rattle.chumsky_exact.specs.Rendered.{OfEach, tokens-written, written-tokens}
 use Rattle.exact.specs.Bits.{IsBit, IsBits}
 
 -- the characters of the parser's set

@@ -1,15 +1,7 @@
 -- How a date is written, as `2026-11-27`.
--- Main words: IsField, IsDate. Laws: DateLaws.antt.
-use Rattle.std.specs.Prelude.{◌≡◌, ℕ, ◌≤◌, List, ◌++◌, length, codes}
-use Rattle.std.specs.Str.Parse.{IsNumeral, digits_value}
-
--- a number of just so many digits, within bounds
-pub record IsField (digits least most : ℕ) (w : List ℕ) (n : ℕ) : Type 0 where
-  pub numeral : IsNumeral 10 w
-  pub so_many : length w ≡ digits
-  pub value : n ≡ digits_value 10 w
-  pub from : least ≤ n
-  pub to : n ≤ most
+-- Main words: IsDate. Laws: DateLaws.antt. Read first: Fields.antt of chumsky_exact.
+use Rattle.std.specs.Prelude.{◌≡◌, ℕ, List, ◌++◌, codes}
+use Rattle.chumsky_exact.specs.Fields.{IsField}
 
 -- a year of four digits, a month and a day of two, with a dash between each two
 pub record IsDate (text : List ℕ) (date : (ℕ × ℕ) × ℕ) : Type 0 where

@@ -1,40 +1,16 @@
 -- The parser of dates accepts just these.
 -- Main laws: date-sound, date-complete, dash_stops. Read first: Date.antt.
-use Rattle.std.proofs.Common.{◌≡◌, ℕ, ◌<◌, ◌≤◌, ◌^◌, nat_eq, Some, List, [], ◌∷◌, ◌++◌, refl, sym, ◌∙◌, ap, arith}
+use Rattle.std.proofs.Common.{◌≡◌, ℕ, nat_eq, List, ◌++◌, refl, arith}
 use Rattle.std.specs.Prelude.{codes}
 use Rattle.std.specs.Char.{is_digit}
-use Rattle.std.specs.Str.{encode_utf8_all}
 use Rattle.chumsky_parser.specs.Words.{Joined, StopsAt}
 use Rattle.chumsky_primitive.specs.PrimitiveLanguage.{Equals}
 use Rattle.chumsky_primitive.specs.Literals.{equals-same, same-equals}
-use Rattle.chumsky_shield.specs.Picked.{IsPick}
-use Rattle.chumsky_text.specs.Decimals.{IsDigits, digits-numeral, numeral-digits, fixed_of, fixed-value, fixed-fits}
-use Rattle.exact.specs.Date.{IsField, IsDate}
+use Rattle.chumsky_exact.specs.Fields.{Picked, Picks, field, picks}
+use Rattle.exact.specs.Date.{IsDate}
 
 abbrev pub Dash : List ℕ → Type 0
 Dash = Equals nat_eq (codes "-")
-
--- digits of which a number is picked
-abbrev pub Picked : ℕ → ℕ → ℕ → ℕ → List ℕ → Type 0
-Picked digits least most n w = IsDigits w × (fixed_of digits least most (encode_utf8_all w) ≡ Some n)
-
-abbrev pub Picks : ℕ → ℕ → ℕ → List ℕ → Type 0
-Picks digits least most w = IsDigits w × IsPick (fixed_of digits least most (encode_utf8_all w))
-
--- the digits are a field
-field : (digits least most : ℕ) (w : List ℕ) (n : ℕ) → Picked digits least most n w → IsField digits least most w n
-field digits least most w n p =
-    let h = digits-numeral w p.0 in
-    let v = fixed-value digits least most w n h p.1 in
-    record { numeral = h; so_many = v.0; value = v.1; from = v.2; to = v.3 }
-
--- and of a field its number is picked
-picks : (digits least most : ℕ) (w : List ℕ) (n : ℕ) → most < 2 ^ 32 → IsField digits least most w n → Picks digits least most w
-picks digits least most w n l f =
-    let a = f.from in
-    let b = f.to in
-    let e = f.value in
-    (numeral-digits w f.numeral, fixed-fits digits least most w f.numeral f.so_many (omega (arith, a, e)) (omega (arith, b, e)) l)
 
 -- what a word stands for is its date
 pub date-sound : (w : List ℕ) (v : (ℕ × ℕ) × ℕ) → Joined (λ u. Joined (λ u. Joined (λ u. Joined (Picked 4 0 9999 v.0.0) Dash u) (Picked 2 1 12 v.0.1) u) Dash u) (Picked 2 1 31 v.1) w → IsDate w v

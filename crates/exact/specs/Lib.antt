@@ -1,6 +1,3 @@
-pub mod Rendered
-pub mod RenderedOnce
-pub mod ReadBack
 pub mod Bits
 pub mod BitsLaws
 pub mod Date
@@ -16,3 +13,5 @@ pub mod Pairs
 pub mod PairsLaws
 pub mod Trees
 pub mod TreesLaws
+pub mod Sum
+pub mod SumLaws

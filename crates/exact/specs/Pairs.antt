@@ -6,7 +6,7 @@ use Rattle.std.specs.declared.alloc.Global.{Global}
 use Rattle.std.specs.declared.vec.Vec.{Vec}
 use Rattle.chumsky_text.specs.Names.{IsName}
 use Rattle.chumsky_text.specs.Decimals.{IsDecimal}
-use Rattle.exact.specs.Rendered.{OfEach, Written}
+use Rattle.chumsky_exact.specs.Rendered.{OfEach, Written}
 
 -- a name and a number, as they are written
 abbrev pub Pair : Type 0

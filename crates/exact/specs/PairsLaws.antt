@@ -17,8 +17,8 @@ use Rattle.chumsky_items.specs.ListLanguage.{Holding}
 use Rattle.chumsky_items.specs.ListWords.{SeparatedWord, SeparatedEnd}
 use Rattle.chumsky_text.specs.Names.{IsName, begins_name, in_name, name-slice}
 use Rattle.chumsky_text.specs.Decimals.{IsDecimal, IsInt, TextSlice, int-decimal, decimal-int, numeral-bytes, slice-bytes}
-use Rattle.exact.specs.Rendered.{OfEach, separated-written, written-separated, written-map, each-map}
-use Rattle.exact.specs.RenderedOnce.{Lacks, IsSolid, parts-once, lacks-append, pass-lacks, written-once}
+use Rattle.chumsky_exact.specs.Rendered.{OfEach, separated-written, written-separated, written-map, each-map}
+use Rattle.chumsky_exact.specs.RenderedOnce.{Lacks, IsSolid, parts-once, lacks-append, pass-lacks, written-once}
 use Rattle.exact.specs.Pairs.{Pair, IsPair, line, IsPairs, pairs_of, HoldsPairs}
 
 abbrev pub Is : List ℕ → List ℕ → Type 0

@@ -7,4 +7,5 @@ pub mod level;
 pub mod nested;
 pub mod number;
 pub mod pairs;
+pub mod sum;
 pub mod trees;

@@ -2,7 +2,7 @@
 ghost use Rattle.std.specs.Prelude.{List, map};
 ghost use Rattle.std.specs.Str.{chars};
 ghost use Rattle.chumsky.specs.Accepted.{Exactly};
-ghost use Rattle.exact.specs.ReadBack.{GivesBack};
+ghost use Rattle.chumsky_exact.specs.ReadBack.{GivesBack};
 ghost use Rattle.exact.specs.Pairs.{Pair, IsPairs, HoldsPairs, pairs_of};
 
 use chumsky::Stop;

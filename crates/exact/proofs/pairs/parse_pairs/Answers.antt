@@ -2,7 +2,7 @@ use Rattle.std.proofs.Common.{refl}
 use Rattle.std.specs.Str.{chars}
 use Rattle.chumsky_parser.specs.ProgressLaws.{never}
 use Rattle.chumsky.specs.AcceptedLaws.{exactly-by_words}
-use Rattle.exact.specs.ReadBack.{gives_back-by_words}
+use Rattle.chumsky_exact.specs.ReadBack.{gives_back-by_words}
 use Rattle.exact.specs.Pairs.{IsPairs, HoldsPairs, pairs_of}
 use Rattle.exact.specs.PairsLaws.{pairs-sound, pairs-complete, pairs-once, eq_stops, newline_stops}
 use Rattle.exact.proofs.pairs.parse_pairs.Goals as goal

@@ -3,7 +3,7 @@
 use Rattle.std.proofs.Common.{◌≡◌, Bool, true, false, List, [], ◌∷◌, ◌++◌, refl, sym, ◌∙◌, subst, inl, inr}
 use Rattle.std.specs.Prelude.{⊤, ◌⊎◌, map}
 use Rattle.chumsky_parser.specs.Words.{AllPass}
-use Rattle.exact.specs.Rendered.{OfEach, Written, WrittenAfter, word_after, led_after}
+use Rattle.chumsky_exact.specs.Rendered.{OfEach, Written, WrittenAfter, word_after, led_after}
 
 module _ {Tok : Type 0} (separator : Tok) where
   -- the separator isn't in it

@@ -1,7 +1,8 @@
--- What a caller of `parse` makes of its answer where a text has one value alone: that value is given back.
--- Main words: GivesBack. Main laws: gives_back-by_words. Read first: Accepted.antt of chumsky.
+-- What a caller of `parse` makes of an exact answer: what is so of each value of the text is so of the output; and where a text has
+-- one value alone, that value is given back.
+-- Main words: GivesBack. Main laws: output-is, gives_back-by_words. Read first: Accepted.antt of chumsky.
 use Rattle.std.proofs.Common.{◌≡◌, Option, Some, None, List, [], subst, inl, inr}
-use Rattle.std.specs.Prelude.{Result, Ok, Err}
+use Rattle.std.specs.Prelude.{Result, Ok, Err, IfOk, IfSome}
 use Rattle.chumsky_input.specs.declared.stop.Stop.{Stop}
 use Rattle.chumsky_input.specs.declared.stop.Stop.TheVariants.{Memory}
 use Rattle.chumsky_parser.specs.Ending.{At}
@@ -9,7 +10,16 @@ use Rattle.chumsky_parser.specs.Language.{Language}
 use Rattle.chumsky_parser.specs.WordsLaws.{ends-unless}
 use Rattle.chumsky_parser.specs.declared.result.ParseResult.{ParseResult}
 use Rattle.chumsky.specs.AcceptedLaws.{decided_by}
-use Rattle.chumsky.specs.Accepted.{FallsShort, AnswersText, IsOutputOf, IsAnswerOf}
+use Rattle.chumsky.specs.Accepted.{FallsShort, AnswersText, IsOutputOf, IsAnswerOf, IsExactly, Exactly}
+
+-- an output has what each value of the text has
+pub output-is : {Tok V Er : Type 0} (P : List Tok → V → Type 0) (ts : List Tok) (Q : V → Type 0) → ((v : V) → P ts v → Q v) → (r : Result (ParseResult V Er) Stop) → Exactly P ts r → IfOk r (λ parsed. IfSome parsed.output Q)
+output-is {V = V} P ts Q h (Ok parsed) i = by_output parsed.output i
+  where
+    by_output : (v : Option V) → IsExactly P ts v → IfSome v Q
+    by_output (Some v) i = h v i
+    by_output None i = tt
+output-is P ts Q h (Err s) i = tt
 
 module _ {V X : Type 0} (of : V → X) (x : X) where
   -- an output that is x
