@@ -12,7 +12,7 @@ use std::fmt::Debug;
 use std::process::Abort;
 
 /// Asserts what a caller answers to each text.
-fn assert_rows<O: Debug + Drop, R: Abort + AllocGlobal>(
+pub fn assert_rows<O: Debug + Drop, R: Abort + AllocGlobal>(
     rt: &R,
     caller: fn(Global, &str) -> Result<ParseResult<O, Rich<char>>, Stop>,
     rows: &[(&str, &str)],

@@ -3,7 +3,7 @@ use answers::asserts::{assert_answers, assert_line};
 use chumsky::laws::{end_is_steady, just_is_steady, or_not_never_says_no, then_is_associative};
 use chumsky::prelude::*;
 use guide::arithmetic::value_of;
-use guide::checking::{minute, port};
+use guide::checking::{minute, minutes, port, share};
 use guide::closure::{day, foo_or_nothing, one_x};
 use guide::conclusion::two;
 use guide::contexts::{declared, prefixed, settings};
@@ -80,6 +80,17 @@ fn a_port_fits_its_type(rt: HostRuntime) {
     assert_line(&rt, port(rt.alloc(), "65536"), too_large);
     let no_digit = "error 0..0 expected '0', '1', '2', '3', '4', '5', '6', '7', '8', '9' found end";
     assert_line(&rt, port(rt.alloc(), ""), no_digit);
+}
+
+#[test]
+fn a_share_that_is_too_large_is_reported(rt: HostRuntime) {
+    assert_line(&rt, share(rt.alloc(), "100"), "ok 100");
+    let too_large = "ok 100; error 0..3 \"a share is at most 100\"";
+    assert_line(&rt, share(rt.alloc(), "101"), too_large);
+    assert_line(&rt, share(rt.alloc(), "256"), too_large);
+    assert_line(&rt, minutes(rt.alloc(), "59m"), "ok 59");
+    let no_minute = "error 0..2 expected something else found '6'";
+    assert_line(&rt, minutes(rt.alloc(), "60m"), no_minute);
 }
 
 #[test]

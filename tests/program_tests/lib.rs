@@ -3,6 +3,8 @@
 #[cfg(test)]
 mod builders;
 #[cfg(test)]
+mod callers;
+#[cfg(test)]
 mod calls;
 #[cfg(test)]
 mod chk;

@@ -55,3 +55,25 @@ pub fn port(alloc: Global, text: &str) -> Result<ParseResult<u16, Rich<char>>, S
         .filter_map(|port: Result<u16, ParseIntError>| port.ok())
         .parse(alloc, text)
 }
+
+/// An error with a message of one's own. Where there is no memory for that, it is empty.
+fn problem(alloc: Global, span: SimpleSpan, message: &str) -> Rich<char> {
+    match Rich::custom_in(alloc, span, message) {
+        Ok(error) => error,
+        Err(_) => Rich::custom(span, String::new(alloc)),
+    }
+}
+
+/// A share of a hundred. A larger number is an error, and counts as a hundred.
+pub fn share(alloc: Global, text: &str) -> Result<ParseResult<u8, Rich<char>>, Stop> {
+    let number = text::int::<_, RichText>(10).from_str::<u8>();
+    number
+        .validate(|number: Result<u8, ParseIntError>, extra, emitter| match number {
+            Ok(share) if share <= 100 => share,
+            _ => {
+                emitter.emit(problem(extra.alloc(), extra.span(), "a share is at most 100"));
+                100
+            }
+        })
+        .parse(alloc, text)
+}

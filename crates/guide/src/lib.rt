@@ -4,6 +4,7 @@
 
 pub mod arithmetic;
 pub mod builders;
+pub mod by_value;
 pub mod checking;
 pub mod closure;
 pub mod conclusion;
@@ -28,4 +29,5 @@ pub mod running;
 pub mod stepping;
 pub mod token_trees;
 pub mod tokens;
+pub mod under;
 pub mod words;
