@@ -41,7 +41,6 @@ use Rattle.chumsky_items.specs.RepeatingLaws.{repeats-end, repeats-agree}
 use Rattle.chumsky_items.specs.SeparatedLanguage.{separated_language, separated-accepts}
 use Rattle.chumsky_items.specs.Separating.{Separates, Bounds}
 use Rattle.chumsky_items.specs.SeparatingLaws.{separates-end, separates-agree}
-
 use Rattle.chumsky_shield.specs.Picked.{picked_language, PicksByWord}
 use Rattle.chumsky_shield.specs.PickedLaws.{picked-accepts}
 use Rattle.chumsky_shield.specs.Tried.{ByPick, SamePick, SameFilterMapped, FilterMapsAlike}

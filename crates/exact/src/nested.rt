@@ -29,12 +29,14 @@ pub type PairOf<'src, P> = Ignored<
 #[derive(Drop)]
 pub struct OfPair;
 
-impl<'src, P: Parser<'src, &'src str, (), EmptyText>> Body<'src, &'src str, (), EmptyText, P> for OfPair {
+impl<'src, P: Parser<'src, &'src str, (), EmptyText>> Body<'src, &'src str, (), EmptyText, P>
+    for OfPair {
     ghost use Rattle.chumsky_descent.specs.Body.{told};
 
     ghost body = { λ call. told ⟦<PairOf<'src, P> as Parser<'src, &'src str, (), EmptyText>>⟧ (record {
-        parser = record { parser = record { parser = call }; opening = record { seq = 91; of = record {} }; closing = record { seq = 93; of = record {} }; of = record {} };
-        of = record {} }) };
+      parser = record { parser = record { parser = call }; opening = record { seq = 91; of = record {} }; closing = record { seq = 93; of = record {} }; of = record {} };
+      of = record {};
+    }) };
 }
 
 impl<'src> Recursion<'src, &'src str, (), EmptyText> for OfPair {

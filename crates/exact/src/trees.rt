@@ -83,20 +83,27 @@ pub type TreeOf<'src, P> = Or<NumberParser<'src>, ListParser<'src, P>>;
 #[derive(Drop)]
 pub struct OfTree;
 
-impl<'src, P: Parser<'src, &'src str, Tree, EmptyText>> Body<'src, &'src str, Tree, EmptyText, P> for OfTree {
+impl<'src, P: Parser<'src, &'src str, Tree, EmptyText>> Body<'src, &'src str, Tree, EmptyText, P>
+    for OfTree {
     ghost use Rattle.std.specs.Prelude.{false, None};
     ghost use Rattle.chumsky_descent.specs.Body.{told};
 
     ghost body = { λ call. told ⟦<TreeOf<'src, P> as Parser<'src, &'src str, Tree, EmptyText>>⟧ (record {
-        first = record { parser = record { picked = record { parser = record { kind = record { radix = 10 }; of = record {} }; picker = record { of = record {} }; of = record {} } }; mapper = record {}; of = record {} };
-        second = record {
-            parser = record {
-                parser = record {
-                    parser = record { parser = call; separator = record { seq = 44; of = record {} }; at_least = 0; at_most = None; allow_leading = false; allow_trailing = false; of = record {} };
-                    of = record {} };
-                opening = record { seq = 91; of = record {} }; closing = record { seq = 93; of = record {} }; of = record {} };
-            mapper = record {};
-            of = record {} } }) };
+      first = record { parser = record { picked = record { parser = record { kind = record { radix = 10 }; of = record {} }; picker = record { of = record {} }; of = record {} } }; mapper = record {}; of = record {} };
+      second = record {
+        parser = record {
+          parser = record {
+            parser = record { parser = call; separator = record { seq = 44; of = record {} }; at_least = 0; at_most = None; allow_leading = false; allow_trailing = false; of = record {} };
+            of = record {};
+          };
+          opening = record { seq = 91; of = record {} };
+          closing = record { seq = 93; of = record {} };
+          of = record {};
+        };
+        mapper = record {};
+        of = record {};
+      };
+    }) };
 }
 
 impl<'src> Recursion<'src, &'src str, Tree, EmptyText> for OfTree {
