@@ -6,6 +6,7 @@ use chumsky::pratt::{infix, prefix, right};
 use chumsky::prelude::*;
 use chumsky::report::Report;
 use console::run::run;
+use examples::statements::parse_statements;
 use programs::show::Show;
 use std::alloc::{AllocError, Global};
 
@@ -28,6 +29,8 @@ pub enum Work {
     DeepPrefixes,
     /// Powers of powers, each the right operand of the one before.
     DeepPowers,
+    /// Statements that are wrong, each of which is recovered from.
+    WrongStatements,
 }
 
 /// How many times as long ten times as much may take where time grows as the size, or as its logarithm times it.
@@ -36,9 +39,9 @@ const LINEAR: u128 = 30;
 /// And where it grows as the square, as it does with the alternatives of a choice.
 const SQUARE: u128 = 300;
 
-/// Each work, its name, how many lines, characters, lists, tokens or operators the smaller of its inputs has, and how many times as
-/// long the larger may take.
-pub const WORKS: [(Work, &str, usize, u128); 8] = [
+/// Each work, its name, how many lines, characters, lists, tokens, operators or statements the smaller of its inputs has, and how
+/// many times as long the larger may take.
+pub const WORKS: [(Work, &str, usize, u128); 9] = [
     (Work::WrongLines, "wrong_lines", 2_000, LINEAR),
     (Work::LongLine, "long_line", 100_000, LINEAR),
     (Work::DeepSettings, "deep_settings", 500, LINEAR),
@@ -47,6 +50,7 @@ pub const WORKS: [(Work, &str, usize, u128); 8] = [
     (Work::WideChoice, "wide_choice", 1_000, SQUARE),
     (Work::DeepPrefixes, "deep_prefixes", 100_000, LINEAR),
     (Work::DeepPowers, "deep_powers", 100_000, LINEAR),
+    (Work::WrongStatements, "wrong_statements", 10_000, LINEAR),
 ];
 
 /// Runs a work of a size. Says whether it answers as it should.
@@ -60,6 +64,7 @@ pub fn run_work(alloc: Global, work: Work, size: usize) -> Result<bool, AllocErr
         Work::WideChoice => wide_choice(alloc, size),
         Work::DeepPrefixes => deep_prefixes(alloc, size),
         Work::DeepPowers => deep_powers(alloc, size),
+        Work::WrongStatements => wrong_statements(alloc, size),
     }
 }
 
@@ -180,4 +185,13 @@ fn deep_powers(alloc: Global, operators: usize) -> Result<bool, AllocError> {
     let number = just::<_, &str, EmptyText>('1').to(0usize);
     let parsed = number.pratt((power,)).parse(alloc, text.as_str());
     Ok(gives(parsed, operators))
+}
+
+fn wrong_statements(alloc: Global, statements: usize) -> Result<bool, AllocError> {
+    let text = "let x 1;\n".repeat(alloc, statements)?;
+    let Ok(parsed) = parse_statements(alloc, text.as_str()) else {
+        return Ok(false);
+    };
+    let empty = parsed.output().is_some_and(|read| read.is_empty());
+    Ok(empty && parsed.errors().count() == statements)
 }

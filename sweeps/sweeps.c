@@ -58,9 +58,7 @@ void __wrap_rattle_dealloc(void *block) {
 
 /* The rows. */
 
-/* BY_HINT: the toolchain's `collect` first asks for room by a hint, and where that is refused it does with less. A run that met such a
-   refusal may answer the row. */
-enum { BY_PARSE = 1, BY_CHECK = 2, BY_BOTH = 3, BY_HINT = 4 };
+enum { BY_PARSE = 1, BY_CHECK = 2, BY_BOTH = 3 };
 
 /* A row: how it is run, and what it answers; by check, where that is another line than by parse, it has a row of its own. */
 struct row {
@@ -157,10 +155,10 @@ static const struct row rows[] = {
     {"chk", 4, BY_PARSE, "0 ok 2|"},
     {"chk", 4, BY_CHECK, "0 ok|"},
     {"chk", 5, BY_BOTH, "1 error 2..2 expected '+', '[', ']' found end|"},
-    {"chk", 6, BY_PARSE | BY_HINT, "0 ok a=1 b=[1,[x]]|"},
-    {"chk", 6, BY_CHECK | BY_HINT, "0 ok|"},
-    {"chk", 7, BY_BOTH | BY_HINT, "1 error 3..3 expected " DIGITS ", U+000A found end|"},
-    {"chk", 8, BY_BOTH | BY_HINT, "1 error 2..22 number too large|"},
+    {"chk", 6, BY_PARSE, "0 ok a=1 b=[1,[x]]|"},
+    {"chk", 6, BY_CHECK, "0 ok|"},
+    {"chk", 7, BY_BOTH, "1 error 3..3 expected " DIGITS ", U+000A found end|"},
+    {"chk", 8, BY_BOTH, "1 error 2..22 number too large|"},
     {"chk", 9, BY_BOTH, "2 usage: chk parse|check NAME|"},
 };
 
@@ -238,7 +236,6 @@ static bool expect(const struct row *row, bool check, size_t refuse, const char 
 
 /* The line of a run that met a refusal. */
 static bool expect_refusal(const struct row *row, bool check, size_t refuse, const char *line) {
-    if (row->by & BY_HINT && !strcmp(line, row->answer)) return true;
     return expect(row, check, refuse, "the run that met it", line, want_of_memory);
 }
 
@@ -248,8 +245,8 @@ static bool is_given_back(const struct row *row, size_t refuse, const struct ans
     return false;
 }
 
-/* Refuses the first request, the second, .. until a run meets no refusal. A run that met one answers want of memory (BY_HINT: or the
-   row), and the next run of the same thing, which meets none, answers the row; so does the run that met none. */
+/* Refuses the first request, the second, .. until a run meets no refusal. A run that met one answers want of memory, and
+   the next run of the same thing, which meets none, answers the row; so does the run that met none. */
 static bool sweep(const struct row *row, bool check) {
     for (size_t refuse = 1;; refuse += 1) {
         struct answer *alone = run(row, check, false, refuse);

@@ -23,8 +23,11 @@ impl Text<'_> {
     {
         match self {
             Text::Slice(slice) => {
-                let chars: Vec<char> = slice.chars().collect(alloc)?;
-                Ok(VecDeque::from_vec(chars))
+                let mut chars = VecDeque::new(alloc);
+                for symbol in slice.chars() {
+                    chars.push_back(symbol)?;
+                }
+                Ok(chars)
             }
             Text::Made(chars) => Ok(chars),
         }

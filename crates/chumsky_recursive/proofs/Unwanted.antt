@@ -29,7 +29,7 @@ use Rattle.chumsky_rules.specs.declared.kinds.NodeKind.{NodeKind}
 use Rattle.chumsky_rules.specs.declared.kinds.NodeKind.TheVariants.{Leaf, Rule, Then, Choice, Repeated, SeparatedBy, OrNot, Not, AndIs, Rewind, Map, TryMap}
 use Rattle.chumsky_rules.specs.Tables.{Tables}
 use Rattle.chumsky_recursive.specs.InPlace.{InPlace}
-use Rattle.chumsky_recursive.specs.Means.{Acts, AreThose, Values, Listed, bounds_of, Made, VettingOrNone, VettedOrNone, waited, is_leaf, waits_for_parts, kind_means, known_means, node_means, body_means, call_means, part_means, waited_means}
+use Rattle.chumsky_recursive.specs.Means.{Acts, AreThose, Values, Listed, bounds_of, Made, VettingOrNone, VettedOrNone, waited_if, waited, in_each_run, for_a_value, is_leaf, waits_for, kind_means, known_means, node_means, body_means, call_means, part_means, last_means}
 use Rattle.chumsky_recursive.specs.Staying.{not_halt, not_no, not_clash, or_clash-end, chained_yes}
 use Rattle.chumsky_recursive.proofs.Making.{makes-ran}
 
@@ -177,10 +177,13 @@ module _ {Tok Cx St Mk Er V : Type 0} (back : St → Mk → St) (safe : Type 0) 
   stands-unwanted (suc k) n [] b o w s v y = absurd s
   stands-unwanted (suc k) n (x ∷ xs) b o w s v y = elim s.3 [ inl r ↦ absurd (not_halt o _ v r.1 y) | inr t ↦ stands-unwanted k x xs (record b { state = back s.0.state mark }) t.0 w t.1 v (sym (ap (λ (z : Outcome V Er St). z.verdict) t.2) ∙ y) ]
 
-module _ {Tok Cx St Er V : Type 0} (part : ℕ → Meaning Tok Cx St Er V) (h : (n : ℕ) → GivesOnlyWanted (part n)) where
-  waited-unwanted : (c : Bool) (n : ℕ) → GivesOnlyWanted (waited c part n)
-  waited-unwanted true n b o w m v y = elim m.cases [ inl r ↦ absurd (not_halt o _ v r.1 y) | inr x ↦ h n b o w x v y ]
-  waited-unwanted false n b o w m v y = h n b o w m v y
+module _ {Tok Cx St Er V : Type 0} (may_lack : Bool → Type 0) where
+  waited_if-unwanted : (c : Bool) (m : Meaning Tok Cx St Er V) → GivesOnlyWanted m → GivesOnlyWanted (waited_if may_lack c m)
+  waited_if-unwanted true m h b o w k v y = elim k.cases [ inl r ↦ absurd (not_halt o _ v r.1 y) | inr x ↦ h b o w x v y ]
+  waited_if-unwanted false m h b o w k v y = h b o w k v y
+
+  waited-unwanted : (waits : ℕ → Bool) (part : ℕ → Meaning Tok Cx St Er V) → ((n : ℕ) → GivesOnlyWanted (part n)) → (n : ℕ) → GivesOnlyWanted (waited may_lack waits part n)
+  waited-unwanted waits part h n = waited_if-unwanted (waits n) (part n) (h n)
 
 module _ {I Tok Sp Cu Er St Mk Cx V : Type 0} (source : input_trait.Ghosts I Cu Tok Sp) (errors : error_trait.Ghosts Er I Tok Sp) (states : inspector_trait.Ghosts St I Mk Tok Sp) where
   not_from : (u : Verdict V errors.Seen) (b : Beginning Tok Cx states.Seen) (p : Outcome V errors.Seen states.Seen) (o : Outcome (Unit {0}) errors.Seen states.Seen) → b.wanted ≡ false → ByVerdict u (Denies source errors states (states.mark b.state)) (Allows source errors states (states.mark b.state)) b p o
@@ -202,11 +205,11 @@ module _ {I Tok Sp Cu Er St Mk Cx V : Type 0} (source : input_trait.Ghosts I Cu 
   among-unwanted part h (n ∷ x ∷ xs) b o w m v y = elim m.cases.cases [ inl r ↦ absurd (not_halt o _ v r.1 y) | inr t ↦ stands-unwanted states.back states.takes_no_memory (states.mark b.state) part h t.k n (x ∷ xs) b o w t.stands v y ]
 
   module _ (a : Acts Tok Cx states.Seen errors.Seen V) (leaf : (n : ℕ) → GivesOnlyWanted (a.leaf n)) where
-    module _ (call part : ℕ → Meaning Tok Cx states.Seen errors.Seen V) (hc : (r : ℕ) → GivesOnlyWanted (call r)) (hp : (n : ℕ) → GivesOnlyWanted (part n)) where
-      kind-unwanted : (k : NodeKind) → GivesOnlyWanted (kind_means source errors states a call part k)
+    module _ (call part last : ℕ → Meaning Tok Cx states.Seen errors.Seen V) (hc : (r : ℕ) → GivesOnlyWanted (call r)) (hp : (n : ℕ) → GivesOnlyWanted (part n)) (hl : (n : ℕ) → GivesOnlyWanted (last n)) where
+      kind-unwanted : (k : NodeKind) → GivesOnlyWanted (kind_means source errors states a call part last k)
       kind-unwanted (Leaf n) = leaf n
       kind-unwanted (Rule r) = hc r
-      kind-unwanted (Then x z) = chained-unwanted (part x) _ (hp x) (λ u e. chained-unwanted (part z) _ (hp z) (λ w _. made-unwanted a.pairs (both u w) (both_none u w e)))
+      kind-unwanted (Then x z) = chained-unwanted (part x) _ (hp x) (λ u e. chained-unwanted (last z) _ (hl z) (λ w _. made-unwanted a.pairs (both u w) (both_none u w e)))
       kind-unwanted (Choice c) = among-unwanted part hp c.items
       kind-unwanted (Repeated x least most) = listed-unwanted (Repeats states.mark states.back states.takes_no_memory (part x) false least most) a.lists
       kind-unwanted (SeparatedBy x z cfg) = listed-unwanted (Separates states.mark states.back states.takes_no_memory (part z) (part x) (bounds_of cfg)) a.lists
@@ -214,12 +217,14 @@ module _ {I Tok Sp Cu Er St Mk Cx V : Type 0} (source : input_trait.Ghosts I Cu 
       kind-unwanted (Not x) = chained-unwanted (MeansNot source errors states (part x)) _ (not-unwanted (part x)) (made-unwanted a.units)
       kind-unwanted (AndIs x z) = and_is-unwanted states.mark states.back states.takes_no_memory (part x) (hp x) (part z)
       kind-unwanted (Rewind x) = rewind-unwanted errors.merged (part x) (hp x)
-      kind-unwanted (Map x f) = chained-unwanted (part x) _ (hp x) (made-unwanted (a.maps f))
+      kind-unwanted (Map x f) = chained-unwanted (last x) _ (hl x) (made-unwanted (a.maps f))
       kind-unwanted (TryMap x f) = vetted-unwanted errors.merged (a.tries_lack f) (a.tries f) (part x)
 
     known-unwanted : (nodes : List NodeKind) (call part : ℕ → Meaning Tok Cx states.Seen errors.Seen V) → ((r : ℕ) → GivesOnlyWanted (call r)) → ((n : ℕ) → GivesOnlyWanted (part n)) → (k : Option NodeKind) → GivesOnlyWanted (known_means source errors states a nodes call part k)
     known-unwanted nodes call part hc hp None b o w m v y = absurd m
-    known-unwanted nodes call part hc hp (Some k) b o w m v y = kind-unwanted call (waited (waits_for_parts (is_leaf nodes) k) part) hc (waited-unwanted part hp (waits_for_parts (is_leaf nodes) k)) k b o w m v y
+    known-unwanted nodes call part hc hp (Some k) b o w m v y =
+        let waits = waits_for (is_leaf nodes) k in
+        kind-unwanted call (waited in_each_run waits part) (waited for_a_value waits part) hc (waited-unwanted in_each_run waits part hp) (waited-unwanted for_a_value waits part hp) k b o w m v y
 
     module _ (call : ℕ → Meaning Tok Cx states.Seen errors.Seen V) (hc : (r : ℕ) → GivesOnlyWanted (call r)) where
       node-unwanted : (nodes : List NodeKind) (bound n : ℕ) → GivesOnlyWanted (node_means source errors states a call nodes bound n)
@@ -237,8 +242,8 @@ module _ {I Tok Sp Cu Er St Mk Cx V : Type 0} (source : input_trait.Ghosts I Cu 
     call-unwanted g zero r b o w m v y = absurd (not_halt o TooDeep v (ap (λ (z : Outcome V errors.Seen states.Seen). z.verdict) m) y)
     call-unwanted g (suc more) r b o w m v y = body-unwanted (call_means source errors states a g more) (call-unwanted g more) g.nodes (slice_get g.bodies r) b o w m v y
 
-    part-unwanted : (g : Tables) (more n : ℕ) → GivesOnlyWanted (waited true (part_means source errors states a g more) n)
-    part-unwanted g more = waited-unwanted (part_means source errors states a g more) (λ n. node-unwanted (call_means source errors states a g more) (call-unwanted g more) g.nodes (suc n) n) true
+    part-unwanted : (g : Tables) (more n : ℕ) → GivesOnlyWanted (last_means source errors states a g more n)
+    part-unwanted g more n = waited_if-unwanted for_a_value (not (is_leaf g.nodes n)) (part_means source errors states a g more n) (node-unwanted (call_means source errors states a g more) (call-unwanted g more) g.nodes (suc n) n)
 
 module _ {Er V : Type 0} where
   yes_of : (u : Verdict V Er) (v : Option V) → Ok v ≡ answer u → u ≡ Yes v
@@ -261,10 +266,10 @@ module _ {Tok Cx St Er V : Type 0} (merged : Er → Er → Er) (safe : Type 0) (
 
 module _ {I Tok Sp Cu Er St Mk Cx V : Type 0} (source : input_trait.Ghosts I Cu Tok Sp) (errors : error_trait.Ghosts Er I Tok Sp) (states : inspector_trait.Ghosts St I Mk Tok Sp) (a : Acts Tok Cx states.Seen errors.Seen V) (leaf : (n : ℕ) → GivesOnlyWanted (a.leaf n)) (g : Tables) (more n : ℕ) (wanted : Bool) (old new : Held Tok Cx states.Seen errors.Seen) (r : Result (Option V) Fault) (w : wanted ≡ false) where
   -- so of the part of `map`
-  pub maps_nothing : (f : ℕ) → Ran errors.merged errors.takes_no_memory (waited_means source errors states a g more n) wanted old new r → Ran errors.merged errors.takes_no_memory (Chained (waited_means source errors states a g more n) (Made (a.maps f))) wanted old new r
-  maps_nothing f ran = makes_nothing errors.merged errors.takes_no_memory wanted w (waited_means source errors states a g more n) (Made (a.maps f)) old new r (part-unwanted source errors states a leaf g more n) (made_of_none errors.merged errors.takes_no_memory wanted w (a.maps f) None new refl) ran
+  pub maps_nothing : (f : ℕ) → Ran errors.merged errors.takes_no_memory (last_means source errors states a g more n) wanted old new r → Ran errors.merged errors.takes_no_memory (Chained (last_means source errors states a g more n) (Made (a.maps f))) wanted old new r
+  maps_nothing f ran = makes_nothing errors.merged errors.takes_no_memory wanted w (last_means source errors states a g more n) (Made (a.maps f)) old new r (part-unwanted source errors states a leaf g more n) (made_of_none errors.merged errors.takes_no_memory wanted w (a.maps f) None new refl) ran
 
   -- and of the second of `then`, after a first that gave no value
-  pub joins_nothing : (v : Option V) → is_some v ≡ wanted → Ran errors.merged errors.takes_no_memory (waited_means source errors states a g more n) wanted old new r → Ran errors.merged errors.takes_no_memory (Chained (waited_means source errors states a g more n) (λ x. Made a.pairs (both v x))) wanted old new r
+  pub joins_nothing : (v : Option V) → is_some v ≡ wanted → Ran errors.merged errors.takes_no_memory (last_means source errors states a g more n) wanted old new r → Ran errors.merged errors.takes_no_memory (Chained (last_means source errors states a g more n) (λ x. Made a.pairs (both v x))) wanted old new r
   joins_nothing v there ran =
-      makes_nothing errors.merged errors.takes_no_memory wanted w (waited_means source errors states a g more n) (λ x. Made a.pairs (both v x)) old new r (part-unwanted source errors states a leaf g more n) (made_of_none errors.merged errors.takes_no_memory wanted w a.pairs (both v None) new (both_none v None (not_there v (there ∙ w)))) ran
+      makes_nothing errors.merged errors.takes_no_memory wanted w (last_means source errors states a g more n) (λ x. Made a.pairs (both v x)) old new r (part-unwanted source errors states a leaf g more n) (made_of_none errors.merged errors.takes_no_memory wanted w a.pairs (both v None) new (both_none v None (not_there v (there ∙ w)))) ran

@@ -1,6 +1,7 @@
 -- Rules of which no node waits are refused for memory only as their leaves are, for an error of their own, or for a value.
 -- Main words: NeverWaits, CallsAsk, Asks, HaltsForMemory. Law: call-asks.
 use Rattle.std.proofs.Common.{◌≡◌, ℕ, zero, suc, ◌≤◌, List, [], ◌∷◌, map, Option, Some, None, Bool, true, false, length, slice_get, refl, sym, ◌∙◌, ap, subst, ◌⊎◌, inl, inr}
+use Rattle.std.specs.Prelude.{⊤, not}
 use Rattle.chumsky_input.specs.Layout.{Layout}
 use Rattle.chumsky_input.specs.declared.error.Error as error_trait
 use Rattle.chumsky_input.specs.declared.inspector.Inspector as inspector_trait
@@ -18,14 +19,28 @@ use Rattle.chumsky_recursive.specs.declared.actions.Actions as actions_trait
 use Rattle.chumsky_recursive.specs.declared.grammar.Grammar.{Grammar}
 use Rattle.chumsky_recursive.specs.Calls.{TakesNoMemory}
 use Rattle.chumsky_recursive.specs.Going.{SucceedsBy, node-goes, call-goes}
-use Rattle.chumsky_recursive.specs.Means.{Acts, Made, MadeOf, has_others, waited, is_leaf, waits_for_parts, kind_means, known_means, node_means, body_means, call_means}
+use Rattle.chumsky_recursive.specs.Means.{Acts, Made, MadeOf, has_others, waited, waited_if, in_each_run, for_a_value, is_leaf, waits_for, kind_means, known_means, node_means, body_means, call_means}
 use Rattle.chumsky_recursive.specs.Reach.{Reach, Reach-refl, Reach-trans}
 use Rattle.chumsky_recursive.specs.Refused.{LeafHalts}
 
--- no node of these rules waits for a part: each is a leaf, a call, `then` or `map` of leaves, or a choice of one alternative or of
--- none
+-- a node that waits for no part, and makes no list: a leaf, a call, `then` or `map` of leaves, or a choice of one alternative or of none
+abbrev pub DoesNotWait : (ℕ → Bool) → NodeKind → Type 0
+DoesNotWait leaf (Leaf x) = ⊤
+DoesNotWait leaf (Rule r) = ⊤
+DoesNotWait leaf (Then x z) = (leaf x ≡ true) × (leaf z ≡ true)
+DoesNotWait leaf (Choice v) = has_others v.items ≡ false
+DoesNotWait leaf (Map x f) = leaf x ≡ true
+DoesNotWait leaf (Repeated x least most) = ⊥
+DoesNotWait leaf (SeparatedBy x z cfg) = ⊥
+DoesNotWait leaf (OrNot x) = ⊥
+DoesNotWait leaf (Not x) = ⊥
+DoesNotWait leaf (AndIs x z) = ⊥
+DoesNotWait leaf (Rewind x) = ⊥
+DoesNotWait leaf (TryMap x f) = ⊥
+
+-- so each node of these rules
 abbrev pub NeverWaits : Tables → Type 0
-NeverWaits g = (n : ℕ) (k : NodeKind) → IsNode g n k → waits_for_parts (is_leaf g.nodes) k ≡ false
+NeverWaits g = (n : ℕ) (k : NodeKind) → IsNode g n k → DoesNotWait (is_leaf g.nodes) k
 
 -- a node of these rules is `then`, and it is not said that the value of two takes no memory; or it is `map`, and it is not said of
 -- its mapper
@@ -55,6 +70,12 @@ module _ {Tok Cx St Er V W : Type 0} (P : Type 0) (part : Meaning Tok Cx St Er V
   chained-asks : (o : Outcome W Er St) → Chained part next b o → o.verdict ≡ Halt Memory → P
   chained-asks o m h = chain_asks m.first o m.first.verdict refl m.meant m.follows h
 
+module _ {Tok Cx St Er V : Type 0} (may_lack : Bool → Type 0) (m : Meaning Tok Cx St Er V) where
+  -- a part that is a leaf is not waited for
+  leaf_alone : (leaf : Bool) → leaf ≡ true → waited_if may_lack (not leaf) m ≡ m
+  leaf_alone true e = refl
+  leaf_alone false e = absurd (cc)
+
 module _ {Tok Cx St Er V W : Type 0} (gives : V → Option W → Type 0) where
   made_of-asks : (v : Option V) (b : Beginning Tok Cx St) (o : Outcome W Er St) → MadeOf gives v b o → o.verdict ≡ Halt Memory → (b.wanted ≡ true) × (x : V) × gives x None
   made_of-asks (Some v) b o (inl m) h = absurd (yes_memory o (Some m.0) (ap (λ (z : Outcome W Er St). z.verdict) m.2) h)
@@ -76,7 +97,7 @@ module _ {I Tok Sp Cu Er St Mk Cx V : Type 0} (source : input_trait.Ghosts I Cu 
 
   module _ (call : ℕ → Meaning Tok Cx states.Seen errors.Seen V) (gc : (r : ℕ) → SucceedsBy Reach Reach-refl Reach-trans (call r)) (hc : (r : ℕ) → OnlyIfAsked (call r)) where
     module _ (part : ℕ → Meaning Tok Cx states.Seen errors.Seen V) (gp : (n : ℕ) → SucceedsBy Reach Reach-refl Reach-trans (part n)) (hp : (n : ℕ) → OnlyIfAsked (part n)) where
-      among-asks : (ns : List ℕ) → has_others ns ≡ false → OnlyIfAsked (FirstAmong source errors states (map (waited (has_others ns) part) ns))
+      among-asks : (ns : List ℕ) → has_others ns ≡ false → OnlyIfAsked (FirstAmong source errors states (map (waited in_each_run (λ _. has_others ns) part) ns))
       among-asks [] f b o w m h = elim m.cases [
         | inl r ↦ inr (inl r.0)
         | inr e ↦ elim e.by [ inl n ↦ absurd (no_memory o n.0 h) | inr c ↦ absurd (clash_memory o _ c.0 h) ]
@@ -101,19 +122,22 @@ module _ {I Tok Sp Cu Er St Mk Cx V : Type 0} (source : input_trait.Ghosts I Cu 
           (λ p v k y q l i. let asks = made-asks (a.maps f) v (from b p) q l i in inr (inr (asks.0, record { cases = inr (n, x, f, is, maps f asks.1 asks.2) })))
           o m h
 
-      kind-asks : (n : ℕ) (k : NodeKind) → IsNode g n k → waits_for_parts (is_leaf g.nodes) k ≡ false → OnlyIfAsked (kind_means source errors states a call (waited (waits_for_parts (is_leaf g.nodes) k) part) k)
+      kind-asks : (n : ℕ) (k : NodeKind) → IsNode g n k → DoesNotWait (is_leaf g.nodes) k → OnlyIfAsked (kind_means source errors states a call (waited in_each_run (waits_for (is_leaf g.nodes) k) part) (waited for_a_value (waits_for (is_leaf g.nodes) k) part) k)
       kind-asks n (Leaf x) is f b o w m h = inl (record { number = x; node = n; is = is; begun = b; on = refl; there = w; out = o; meant = m; halts = h })
       kind-asks n (Rule r) is f b o w m h = hc r b o w m h
       kind-asks n (Choice v) is f b o w m h = among-asks v.items f b o w m h
-      kind-asks n (Then x z) is f b o w m h = then-asks n x z is b o w (subst (λ (q : Bool). Chained (waited q part x) (λ v. Chained (waited q part z) (λ u. Made a.pairs (both v u))) b o) f m) h
-      kind-asks n (Map x t) is f b o w m h = map-asks n x t is b o w (subst (λ (q : Bool). Chained (waited q part x) (Made (a.maps t)) b o) f m) h
-      kind-asks n (Repeated x least most) is f b o w m h = absurd (cc)
-      kind-asks n (SeparatedBy x z cfg) is f b o w m h = absurd (cc)
-      kind-asks n (OrNot x) is f b o w m h = absurd (cc)
-      kind-asks n (Not x) is f b o w m h = absurd (cc)
-      kind-asks n (AndIs x z) is f b o w m h = absurd (cc)
-      kind-asks n (Rewind x) is f b o w m h = absurd (cc)
-      kind-asks n (TryMap x t) is f b o w m h = absurd (cc)
+      kind-asks n (Then x z) is f b o w m h =
+          let first = subst (λ (y : Meaning Tok Cx states.Seen errors.Seen V). Chained y (λ v. Chained (waited_if for_a_value (not (is_leaf g.nodes z)) (part z)) (λ u. Made a.pairs (both v u))) b o) (leaf_alone in_each_run (part x) (is_leaf g.nodes x) f.0) m in
+          then-asks n x z is b o w (subst (λ (y : Meaning Tok Cx states.Seen errors.Seen V). Chained (part x) (λ v. Chained y (λ u. Made a.pairs (both v u))) b o) (leaf_alone for_a_value (part z) (is_leaf g.nodes z) f.1) first) h
+      kind-asks n (Map x t) is f b o w m h =
+          map-asks n x t is b o w (subst (λ (y : Meaning Tok Cx states.Seen errors.Seen V). Chained y (Made (a.maps t)) b o) (leaf_alone for_a_value (part x) (is_leaf g.nodes x) f) m) h
+      kind-asks n (Repeated x least most) is f b o w m h = absurd f
+      kind-asks n (SeparatedBy x z cfg) is f b o w m h = absurd f
+      kind-asks n (OrNot x) is f b o w m h = absurd f
+      kind-asks n (Not x) is f b o w m h = absurd f
+      kind-asks n (AndIs x z) is f b o w m h = absurd f
+      kind-asks n (Rewind x) is f b o w m h = absurd f
+      kind-asks n (TryMap x t) is f b o w m h = absurd f
 
       known-asks : (n : ℕ) (k : Option NodeKind) → slice_get g.nodes n ≡ k → OnlyIfAsked (known_means source errors states a g.nodes call part k)
       known-asks n None is b o w m h = absurd m
