@@ -10,6 +10,8 @@ mod copies;
 #[cfg(test)]
 mod counted;
 #[cfg(test)]
+mod debug;
+#[cfg(test)]
 mod founded;
 #[cfg(test)]
 mod judged;

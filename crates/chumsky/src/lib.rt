@@ -274,6 +274,13 @@ pub mod recursive {
     pub use chumsky_rules::rules::Rules;
 }
 
+/// Rules that can be looked at: as EBNF, and as a railroad diagram.
+pub mod debug {
+    pub use chumsky_debug::debug::DebugInfo;
+    pub use chumsky_debug::ebnf::Ebnf;
+    pub use chumsky_debug::railroad::RailroadSvg;
+}
+
 /// Laws of calls of functions, as those of `laws` and of `memory_laws`.
 pub mod recursion_laws {
     pub use chumsky_descent::laws::{recursive_is_never_out_of_memory, recursive_is_steady};
