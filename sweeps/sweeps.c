@@ -139,6 +139,7 @@ static const struct row rows[] = {
     {"grammar", 7, BY_PARSE, "ok 2"},
     {"grammar", 7, BY_CHECK, "ok ()"},
     {"grammar", 8, BY_BOTH, "no output; 0..1 expected a found b"},
+    {"drawn", 0, BY_PARSE, "drawn"},
     {"recursive", 0, BY_PARSE, "rule 0, nodes 12"},
     {"calls", 0, BY_PARSE, "ok 6"},
     {"calls", 0, BY_CHECK, "ok ()"},
@@ -159,7 +160,7 @@ static const struct row rows[] = {
     {"chk", 6, BY_CHECK, "0 ok|"},
     {"chk", 7, BY_BOTH, "1 error 3..3 expected " DIGITS ", U+000A found end|"},
     {"chk", 8, BY_BOTH, "1 error 2..22 number too large|"},
-    {"chk", 9, BY_BOTH, "2 usage: chk parse|check NAME|"},
+    {"chk", 9, BY_BOTH, "2 usage: chk parse|check|show|draw NAME|"},
 };
 
 /* Values of which one clone is made, and how many rows they are. */

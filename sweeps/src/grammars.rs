@@ -5,6 +5,7 @@ use crate::line::{Line, Say};
 use crate::plans::{Built, Call, Plan, build};
 use crate::run::{once, say_stop};
 use chumsky::Stop;
+use chumsky::debug::DebugInfo;
 use chumsky::extra::RichText;
 use chumsky::prelude::*;
 use chumsky::recursive::{BuildError, Leaves, Node, RecursiveError, SepCfg, Values, WellFounded};
@@ -322,6 +323,34 @@ pub fn sweep_recursive(alloc: Global, _row: usize, _check: bool, again: bool) ->
     if again {
         line.byte(b'\n');
         say_recursive(alloc, &mut line);
+    }
+    line
+}
+
+/// New rules, drawn: that they are, or why they aren't.
+fn say_drawn(alloc: Global, line: &mut Line) {
+    let mut rules = Rules::new(alloc);
+    if rules.recursive(each_node_call).is_err() {
+        return say_stop(line, Stop::Memory);
+    }
+    let info = DebugInfo {
+        rules: &rules,
+        rule_names: &[],
+        leaf_names: &[],
+    };
+    match info.to_railroad_svg(alloc) {
+        Ok(_) => line.text("drawn"),
+        Err(_) => say_stop(line, Stop::Memory),
+    }
+}
+
+/// Draws rules, new ones each time.
+pub fn sweep_drawn(alloc: Global, _row: usize, _check: bool, again: bool) -> Line {
+    let mut line = Line::new();
+    say_drawn(alloc, &mut line);
+    if again {
+        line.byte(b'\n');
+        say_drawn(alloc, &mut line);
     }
     line
 }

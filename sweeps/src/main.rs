@@ -66,6 +66,7 @@ fn answer_of(alloc: Global, name: &[u8], row: usize, check: bool, again: bool) -
         b"closing" => grammars::sweep_closing(alloc, row, check, again),
         b"well_founded" => grammars::sweep_well_founded(alloc, row, check, again),
         b"grammar" => grammars::sweep_grammar(alloc, row, check, again),
+        b"drawn" => grammars::sweep_drawn(alloc, row, check, again),
         b"recursive" => grammars::sweep_recursive(alloc, row, check, again),
         b"calls" => descent::sweep_calls(alloc, row, check, again),
         b"chained_items" => items::sweep_chained_items(alloc, row, check, again),

@@ -1,4 +1,5 @@
 //! What the program `chk` answers, word for word.
+use chk_run::look::look;
 use chk_run::run::{Ended, run};
 use std::alloc::{AllocError, AllocGlobal, Global};
 use std::io;
@@ -296,13 +297,54 @@ fn each_grammar_of_rules_is_well_founded(rt: HostRuntime) -> Result<(), Fail> {
     Ok(())
 }
 
+/// What is printed of a grammar that is looked at, and whether there is one.
+fn looked_at(alloc: Global, words: &[&str]) -> Result<Option<Vec<u8>>, AllocError> {
+    let words = owned(alloc, words)?;
+    let mut out = Vec::new(alloc);
+    match look(alloc, words.as_slice(), &mut out) {
+        Some(ended) if ended.status == 0 && ended.told => Ok(Some(out)),
+        _ => Ok(None),
+    }
+}
+
+#[test]
+fn shows_grammars(rt: HostRuntime) -> Result<(), Fail> {
+    let loops = looked_at(rt.alloc(), &["show", "loops"])?.expect(&rt, "no grammar");
+    let expected = "loops ::= ('+' | '[' loops ']')*\n";
+    assert_eq!(rt; loops.as_slice(), expected.as_bytes());
+    let settings = looked_at(rt.alloc(), &["show", "settings"])?.expect(&rt, "no grammar");
+    let expected = "settings ::= ([a-z]+ '=' value #xA)*\n\
+        value ::= [0-9]+ | [a-z]+ | '[' (value (',' value)* ','?)? ']'\n";
+    assert_eq!(rt; settings.as_slice(), expected.as_bytes());
+    assert!(rt; looked_at(rt.alloc(), &["show", "ab"])?.is_none());
+    assert!(rt; looked_at(rt.alloc(), &["parse", "loops"])?.is_none());
+    assert!(rt; looked_at(rt.alloc(), &["show"])?.is_none());
+    Ok(())
+}
+
+#[test]
+fn draws_grammars(rt: HostRuntime) -> Result<(), Fail> {
+    let loops = looked_at(rt.alloc(), &["draw", "loops"])?.expect(&rt, "no grammar");
+    assert!(rt; loops.as_slice().starts_with(b"<svg xmlns=\"http://www.w3.org/2000/svg\" "));
+    assert!(rt; loops.as_slice().ends_with(b"</svg>\n"));
+    let mut full = Brittle {
+        writes: 1,
+        kept: Vec::new(rt.alloc()),
+    };
+    let words = owned(rt.alloc(), &["draw", "loops"])?;
+    let ended = look(rt.alloc(), words.as_slice(), &mut full).expect(&rt, "no grammar");
+    assert_eq!(rt; ended.status, 2);
+    assert!(rt; !ended.told);
+    Ok(())
+}
+
 fn is_usage(alloc: Global, words: &[&str]) -> Result<bool, AllocError> {
     let words = owned(alloc, words)?;
     let mut out = Vec::new(alloc);
     let mut err = Vec::new(alloc);
     let mut torn = Torn { given: false };
     let ended = run(alloc, words.as_slice(), &mut torn, &mut out, &mut err);
-    let usage = b"usage: chk parse|check NAME\n";
+    let usage = b"usage: chk parse|check|show|draw NAME\n";
     Ok(
         ended.status == 2
             && ended.told
@@ -470,7 +512,7 @@ fn stands_cut_short<R: Read>(
 #[test]
 fn a_message_that_is_cut_short_changes_nothing(rt: HostRuntime) -> Result<(), Fail> {
     let alloc = rt.alloc();
-    let usage = "usage: chk parse|check NAME\n";
+    let usage = "usage: chk parse|check|show|draw NAME\n";
     assert!(rt; stands_cut_short(alloc, "no", &mut b"ab".as_slice(), usage)?);
     let wrong = "input is not UTF-8\n";
     assert!(rt; stands_cut_short(alloc, "ab", &mut b"\xff".as_slice(), wrong)?);

@@ -1,7 +1,8 @@
 //! `chk parse NAME` and `chk check NAME`: runs the grammar of that name over the standard input, and prints what it
-//! answers.
+//! answers. `chk show NAME` and `chk draw NAME` print the grammar itself.
 #![tactic(auto)]
 
+use chk_run::look::look;
 use chk_run::run::{FAILED, refuse, run};
 use chk_run::show::Refusal;
 use chumsky::Stop;
@@ -15,7 +16,10 @@ use std::process::ExitCode;
 /// Runs the program on some words, through a buffer before the standard output. The result is its exit status.
 fn status_of(rt: &HostRuntime, alloc: Global, words: &[String]) -> Result<u8, Failure> {
     let mut out = buffer(alloc, io::writer(rt))?;
-    let ended = run(alloc, words, &mut rt.reader(), &mut out, &mut rt.stderr());
+    let ended = match look(alloc, words, &mut out) {
+        Some(ended) => ended,
+        None => run(alloc, words, &mut rt.reader(), &mut out, &mut rt.stderr()),
+    };
     match out.flush() {
         Ok(()) => Ok(ended.status),
         Err(_) => Ok(FAILED),

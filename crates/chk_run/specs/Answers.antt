@@ -85,7 +85,7 @@ module _ (words : List (List ℕ)) (known : Option (List ℕ)) where
 
 -- what people are told of a failure, on a line
 abbrev pub complaint : Failure → List ℕ
-complaint failure.Usage = codes "usage: chk parse|check NAME"
+complaint failure.Usage = codes "usage: chk parse|check|show|draw NAME"
 complaint failure.Unreadable = codes "cannot read input"
 complaint failure.NotUtf8 = codes "input is not UTF-8"
 complaint (failure.Refused refusal) = []

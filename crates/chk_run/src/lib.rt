@@ -4,6 +4,7 @@
 mod ab;
 mod grammar;
 mod list;
+pub mod look;
 mod loops;
 mod request;
 pub mod run;

@@ -17,6 +17,11 @@ const OPENING: usize = 1;
 
 const CLOSING: usize = 2;
 
+/// What the rule and the leaves are called where they are shown.
+pub(crate) const RULE_NAMES: [&str; 1] = ["loops"];
+
+pub(crate) const LEAF_NAMES: [&str; 3] = ["'+'", "'['", "']'"];
+
 /// Values are numbers of pairs. Where a sum is too large for a `usize`, it is the greatest.
 #[derive(Drop)]
 struct Pairs;
@@ -64,7 +69,7 @@ impl Values<SimpleSpan, Rich<char>> for Pairs {
 }
 
 /// The one rule.
-fn loops(rules: &mut Rules) -> Result<Recursive, RecursiveError> {
+pub(crate) fn loops(rules: &mut Rules) -> Result<Recursive, RecursiveError> {
     rules.recursive(|rules, loops| {
         let plus = rules.leaf(PLUS)?;
         let opening = rules.leaf(OPENING)?;

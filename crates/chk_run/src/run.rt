@@ -23,14 +23,16 @@ use std::alloc::Global;
 use std::fmt::Display;
 use std::io::{ErrorKind, Read, Write};
 
-const ACCEPTED: u8 = 0;
+/// The status where the text is right, or a grammar was printed.
+pub(crate) const ACCEPTED: u8 = 0;
 
 const REJECTED: u8 = 1;
 
 /// The status where the words, the input or the output are wrong.
 pub const FAILED: u8 = 2;
 
-const REFUSED: u8 = 3;
+/// The status where a run was refused.
+pub(crate) const REFUSED: u8 = 3;
 
 /// How a run ended: its exit status, and whether all that it had to print could be printed.
 #[derive(Clone, Copy)]
@@ -81,7 +83,7 @@ pub fn run<R: Read, W: Write, E: Write>(
 {
     match answer(alloc, words, input, out) {
         Ok(status) => Ended { status, told: true },
-        Err(Failure::Usage) => complain(err, "usage: chk parse|check NAME"),
+        Err(Failure::Usage) => complain(err, "usage: chk parse|check|show|draw NAME"),
         Err(Failure::Unreadable) => complain(err, "cannot read input"),
         Err(Failure::NotUtf8) => complain(err, "input is not UTF-8"),
         Err(Failure::Refused(refusal)) => refuse(out, refusal),

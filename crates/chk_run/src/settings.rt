@@ -36,6 +36,11 @@ const COMMA: usize = 5;
 
 const CLOSING: usize = 6;
 
+/// What the rules and the leaves are called where they are shown. `#xA` is a line end.
+pub(crate) const RULE_NAMES: [&str; 2] = ["settings", "value"];
+
+pub(crate) const LEAF_NAMES: [&str; 7] = ["[a-z]+", "[0-9]+", "'='", "#xA", "'['", "','", "']'"];
+
 /// The mappers, by number: what is printed of a name before its value, of a value in brackets, and of all values in brackets.
 const SETTING: usize = 0;
 
@@ -207,7 +212,7 @@ fn setting(rules: &mut Rules, value: Recursive) -> Result<Node, BuildError> {
 }
 
 /// Any number of lines.
-fn settings(rules: &mut Rules) -> Result<Recursive, RecursiveError> {
+pub(crate) fn settings(rules: &mut Rules) -> Result<Recursive, RecursiveError> {
     let settings = rules.declare()?;
     let value = value(rules)?;
     let setting = setting(rules, value)?;

@@ -128,13 +128,16 @@ abbrev pub line_text : List ℕ → List ℕ → List ℕ
 line_text name text = name ++ (codes " ::= " ++ (text ++ codes "\n"))
 
 -- the line of a rule: parts have smaller numbers, so they are no deeper than the number of nodes
-abbrev pub body_line : DebugInfo → ℕ → Option (Option ℕ) → List ℕ
-body_line info r (Some (Some n)) = line_text (rule_name info r) (part_text info (length info.rules.now.nodes) 0 n)
-body_line info r (Some None) = line_text (rule_name info r) (codes "/* undefined */")
+abbrev pub body_line : DebugInfo → ℕ → Option ℕ → List ℕ
+body_line info r (Some n) = line_text (rule_name info r) (part_text info (length info.rules.now.nodes) 0 n)
 body_line info r None = line_text (rule_name info r) (codes "/* undefined */")
 
+abbrev pub body_at : Option (Option ℕ) → Option ℕ
+body_at (Some body) = body
+body_at None = None
+
 abbrev pub rule_line : DebugInfo → ℕ → List ℕ
-rule_line info r = body_line info r (slice_get info.rules.now.bodies r)
+rule_line info r = body_line info r (body_at (slice_get info.rules.now.bodies r))
 
 abbrev pub own_line : DebugInfo → ℕ → Bool → List ℕ
 own_line info n true = line_text (node_name n) (node_text info (length info.rules.now.nodes) 0 n)

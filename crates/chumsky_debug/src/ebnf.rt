@@ -1,12 +1,13 @@
 //! Rules as EBNF.
-ghost use Rattle.std.specs.Prelude.{◌≡◌, Some};
+ghost use Rattle.std.specs.Prelude.{◌≡◌, Some, slice_get};
 ghost use Rattle.std.specs.Fmt.{WritesOnOk};
-ghost use Rattle.chumsky_debug.specs.Ebnf.{choice_text, ebnf_text, items_text, level_of, list_text, node_line, node_text, open_text, part_text, rest_text, rule_line};
+ghost use Rattle.chumsky_debug.specs.Ebnf.{body_at, body_line, choice_text, ebnf_text, items_text, kind_text, level_of, list_text, node_line, node_text, open_text, part_text, rest_text, rule_line};
 
 use crate::debug::DebugInfo;
-use crate::lines::has_line;
+use crate::lines::{has_line, kind_of};
 use crate::names::{Times, leaf_name, rule_name};
 use chumsky_rules::kinds::{Node, NodeKind, SepCfg};
+use chumsky_rules::rules::Rules;
 use std::fmt;
 use std::fmt::{Display, Formatter};
 
@@ -42,20 +43,37 @@ impl Display for Ebnf<'_> {
 fn write_rule<W: fmt::Write>(f: &mut Formatter<W>, info: DebugInfo<'_>, rule: usize) -> fmt::Result
     ensures { WritesOnOk W.write_str_gives f.old result (rule_line info.entry rule) f.new }
 {
+    let body = body_of(info.rules, rule);
+    write_body(f, info, rule, body)
+}
+
+/// The body of a rule, if it has one.
+fn body_of(rules: &Rules, rule: usize) -> Option<Node>
+    ensures { result ≡ body_at (slice_get rules.now.bodies rule) }
+{
+    match rules.bodies().get(rule).copied() {
+        Some(body) => body,
+        None => None,
+    }
+}
+
+/// The line of a rule that has this body.
+fn write_body<W: fmt::Write>(
+    f: &mut Formatter<W>,
+    info: DebugInfo<'_>,
+    rule: usize,
+    body: Option<Node>,
+) -> fmt::Result
+    ensures { WritesOnOk W.write_str_gives f.old result (body_line info.entry rule body) f.new }
+{
     let name = rule_name(info, rule);
-    match info.rules.bodies().get(rule) {
-        Some(Some(body)) => {
+    match body {
+        Some(body) => {
             write!(f, "{name} ::= ")?;
-            write_part(
-                f,
-                info,
-                info.rules.nodes().len(),
-                body.number(),
-                ALTERNATIVES,
-            )?;
+            write_at(f, info, info.rules.nodes().len(), body, ALTERNATIVES)?;
             write!(f, "\n")
         }
-        _ => write!(f, "{name} ::= /* undefined */\n"),
+        None => write!(f, "{name} ::= /* undefined */\n"),
     }
 }
 
@@ -102,6 +120,20 @@ fn level_of(kind: &NodeKind) -> usize
     }
 }
 
+/// A part.
+#[cycle(ebnf)]
+fn write_at<W: fmt::Write>(
+    f: &mut Formatter<W>,
+    info: DebugInfo<'_>,
+    bound: usize,
+    part: Node,
+    level: usize,
+) -> fmt::Result
+    ensures { WritesOnOk W.write_str_gives f.old result (part_text info.entry bound level part) f.new }
+{
+    write_part(f, info, bound, part.number(), level)
+}
+
 /// A part: by its name where it has a line of its own.
 #[cycle(ebnf)]
 fn write_part<W: fmt::Write>(
@@ -119,7 +151,7 @@ fn write_part<W: fmt::Write>(
     write_node(f, info, bound, node, level)
 }
 
-/// A node, in brackets where it doesn't hold together as tightly as it has to. Its parts are at most so many deep.
+/// A node, whose parts are less than so many deep.
 #[cycle(ebnf)]
 fn write_node<W: fmt::Write>(
     f: &mut Formatter<W>,
@@ -133,14 +165,29 @@ fn write_node<W: fmt::Write>(
     if bound == 0 {
         return Ok(());
     }
-    match info.rules.nodes().get(node) {
+    match kind_of(info.rules, node) {
+        Some(kind) => write_enclosed(f, info, bound - 1, kind, level),
         None => Ok(()),
-        Some(kind) if level_of(kind) < level => {
-            write!(f, "(")?;
-            write_kind(f, info, bound - 1, kind, level)?;
-            write!(f, ")")
-        }
-        Some(kind) => write_kind(f, info, bound - 1, kind, level),
+    }
+}
+
+/// A node of a kind, in brackets where it doesn't hold together as tightly as it has to.
+#[cycle(ebnf)]
+fn write_enclosed<W: fmt::Write>(
+    f: &mut Formatter<W>,
+    info: DebugInfo<'_>,
+    bound: usize,
+    kind: &NodeKind,
+    level: usize,
+) -> fmt::Result
+    ensures { WritesOnOk W.write_str_gives f.old result (kind_text (part_text info.entry bound) info.entry level (Some kind.now)) f.new }
+{
+    if level_of(kind) < level {
+        write!(f, "(")?;
+        write_kind(f, info, bound, kind, level)?;
+        write!(f, ")")
+    } else {
+        write_kind(f, info, bound, kind, level)
     }
 }
 
@@ -159,43 +206,36 @@ fn write_kind<W: fmt::Write>(
         NodeKind::Leaf(leaf) => write!(f, "{}", leaf_name(info, *leaf)),
         NodeKind::Rule(rule) => write!(f, "{}", rule_name(info, rule.number())),
         NodeKind::Then(a, b) => {
-            write_part(f, info, bound, a.number(), SEQUENCE)?;
+            write_at(f, info, bound, *a, SEQUENCE)?;
             write!(f, " ")?;
-            write_part(f, info, bound, b.number(), SEQUENCE)
+            write_at(f, info, bound, *b, SEQUENCE)
         }
         NodeKind::Choice(parts) => write_choice(f, info, bound, parts),
         NodeKind::Repeated(a, at_least, at_most) => {
-            write_part(f, info, bound, a.number(), ATOM)?;
+            write_at(f, info, bound, *a, ATOM)?;
             write!(f, "{}", Times::of(*at_least, *at_most))
         }
-        NodeKind::SeparatedBy(a, b, config) => write_list(
-            f,
-            info,
-            bound,
-            a.number(),
-            b.number(),
-            *config,
-        ),
+        NodeKind::SeparatedBy(a, b, config) => write_list(f, info, bound, *a, *b, *config),
         NodeKind::OrNot(a) => {
-            write_part(f, info, bound, a.number(), ATOM)?;
+            write_at(f, info, bound, *a, ATOM)?;
             write!(f, "?")
         }
         NodeKind::Not(a) => {
             write!(f, "!")?;
-            write_part(f, info, bound, a.number(), PREFIXED)
+            write_at(f, info, bound, *a, PREFIXED)
         }
         NodeKind::AndIs(a, b) => {
             write!(f, "&")?;
-            write_part(f, info, bound, b.number(), PREFIXED)?;
+            write_at(f, info, bound, *b, PREFIXED)?;
             write!(f, " ")?;
-            write_part(f, info, bound, a.number(), SEQUENCE)
+            write_at(f, info, bound, *a, SEQUENCE)
         }
         NodeKind::Rewind(a) => {
             write!(f, "&")?;
-            write_part(f, info, bound, a.number(), PREFIXED)
+            write_at(f, info, bound, *a, PREFIXED)
         }
-        NodeKind::Map(a, _) => write_part(f, info, bound, a.number(), level),
-        NodeKind::TryMap(a, _) => write_part(f, info, bound, a.number(), level),
+        NodeKind::Map(a, _) => write_at(f, info, bound, *a, level),
+        NodeKind::TryMap(a, _) => write_at(f, info, bound, *a, level),
     }
 }
 
@@ -212,10 +252,10 @@ fn write_choice<W: fmt::Write>(
     let [first, others @ ..] = parts else {
         return write!(f, "!()");
     };
-    write_part(f, info, bound, first.number(), SEQUENCE)?;
+    write_at(f, info, bound, *first, SEQUENCE)?;
     for other in others {
         write!(f, " | ")?;
-        write_part(f, info, bound, other.number(), SEQUENCE)?;
+        write_at(f, info, bound, *other, SEQUENCE)?;
     }
     Ok(())
 }
@@ -226,8 +266,8 @@ fn write_list<W: fmt::Write>(
     f: &mut Formatter<W>,
     info: DebugInfo<'_>,
     bound: usize,
-    item: usize,
-    separator: usize,
+    item: Node,
+    separator: Node,
     config: SepCfg,
 ) -> fmt::Result
     ensures { WritesOnOk W.write_str_gives f.old result (list_text (part_text info.entry bound) item separator config) f.new }
@@ -236,7 +276,7 @@ fn write_list<W: fmt::Write>(
         return write!(f, "()");
     }
     if config.allow_leading {
-        write_part(f, info, bound, separator, ATOM)?;
+        write_at(f, info, bound, separator, ATOM)?;
         write!(f, "? ")?;
     }
     if config.at_least == 0 {
@@ -254,19 +294,19 @@ fn write_items<W: fmt::Write>(
     f: &mut Formatter<W>,
     info: DebugInfo<'_>,
     bound: usize,
-    item: usize,
-    separator: usize,
+    item: Node,
+    separator: Node,
     config: SepCfg,
 ) -> fmt::Result
     ensures { WritesOnOk W.write_str_gives f.old result (items_text (part_text info.entry bound) item separator config) f.new }
 {
-    write_part(f, info, bound, item, SEQUENCE)?;
+    write_at(f, info, bound, item, SEQUENCE)?;
     if config.at_most != Some(1) {
         write_others(f, info, bound, item, separator, config)?;
     }
     if config.allow_trailing {
         write!(f, " ")?;
-        write_part(f, info, bound, separator, ATOM)?;
+        write_at(f, info, bound, separator, ATOM)?;
         write!(f, "?")?;
     }
     Ok(())
@@ -278,16 +318,16 @@ fn write_others<W: fmt::Write>(
     f: &mut Formatter<W>,
     info: DebugInfo<'_>,
     bound: usize,
-    item: usize,
-    separator: usize,
+    item: Node,
+    separator: Node,
     config: SepCfg,
 ) -> fmt::Result
     ensures { WritesOnOk W.write_str_gives f.old result (rest_text (part_text info.entry bound) item separator config) f.new }
 {
     write!(f, " (")?;
-    write_part(f, info, bound, separator, SEQUENCE)?;
+    write_at(f, info, bound, separator, SEQUENCE)?;
     write!(f, " ")?;
-    write_part(f, info, bound, item, SEQUENCE)?;
+    write_at(f, info, bound, item, SEQUENCE)?;
     let others = Times::of(config.at_least, config.at_most).after_first();
     write!(f, "){others}")
 }

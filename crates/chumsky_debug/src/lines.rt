@@ -1,23 +1,47 @@
 //! Which nodes have lines of their own.
-ghost use Rattle.std.specs.Prelude.{◌≡◌, ◌+◌, ◌≤◌, length, min};
+ghost use Rattle.std.specs.Prelude.{◌≡◌, ◌≤◌, min, IfNone, IfSome, Some, length, slice_get};
 ghost use Rattle.std.specs.List.{sum_by};
-ghost use Rattle.chumsky_debug.specs.Lines.{bodies_at, count_of, has_line, is_named, places_at, places_in};
+ghost use Rattle.chumsky_debug.specs.Lines.{called, bodies_at, count_of, has_line, is_named, places_at, places_in};
 
 use chumsky_rules::kinds::{Node, NodeKind};
 use chumsky_rules::rules::Rules;
 
-/// Whether a node is printed by a name: a leaf or a call, which its value may go through mappers. It looks through so many of them.
+/// What the node of a number does, if there is one.
+pub(crate) fn kind_of<'a>(rules: &'a Rules, node: usize) -> Option<&'a NodeKind>
+    ensures some { IfSome result (λ kind. slice_get rules.now.nodes node ≡ Some kind.now) }
+    ensures none { IfNone result (length rules.now.nodes ≤ node) }
+{
+    let nodes = rules.nodes();
+    if node < nodes.len() {
+        Some(&nodes[node])
+    } else {
+        None
+    }
+}
+
+/// Whether a node is printed by a name: a leaf or a call, or a mapper of one. It looks through so many nodes.
+#[cycle(named)]
 fn is_named(rules: &Rules, bound: usize, node: usize) -> bool
     ensures { result ≡ is_named rules.now.nodes bound node }
 {
     if bound == 0 {
         return false;
     }
-    match rules.nodes().get(node) {
-        Some(NodeKind::Leaf(_)) | Some(NodeKind::Rule(_)) => true,
-        Some(NodeKind::Map(part, _)) | Some(NodeKind::TryMap(part, _)) => {
-            is_named(rules, bound - 1, part.number())
-        }
+    match kind_of(rules, node) {
+        Some(kind) => is_called(rules, bound - 1, kind),
+        None => false,
+    }
+}
+
+#[cycle(named)]
+fn is_called(rules: &Rules, bound: usize, kind: &NodeKind) -> bool
+    ensures { result ≡ called (is_named rules.now.nodes bound) (Some kind.now) }
+{
+    match kind {
+        NodeKind::Leaf(_) => true,
+        NodeKind::Rule(_) => true,
+        NodeKind::Map(part, _) => is_named(rules, bound, part.number()),
+        NodeKind::TryMap(part, _) => is_named(rules, bound, part.number()),
         _ => false,
     }
 }
