@@ -1,8 +1,8 @@
 -- One step of what goes down a bound.
 use Rattle.std.proofs.Common.{◌≡◌, ◌<◌, ◌≤◌, ℕ, zero, suc, ◌+◌, ◌-◌, ◌++◌, ◌∷◌, List, [], Option, false, refl, sym, ap, ◌∙◌, arith, slice_get, length, take, drop, get_or}
 use Rattle.std.specs.List.{flat_map}
-use Rattle.std.proofs.lemmas.List.{append-nil, take_more}
-use Rattle.std.proofs.lemmas.Grind.{common_steps, flat_map-append}
+use Rattle.std.proofs.lemmas.List.{append-nil, take_all, take_more}
+use Rattle.std.proofs.lemmas.Grind.{flat_map-append}
 use Rattle.chumsky_rules.specs.declared.kinds.NodeKind.{NodeKind}
 use Rattle.chumsky_debug.specs.declared.debug.DebugInfo.{DebugInfo}
 use Rattle.chumsky_debug.specs.Ebnf.{kind_text, lines_below, node_text, part_text}
@@ -38,10 +38,16 @@ unfolding lines_below
 lines_none line = refl
 
 -- what is printed of one more of a list
-pub each_more : (f : ℕ → List ℕ) (xs : List ℕ) (i : ℕ) → i < length xs → flat_map f (take (i + 1) xs) ≡ flat_map f (take i xs) ++ f (get_or xs i 0)
-each_more f xs i within = ap (flat_map f) (take_more xs i 0 within) ∙ flat_map-append f (take i xs) (get_or xs i 0 ∷ []) ∙ ap (λ text. flat_map f (take i xs) ++ text) (append-nil (f (get_or xs i 0)))
+pub each_more : (f : ℕ → List ℕ) (xs : List ℕ) (i x : ℕ) → i < length xs → x ≡ get_or xs i x → flat_map f (take (i + 1) xs) ≡ flat_map f (take i xs) ++ f x
+each_more f xs i x within is = ap (flat_map f) (take_more xs i x within) ∙ flat_map-append f (take i xs) (get_or xs i x ∷ []) ∙ ap (λ text. flat_map f (take i xs) ++ text) (append-nil (f (get_or xs i x)) ∙ ap f (sym is))
+
+-- those after the first
+abbrev pub others_of : List ℕ → List ℕ
+others_of xs = take (length xs - 1) (drop 1 xs)
 
 -- the first and all others are the list
-pub first_and_others : (xs : List ℕ) (i : ℕ) → 0 < length xs → length (drop 1 xs) ≤ i → get_or xs 0 0 ∷ take i (drop 1 xs) ≡ xs
+pub first_and_others : (xs : List ℕ) (i : ℕ) → 0 < length xs → length (others_of xs) ≤ i → get_or xs 0 0 ∷ take i (others_of xs) ≡ xs
 first_and_others [] i some all = absurd (omega arith)
-first_and_others (x ∷ xs) i some all = ap (λ others. x ∷ others) (grind (arith, common_steps))
+first_and_others (x ∷ xs) i some all =
+    let whole : take (length (x ∷ xs) - 1) xs ≡ xs = take_all (length (x ∷ xs) - 1) xs (omega arith) in
+    ap (λ others. x ∷ others) (ap (take i) whole ∙ take_all i xs (omega (arith, ap length whole, all)))

@@ -1,10 +1,10 @@
-use Rattle.std.proofs.Common.{◌≡◌, ◌≤◌, ◌∙◌, ◌++◌, ℕ, List, [], length, take, drop, get_or, refl, sym, ap, rules, arith, codes, Some, None, slice_get}
+use Rattle.std.proofs.Common.{◌≡◌, ◌≤◌, ◌∙◌, ◌++◌, ℕ, List, [], length, take, get_or, refl, sym, ap, rules, arith, codes, Some, None, slice_get}
 use Rattle.std.proofs.Output.{has_written_append, has_written_of_eq}
 use Rattle.std.proofs.lemmas.List.{append_assoc}
 use Rattle.std.proofs.lemmas.Option.{slice_get_past}
 use Rattle.std.specs.List.{flat_map}
 use Rattle.chumsky_debug.specs.Ebnf.{choice_text, node_text, part_text}
-use Rattle.chumsky_debug.proofs.Steps.{each_more, first_and_others, node_none, node_step}
+use Rattle.chumsky_debug.proofs.Steps.{each_more, first_and_others, others_of, node_none, node_step}
 use Rattle.chumsky_debug.proofs.ebnf.+ebnf.Goals as goal
 
 pub write_at-returns : goal.write_at-returns
@@ -54,9 +54,9 @@ write_choice-loop-other-preserved g t c plain =
     let part = part_text c.args.info c.args.bound 1 in
     let first = part (get_or c.args.parts.now 0 0) in
     let after : ℕ → List ℕ = λ m. codes " | " ++ part m in
-    let others = drop 1 c.args.parts.now in
+    let others = others_of c.args.parts.now in
     let i = c.loop-other.other-index in
-    has_written_of_eq _ _ _ _ _ (append_assoc first (flat_map after (take i others)) (after (get_or others i 0)) ∙ ap (λ text. first ++ text) (sym (each_more after others i (omega arith))))
+    has_written_of_eq _ _ _ _ _ (append_assoc first (flat_map after (take i others)) (after c.other-item.result) ∙ ap (λ text. first ++ text) (sym (each_more after others i c.other-item.result c.loop-other-test.true c.other-item.is)))
     (has_written_append _ _ _ _ _ _ before (has_written_append _ _ _ _ _ _ bar (c.in_ok-write_at-2.ensures bar.plain refl)))
 
 pub write_choice-returns : goal.write_choice-returns
