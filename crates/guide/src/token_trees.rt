@@ -1,5 +1,5 @@
 //! Tokens that hold tokens: all that stands between two brackets is one token, and an input of its own.
-use chumsky::combinator::{Part, part_of, run_part};
+use chumsky::combinator::{Part, Picker, part_of, run_part};
 use chumsky::input::InputRef;
 use chumsky::prelude::*;
 use chumsky::primitive::SelectRef;
@@ -39,6 +39,19 @@ impl<'src> Part<'src, Trees<'src>, u32, Extra> for Number {
     }
 }
 
+/// Picks what stands in a group. A closure of `select_ref!` can't, since what it gives would borrow from the token.
+#[derive(Clone, Copy)]
+struct ToInside;
+
+impl<'src> Picker<&'src Tree, Trees<'src>> for ToInside {
+    fn pick(&self, tree: &'src Tree) -> Option<Trees<'src>> {
+        match tree {
+            Tree::Group(tokens, end) => Some(split_spanned(tokens.as_slice(), *end)),
+            Tree::Number(_) => None,
+        }
+    }
+}
+
 /// What stands in a group. It ends where the closing bracket stands.
 #[derive(Clone, Copy)]
 struct Inside;
@@ -51,9 +64,7 @@ impl<'src> Part<'src, Trees<'src>, Trees<'src>, Extra> for Inside {
         wanted: bool,
         inp: &mut InputRef<'src, '_, Trees<'src>, Extra>,
     ) -> PResult<Option<Trees<'src>>> {
-        let inside: SelectRef<_, Trees<'src>, Trees<'src>, Extra> = select_ref! {
-            Tree::Group(tokens, end) => split_spanned(tokens.as_slice(), *end),
-        };
+        let inside = any_ref::<Trees<'src>, Extra>().filter_map_by(ToInside);
         run_part(&inside, wanted, inp)
     }
 }
