@@ -1,7 +1,7 @@
 //! What rules print as.
 use chumsky::debug::DebugInfo;
 use chumsky::prelude::*;
-use chumsky::recursive::{BuildError, Node, RecursiveError, SepCfg};
+use chumsky::recursive::{BuildError, Node, SepCfg};
 use std::alloc::AllocGlobal;
 use std::process::Abort;
 
@@ -157,6 +157,20 @@ fn what_has_no_name_prints_as_its_number(rt: HostRuntime) {
     );
 }
 
+/// What is drawn of `list ::= <digit>*`, behind the style: a box of seven characters, 9 wide each, with 10 at either side; bends of
+/// 10 past it and back below it; and the row, 30 below the top, as far up as the bends go.
+const DRAWN: &str = "<g id=\"n0\"><path d=\"M0 0h10M93 0h10\"/>\
+    <rect x=\"10\" y=\"-11\" width=\"83\" height=\"22\" rx=\"11\"/>\
+    <text x=\"51\" y=\"5\">&lt;digit&gt;</text></g>\n\
+    <g id=\"n1\"><path d=\"M0 0H20\"/><use href=\"#n0\" x=\"20\" y=\"0\"/><path d=\"M123 0H143\"/>\
+    <path d=\"M0 0q10 0 10 -10v-11q0 -10 10 -10h103q10 0 10 10v11q0 10 10 10\"/>\
+    <path d=\"M123 0q10 0 10 10v1q0 10 -10 10h-103M20 21q-10 0 -10 -10v-1q0 -10 10 -10\"/></g>\n\
+    </defs>\n\
+    <text class=\"rule\" x=\"20\" y=\"20\">list</text>\n\
+    <path d=\"M20 51v20M20 61h20M183 61h20M203 51v20\"/>\n\
+    <use href=\"#n1\" x=\"40\" y=\"61\"/>\n\
+    </svg>\n";
+
 #[test]
 fn a_diagram_escapes_names_and_places_parts(rt: HostRuntime) {
     let mut rules = Rules::new(rt.alloc());
@@ -171,5 +185,8 @@ fn a_diagram_escapes_names_and_places_parts(rt: HostRuntime) {
     };
     let svg = info.to_railroad_svg(rt.alloc()).expect(&rt, "refused");
     let text = format!(in rt.alloc(); "{svg}").expect(&rt, "refused");
-    println!(rt; "{}", text).expect(&rt, "refused");
+    let (head, drawn) = text.as_str().split_once("<defs>\n").expect(&rt, "no nodes");
+    let first = "<svg xmlns=\"http://www.w3.org/2000/svg\" width=\"223\" height=\"112\" viewBox=\"0 0 223 112\">\n";
+    assert!(rt; head.starts_with(first));
+    assert_eq!(rt; drawn, DRAWN);
 }
