@@ -11,7 +11,7 @@ pub type Word<'src, V> = To<Just<&'static str, &'src str, RichText>, &'static st
 
 /// A word that stands for a value.
 pub fn word<'src, V: Clone>(text: &'static str, value: V) -> Word<'src, V>
-    ensures text { result.parser.seq ≡ text }
+    ensures text { result.parser.seq ≡ text.entry }
     ensures value { result.value ≡ value }
 {
     just(text).to(value)
