@@ -2,15 +2,11 @@
 //! is known of two outputs that count as the same.
 ghost use Rattle.std.specs.Prelude.{Result};
 ghost use Rattle.chumsky_combinator.specs.Mapped.{IsFunction, SameMapped};
-ghost use Rattle.chumsky_shield.specs.Tried.{FilterMapsAlike, SameFilterMapped};
-ghost use Rattle.chumsky_shield.specs.Vetted.{TestsAlike};
 
 use crate::made::{FromStr, Lazy};
 use chumsky_input::extra::ParserExtra;
 use chumsky_input::input::{Input, ValueInput};
 use chumsky_parser::parser::Parser;
-use chumsky_shield::pick_by::{PickBy, WordPicker};
-use chumsky_shield::test_by::{TestBy, WordTester};
 use std::convert::AsStr;
 use std::str;
 
@@ -39,33 +35,4 @@ pub fn from_str_is_steady<
     ensures ready { A.ready from_str.now.parser → ⟦<FromStr<A, O, U> as Parser<'src, I, Result<U, U::Err>, E>>⟧.ready from_str.now }
     ensures steady { A.steady from_str.now.parser → IsFunction (λ value read. U.from_str_gives (O.text value) read) → ⟦<FromStr<A, O, U> as Parser<'src, I, Result<U, U::Err>, E>>⟧.steady from_str.now }
     ensures same { (x y : Result U U.Err) → ⟦<FromStr<A, O, U> as Parser<'src, I, Result<U, U::Err>, E>>⟧.same from_str.now x y → SameMapped (A.same from_str.now.parser) (λ value read. U.from_str_gives (O.text value) read) x y }
-{}
-
-/// `a.test_by(f)`.
-pub fn test_by_is_steady<
-    'src,
-    I: Input<'src>,
-    O: Drop,
-    E: ParserExtra<I>,
-    A: Parser<'src, I, O, E>,
-    F: WordTester<'src, I, O, E, A>,
->(test_by: &TestBy<A, F>)
-    ensures ready { A.ready test_by.now.tested.parser → F.callable test_by.now.tested.tester → ⟦<TestBy<A, F> as Parser<'src, I, O, E>>⟧.ready test_by.now }
-    ensures steady { A.steady test_by.now.tested.parser → TestsAlike (A.same test_by.now.tested.parser) (F.gives test_by.now.tested.tester) → ⟦<TestBy<A, F> as Parser<'src, I, O, E>>⟧.steady test_by.now }
-    ensures same { (x y : O) → ⟦<TestBy<A, F> as Parser<'src, I, O, E>>⟧.same test_by.now x y → A.same test_by.now.tested.parser x y }
-{}
-
-/// `a.pick_by(f)`.
-pub fn pick_by_is_steady<
-    'src,
-    I: Input<'src>,
-    O,
-    U: Drop,
-    E: ParserExtra<I>,
-    A: Parser<'src, I, O, E>,
-    F: WordPicker<'src, I, O, U, E, A>,
->(pick_by: &PickBy<A, O, F, U>)
-    ensures ready { A.ready pick_by.now.picked.parser → F.callable pick_by.now.picked.picker → ⟦<PickBy<A, O, F, U> as Parser<'src, I, U, E>>⟧.ready pick_by.now }
-    ensures steady { A.steady pick_by.now.picked.parser → FilterMapsAlike (A.same pick_by.now.picked.parser) (F.gives pick_by.now.picked.picker) → ⟦<PickBy<A, O, F, U> as Parser<'src, I, U, E>>⟧.steady pick_by.now }
-    ensures same { (x y : U) → ⟦<PickBy<A, O, F, U> as Parser<'src, I, U, E>>⟧.same pick_by.now x y → SameFilterMapped (A.same pick_by.now.picked.parser) (F.gives pick_by.now.picked.picker) x y }
 {}
