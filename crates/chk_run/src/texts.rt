@@ -22,13 +22,7 @@ impl Text<'_> {
         ensures { IfOk result (λ chars. flat_map encode_utf8 chars.items ≡ text_bytes self.entry) }
     {
         match self {
-            Text::Slice(slice) => {
-                let mut chars = VecDeque::new(alloc);
-                for symbol in slice.chars() {
-                    chars.push_back(symbol)?;
-                }
-                Ok(chars)
-            }
+            Text::Slice(slice) => chars_of(alloc, slice),
             Text::Made(chars) => Ok(chars),
         }
     }
@@ -41,6 +35,17 @@ impl Text<'_> {
         let second = second.into_chars(alloc)?;
         Ok(Text::Made(joined(first, second)?))
     }
+}
+
+/// The characters of a text.
+fn chars_of(alloc: Global, text: &str) -> Result<VecDeque<char>, AllocError>
+    ensures { IfOk result (λ all. flat_map encode_utf8 all.items ≡ text.now) }
+{
+    let mut all = VecDeque::new(alloc);
+    for symbol in text.chars() {
+        all.push_back(symbol)?;
+    }
+    Ok(all)
 }
 
 /// Characters, and then others. The fewer of the two are moved, so no character is moved more often than its text is at least
