@@ -27,7 +27,6 @@ pub mod recursion;
 pub mod repeating;
 pub mod running;
 pub mod stepping;
-pub mod token_trees;
 pub mod tokens;
 pub mod under;
 pub mod words;
