@@ -1,6 +1,6 @@
 -- The function that reads numbers in lists accepts just these.
 -- Main word: grammar. Main laws: trees-intended, tree-text. Read first: Trees.antt.
-use Rattle.std.proofs.Common.{◌≡◌, ℕ, suc, ◌||◌, Bool, true, false, cond, nat_eq, Option, Some, None, List, [], ◌∷◌, ◌++◌, length, refl, sym, ◌∙◌, ap, subst, arith, inl, inr}
+use Rattle.std.proofs.Common.{◌≡◌, ℕ, suc, ◌||◌, Bool, true, false, nat_eq, Option, Some, None, List, [], ◌∷◌, ◌++◌, length, refl, sym, subst, arith, inl, inr}
 use Rattle.std.specs.Prelude.{codes}
 use Rattle.std.specs.declared.alloc.Global.{Global}
 use Rattle.std.specs.declared.vec.Vec.{Vec}
@@ -8,7 +8,7 @@ use Rattle.std.specs.Char.{is_digit}
 use Rattle.std.proofs.lemmas.List.{append-nil}
 use Rattle.chumsky_parser.specs.Ending.{DoesNotEnd}
 use Rattle.chumsky_parser.specs.FurtherLaws.{both-below, behind-below}
-use Rattle.chumsky_parser.specs.ItemsLanguage.{ListFrom, IsListFrom}
+use Rattle.chumsky_parser.specs.ItemsLanguage.{IsListFrom}
 use Rattle.chumsky_parser.specs.Language.{Language, sooner}
 use Rattle.chumsky_parser.specs.Words.{Joined, StopsAt}
 use Rattle.chumsky_primitive.specs.PrimitiveLanguage.{Equals}
