@@ -6,7 +6,6 @@ use exact::level::{Level, parse_level};
 use exact::nested::parse_nested;
 use exact::number::parse_number;
 use exact::pairs::parse_pairs;
-use exact::sum::parse_sum;
 use exact::trees::{Tree, parse_tree};
 use std::alloc::{AllocError, Global};
 use std::test::Fail;
@@ -91,27 +90,6 @@ fn dates_are_read_and_no_other_text_is(rt: HostRuntime) -> Result<(), Fail> {
     }
     for text in ["", "2026-13-01", "2026-00-01", "2026-1-01", "2026-01-32", "2026-01-00", "02026-01-01", "2026-01-011", "2026/01/01", "+026-01-01", "2026-01-01 "] {
         let parsed = parse_date(alloc, text)?;
-        assert_eq!(rt; parsed.into_output(), None, "{text}");
-    }
-    Ok(())
-}
-
-#[test]
-fn sums_are_worked_out_from_the_left(rt: HostRuntime) -> Result<(), Fail> {
-    let alloc = rt.alloc();
-    let accepted = [
-        ("7", 7),
-        ("10-2-3", 5),
-        ("10-2+3", 11),
-        ("0-4294967295-1", -4294967296),
-        ("1+2+3+4", 10),
-    ];
-    for (text, total) in accepted {
-        let parsed = parse_sum(alloc, text)?;
-        assert_eq!(rt; parsed.into_output(), Some(Some(total)), "{text}");
-    }
-    for text in ["", "-", "-1", "1-", "1--2", "1 + 2", "01+2", "4294967296", "1*2", "1+2\n"] {
-        let parsed = parse_sum(alloc, text)?;
         assert_eq!(rt; parsed.into_output(), None, "{text}");
     }
     Ok(())

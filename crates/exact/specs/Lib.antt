@@ -13,5 +13,3 @@ pub mod Pairs
 pub mod PairsLaws
 pub mod Trees
 pub mod TreesLaws
-pub mod Sum
-pub mod SumLaws

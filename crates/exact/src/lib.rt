@@ -7,5 +7,4 @@ pub mod level;
 pub mod nested;
 pub mod number;
 pub mod pairs;
-pub mod sum;
 pub mod trees;

@@ -66,9 +66,9 @@ impl<'src> Part<'src, &'src str, (u8, u8, u8), RichText> for Time {
         wanted: bool,
         inp: &mut InputRef<'src, '_, &'src str, RichText>,
     ) -> PResult<Option<(u8, u8, u8)>> {
-        let hour = text::digits(10).pick_by(TwoDigits { least: 0, most: 23 });
-        let minute = text::digits(10).pick_by(TwoDigits { least: 0, most: 59 });
-        let second = text::digits(10).pick_by(TwoDigits { least: 0, most: 59 });
+        let hour = text::digits(10).filter_map_by(TwoDigits { least: 0, most: 23 });
+        let minute = text::digits(10).filter_map_by(TwoDigits { least: 0, most: 59 });
+        let second = text::digits(10).filter_map_by(TwoDigits { least: 0, most: 59 });
         let time = group((
             hour.labelled("an hour"),
             just(':'),
