@@ -1,7 +1,6 @@
 //! What sums come to.
 use crate::printed::{Refusal, assert_lines, nested, printed};
-use arithmetic::operators::parse_sum;
-use arithmetic::{Refused, parse_arithmetic};
+use arithmetic::{Refused, parse_arithmetic, parse_sum};
 use std::alloc::{AllocError, AllocGlobal, Global};
 use std::process::Abort;
 use std::test::Fail;

@@ -1,5 +1,5 @@
 //! What a sum comes to, as `2 * (3 + 4) - 1`, in two ways: by operators with their powers and a function that calls itself
-//! (`operators`), and by rules, sums of products (`parse_arithmetic`), where brackets nest in memory. Numbers are worked out as they
+//! (`parse_sum`), and by rules, sums of products (`parse_arithmetic`), where brackets nest in memory. Numbers are worked out as they
 //! are read.
 #![tactic(auto)]
 
@@ -8,9 +8,10 @@ ghost use Rattle.std.specs.Int.{CanDivide, w64};
 ghost use Rattle.std.specs.Result.{result_ok};
 
 mod leaves;
-pub mod operators;
+mod operators;
 
 use crate::leaves::{Number, Sign, Worked};
+pub use crate::operators::parse_sum;
 use chumsky::combinator::{OfPart, Part, part_of, run_part};
 use chumsky::extra::RichText;
 use chumsky::input::InputRef;

@@ -44,11 +44,10 @@ fn told(alloc: Global, worked: Worked) -> Result<i64, Rich<char>> {
 }
 
 /// Numbers, and sums in brackets, with signs between and before them.
-fn run_sum<'src, P: IsParser<&'src str, i64, RichText> + Parser<'src, &'src str, i64, RichText>>(
-    sum: &P,
-    wanted: bool,
-    inp: &mut InputRef<'src, '_, &'src str, RichText>,
-) -> PResult<Option<i64>>
+pub fn run_sum<
+    'src,
+    P: IsParser<&'src str, i64, RichText> + Parser<'src, &'src str, i64, RichText>,
+>(sum: &P, wanted: bool, inp: &mut InputRef<'src, '_, &'src str, RichText>) -> PResult<Option<i64>>
     requires { P.ready sum.now }
     ensures { ⟦<Unsaid as RunsUnder<'src, &'src str, i64, RichText>>⟧.runs 0 wanted inp.old inp.new result }
 {

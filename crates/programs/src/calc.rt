@@ -1,5 +1,5 @@
 //! The program `calc`.
-use arithmetic::operators::parse_sum;
+use arithmetic::parse_sum;
 use console::failure::Failure;
 use console::run::Program;
 use console::text::{print_line, read_text, report};
