@@ -1,6 +1,6 @@
 //! A caller of each builder that takes a value of a named type in the place of a closure, and that the other files here do not
 //! run.
-ghost use Rattle.std.specs.Prelude.{◌≡◌, ⊤};
+ghost use Rattle.std.specs.Prelude.{⊤};
 
 use crate::builders::ToCapital;
 use chumsky::Stop;
