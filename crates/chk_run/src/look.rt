@@ -2,7 +2,7 @@
 ghost use Rattle.std.specs.Prelude.{◌≡◌, ◌≤◌, None, IfSome, map, string_bytes};
 ghost use Rattle.std.specs.Io.KnownBytes.{Appends};
 ghost use Rattle.chumsky_debug.specs.Ebnf.{ebnf_text};
-ghost use Rattle.chk_run.specs.declared.look.Look.TheVariants.{Show};
+ghost use Rattle.chk_run.specs.declared.look.Form.TheVariants.{Show};
 
 use crate::run::{ACCEPTED, Ended, FAILED, REFUSED, refuse};
 use crate::show::Refusal;
@@ -15,7 +15,7 @@ use std::io::Write;
 
 /// How a grammar is looked at.
 #[derive(Clone, Copy)]
-enum Look {
+enum Form {
     /// As EBNF.
     Show,
     /// As a file of SVG.
@@ -30,19 +30,19 @@ pub fn look<W: Write>(alloc: Global, words: &[String], out: &mut W) -> Option<En
     let [word, name] = words else {
         return None;
     };
-    let look = match word.as_str() {
-        "show" => Look::Show,
-        "draw" => Look::Draw,
+    let form = match word.as_str() {
+        "show" => Form::Show,
+        "draw" => Form::Draw,
         _ => return None,
     };
     match name.as_str() {
-        "loops" => Some(look_at_loops(alloc, look, out)),
-        "settings" => Some(look_at_settings(alloc, look, out)),
+        "loops" => Some(look_at_loops(alloc, form, out)),
+        "settings" => Some(look_at_settings(alloc, form, out)),
         _ => None,
     }
 }
 
-fn look_at_loops<W: Write>(alloc: Global, look: Look, out: &mut W) -> Ended
+fn look_at_loops<W: Write>(alloc: Global, form: Form, out: &mut W) -> Ended
     ensures { result.status ≤ REFUSED }
 {
     let mut rules = Rules::new(alloc);
@@ -54,10 +54,10 @@ fn look_at_loops<W: Write>(alloc: Global, look: Look, out: &mut W) -> Ended
         rule_names: &loops::RULE_NAMES,
         leaf_names: &loops::LEAF_NAMES,
     };
-    print_rules(alloc, look, info, out)
+    print_rules(alloc, form, info, out)
 }
 
-fn look_at_settings<W: Write>(alloc: Global, look: Look, out: &mut W) -> Ended
+fn look_at_settings<W: Write>(alloc: Global, form: Form, out: &mut W) -> Ended
     ensures { result.status ≤ REFUSED }
 {
     let mut rules = Rules::new(alloc);
@@ -69,17 +69,17 @@ fn look_at_settings<W: Write>(alloc: Global, look: Look, out: &mut W) -> Ended
         rule_names: &settings::RULE_NAMES,
         leaf_names: &settings::LEAF_NAMES,
     };
-    print_rules(alloc, look, info, out)
+    print_rules(alloc, form, info, out)
 }
 
 /// Prints rules.
-fn print_rules<W: Write>(alloc: Global, look: Look, info: DebugInfo<'_>, out: &mut W) -> Ended
+fn print_rules<W: Write>(alloc: Global, form: Form, info: DebugInfo<'_>, out: &mut W) -> Ended
     ensures status { result.status ≤ REFUSED }
-    ensures shown { look ≡ Show → result.status ≡ ACCEPTED → Appends (W.contents out.old) (W.contents out.new) (ebnf_text info.entry) }
+    ensures shown { form ≡ Show → result.status ≡ ACCEPTED → Appends (W.contents out.old) (W.contents out.new) (ebnf_text info.entry) }
 {
-    let written = match look {
-        Look::Show => write!(out, "{}", info.to_ebnf()),
-        Look::Draw => match info.to_railroad_svg(alloc) {
+    let written = match form {
+        Form::Show => write!(out, "{}", info.to_ebnf()),
+        Form::Draw => match info.to_railroad_svg(alloc) {
             Ok(svg) => write!(out, "{svg}"),
             Err(_) => return refuse(out, Refusal::Run(Stop::Memory)),
         },
