@@ -14,7 +14,7 @@ use guide::forms::{range, word_of};
 use guide::handed::{check_two_tokens, each};
 use guide::laws::token_past;
 use guide::mapping::percent;
-use guide::operators::{sum as sum_by_operators, sum_of_list, sum_or_span};
+use guide::operators::{sum as sum_by_operators, sum_or_span};
 use guide::parts::{on_or_off, switch_is_steady, ticket, time_of_day};
 use guide::picking::span_past_x;
 use guide::readme::tell_level;
@@ -359,15 +359,6 @@ fn operators_bind_by_their_powers(rt: HostRuntime) {
     ];
     for (text, line) in rows {
         assert_line(&rt, sum_by_operators(rt.alloc(), text), line);
-    }
-    let rows = [
-        ("1+2*3", "ok 7"),
-        ("9-3-2", "ok 4"),
-        ("8/2*3-1", "ok 11"),
-        ("1+", "error 2..2 expected int found end"),
-    ];
-    for (text, line) in rows {
-        assert_line(&rt, sum_of_list(rt.alloc(), text), line);
     }
 }
 

@@ -39,19 +39,6 @@ pub fn sum(alloc: Global, text: &str) -> Result<ParseResult<i64, Rich<char>>, St
         .parse(alloc, text)
 }
 
-/// What a sum comes to, by signs of one type in a list: `1+2*3` is `7`.
-pub fn sum_of_list(alloc: Global, text: &str) -> Result<ParseResult<i64, Rich<char>>, Stop> {
-    let signs = [
-        infix(left(2), just('*'), work_out),
-        infix(left(2), just('/'), work_out),
-        infix(left(1), just('+'), work_out),
-        infix(left(1), just('-'), work_out),
-    ];
-    let number = text::int::<_, RichText>(10).from_str::<i64>();
-    let sum = number.map(|read| read.ok()).pratt(signs);
-    sum.filter_map(|number| number).parse(alloc, text)
-}
-
 /// What two numbers come to, or the span of what an `i64` doesn't hold.
 fn work_out_at(
     a: Result<i64, SimpleSpan>,
