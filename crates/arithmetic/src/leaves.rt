@@ -3,7 +3,7 @@ use crate::Wrong;
 use chumsky::PResult;
 use chumsky::combinator::{Part, run_part};
 use chumsky::extra::RichText;
-use chumsky::input::InputRef;
+use chumsky::input::TextRef;
 use chumsky::prelude::*;
 use chumsky::span::Spanned;
 
@@ -17,11 +17,7 @@ pub(crate) struct Number;
 impl<'src> IsParser<&'src str, Worked, RichText> for Number {}
 
 impl<'src> Part<'src, &'src str, Worked, RichText> for Number {
-    fn run(
-        &self,
-        wanted: bool,
-        inp: &mut InputRef<'src, '_, &'src str, RichText>,
-    ) -> PResult<Option<Worked>> {
+    fn run(&self, wanted: bool, inp: &mut TextRef<'src, '_, RichText>) -> PResult<Option<Worked>> {
         let number = text::digits(10)
             .spanned()
             .map(|digits: Spanned<&str, SimpleSpan>| read(digits));
@@ -50,7 +46,7 @@ impl<'src> Part<'src, &'src str, Spanned<char, SimpleSpan>, RichText> for Sign {
     fn run(
         &self,
         wanted: bool,
-        inp: &mut InputRef<'src, '_, &'src str, RichText>,
+        inp: &mut TextRef<'src, '_, RichText>,
     ) -> PResult<Option<Spanned<char, SimpleSpan>>> {
         run_part(&one_of(self.0).spanned().padded(), wanted, inp)
     }

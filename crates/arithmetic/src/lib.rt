@@ -14,7 +14,7 @@ use crate::leaves::{Number, Sign, Worked};
 pub use crate::operators::parse_sum;
 use chumsky::combinator::{OfPart, Part, part_of, run_part};
 use chumsky::extra::RichText;
-use chumsky::input::InputRef;
+use chumsky::input::TextRef;
 use chumsky::prelude::*;
 use chumsky::recursive::{BuildError, CloseError, Leaves, MayStay, Node, RecursiveError, Values};
 use chumsky::span::Spanned;
@@ -60,11 +60,7 @@ enum Leaf {
 impl<'src> IsParser<&'src str, Value, RichText> for Leaf {}
 
 impl<'src> Part<'src, &'src str, Value, RichText> for Leaf {
-    fn run(
-        &self,
-        wanted: bool,
-        inp: &mut InputRef<'src, '_, &'src str, RichText>,
-    ) -> PResult<Option<Value>> {
+    fn run(&self, wanted: bool, inp: &mut TextRef<'src, '_, RichText>) -> PResult<Option<Value>> {
         match *self {
             Leaf::Number => run_part(&part_of(Number).map(number_of), wanted, inp),
             Leaf::Sign(signs) => run_part(&part_of(Sign(signs)).map(sign_of), wanted, inp),

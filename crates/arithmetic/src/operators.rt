@@ -5,7 +5,7 @@ use crate::leaves::{Number, Sign, Worked};
 use crate::{Step, applied, prefixed};
 use chumsky::combinator::{part_of, run_part};
 use chumsky::extra::RichText;
-use chumsky::input::InputRef;
+use chumsky::input::TextRef;
 use chumsky::pratt::{infix, left, prefix};
 use chumsky::prelude::*;
 use chumsky::recursive::{RunsUnder, Unsaid};
@@ -47,7 +47,7 @@ fn told(alloc: Global, worked: Worked) -> Result<i64, Rich<char>> {
 pub fn run_sum<
     'src,
     P: IsParser<&'src str, i64, RichText> + Parser<'src, &'src str, i64, RichText>,
->(sum: &P, wanted: bool, inp: &mut InputRef<'src, '_, &'src str, RichText>) -> PResult<Option<i64>>
+>(sum: &P, wanted: bool, inp: &mut TextRef<'src, '_, RichText>) -> PResult<Option<i64>>
     requires { P.ready sum.now }
     ensures { ⟦<Unsaid as RunsUnder<'src, &'src str, i64, RichText>>⟧.runs 0 wanted inp.old inp.new result }
 {
@@ -68,7 +68,7 @@ pub fn run_sum<
 
 /// A sum.
 fn sum<'src>(
-    inp: &mut InputRef<'src, '_, &'src str, RichText>,
+    inp: &mut TextRef<'src, '_, RichText>,
     wanted: bool,
     depth: usize,
 ) -> PResult<Option<i64>>

@@ -3,7 +3,7 @@ use crate::run::once;
 use chumsky::PResult;
 use chumsky::combinator::{Part, part_of, run_part};
 use chumsky::extra::{EmptyText, ParserExtra};
-use chumsky::input::InputRef;
+use chumsky::input::{InputRef, TextRef};
 use chumsky::prelude::*;
 use chumsky::recursive::{RunsUnder, Unsaid};
 use std::alloc::Global;
@@ -13,7 +13,7 @@ const DEPTH: usize = 1_000;
 
 /// Any number of pairs, one after another and within one another: how many.
 pub fn brackets<'src>(
-    inp: &mut InputRef<'src, '_, &'src str, EmptyText>,
+    inp: &mut TextRef<'src, '_, EmptyText>,
     wanted: bool,
     depth: usize,
 ) -> PResult<Option<u64>>
@@ -73,11 +73,7 @@ impl<'src> IsParser<&'src str, u64, EmptyText> for Word {}
 
 impl<'src> Part<'src, &'src str, u64, EmptyText> for Word {
     #[inline]
-    fn run(
-        &self,
-        wanted: bool,
-        inp: &mut InputRef<'src, '_, &'src str, EmptyText>,
-    ) -> PResult<Option<u64>> {
+    fn run(&self, wanted: bool, inp: &mut TextRef<'src, '_, EmptyText>) -> PResult<Option<u64>> {
         let word = one_of("abcdefghijklmnopqrstuvwxyz0123456789")
             .repeated()
             .delimited_by(one_of("\""), one_of("\""));
@@ -93,11 +89,7 @@ impl<'src> IsParser<&'src str, u64, EmptyText> for Scalar {}
 
 impl<'src> Part<'src, &'src str, u64, EmptyText> for Scalar {
     #[inline]
-    fn run(
-        &self,
-        wanted: bool,
-        inp: &mut InputRef<'src, '_, &'src str, EmptyText>,
-    ) -> PResult<Option<u64>> {
+    fn run(&self, wanted: bool, inp: &mut TextRef<'src, '_, EmptyText>) -> PResult<Option<u64>> {
         let scalar = choice((
             part_of(Word),
             one_of("0123456789").repeated().at_least(1).to(1),
@@ -117,11 +109,7 @@ impl<'src> IsParser<&'src str, char, EmptyText> for Mark {}
 
 impl<'src> Part<'src, &'src str, char, EmptyText> for Mark {
     #[inline]
-    fn run(
-        &self,
-        wanted: bool,
-        inp: &mut InputRef<'src, '_, &'src str, EmptyText>,
-    ) -> PResult<Option<char>> {
+    fn run(&self, wanted: bool, inp: &mut TextRef<'src, '_, EmptyText>) -> PResult<Option<char>> {
         run_part(&one_of(self.0), wanted, inp)
     }
 }
@@ -177,7 +165,7 @@ where
 
 #[cycle(json)]
 pub fn array<'src>(
-    inp: &mut InputRef<'src, '_, &'src str, EmptyText>,
+    inp: &mut TextRef<'src, '_, EmptyText>,
     wanted: bool,
     depth: usize,
 ) -> PResult<Option<u64>>
@@ -188,7 +176,7 @@ pub fn array<'src>(
 
 #[cycle(json)]
 pub fn object<'src>(
-    inp: &mut InputRef<'src, '_, &'src str, EmptyText>,
+    inp: &mut TextRef<'src, '_, EmptyText>,
     wanted: bool,
     depth: usize,
 ) -> PResult<Option<u64>>
@@ -200,7 +188,7 @@ pub fn object<'src>(
 /// JSON without spaces: how many words, numbers and names.
 #[cycle(json)]
 pub fn json<'src>(
-    inp: &mut InputRef<'src, '_, &'src str, EmptyText>,
+    inp: &mut TextRef<'src, '_, EmptyText>,
     wanted: bool,
     depth: usize,
 ) -> PResult<Option<u64>>

@@ -4,7 +4,7 @@ use crate::trees::{Blank, Number, Quoted, Tree, weight_of};
 use chumsky::PResult;
 use chumsky::combinator::{Part, part_of, run_part};
 use chumsky::extra::{EmptyText, ParserExtra};
-use chumsky::input::InputRef;
+use chumsky::input::{InputRef, TextRef};
 use chumsky::prelude::*;
 use chumsky::recursive::{RunsUnder, Unsaid};
 use std::alloc::Global;
@@ -19,11 +19,7 @@ struct Scalar;
 impl<'src> IsParser<&'src str, Tree, EmptyText> for Scalar {}
 
 impl<'src> Part<'src, &'src str, Tree, EmptyText> for Scalar {
-    fn run(
-        &self,
-        wanted: bool,
-        inp: &mut InputRef<'src, '_, &'src str, EmptyText>,
-    ) -> PResult<Option<Tree>> {
+    fn run(&self, wanted: bool, inp: &mut TextRef<'src, '_, EmptyText>) -> PResult<Option<Tree>> {
         let scalar = choice((
             part_of(Quoted).map(Tree::Text),
             part_of(Number).map(Tree::Number),
@@ -42,11 +38,7 @@ struct Name;
 impl<'src> IsParser<&'src str, String, EmptyText> for Name {}
 
 impl<'src> Part<'src, &'src str, String, EmptyText> for Name {
-    fn run(
-        &self,
-        wanted: bool,
-        inp: &mut InputRef<'src, '_, &'src str, EmptyText>,
-    ) -> PResult<Option<String>> {
+    fn run(&self, wanted: bool, inp: &mut TextRef<'src, '_, EmptyText>) -> PResult<Option<String>> {
         let colon = just(':').padded_with(Blank);
         let name = part_of(Quoted).padded_with(Blank).then_ignore(colon);
         run_part(&name, wanted, inp)
@@ -60,11 +52,7 @@ struct Mark(char);
 impl<'src> IsParser<&'src str, char, EmptyText> for Mark {}
 
 impl<'src> Part<'src, &'src str, char, EmptyText> for Mark {
-    fn run(
-        &self,
-        wanted: bool,
-        inp: &mut InputRef<'src, '_, &'src str, EmptyText>,
-    ) -> PResult<Option<char>> {
+    fn run(&self, wanted: bool, inp: &mut TextRef<'src, '_, EmptyText>) -> PResult<Option<char>> {
         run_part(&just(self.0).padded_with(Blank), wanted, inp)
     }
 }
@@ -117,7 +105,7 @@ where
 
 #[cycle(tree)]
 pub fn list<'src>(
-    inp: &mut InputRef<'src, '_, &'src str, EmptyText>,
+    inp: &mut TextRef<'src, '_, EmptyText>,
     wanted: bool,
     depth: usize,
 ) -> PResult<Option<Tree>>
@@ -128,7 +116,7 @@ pub fn list<'src>(
 
 #[cycle(tree)]
 pub fn object<'src>(
-    inp: &mut InputRef<'src, '_, &'src str, EmptyText>,
+    inp: &mut TextRef<'src, '_, EmptyText>,
     wanted: bool,
     depth: usize,
 ) -> PResult<Option<Tree>>
@@ -140,7 +128,7 @@ pub fn object<'src>(
 /// A value.
 #[cycle(tree)]
 pub fn tree<'src>(
-    inp: &mut InputRef<'src, '_, &'src str, EmptyText>,
+    inp: &mut TextRef<'src, '_, EmptyText>,
     wanted: bool,
     depth: usize,
 ) -> PResult<Option<Tree>>

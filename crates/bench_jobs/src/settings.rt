@@ -3,7 +3,7 @@ use crate::run::again;
 use chumsky::PResult;
 use chumsky::combinator::{Part, To, part_of, run_part};
 use chumsky::extra::EmptyText;
-use chumsky::input::InputRef;
+use chumsky::input::TextRef;
 use chumsky::prelude::*;
 use chumsky::primitive::{Choice, Just};
 use std::alloc::Global;
@@ -63,11 +63,7 @@ struct Key;
 impl<'src> IsParser<&'src str, u64, EmptyText> for Key {}
 
 impl<'src> Part<'src, &'src str, u64, EmptyText> for Key {
-    fn run(
-        &self,
-        wanted: bool,
-        inp: &mut InputRef<'src, '_, &'src str, EmptyText>,
-    ) -> PResult<Option<u64>> {
+    fn run(&self, wanted: bool, inp: &mut TextRef<'src, '_, EmptyText>) -> PResult<Option<u64>> {
         let first = choice((
             word("host", 1),
             word("port", 2),

@@ -3,7 +3,7 @@ use crate::run::again;
 use chumsky::PResult;
 use chumsky::combinator::{Part, part_of, run_part};
 use chumsky::extra::EmptyText;
-use chumsky::input::InputRef;
+use chumsky::input::TextRef;
 use chumsky::pratt::{infix, left};
 use chumsky::prelude::*;
 use std::alloc::Global;
@@ -60,11 +60,7 @@ struct Number;
 impl<'src> IsParser<&'src str, u64, EmptyText> for Number {}
 
 impl<'src> Part<'src, &'src str, u64, EmptyText> for Number {
-    fn run(
-        &self,
-        wanted: bool,
-        inp: &mut InputRef<'src, '_, &'src str, EmptyText>,
-    ) -> PResult<Option<u64>> {
+    fn run(&self, wanted: bool, inp: &mut TextRef<'src, '_, EmptyText>) -> PResult<Option<u64>> {
         let number = one_of('0'..='9')
             .map(digit)
             .foldl(one_of('0'..='9').map(digit).repeated(), with_digit);
@@ -79,11 +75,7 @@ struct Product;
 impl<'src> IsParser<&'src str, u64, EmptyText> for Product {}
 
 impl<'src> Part<'src, &'src str, u64, EmptyText> for Product {
-    fn run(
-        &self,
-        wanted: bool,
-        inp: &mut InputRef<'src, '_, &'src str, EmptyText>,
-    ) -> PResult<Option<u64>> {
+    fn run(&self, wanted: bool, inp: &mut TextRef<'src, '_, EmptyText>) -> PResult<Option<u64>> {
         let factors = just('*').ignore_then(part_of(Number)).repeated();
         run_part(&part_of(Number).foldl(factors, times), wanted, inp)
     }

@@ -5,7 +5,7 @@ use crate::run::once;
 use chumsky::PResult;
 use chumsky::combinator::{OfPart, Part, part_of, run_part};
 use chumsky::extra::EmptyText;
-use chumsky::input::InputRef;
+use chumsky::input::TextRef;
 use chumsky::prelude::*;
 use chumsky::primitive::Select;
 use chumsky::recursive::{BuildError, Leaves, MayStay, Node, RecursiveError, SepCfg, Values};
@@ -64,11 +64,7 @@ struct Unit;
 impl<'src> IsParser<&'src str, u32, EmptyText> for Unit {}
 
 impl<'src> Part<'src, &'src str, u32, EmptyText> for Unit {
-    fn run(
-        &self,
-        wanted: bool,
-        inp: &mut InputRef<'src, '_, &'src str, EmptyText>,
-    ) -> PResult<Option<u32>> {
+    fn run(&self, wanted: bool, inp: &mut TextRef<'src, '_, EmptyText>) -> PResult<Option<u32>> {
         let digit = any().filter_map(|digit: char| digit.to_digit(16));
         let unit = digit.repeated().exactly(4).fold(
             0,
@@ -90,11 +86,7 @@ struct Escaped;
 impl<'src> IsParser<&'src str, char, EmptyText> for Escaped {}
 
 impl<'src> Part<'src, &'src str, char, EmptyText> for Escaped {
-    fn run(
-        &self,
-        wanted: bool,
-        inp: &mut InputRef<'src, '_, &'src str, EmptyText>,
-    ) -> PResult<Option<char>> {
+    fn run(&self, wanted: bool, inp: &mut TextRef<'src, '_, EmptyText>) -> PResult<Option<char>> {
         let named: Select<_, &'src str, char, EmptyText> = select! {
             '"' => '"',
             '\\' => '\\',
@@ -124,11 +116,7 @@ pub struct Quoted;
 impl<'src> IsParser<&'src str, String, EmptyText> for Quoted {}
 
 impl<'src> Part<'src, &'src str, String, EmptyText> for Quoted {
-    fn run(
-        &self,
-        wanted: bool,
-        inp: &mut InputRef<'src, '_, &'src str, EmptyText>,
-    ) -> PResult<Option<String>> {
+    fn run(&self, wanted: bool, inp: &mut TextRef<'src, '_, EmptyText>) -> PResult<Option<String>> {
         let plain = any().filter(|c: &char| *c >= ' ' && *c != '"' && *c != '\\');
         let text = plain
             .or(just('\\').ignore_then(part_of(Escaped)))
@@ -146,11 +134,7 @@ pub struct Number;
 impl<'src> IsParser<&'src str, String, EmptyText> for Number {}
 
 impl<'src> Part<'src, &'src str, String, EmptyText> for Number {
-    fn run(
-        &self,
-        wanted: bool,
-        inp: &mut InputRef<'src, '_, &'src str, EmptyText>,
-    ) -> PResult<Option<String>> {
+    fn run(&self, wanted: bool, inp: &mut TextRef<'src, '_, EmptyText>) -> PResult<Option<String>> {
         let fraction = just('.').ignore_then(text::digits(10));
         let sign = one_of("+-").or_not();
         let exponent = one_of("eE").then(sign).ignore_then(text::digits(10));
@@ -175,11 +159,7 @@ enum Leaf {
 impl<'src> IsParser<&'src str, Value, EmptyText> for Leaf {}
 
 impl<'src> Part<'src, &'src str, Value, EmptyText> for Leaf {
-    fn run(
-        &self,
-        wanted: bool,
-        inp: &mut InputRef<'src, '_, &'src str, EmptyText>,
-    ) -> PResult<Option<Value>> {
+    fn run(&self, wanted: bool, inp: &mut TextRef<'src, '_, EmptyText>) -> PResult<Option<Value>> {
         match *self {
             Leaf::Scalar => {
                 let scalar = choice((
@@ -209,11 +189,7 @@ struct Mark(char);
 impl<'src> IsParser<&'src str, Value, EmptyText> for Mark {}
 
 impl<'src> Part<'src, &'src str, Value, EmptyText> for Mark {
-    fn run(
-        &self,
-        wanted: bool,
-        inp: &mut InputRef<'src, '_, &'src str, EmptyText>,
-    ) -> PResult<Option<Value>> {
+    fn run(&self, wanted: bool, inp: &mut TextRef<'src, '_, EmptyText>) -> PResult<Option<Value>> {
         let mark = just(self.0).map(|_| Value::Mark);
         run_part(&mark.padded_with(Blank), wanted, inp)
     }

@@ -26,6 +26,9 @@ pub mod input {
     pub use chumsky_input::spanned_tokens::{SpannedTokens, split_spanned};
     pub use chumsky_input::stop::Failure;
     pub use chumsky_parser::input_ref_ext::InputRefExt;
+
+    /// Where a run over a text stands, as the body of a part gets it: `inp: &mut TextRef<'src, '_, RichText>`.
+    pub type TextRef<'src, 'parse, E> = InputRef<'src, 'parse, &'src str, E>;
 }
 
 /// Ranges of the input.

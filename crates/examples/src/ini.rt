@@ -4,7 +4,7 @@ ghost use Rattle.std.specs.Prelude.{◌≡◌, [], IfOk, IsTrue, is_some};
 use crate::words::{ToSome, Trimmed};
 use chumsky::combinator::{Mapper, Part, part_of, run_part};
 use chumsky::extra::RichText;
-use chumsky::input::InputRef;
+use chumsky::input::TextRef;
 use chumsky::prelude::*;
 use chumsky::{PResult, Stop};
 use std::alloc::Global;
@@ -25,11 +25,7 @@ struct Gap;
 impl<'src> IsParser<&'src str, (), RichText> for Gap {}
 
 impl<'src> Part<'src, &'src str, (), RichText> for Gap {
-    fn run(
-        &self,
-        wanted: bool,
-        inp: &mut InputRef<'src, '_, &'src str, RichText>,
-    ) -> PResult<Option<()>> {
+    fn run(&self, wanted: bool, inp: &mut TextRef<'src, '_, RichText>) -> PResult<Option<()>> {
         let comment = one_of(";#")
             .then(none_of("\n").repeated())
             .labelled("a comment");
@@ -50,7 +46,7 @@ impl<'src> Part<'src, &'src str, &'src str, RichText> for Name {
     fn run(
         &self,
         wanted: bool,
-        inp: &mut InputRef<'src, '_, &'src str, RichText>,
+        inp: &mut TextRef<'src, '_, RichText>,
     ) -> PResult<Option<&'src str>> {
         let name = none_of("=[];#\n")
             .repeated()
@@ -72,7 +68,7 @@ impl<'src, O: Copy> Part<'src, &'src str, Option<O>, RichText> for Skipped {
     fn run(
         &self,
         wanted: bool,
-        inp: &mut InputRef<'src, '_, &'src str, RichText>,
+        inp: &mut TextRef<'src, '_, RichText>,
     ) -> PResult<Option<Option<O>>> {
         let rest = none_of("\n").repeated().then(part_of(Gap)).to(None);
         run_part(&rest, wanted, inp)
@@ -89,7 +85,7 @@ impl<'src> Part<'src, &'src str, Option<(&'src str, &'src str)>, RichText> for E
     fn run(
         &self,
         wanted: bool,
-        inp: &mut InputRef<'src, '_, &'src str, RichText>,
+        inp: &mut TextRef<'src, '_, RichText>,
     ) -> PResult<Option<Option<(&'src str, &'src str)>>> {
         let rest = none_of("\n").repeated().to_slice().map_by(Trimmed);
         let entry = part_of(Name)
@@ -114,7 +110,7 @@ impl<'src> Part<'src, &'src str, Option<&'src str>, RichText> for Head {
     fn run(
         &self,
         wanted: bool,
-        inp: &mut InputRef<'src, '_, &'src str, RichText>,
+        inp: &mut TextRef<'src, '_, RichText>,
     ) -> PResult<Option<Option<&'src str>>> {
         let head = part_of(Name)
             .delimited_by(just('[').labelled("a section"), just(']'))
@@ -155,7 +151,7 @@ impl<'src> Part<'src, &'src str, Option<(&'src str, Section<'src>)>, RichText> f
     fn run(
         &self,
         wanted: bool,
-        inp: &mut InputRef<'src, '_, &'src str, RichText>,
+        inp: &mut TextRef<'src, '_, RichText>,
     ) -> PResult<Option<Option<(&'src str, Section<'src>)>>> {
         let entries = part_of(Entry)
             .repeated()

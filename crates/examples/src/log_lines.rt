@@ -5,7 +5,7 @@ use crate::digits::TwoDigits;
 use crate::words::{ToSome, Trimmed};
 use chumsky::combinator::{Part, Picker, part_of, run_part};
 use chumsky::extra::RichText;
-use chumsky::input::InputRef;
+use chumsky::input::TextRef;
 use chumsky::prelude::*;
 use chumsky::{PResult, Stop};
 use std::alloc::Global;
@@ -64,7 +64,7 @@ impl<'src> Part<'src, &'src str, (u8, u8, u8), RichText> for Time {
     fn run(
         &self,
         wanted: bool,
-        inp: &mut InputRef<'src, '_, &'src str, RichText>,
+        inp: &mut TextRef<'src, '_, RichText>,
     ) -> PResult<Option<(u8, u8, u8)>> {
         let hour = text::digits(10).filter_map_by(TwoDigits { least: 0, most: 23 });
         let minute = text::digits(10).filter_map_by(TwoDigits { least: 0, most: 59 });
@@ -91,7 +91,7 @@ impl<'src> Part<'src, &'src str, &'src str, RichText> for Message {
     fn run(
         &self,
         wanted: bool,
-        inp: &mut InputRef<'src, '_, &'src str, RichText>,
+        inp: &mut TextRef<'src, '_, RichText>,
     ) -> PResult<Option<&'src str>> {
         let rest = none_of("\r\n").repeated().to_slice();
         let said = rest.map_by(Trimmed).filter_map_by(Said);
@@ -110,7 +110,7 @@ impl<'src> Part<'src, &'src str, Line<'src>, RichText> for WholeLine {
     fn run(
         &self,
         wanted: bool,
-        inp: &mut InputRef<'src, '_, &'src str, RichText>,
+        inp: &mut TextRef<'src, '_, RichText>,
     ) -> PResult<Option<Line<'src>>> {
         let level = text::ascii::ident().filter_map_by(Named);
         let line = group((
@@ -138,7 +138,7 @@ impl<'src> Part<'src, &'src str, Option<Line<'src>>, RichText> for AnyLine {
     fn run(
         &self,
         wanted: bool,
-        inp: &mut InputRef<'src, '_, &'src str, RichText>,
+        inp: &mut TextRef<'src, '_, RichText>,
     ) -> PResult<Option<Option<Line<'src>>>> {
         let to_its_end = via_parser(none_of("\r\n").repeated().to(None));
         let line = part_of(WholeLine).map_by(ToSome).recover_with(to_its_end);

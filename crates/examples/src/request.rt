@@ -2,7 +2,7 @@
 use crate::words::{Word, word};
 use chumsky::combinator::{Part, part_of, run_part};
 use chumsky::extra::RichText;
-use chumsky::input::InputRef;
+use chumsky::input::TextRef;
 use chumsky::prelude::*;
 use chumsky::primitive::Choice;
 use chumsky::{PResult, Stop};
@@ -59,11 +59,7 @@ struct Target;
 impl<'src> IsParser<&'src str, String, RichText> for Target {}
 
 impl<'src> Part<'src, &'src str, String, RichText> for Target {
-    fn run(
-        &self,
-        wanted: bool,
-        inp: &mut InputRef<'src, '_, &'src str, RichText>,
-    ) -> PResult<Option<String>> {
+    fn run(&self, wanted: bool, inp: &mut TextRef<'src, '_, RichText>) -> PResult<Option<String>> {
         let target = none_of(" \r\n").repeated().at_least(1).collect::<String>();
         run_part(&target, wanted, inp)
     }

@@ -2,7 +2,7 @@
 use crate::words::{Word, word};
 use chumsky::combinator::{Part, part_of, run_part};
 use chumsky::extra::RichText;
-use chumsky::input::InputRef;
+use chumsky::input::TextRef;
 use chumsky::prelude::*;
 use chumsky::primitive::Choice;
 use chumsky::{PResult, Stop};
@@ -72,11 +72,7 @@ struct Digits;
 impl<'src> IsParser<&'src str, Value, RichText> for Digits {}
 
 impl<'src> Part<'src, &'src str, Value, RichText> for Digits {
-    fn run(
-        &self,
-        wanted: bool,
-        inp: &mut InputRef<'src, '_, &'src str, RichText>,
-    ) -> PResult<Option<Value>> {
+    fn run(&self, wanted: bool, inp: &mut TextRef<'src, '_, RichText>) -> PResult<Option<Value>> {
         let number = one_of('0'..='9')
             .repeated()
             .at_least(1)

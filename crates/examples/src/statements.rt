@@ -4,7 +4,7 @@ ghost use Rattle.std.specs.Prelude.{◌≡◌, [], IfOk, IsTrue, is_some};
 use crate::words::ToSome;
 use chumsky::combinator::{Mapper, Part, Picker, part_of, run_part};
 use chumsky::extra::RichText;
-use chumsky::input::InputRef;
+use chumsky::input::TextRef;
 use chumsky::prelude::*;
 use chumsky::recovery::Fallback;
 use chumsky::{PResult, Stop};
@@ -85,7 +85,7 @@ impl<'src> Part<'src, &'src str, Vec<Term<'src>>, RichText> for Sum {
     fn run(
         &self,
         wanted: bool,
-        inp: &mut InputRef<'src, '_, &'src str, RichText>,
+        inp: &mut TextRef<'src, '_, RichText>,
     ) -> PResult<Option<Vec<Term<'src>>>> {
         let number = text::int(10)
             .from_str::<u32>()
@@ -108,7 +108,7 @@ impl<'src> Part<'src, &'src str, Statement<'src>, RichText> for WholeStatement {
     fn run(
         &self,
         wanted: bool,
-        inp: &mut InputRef<'src, '_, &'src str, RichText>,
+        inp: &mut TextRef<'src, '_, RichText>,
     ) -> PResult<Option<Statement<'src>>> {
         let name = text::ascii::ident().labelled("a name").padded();
         let binding = text::ascii::ident()
@@ -146,7 +146,7 @@ impl<'src> Part<'src, &'src str, Option<Statement<'src>>, RichText> for AnyState
     fn run(
         &self,
         wanted: bool,
-        inp: &mut InputRef<'src, '_, &'src str, RichText>,
+        inp: &mut TextRef<'src, '_, RichText>,
     ) -> PResult<Option<Option<Statement<'src>>>> {
         let to_its_end = skip_until(
             none_of(";").ignored(),

@@ -2,7 +2,7 @@
 //! a stop of a parser that they run, answer another, or end before their start.
 
 use chumsky::extra::RichText;
-use chumsky::input::InputRef;
+use chumsky::input::TextRef;
 use chumsky::prelude::*;
 use chumsky::primitive::Reader;
 use chumsky::{Failure, Stop};
@@ -14,7 +14,7 @@ pub struct TwoAndAnError;
 impl<'src> Reader<'src, &'src str, &'static str, RichText> for TwoAndAnError {
     fn read(
         &self,
-        inp: &mut InputRef<'src, '_, &'src str, RichText>,
+        inp: &mut TextRef<'src, '_, RichText>,
     ) -> Result<&'static str, Failure<Rich<char>>> {
         inp.next()?;
         inp.next()?;
@@ -30,7 +30,7 @@ pub struct AnX;
 impl<'src> Reader<'src, &'src str, &'static str, RichText> for AnX {
     fn read(
         &self,
-        inp: &mut InputRef<'src, '_, &'src str, RichText>,
+        inp: &mut TextRef<'src, '_, RichText>,
     ) -> Result<&'static str, Failure<Rich<char>>> {
         match inp.check(just('x')) {
             Ok(()) => Ok("x"),
@@ -45,10 +45,7 @@ impl<'src> Reader<'src, &'src str, &'static str, RichText> for AnX {
 pub struct FooOrNothing;
 
 impl<'src> Reader<'src, &'src str, bool, RichText> for FooOrNothing {
-    fn read(
-        &self,
-        inp: &mut InputRef<'src, '_, &'src str, RichText>,
-    ) -> Result<bool, Failure<Rich<char>>> {
+    fn read(&self, inp: &mut TextRef<'src, '_, RichText>) -> Result<bool, Failure<Rich<char>>> {
         let before = inp.save()?;
         match inp.parse(just("foo")) {
             Ok(_) => Ok(true),
@@ -66,10 +63,7 @@ impl<'src> Reader<'src, &'src str, bool, RichText> for FooOrNothing {
 pub struct FooOrNothingByCheck;
 
 impl<'src> Reader<'src, &'src str, bool, RichText> for FooOrNothingByCheck {
-    fn read(
-        &self,
-        inp: &mut InputRef<'src, '_, &'src str, RichText>,
-    ) -> Result<bool, Failure<Rich<char>>> {
+    fn read(&self, inp: &mut TextRef<'src, '_, RichText>) -> Result<bool, Failure<Rich<char>>> {
         let start = inp.save()?;
         match inp.check(just("foo")) {
             Ok(()) => Ok(true),

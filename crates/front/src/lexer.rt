@@ -4,7 +4,7 @@ ghost use Rattle.std.specs.Prelude.{◌≡◌, [], IfOk, IsTrue, is_some};
 use crate::token::Token;
 use chumsky::combinator::{Part, part_of, run_part};
 use chumsky::extra::RichText;
-use chumsky::input::{Emitter, InputRef};
+use chumsky::input::{Emitter, TextRef};
 use chumsky::prelude::*;
 use chumsky::{PResult, Stop};
 use std::alloc::Global;
@@ -26,11 +26,7 @@ struct Comment;
 impl<'src> IsParser<&'src str, (), RichText> for Comment {}
 
 impl<'src> Part<'src, &'src str, (), RichText> for Comment {
-    fn run(
-        &self,
-        wanted: bool,
-        inp: &mut InputRef<'src, '_, &'src str, RichText>,
-    ) -> PResult<Option<()>> {
+    fn run(&self, wanted: bool, inp: &mut TextRef<'src, '_, RichText>) -> PResult<Option<()>> {
         let line = just("//").then(none_of("\n").repeated()).ignored();
         let inside = any().and_is(just("*/").not()).repeated();
         let block = just("/*")
@@ -52,11 +48,7 @@ struct Gap;
 impl<'src> IsParser<&'src str, (), RichText> for Gap {}
 
 impl<'src> Part<'src, &'src str, (), RichText> for Gap {
-    fn run(
-        &self,
-        wanted: bool,
-        inp: &mut InputRef<'src, '_, &'src str, RichText>,
-    ) -> PResult<Option<()>> {
+    fn run(&self, wanted: bool, inp: &mut TextRef<'src, '_, RichText>) -> PResult<Option<()>> {
         let comments = part_of(Comment).then(text::whitespace()).repeated();
         let gap = text::whitespace().then(comments).ignored();
         run_part(&gap, wanted, inp)
@@ -70,11 +62,7 @@ struct Number;
 impl<'src> IsParser<&'src str, u64, RichText> for Number {}
 
 impl<'src> Part<'src, &'src str, u64, RichText> for Number {
-    fn run(
-        &self,
-        wanted: bool,
-        inp: &mut InputRef<'src, '_, &'src str, RichText>,
-    ) -> PResult<Option<u64>> {
+    fn run(&self, wanted: bool, inp: &mut TextRef<'src, '_, RichText>) -> PResult<Option<u64>> {
         let number = text::digits(10).from_str::<u64>().validate(|number: Result<
             u64,
             ParseIntError,
@@ -96,11 +84,7 @@ struct Quotation;
 impl<'src> IsParser<&'src str, Token, RichText> for Quotation {}
 
 impl<'src> Part<'src, &'src str, Token, RichText> for Quotation {
-    fn run(
-        &self,
-        wanted: bool,
-        inp: &mut InputRef<'src, '_, &'src str, RichText>,
-    ) -> PResult<Option<Token>> {
+    fn run(&self, wanted: bool, inp: &mut TextRef<'src, '_, RichText>) -> PResult<Option<Token>> {
         let quotation = just('"')
             .ignore_then(none_of("\"\n").repeated())
             .ignore_then(just('"').or_not())
@@ -130,11 +114,7 @@ struct AnyToken;
 impl<'src> IsParser<&'src str, Token, RichText> for AnyToken {}
 
 impl<'src> Part<'src, &'src str, Token, RichText> for AnyToken {
-    fn run(
-        &self,
-        wanted: bool,
-        inp: &mut InputRef<'src, '_, &'src str, RichText>,
-    ) -> PResult<Option<Token>> {
+    fn run(&self, wanted: bool, inp: &mut TextRef<'src, '_, RichText>) -> PResult<Option<Token>> {
         let number = part_of(Number).map(|number| Token::Number(number));
         let word = text::ascii::ident().map(word_of);
         let sign = one_of("+-*/=,;(){}").map(|sign| Token::Sign(sign));
@@ -156,7 +136,7 @@ impl<'src> Part<'src, &'src str, Option<Spanned<Token, SimpleSpan>>, RichText> f
     fn run(
         &self,
         wanted: bool,
-        inp: &mut InputRef<'src, '_, &'src str, RichText>,
+        inp: &mut TextRef<'src, '_, RichText>,
     ) -> PResult<Option<Option<Spanned<Token, SimpleSpan>>>> {
         let token = part_of(AnyToken).spanned().map(Some);
         let other = any().validate(|_, extra, emitter| {

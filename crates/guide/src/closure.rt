@@ -1,6 +1,6 @@
 //! A closure as a parser, and a reader.
 use chumsky::extra::RichText;
-use chumsky::input::InputRef;
+use chumsky::input::TextRef;
 use chumsky::prelude::*;
 use chumsky::primitive::Reader;
 use chumsky::{Failure, Stop};
@@ -49,7 +49,7 @@ pub struct AnX;
 impl<'src> Reader<'src, &'src str, &'static str, RichText> for AnX {
     fn read(
         &self,
-        inp: &mut InputRef<'src, '_, &'src str, RichText>,
+        inp: &mut TextRef<'src, '_, RichText>,
     ) -> Result<&'static str, Failure<Rich<char>>> {
         match inp.check(just('x')) {
             Ok(()) => Ok("x"),

@@ -1,6 +1,6 @@
 //! What was read says what follows: a context, a state that goes back, an input within an input.
 use chumsky::extra::RichBytes;
-use chumsky::input::InputRef;
+use chumsky::input::TextRef;
 use chumsky::inspector::TruncateState;
 use chumsky::prelude::*;
 use chumsky::primitive::Reader;
@@ -32,10 +32,7 @@ fn add(names: &mut Vec<char>, name: char) -> Result<(), AllocError> {
 pub struct Name;
 
 impl<'src> Reader<'src, &'src str, (), Declaring> for Name {
-    fn read(
-        &self,
-        inp: &mut InputRef<'src, '_, &'src str, Declaring>,
-    ) -> Result<(), Failure<Rich<char>>> {
+    fn read(&self, inp: &mut TextRef<'src, '_, Declaring>) -> Result<(), Failure<Rich<char>>> {
         let name = inp.parse(any())?;
         add(&mut inp.state().0, name)?;
         Ok(())

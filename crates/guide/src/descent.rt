@@ -1,7 +1,7 @@
 //! Grammars by functions that call themselves, and each other.
 use chumsky::combinator::run_part;
 use chumsky::extra::RichText;
-use chumsky::input::InputRef;
+use chumsky::input::TextRef;
 use chumsky::prelude::*;
 use chumsky::recursive::{RunsUnder, Unsaid};
 use chumsky::{PResult, Stop};
@@ -9,7 +9,7 @@ use std::alloc::Global;
 
 /// Any number of brackets, one after another and within one another: how deep they go.
 fn brackets<'src>(
-    inp: &mut InputRef<'src, '_, &'src str, RichText>,
+    inp: &mut TextRef<'src, '_, RichText>,
     wanted: bool,
     depth: usize,
 ) -> PResult<Option<usize>>
@@ -44,7 +44,7 @@ fn digit(character: char) -> u64 {
 /// A digit, or a sum in brackets.
 #[cycle(sums)]
 fn atom<'src>(
-    inp: &mut InputRef<'src, '_, &'src str, RichText>,
+    inp: &mut TextRef<'src, '_, RichText>,
     wanted: bool,
     depth: usize,
 ) -> PResult<Option<u64>>
@@ -57,7 +57,7 @@ fn atom<'src>(
 /// Atoms, with a `*` between them.
 #[cycle(sums)]
 fn product<'src>(
-    inp: &mut InputRef<'src, '_, &'src str, RichText>,
+    inp: &mut TextRef<'src, '_, RichText>,
     wanted: bool,
     depth: usize,
 ) -> PResult<Option<u64>>
@@ -73,7 +73,7 @@ fn product<'src>(
 /// Products, with a `+` between them.
 #[cycle(sums)]
 fn sum<'src>(
-    inp: &mut InputRef<'src, '_, &'src str, RichText>,
+    inp: &mut TextRef<'src, '_, RichText>,
     wanted: bool,
     depth: usize,
 ) -> PResult<Option<u64>>

@@ -5,7 +5,7 @@ ghost use Rattle.chumsky.specs.Values.{GivesOnly};
 use crate::mapping::{TwoDigits, digit, two_digits};
 use chumsky::combinator::{OfPart, Or, Part, Then, ThenIgnore, To, part_of, run_part};
 use chumsky::extra::RichText;
-use chumsky::input::InputRef;
+use chumsky::input::TextRef;
 use chumsky::laws::part_is_steady;
 use chumsky::prelude::*;
 use chumsky::primitive::Just;
@@ -19,11 +19,7 @@ pub struct Price;
 impl<'src> IsParser<&'src str, u16, RichText> for Price {}
 
 impl<'src> Part<'src, &'src str, u16, RichText> for Price {
-    fn run(
-        &self,
-        wanted: bool,
-        inp: &mut InputRef<'src, '_, &'src str, RichText>,
-    ) -> PResult<Option<u16>> {
+    fn run(&self, wanted: bool, inp: &mut TextRef<'src, '_, RichText>) -> PResult<Option<u16>> {
         let price = one_of('0'..='9')
             .then_ignore(just('.'))
             .then(two_digits())
@@ -41,11 +37,7 @@ impl<'src> IsParser<&'src str, u8, RichText> for Hour {}
 impl<'src> Part<'src, &'src str, u8, RichText> for Hour {
     ghost means = { λ _ _ _. GivesOnly (λ hour. hour ≤ 23) };
 
-    fn run(
-        &self,
-        wanted: bool,
-        inp: &mut InputRef<'src, '_, &'src str, RichText>,
-    ) -> PResult<Option<u8>> {
+    fn run(&self, wanted: bool, inp: &mut TextRef<'src, '_, RichText>) -> PResult<Option<u8>> {
         let hour = one_of('0'..='1')
             .then(one_of('0'..='9'))
             .or(just('2').then(one_of('0'..='3')))
@@ -77,7 +69,7 @@ impl<'src> Part<'src, &'src str, (u8, u8), RichText> for Time<'src> {
     fn run(
         &self,
         wanted: bool,
-        inp: &mut InputRef<'src, '_, &'src str, RichText>,
+        inp: &mut TextRef<'src, '_, RichText>,
     ) -> PResult<Option<(u8, u8)>> {
         run_part(&self.inside, wanted, inp)
     }
@@ -117,11 +109,7 @@ impl<'src> Part<'src, &'src str, bool, RichText> for Switch<'src> {
 
     ghost alike = { λ switch. ⟦<EitherWord<'src> as Parser<'src, &'src str, bool, RichText>>⟧.same switch.words };
 
-    fn run(
-        &self,
-        wanted: bool,
-        inp: &mut InputRef<'src, '_, &'src str, RichText>,
-    ) -> PResult<Option<bool>> {
+    fn run(&self, wanted: bool, inp: &mut TextRef<'src, '_, RichText>) -> PResult<Option<bool>> {
         run_part(&self.words, wanted, inp)
     }
 }

@@ -1,7 +1,7 @@
 //! Texts of which each line that is wrong is reported in one run.
 use chumsky::combinator::{Part, part_of, run_part};
 use chumsky::extra::RichText;
-use chumsky::input::InputRef;
+use chumsky::input::TextRef;
 use chumsky::prelude::*;
 use chumsky::primitive::Reader;
 use chumsky::{Failure, PResult, Stop};
@@ -14,11 +14,7 @@ pub struct Byte;
 impl<'src> IsParser<&'src str, u8, RichText> for Byte {}
 
 impl<'src> Part<'src, &'src str, u8, RichText> for Byte {
-    fn run(
-        &self,
-        wanted: bool,
-        inp: &mut InputRef<'src, '_, &'src str, RichText>,
-    ) -> PResult<Option<u8>> {
+    fn run(&self, wanted: bool, inp: &mut TextRef<'src, '_, RichText>) -> PResult<Option<u8>> {
         let byte = text::int(10)
             .from_str::<u8>()
             .filter_map(|read| read.ok())
@@ -47,7 +43,7 @@ pub struct AnyLine;
 impl<'src> Reader<'src, &'src str, Option<u8>, RichText> for AnyLine {
     fn read(
         &self,
-        inp: &mut InputRef<'src, '_, &'src str, RichText>,
+        inp: &mut TextRef<'src, '_, RichText>,
     ) -> Result<Option<u8>, Failure<Rich<char>>> {
         match inp.parse(part_of(Byte).then_ignore(just('\n'))) {
             Ok(number) => Ok(Some(number)),

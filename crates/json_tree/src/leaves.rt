@@ -6,7 +6,7 @@ use crate::tree::Json;
 use chumsky::PResult;
 use chumsky::combinator::{Part, part_of, run_part};
 use chumsky::extra::RichText;
-use chumsky::input::InputRef;
+use chumsky::input::TextRef;
 use chumsky::prelude::*;
 use chumsky::primitive::Select;
 use chumsky::text::Kind;
@@ -40,11 +40,7 @@ struct Unit;
 impl<'src> IsParser<&'src str, u32, RichText> for Unit {}
 
 impl<'src> Part<'src, &'src str, u32, RichText> for Unit {
-    fn run(
-        &self,
-        wanted: bool,
-        inp: &mut InputRef<'src, '_, &'src str, RichText>,
-    ) -> PResult<Option<u32>> {
+    fn run(&self, wanted: bool, inp: &mut TextRef<'src, '_, RichText>) -> PResult<Option<u32>> {
         let digit = any()
             .filter_map(|digit: char| digit.to_digit(16))
             .labelled("a hexadecimal digit");
@@ -69,11 +65,7 @@ struct Numbered;
 impl<'src> IsParser<&'src str, char, RichText> for Numbered {}
 
 impl<'src> Part<'src, &'src str, char, RichText> for Numbered {
-    fn run(
-        &self,
-        wanted: bool,
-        inp: &mut InputRef<'src, '_, &'src str, RichText>,
-    ) -> PResult<Option<char>> {
+    fn run(&self, wanted: bool, inp: &mut TextRef<'src, '_, RichText>) -> PResult<Option<char>> {
         let high = part_of(Unit).filter(|unit: &u32| matches!(*unit, 0xD800..=0xDBFF));
         let low = part_of(Unit).filter(|unit: &u32| matches!(*unit, 0xDC00..=0xDFFF));
         let pair = high
@@ -92,11 +84,7 @@ struct Escaped;
 impl<'src> IsParser<&'src str, char, RichText> for Escaped {}
 
 impl<'src> Part<'src, &'src str, char, RichText> for Escaped {
-    fn run(
-        &self,
-        wanted: bool,
-        inp: &mut InputRef<'src, '_, &'src str, RichText>,
-    ) -> PResult<Option<char>> {
+    fn run(&self, wanted: bool, inp: &mut TextRef<'src, '_, RichText>) -> PResult<Option<char>> {
         let named: Select<_, &'src str, char, RichText> = select! {
             '"' => '"',
             '\\' => '\\',
@@ -119,11 +107,7 @@ pub struct Quoted;
 impl<'src> IsParser<&'src str, String, RichText> for Quoted {}
 
 impl<'src> Part<'src, &'src str, String, RichText> for Quoted {
-    fn run(
-        &self,
-        wanted: bool,
-        inp: &mut InputRef<'src, '_, &'src str, RichText>,
-    ) -> PResult<Option<String>> {
+    fn run(&self, wanted: bool, inp: &mut TextRef<'src, '_, RichText>) -> PResult<Option<String>> {
         let plain = any()
             .filter(|c: &char| *c >= ' ' && *c != '"' && *c != '\\')
             .labelled("a character");
@@ -143,11 +127,7 @@ struct Number;
 impl<'src> IsParser<&'src str, String, RichText> for Number {}
 
 impl<'src> Part<'src, &'src str, String, RichText> for Number {
-    fn run(
-        &self,
-        wanted: bool,
-        inp: &mut InputRef<'src, '_, &'src str, RichText>,
-    ) -> PResult<Option<String>> {
+    fn run(&self, wanted: bool, inp: &mut TextRef<'src, '_, RichText>) -> PResult<Option<String>> {
         let fraction = just('.').ignore_then(text::digits(10));
         let sign = one_of("+-").or_not();
         let exponent = one_of("eE").then(sign).ignore_then(text::digits(10));
@@ -169,11 +149,7 @@ pub struct Scalar;
 impl<'src> IsParser<&'src str, Json, RichText> for Scalar {}
 
 impl<'src> Part<'src, &'src str, Json, RichText> for Scalar {
-    fn run(
-        &self,
-        wanted: bool,
-        inp: &mut InputRef<'src, '_, &'src str, RichText>,
-    ) -> PResult<Option<Json>> {
+    fn run(&self, wanted: bool, inp: &mut TextRef<'src, '_, RichText>) -> PResult<Option<Json>> {
         let scalar = choice((
             part_of(Quoted).map(Json::Text).labelled("a string"),
             part_of(Number).map(Json::Number).labelled("a number"),
@@ -192,11 +168,7 @@ pub struct Name;
 impl<'src> IsParser<&'src str, String, RichText> for Name {}
 
 impl<'src> Part<'src, &'src str, String, RichText> for Name {
-    fn run(
-        &self,
-        wanted: bool,
-        inp: &mut InputRef<'src, '_, &'src str, RichText>,
-    ) -> PResult<Option<String>> {
+    fn run(&self, wanted: bool, inp: &mut TextRef<'src, '_, RichText>) -> PResult<Option<String>> {
         let name = part_of(Quoted).labelled("a string").padded_with(Space);
         run_part(&name.then_ignore(part_of(Mark(':'))), wanted, inp)
     }
@@ -209,11 +181,7 @@ pub struct Mark(pub char);
 impl<'src> IsParser<&'src str, char, RichText> for Mark {}
 
 impl<'src> Part<'src, &'src str, char, RichText> for Mark {
-    fn run(
-        &self,
-        wanted: bool,
-        inp: &mut InputRef<'src, '_, &'src str, RichText>,
-    ) -> PResult<Option<char>> {
+    fn run(&self, wanted: bool, inp: &mut TextRef<'src, '_, RichText>) -> PResult<Option<char>> {
         run_part(&just(self.0).padded_with(Space), wanted, inp)
     }
 }

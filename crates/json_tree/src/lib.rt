@@ -10,7 +10,7 @@ use crate::leaves::{Mark, Name, Scalar};
 pub use crate::tree::{Json, JsonText};
 use chumsky::combinator::{Part, part_of, run_part};
 use chumsky::extra::{ParserExtra, RichText};
-use chumsky::input::InputRef;
+use chumsky::input::{InputRef, TextRef};
 use chumsky::prelude::*;
 use chumsky::recursive::{RunsUnder, Unsaid};
 use chumsky::{PResult, Stop};
@@ -66,7 +66,7 @@ where
 /// A list.
 #[cycle(json)]
 fn list<'src>(
-    inp: &mut InputRef<'src, '_, &'src str, RichText>,
+    inp: &mut TextRef<'src, '_, RichText>,
     wanted: bool,
     depth: usize,
 ) -> PResult<Option<Json>>
@@ -78,7 +78,7 @@ fn list<'src>(
 /// An object.
 #[cycle(json)]
 fn object<'src>(
-    inp: &mut InputRef<'src, '_, &'src str, RichText>,
+    inp: &mut TextRef<'src, '_, RichText>,
     wanted: bool,
     depth: usize,
 ) -> PResult<Option<Json>>
@@ -90,7 +90,7 @@ fn object<'src>(
 /// A value.
 #[cycle(json)]
 fn value<'src>(
-    inp: &mut InputRef<'src, '_, &'src str, RichText>,
+    inp: &mut TextRef<'src, '_, RichText>,
     wanted: bool,
     depth: usize,
 ) -> PResult<Option<Json>>

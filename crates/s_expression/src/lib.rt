@@ -6,7 +6,7 @@ ghost use Rattle.std.specs.Prelude.{◌≡◌, [], IfOk, IsTrue, is_some, ⊤};
 use chumsky::combinator::{Part, part_of, run_part};
 use chumsky::container::Container;
 use chumsky::extra::RichText;
-use chumsky::input::InputRef;
+use chumsky::input::TextRef;
 use chumsky::prelude::*;
 use chumsky::primitive::Select;
 use chumsky::recursive::{RunsUnder, Unsaid};
@@ -34,11 +34,7 @@ struct Gap;
 impl<'src> IsParser<&'src str, (), RichText> for Gap {}
 
 impl<'src> Part<'src, &'src str, (), RichText> for Gap {
-    fn run(
-        &self,
-        wanted: bool,
-        inp: &mut InputRef<'src, '_, &'src str, RichText>,
-    ) -> PResult<Option<()>> {
+    fn run(&self, wanted: bool, inp: &mut TextRef<'src, '_, RichText>) -> PResult<Option<()>> {
         let comment = just(';')
             .then(none_of("\n").repeated())
             .labelled("a comment");
@@ -56,11 +52,7 @@ struct Quotation;
 impl<'src> IsParser<&'src str, String, RichText> for Quotation {}
 
 impl<'src> Part<'src, &'src str, String, RichText> for Quotation {
-    fn run(
-        &self,
-        wanted: bool,
-        inp: &mut InputRef<'src, '_, &'src str, RichText>,
-    ) -> PResult<Option<String>> {
+    fn run(&self, wanted: bool, inp: &mut TextRef<'src, '_, RichText>) -> PResult<Option<String>> {
         let named: Select<_, &'src str, char, RichText> = select! {
             'n' => '\n',
             't' => '\t',
@@ -93,7 +85,7 @@ impl<'src> Part<'src, &'src str, Expression, RichText> for Atom {
     fn run(
         &self,
         wanted: bool,
-        inp: &mut InputRef<'src, '_, &'src str, RichText>,
+        inp: &mut TextRef<'src, '_, RichText>,
     ) -> PResult<Option<Expression>> {
         let word = none_of("()'\"; \t\r\n")
             .repeated()
@@ -113,11 +105,7 @@ struct Mark(char);
 impl<'src> IsParser<&'src str, char, RichText> for Mark {}
 
 impl<'src> Part<'src, &'src str, char, RichText> for Mark {
-    fn run(
-        &self,
-        wanted: bool,
-        inp: &mut InputRef<'src, '_, &'src str, RichText>,
-    ) -> PResult<Option<char>> {
+    fn run(&self, wanted: bool, inp: &mut TextRef<'src, '_, RichText>) -> PResult<Option<char>> {
         run_part(&just(self.0).then_ignore(part_of(Gap)), wanted, inp)
     }
 }
@@ -150,7 +138,7 @@ impl Container<Expression> for AfterQuote {
 /// A list, from bracket to bracket.
 #[cycle(lisp)]
 fn list<'src>(
-    inp: &mut InputRef<'src, '_, &'src str, RichText>,
+    inp: &mut TextRef<'src, '_, RichText>,
     wanted: bool,
     depth: usize,
 ) -> PResult<Option<Expression>>
@@ -166,7 +154,7 @@ fn list<'src>(
 /// A quote and an expression.
 #[cycle(lisp)]
 fn quote<'src>(
-    inp: &mut InputRef<'src, '_, &'src str, RichText>,
+    inp: &mut TextRef<'src, '_, RichText>,
     wanted: bool,
     depth: usize,
 ) -> PResult<Option<Expression>>
@@ -183,7 +171,7 @@ fn quote<'src>(
 /// An atom, a list, or a quote and an expression.
 #[cycle(lisp)]
 fn nested<'src>(
-    inp: &mut InputRef<'src, '_, &'src str, RichText>,
+    inp: &mut TextRef<'src, '_, RichText>,
     wanted: bool,
     depth: usize,
 ) -> PResult<Option<Expression>>
