@@ -1,6 +1,7 @@
 //! What most programs need.
 pub use crate::config_parser_ext::{ConfigIterParserExt, ConfigParserExt};
 pub use crate::iter_parser_ext::IterParserExt;
+pub use crate::map_parser_ext::MapParserExt;
 pub use crate::parser_ext::ParserExt;
 pub use crate::{select, select_ref, text};
 pub use chumsky_choice::make::choice;
