@@ -3,7 +3,7 @@
 //! are read.
 #![tactic(auto)]
 
-ghost use Rattle.std.specs.Prelude.{◌≡◌, ◌+ℤ◌, ◌-ℤ◌, ◌*ℤ◌, neg_ℤ, int_div, int_rem, FitsSigned, [], IfErr, IfOk, IsTrue, OkIff, is_some, ⊤};
+ghost use Rattle.std.specs.Prelude.{◌≡◌, ◌+ℤ◌, ◌-ℤ◌, ◌*ℤ◌, neg_ℤ, int_div, int_rem, FitsSigned, [], IfErr, IfOk, IsTrue, OkIff, is_some};
 ghost use Rattle.std.specs.Int.{CanDivide, w64};
 ghost use Rattle.std.specs.Result.{result_ok};
 
@@ -16,7 +16,9 @@ use chumsky::combinator::{OfPart, Part, part_of, run_part};
 use chumsky::extra::RichText;
 use chumsky::input::TextRef;
 use chumsky::prelude::*;
-use chumsky::recursive::{BuildError, CloseError, Leaves, MayStay, Node, RecursiveError, Values};
+use chumsky::recursive::{
+    BuildError, CloseError, Leaves, MayStay, Node, RecursiveError, SimpleValues, Simply,
+};
 use chumsky::span::Spanned;
 use chumsky::{PResult, Stop};
 use std::alloc::{AllocError, Global};
@@ -104,8 +106,12 @@ const WORKED_OUT: usize = 0;
 #[derive(Drop)]
 struct Arithmetic;
 
-impl Values<SimpleSpan, Rich<char>> for Arithmetic {
+impl SimpleValues<SimpleSpan, Rich<char>> for Arithmetic {
     type Value = Value;
+
+    fn unit(&self, _alloc: Global) -> Result<Value, AllocError> {
+        Ok(Value::Number(0))
+    }
 
     fn pair(&self, _alloc: Global, first: Value, second: Value) -> Result<Value, AllocError> {
         match (first, second) {
@@ -117,24 +123,8 @@ impl Values<SimpleSpan, Rich<char>> for Arithmetic {
         }
     }
 
-    fn list(&self, _alloc: Global, steps: Vec<Value>) -> Result<Value, AllocError>
-        ensures { IfOk result (λ _. ⊤) }
-    {
+    fn list(&self, _alloc: Global, steps: Vec<Value>) -> Result<Value, AllocError> {
         Ok(Value::Steps(steps))
-    }
-
-    fn option(&self, _alloc: Global, value: Option<Value>) -> Result<Value, AllocError>
-        ensures { IfOk result (λ _. ⊤) }
-    {
-        Ok(value.unwrap_or(Value::Number(0)))
-    }
-
-    fn unit(&self, _alloc: Global) -> Result<Value, AllocError> {
-        Ok(Value::Number(0))
-    }
-
-    fn map(&self, _alloc: Global, _mapper: usize, value: Value) -> Result<Value, AllocError> {
-        Ok(value)
     }
 
     /// The number that a value comes to, or an error where it can't be worked out.
@@ -302,7 +292,7 @@ pub fn parse_arithmetic(alloc: Global, text: &str) -> Result<ParseResult<i64, Ri
     let leaves = numbered_leaves();
     let actions = Leaves {
         leaves: &leaves,
-        values: Arithmetic,
+        values: Simply(Arithmetic),
     };
     match rules.close(start, &actions, DEPTH) {
         Ok(grammar) => grammar

@@ -14,6 +14,7 @@ mod parser_ext;
 pub mod prelude;
 mod refusals;
 mod run;
+mod simple_values;
 mod steady;
 
 /// Inputs, and what a parser is lent.
@@ -257,6 +258,7 @@ pub mod text {
 /// which leaves move, and why a call on them is refused.
 pub mod recursive {
     pub use crate::moving_part::run_moving;
+    pub use crate::simple_values::{SimpleValues, Simply};
     pub use chumsky_descent::hole::Body;
     pub use chumsky_descent::moving::MovingRecursion;
     pub use chumsky_descent::recursive::{

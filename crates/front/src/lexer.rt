@@ -4,7 +4,7 @@ ghost use Rattle.std.specs.Prelude.{◌≡◌, [], IfOk, IsTrue, is_some};
 use crate::token::Token;
 use chumsky::combinator::{Part, part_of, run_part};
 use chumsky::extra::RichText;
-use chumsky::input::{Emitter, TextRef};
+use chumsky::input::TextRef;
 use chumsky::prelude::*;
 use chumsky::{PResult, Stop};
 use std::alloc::Global;

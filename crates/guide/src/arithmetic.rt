@@ -1,10 +1,9 @@
 //! A grammar of two levels: sums of products, as rules.
-ghost use Rattle.std.specs.Prelude.{IfOk, ⊤};
 
 use crate::recursion::Refused;
 use chumsky::extra::RichText;
 use chumsky::prelude::*;
-use chumsky::recursive::{Leaves, RecursiveError, SepCfg, Values};
+use chumsky::recursive::{Leaves, RecursiveError, SepCfg, SimpleValues, Simply};
 use std::alloc::{AllocError, Global};
 
 /// The leaves, by number.
@@ -42,34 +41,18 @@ fn number(n: u64) -> Amount {
 #[derive(Drop)]
 struct Amounts;
 
-impl Values<SimpleSpan, Rich<char>> for Amounts {
+impl SimpleValues<SimpleSpan, Rich<char>> for Amounts {
     type Value = Amount;
-
-    fn pair(&self, _alloc: Global, a: Amount, b: Amount) -> Result<Amount, AllocError> {
-        Ok(number(a.added.saturating_add(b.added)))
-    }
-
-    fn option(&self, _alloc: Global, amount: Option<Amount>) -> Result<Amount, AllocError>
-        ensures { IfOk result (λ _. ⊤) }
-    {
-        Ok(amount.unwrap_or(number(0)))
-    }
 
     fn unit(&self, _alloc: Global) -> Result<Amount, AllocError> {
         Ok(number(0))
     }
 
-    fn map(&self, _alloc: Global, mapper: usize, amount: Amount) -> Result<Amount, AllocError> {
-        if mapper == ADDED {
-            Ok(number(amount.added))
-        } else {
-            Ok(number(amount.multiplied))
-        }
+    fn pair(&self, _alloc: Global, a: Amount, b: Amount) -> Result<Amount, AllocError> {
+        Ok(number(a.added.saturating_add(b.added)))
     }
 
-    fn list(&self, _alloc: Global, amounts: Vec<Amount>) -> Result<Amount, AllocError>
-        ensures { IfOk result (λ _. ⊤) }
-    {
+    fn list(&self, _alloc: Global, amounts: Vec<Amount>) -> Result<Amount, AllocError> {
         let mut added = 0u64;
         let mut multiplied = 1u64;
         for amount in amounts.as_slice() {
@@ -79,14 +62,12 @@ impl Values<SimpleSpan, Rich<char>> for Amounts {
         Ok(Amount { added, multiplied })
     }
 
-    fn try_map(
-        &self,
-        _alloc: Global,
-        _mapper: usize,
-        amount: Amount,
-        _span: SimpleSpan,
-    ) -> Result<Result<Amount, Rich<char>>, AllocError> {
-        Ok(Ok(amount))
+    fn map(&self, _alloc: Global, mapper: usize, amount: Amount) -> Result<Amount, AllocError> {
+        if mapper == ADDED {
+            Ok(number(amount.added))
+        } else {
+            Ok(number(amount.multiplied))
+        }
     }
 }
 
@@ -136,7 +117,7 @@ pub fn value_of(alloc: Global, text: &str) -> Result<ParseResult<u64, Rich<char>
     ];
     let actions = Leaves {
         leaves: &leaves,
-        values: Amounts,
+        values: Simply(Amounts),
     };
     match close_founded(&rules, start, &actions, text.len()) {
         Ok(grammar) => grammar

@@ -1,10 +1,9 @@
 //! A grammar that calls itself: rules as data, closed and run.
-ghost use Rattle.std.specs.Prelude.{IfOk, ⊤};
 
 use chumsky::Stop;
 use chumsky::extra::RichText;
 use chumsky::prelude::*;
-use chumsky::recursive::{FoundedError, Leaves, RecursiveError, Values};
+use chumsky::recursive::{FoundedError, Leaves, RecursiveError, SimpleValues, Simply};
 use std::alloc::{AllocError, Global};
 
 /// The leaves, by number.
@@ -17,30 +16,18 @@ const CLOSING: usize = 1;
 #[derive(Drop)]
 struct Depths;
 
-impl Values<SimpleSpan, Rich<char>> for Depths {
+impl SimpleValues<SimpleSpan, Rich<char>> for Depths {
     type Value = usize;
-
-    fn pair(&self, _alloc: Global, a: usize, b: usize) -> Result<usize, AllocError> {
-        Ok(a.max(b))
-    }
-
-    fn option(&self, _alloc: Global, depth: Option<usize>) -> Result<usize, AllocError>
-        ensures { IfOk result (λ _. ⊤) }
-    {
-        Ok(depth.unwrap_or(0))
-    }
 
     fn unit(&self, _alloc: Global) -> Result<usize, AllocError> {
         Ok(0)
     }
 
-    fn map(&self, _alloc: Global, _mapper: usize, inside: usize) -> Result<usize, AllocError> {
-        Ok(inside.saturating_add(1))
+    fn pair(&self, _alloc: Global, a: usize, b: usize) -> Result<usize, AllocError> {
+        Ok(a.max(b))
     }
 
-    fn list(&self, _alloc: Global, depths: Vec<usize>) -> Result<usize, AllocError>
-        ensures { IfOk result (λ _. ⊤) }
-    {
+    fn list(&self, _alloc: Global, depths: Vec<usize>) -> Result<usize, AllocError> {
         let mut deepest = 0;
         for depth in depths.as_slice() {
             deepest = deepest.max(*depth);
@@ -48,14 +35,8 @@ impl Values<SimpleSpan, Rich<char>> for Depths {
         Ok(deepest)
     }
 
-    fn try_map(
-        &self,
-        _alloc: Global,
-        _mapper: usize,
-        depth: usize,
-        _span: SimpleSpan,
-    ) -> Result<Result<usize, Rich<char>>, AllocError> {
-        Ok(Ok(depth))
+    fn map(&self, _alloc: Global, _mapper: usize, inside: usize) -> Result<usize, AllocError> {
+        Ok(inside.saturating_add(1))
     }
 }
 
@@ -90,7 +71,7 @@ pub fn depth(alloc: Global, text: &str) -> Result<ParseResult<usize, Rich<char>>
     let leaves = [just::<_, _, RichText>("[").to(0), just("]").to(0)];
     let actions = Leaves {
         leaves: &leaves,
-        values: Depths,
+        values: Simply(Depths),
     };
     match close_founded(&rules, start, &actions, text.len()) {
         Ok(grammar) => grammar.parse(alloc, text).map_err(Refused::Running),
@@ -112,7 +93,7 @@ pub fn depth_within(
     let leaves = [just::<_, _, RichText>("[").to(0), just("]").to(0)];
     let actions = Leaves {
         leaves: &leaves,
-        values: Depths,
+        values: Simply(Depths),
     };
     match close(&rules, start, &actions, limit) {
         Ok(grammar) => grammar.parse(alloc, text).map_err(Refused::Running),

@@ -1,7 +1,7 @@
 //! The program `format_program`.
 use console::failure::Failure;
 use console::run::Program;
-use console::text::{print_line, read_text, report};
+use console::text::{read_text, report};
 use front::item_text::ItemText;
 use front::read::{Reading, read_program};
 use std::alloc::Global;
