@@ -2,6 +2,8 @@ pub mod Bits
 pub mod BitsLaws
 pub mod Date
 pub mod DateLaws
+pub mod Expressions
+pub mod ExpressionsLaws
 pub mod Listed
 pub mod Level
 pub mod LevelLaws
@@ -13,3 +15,4 @@ pub mod Pairs
 pub mod PairsLaws
 pub mod Trees
 pub mod TreesLaws
+pub mod WrittenLaws

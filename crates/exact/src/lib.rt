@@ -3,6 +3,7 @@
 
 pub mod bits;
 pub mod date;
+pub mod expressions;
 pub mod level;
 pub mod nested;
 pub mod number;

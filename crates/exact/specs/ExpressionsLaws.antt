@@ -1,0 +1,196 @@
+-- The function that reads expressions accepts just these.
+-- Main word: grammar. Main law: expressions-intended. Read first: Expressions.antt.
+use Rattle.std.proofs.Common.{◌≡◌, ℕ, suc, ◌<◌, ◌||◌, Bool, true, false, nat_eq, None, List, [], ◌∷◌, ◌++◌, refl, sym, ◌∙◌, ap, subst, arith, rules, inl, inr}
+use Rattle.std.specs.Prelude.{codes, map}
+use Rattle.std.specs.Borrow.{Bor}
+use Rattle.std.specs.declared.alloc.Global.{Global}
+use Rattle.std.specs.declared.vec.Vec.{Vec}
+use Rattle.std.specs.Str.{chars, IsAscii}
+use Rattle.std.proofs.lemmas.Bool.Decides.{nat_tests}
+use Rattle.std.proofs.lemmas.List.{append-nil}
+use Rattle.std.proofs.lemmas.Str.{chars-IsAscii}
+use Rattle.std.proofs.lemmas.Str.Ascii.{IsAscii-nil, IsAscii-cons}
+use Rattle.chumsky_parser.specs.Ending.{DoesNotEnd}
+use Rattle.chumsky_parser.specs.FurtherLaws.{both-below, behind-below}
+use Rattle.chumsky_parser.specs.ItemsLanguage.{IsListFrom}
+use Rattle.chumsky_parser.specs.Language.{Language, sooner}
+use Rattle.chumsky_parser.specs.Slices.{IsSliceOf}
+use Rattle.chumsky_parser.specs.Words.{Joined, AllPass, StopsAt}
+use Rattle.chumsky_primitive.specs.PrimitiveLanguage.{Equals}
+use Rattle.chumsky_primitive.specs.Literals.{equals-same, same-equals}
+use Rattle.chumsky_items.specs.ListWords.{SeparatedWord, SeparatedEnd}
+use Rattle.chumsky_text.specs.Names.{IsName, begins_name, in_name, name-slice}
+use Rattle.chumsky_text.specs.Decimals.{TextSlice}
+use Rattle.chumsky_descent.specs.CallLanguage.{call_language, IsIntended, call-is_intended}
+use Rattle.chumsky_descent.specs.Exactly.{grammar_of}
+use Rattle.exact.specs.declared.expressions.Expression.{Expression, the_lemmas}
+use Rattle.exact.specs.declared.expressions.Expression as expression
+use Rattle.exact.specs.Listed.{listed}
+use Rattle.exact.specs.Expressions.{Form, name, list, Forms, no_forms, form, forms_of, form_of, IsExpression, is_name, is_list, AreExpressions, no_expression, one_expression, more_expressions, HoldsExpression, begins_expression, IsText, expressions}
+use Rattle.exact.specs.contracts.expressions.OfExpressionBodyRefStrExpressionEmptyText.TheImpl.{ghosts, no_dict}
+use denote.Builtin.{unit}
+
+-- the language of the function's body, of that of a call in it
+abbrev pub grammar : Language ℕ Expression → Language ℕ Expression
+grammar = grammar_of (λ call. (ghosts unit call no_dict).body tt)
+
+abbrev Is : List ℕ → List ℕ → Type 0
+Is = Equals nat_eq
+
+-- what an expression says, level by level
+pub form-name : (text : Bor (List ℕ)) → form_of (expression.Name text) ≡ name (chars text.now)
+form-name text = search (rules, the_lemmas)
+
+pub form-list : (es : Vec Expression Global) → form_of (expression.List es) ≡ list (forms_of (map form_of es.items))
+form-list es = search (rules, the_lemmas)
+
+-- a name is of ASCII
+begins_ascii : (c : ℕ) → begins_name c ≡ true → c < 128
+begins_ascii c e = grind (arith, nat_tests)
+
+in_ascii : (c : ℕ) → in_name c ≡ true → c < 128
+in_ascii c e = grind (arith, nat_tests)
+
+all_ascii : (cs : List ℕ) → AllPass in_name cs → IsAscii cs
+all_ascii [] h = IsAscii-nil
+all_ascii (c ∷ cs) h = IsAscii-cons c cs (in_ascii c h.0) (all_ascii cs h.1)
+
+pub name-ascii : (w : List ℕ) → IsName w → IsAscii w
+name-ascii [] h = absurd h
+name-ascii (c ∷ cs) h = IsAscii-cons c cs (begins_ascii c h.0) (all_ascii cs h.1)
+
+-- a text of them is a word of a list
+module _ (P : List ℕ → Type 0) (is : (w : List ℕ) (f : Form) → IsExpression w f → P w) where
+  abbrev IsList : ℕ → List ℕ → Type 0
+  IsList = IsListFrom (SeparatedWord (Is (codes " ")) false None P) (SeparatedEnd (Is (codes " ")) false false 0 None)
+
+  led : {w : List ℕ} {f : Form} {fs : Forms} (k : ℕ) → AreExpressions w (form f fs) → IsList (suc k) (codes " " ++ w)
+  led {w} {f} k (one_expression i) = record {
+    items = w ∷ [];
+    are = record { first = codes " " ++ w; second = []; all = sym (append-nil (codes " " ++ w)); is_first = (tt, record { first = codes " "; second = w; all = refl; is_first = same-equals (codes " "); is_second = is w f i }); is_second = (omega arith, refl) };
+  }
+  led {f = f} k (more_expressions {w} {ws} i a) =
+      let l = led (suc k) a in record {
+        items = w ∷ l.items;
+        are = record { first = codes " " ++ w; second = codes " " ++ ws; all = refl; is_first = (tt, record { first = codes " "; second = w; all = refl; is_first = same-equals (codes " "); is_second = is w f i }); is_second = l.are };
+      }
+
+  is_list_word : {w : List ℕ} {fs : Forms} → AreExpressions w fs → IsList 0 w
+  is_list_word no_expression = record { items = []; are = (omega arith, refl) }
+  is_list_word (one_expression {w} {f} i) = record { items = w ∷ []; are = record { first = w; second = []; all = sym (append-nil w); is_first = (tt, is w f i); is_second = (omega arith, refl) } }
+  is_list_word (more_expressions {w} {ws} {f} i a) = let l = led 0 a in record { items = w ∷ l.items; are = record { first = w; second = codes " " ++ ws; all = refl; is_first = (tt, is w f i); is_second = l.are } }
+
+both_false : (a b : Bool) → (a || b) ≡ false → (a ≡ false) × (b ≡ false)
+both_false true b e = absurd (cc e)
+both_false false b e = (refl, e)
+
+by_space : (P : List ℕ → Type 0) (c : List ℕ) → Is (codes " ") c → P (codes " ") → P c
+by_space P c i p = let e : c ≡ codes " " = equals-same (codes " ") c i in subst P (sym e) p
+
+-- a text is some expressions, as many as these words
+abbrev AreSome : List ℕ → List (List ℕ) → Type 0
+AreSome w [] = AreExpressions w no_forms
+AreSome w (u ∷ us) = (f : Form) × (fs : Forms) × AreExpressions w (form f fs)
+
+in_list : (w : List ℕ) (us : List (List ℕ)) → AreSome w us → IsText (codes "(" ++ (w ++ codes ")"))
+in_list w [] a = (list no_forms, is_list a)
+in_list w (u ∷ us) a = (list (form a.0 a.1), is_list a.2)
+
+-- what the slice of a name says
+named : (w : List ℕ) (text : Bor (List ℕ)) → IsName w → IsSliceOf (TextSlice (λ s. s.now)) w text → IsExpression w (name (chars text.now))
+named w text n s =
+    let e : text.now ≡ w = name-slice (λ s. s.now) w text n s in
+    let a : chars w ≡ w = chars-IsAscii w (name-ascii w n) in
+    subst (λ z. IsExpression w (name z)) (sym (ap chars e ∙ a)) (is_name n)
+
+module _ (call : Language ℕ Expression) (depth : ℕ) (i : IsIntended expressions call depth) where
+  -- what stands between brackets
+  in_brackets : (P : List ℕ → Type 0) (w : List ℕ) → ((v : List ℕ) → P v → IsText (codes "(" ++ (v ++ codes ")"))) → Joined (Is (40 ∷ [])) (Joined P (Is (41 ∷ []))) w → IsText w
+  in_brackets P w text j =
+      let o : j.first ≡ 40 ∷ [] = equals-same (40 ∷ []) j.first j.is_first in
+      let c : j.is_second.second ≡ 41 ∷ [] = equals-same (41 ∷ []) j.is_second.second j.is_second.is_second in
+      let e : codes "(" ++ (j.is_second.first ++ codes ")") ≡ w = cc (j.all, o, j.is_second.all, c) in
+      subst IsText e (text j.is_second.first j.is_second.is_first)
+
+  only : (w : List ℕ) → (grammar call).word w → IsText w
+  only w j = elim j [
+    | inl n ↦ (name w, is_name n)
+    | inr l ↦ in_brackets _ w (λ v k. in_list v k.items (listed (Is (codes " ")) (λ u z. call.word u) AreSome no_expression
+        (λ u z h. let t = i.only u h in (t.0, no_forms, one_expression t.1))
+        (λ u c us z y zs h s a. let t = i.only u h in (t.0, form a.0 a.1, by_space (λ x. AreExpressions (u ++ (x ++ us)) (form t.0 (form a.0 a.1))) c s (more_expressions t.1 a.2))) k.items v k.are)) l
+  ]
+
+  given : (w : List ℕ) (e : Expression) → (grammar call).stands_for w e → HoldsExpression w e
+  given w e j = elim j [
+    | inl m ↦ subst (IsExpression w) (sym (ap form_of m.2 ∙ form-name m.0)) (named w m.0 m.1.0 m.1.1)
+    | inr m ↦ (
+        let es : Vec Expression Global = m.0 in
+        let j = m.1 in
+        let o : j.first ≡ 40 ∷ [] = equals-same (40 ∷ []) j.first j.is_first in
+        let c : j.is_second.second ≡ 41 ∷ [] = equals-same (41 ∷ []) j.is_second.second j.is_second.is_second in
+        let q : codes "(" ++ (j.is_second.first ++ codes ")") ≡ w = cc (j.all, o, j.is_second.all, c) in
+        let k = j.is_second.is_first in
+        let a : AreExpressions j.is_second.first (forms_of (map form_of k.items)) = listed (Is (codes " ")) call.stands_for (λ u es. AreExpressions u (forms_of (map form_of es))) no_expression (λ u z h. one_expression (i.given u z h))
+        (λ u c us z y zs h s a. by_space (λ x. AreExpressions (u ++ (x ++ us)) (form (form_of z) (form (form_of y) (forms_of (map form_of zs))))) c s (more_expressions (i.given u z h) a)) k.items j.is_second.first k.is in
+        let b : AreExpressions j.is_second.first (forms_of (map form_of es.items)) = subst (λ z. AreExpressions j.is_second.first (forms_of (map form_of z))) (sym k.held) a in
+        let d : IsExpression w (list (forms_of (map form_of es.items))) = subst (λ z. IsExpression z (list (forms_of (map form_of es.items)))) q (is_list b) in
+        subst (IsExpression w) (sym (ap form_of m.2 ∙ form-list es)) d
+        )
+  ]
+
+  each_form : (w : List ℕ) (f : Form) → IsExpression w f → (grammar call).word w
+  each_form w _ (is_name n) = inl n
+  each_form _ _ (is_list {w} a) = inr (record {
+    first = codes "(";
+    second = w ++ codes ")";
+    all = refl;
+    is_first = same-equals (codes "(");
+    is_second = record { first = w; second = codes ")"; all = refl; is_first = is_list_word call.word (λ u f h. i.each u (f, h)) a; is_second = same-equals (codes ")") };
+  })
+
+  fails : (ts : List ℕ) → StopsAt begins_expression ts → DoesNotEnd ((grammar call).ends ts)
+  fails [] s = tt
+  fails (c ∷ cs) s =
+      let p = both_false (begins_name c) (nat_eq 40 c) s in
+      let d : begins_name c ≡ false = p.0 in
+      let b : nat_eq 40 c ≡ false = p.1 in
+      rw (d, b) tt
+
+  -- neither a space nor a bracket that closes is in a name, or begins an expression; and no name begins with a bracket
+  space_stops : (w rest : List ℕ) → Is (32 ∷ []) w → call.follow (w ++ rest)
+  space_stops w rest j = let e : w ≡ 32 ∷ [] = equals-same (32 ∷ []) w j in rw e (i.follows (32 ∷ rest) refl)
+
+  closing_stops : (w rest : List ℕ) → Is (41 ∷ []) w → call.follow (w ++ rest)
+  closing_stops w rest j = let e : w ≡ 41 ∷ [] = equals-same (41 ∷ []) w j in rw e (i.follows (41 ∷ rest) refl)
+
+  none_follows : (w rest : List ℕ) → Is (41 ∷ []) w → DoesNotEnd (call.ends (w ++ rest))
+  none_follows w rest j = let e : w ≡ 41 ∷ [] = equals-same (41 ∷ []) w j in rw e (i.fails (41 ∷ rest) refl)
+
+  kept : IsIntended expressions (grammar call) (suc depth)
+  kept = record {
+    said = rw (i.said, i.moves refl) refl;
+    moves = λ e. refl;
+    only = only;
+    given = given;
+    each = λ w t. each_form w t.0 t.1;
+    follows = λ rest s. (λ t. s, tt);
+    fails = fails;
+    unambiguous = (
+      tt,
+      (
+        tt,
+        (
+          (i.unambiguous, tt, λ w rest j f. space_stops w rest j, λ w rest j f. tt, λ e. absurd (cc e)),
+          tt,
+          λ w rest j f. (closing_stops w rest j, tt, let e : w ≡ 41 ∷ [] = equals-same (41 ∷ []) w j in rw e tt, none_follows w rest j),
+        ),
+        λ w rest j f. tt,
+      ),
+      λ w rest j f. let e : w ≡ 40 ∷ j.second = cc (j.all, equals-same (40 ∷ []) j.first j.is_first) in rw e tt,
+    );
+    refused = behind-below (sooner (sooner call.refused_from None) None) depth (λ k l. both-below (sooner call.refused_from None) None k (both-below call.refused_from None k (i.refused k l) tt) tt);
+  }
+
+-- the function has the language that is intended
+pub expressions-intended : (depth : ℕ) → IsIntended expressions (call_language expressions grammar depth) depth
+expressions-intended = call-is_intended expressions grammar kept
