@@ -1,6 +1,6 @@
 -- What a call answers of a text follows from what is said of its parser.
 -- Main lemma: answers-text.
-use Rattle.std.proofs.Common.{◌≡◌, ℕ, ◌≤◌, ◌<◌, ◌^◌, Bool, true, false, Option, Some, None, List, [], ◌∷◌, ◌++◌, length, drop, refl, sym, ◌∙◌, ap, subst, arith, ◌⊎◌, inl, inr}
+use Rattle.std.proofs.Common.{◌≡◌, ◌<◌, ◌^◌, Bool, true, false, Option, Some, None, List, [], ◌∷◌, length, drop, refl, sym, ◌∙◌, ap, subst, arith, ◌⊎◌, inl, inr}
 use Rattle.std.proofs.lemmas.List.{append-nil}
 use Rattle.std.specs.Prelude.{⊤, Result, Ok, Err, IsOk}
 use Rattle.chumsky_input.specs.Layout.{Layout}
@@ -12,14 +12,14 @@ use Rattle.chumsky_input.specs.declared.stop.Stop.TheVariants.{Memory}
 use Rattle.chumsky_input.specs.Outcome.{Meaning, Beginning, Outcome, Verdict, Yes, No, Halt, Clash}
 use Rattle.chumsky_parser.specs.Chained.{Chained, Given, Asked, Follows, from}
 use Rattle.chumsky_parser.specs.declared.result.ParseResult.{ParseResult}
-use Rattle.chumsky_parser.specs.Ending.{Ending, At, Nowhere, Refused, Ender, Within, IfValue, Answers as AnswersAt, Reads}
-use Rattle.chumsky_parser.specs.Language.{Begins, GivesOnly, Language, Described, Accepts}
+use Rattle.chumsky_parser.specs.Ending.{At, Nowhere, Refused, Within, IfValue, Answers as AnswersAt}
+use Rattle.chumsky_parser.specs.Language.{Begins, Language, Described, Accepts}
 use Rattle.chumsky_parser.specs.Memory.{NeverOutOfMemory}
 use Rattle.chumsky_parser.specs.WordsLaws.{whole-taken}
 use Rattle.chumsky_parse_iter.specs.Settled.{RefusesBy}
 use Rattle.chumsky_primitive.specs.End.{MeansEnd}
 use Rattle.chumsky_primitive.specs.EndLanguage.{end_ends, end-reads}
-use Rattle.chumsky.specs.Answer.{WholeRun, IsOutput, Reports, Answers}
+use Rattle.chumsky.specs.Answer.{WholeRun, IsOutput, Answers}
 use Rattle.chumsky.specs.Accepted.{FallsShort, IsOutputOf, IsAnswerOf, AnswersText}
 use Rattle.chumsky.specs.WantedMemory.{wanted-for_errors}
 

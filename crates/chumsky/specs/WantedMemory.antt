@@ -1,6 +1,6 @@
 -- For what a run is refused for memory whose parser never is.
 -- Main law: wanted-for_errors. Read first: Answer.antt, and Memory.antt of chumsky_memory.
-use Rattle.std.proofs.Common.{◌≡◌, false, Option, refl, subst}
+use Rattle.std.proofs.Common.{◌≡◌, false, refl, subst}
 use Rattle.chumsky_input.specs.declared.error.Error as error_trait
 use Rattle.chumsky_input.specs.declared.inspector.Inspector as inspector_trait
 use Rattle.chumsky_input.specs.declared.input.Input as input_trait
