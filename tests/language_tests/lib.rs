@@ -6,6 +6,8 @@ mod arithmetic_answers;
 #[cfg(test)]
 mod exact_answers;
 #[cfg(test)]
+mod exact_expressions;
+#[cfg(test)]
 mod expressions;
 #[cfg(test)]
 mod json_answers;

@@ -1,6 +1,6 @@
 -- Expressions as Lisp writes them: what one says, how it is written, and the language of the function that reads them.
 -- Main words: Form, form_of, IsExpression, written, HasNames, expressions. Laws: ExpressionsLaws.antt, WrittenLaws.antt.
-use Rattle.std.specs.Prelude.{ℕ, ◌||◌, nat_eq, true, Bool, List, [], ◌∷◌, ◌++◌, codes, ⊤}
+use Rattle.std.specs.Prelude.{ℕ, zero, suc, ◌||◌, nat_eq, true, Bool, List, [], ◌∷◌, ◌++◌, codes, ⊤}
 use Rattle.std.specs.Str.{chars}
 use Rattle.chumsky_parser.specs.Words.{StopsAt}
 use Rattle.chumsky_text.specs.Names.{IsName, begins_name, in_name}
@@ -62,6 +62,11 @@ abbrev mutual
   pub more_written : Forms → List ℕ
   more_written no_forms = []
   more_written (form f fs) = codes " " ++ (written f ++ more_written fs)
+
+-- what is written before the one of an index in a list: a space, but none before the first
+abbrev pub gap_before : ℕ → List ℕ
+gap_before zero = []
+gap_before (suc i) = codes " "
 
 abbrev mutual
   -- each name in it is one

@@ -8,4 +8,5 @@ pub mod level;
 pub mod nested;
 pub mod number;
 pub mod pairs;
+pub mod print_expression;
 pub mod trees;

@@ -1,0 +1,55 @@
+//! Expressions as Lisp writes them, read and printed.
+use chumsky::Stop;
+use exact::expressions::{Expression, parse_expression};
+use exact::print_expression::print_expression;
+use std::test::Fail;
+
+#[test]
+fn what_is_read_is_printed_as_it_was_written(rt: HostRuntime) -> Result<(), Fail> {
+    let alloc = rt.alloc();
+    for text in ["a", "_", "x1", "()", "(a)", "(())", "(() ())", "(add one (double two) ())", "((((deep))) (a b c))", "(if (is_zero n) one (times n (factorial (minus n one))))"] {
+        let parsed = parse_expression(alloc, text, text.len() + 1)?;
+        let expression = parsed.into_output();
+        assert!(rt; expression.is_some(), "{text}");
+        if let Some(expression) = expression {
+            assert_eq!(rt; print_expression(alloc, &expression)?.as_str(), text);
+        }
+    }
+    Ok(())
+}
+
+#[test]
+fn each_name_and_list_stands_where_it_was_written(rt: HostRuntime) -> Result<(), Fail> {
+    let alloc = rt.alloc();
+    let parsed = parse_expression(alloc, "(f (x) y)", 10)?;
+    let mut inner = Vec::new(alloc);
+    inner.push(Expression::Name("x"))?;
+    let mut outer = Vec::new(alloc);
+    outer.push(Expression::Name("f"))?;
+    outer.push(Expression::List(inner))?;
+    outer.push(Expression::Name("y"))?;
+    assert!(rt; parsed.into_output().is_some_and(|read| read == Expression::List(outer)));
+    Ok(())
+}
+
+#[test]
+fn other_texts_are_no_expressions(rt: HostRuntime) -> Result<(), Fail> {
+    let alloc = rt.alloc();
+    for text in ["", " ", "1", "1x", "a ", " a", "a b", "a)", "(", ")", "(a", "( )", "(a )", "( a)", "(a  b)", "(a\tb)", "(a,b)", "[a]", "()()", "() ()", "(a)(b)", "(é)", "(a-b)", "((a)", "(a))"] {
+        let parsed = parse_expression(alloc, text, 100)?;
+        assert!(rt; parsed.into_output().is_none(), "{text}");
+    }
+    Ok(())
+}
+
+#[test]
+fn an_expression_is_refused_that_is_deeper_than_the_limit(rt: HostRuntime) -> Result<(), Fail> {
+    let alloc = rt.alloc();
+    for (text, calls) in [("a", 1), ("()", 2), ("(a b c)", 2), ("(())", 3), ("(a (b) c)", 3), ("(((())))", 5)] {
+        let parsed = parse_expression(alloc, text, calls)?;
+        assert!(rt; parsed.into_output().is_some(), "{text}");
+        let refused = matches!(parse_expression(alloc, text, calls - 1), Err(Stop::TooDeep));
+        assert!(rt; refused, "{text}");
+    }
+    Ok(())
+}
