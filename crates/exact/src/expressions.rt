@@ -7,7 +7,7 @@ ghost use Rattle.exact.specs.Expressions.{Form, form_of, HasNames, HoldsExpressi
 
 use chumsky::combinator::{Collect, DelimitedBy, Map, Mapper, Or, SeparatedBy, run_part};
 use chumsky::extra::EmptyText;
-use chumsky::input::InputRef;
+use chumsky::input::TextRef;
 use chumsky::prelude::*;
 use chumsky::primitive::Just;
 use chumsky::recursive::{Body, Recursion, RunsUnder, recursive_as};
@@ -159,7 +159,7 @@ pub fn list_of<'src, P: IsParser<&'src str, Expression<'src>, EmptyText>>(
 
 /// A name, or a list of expressions.
 fn any_expression<'src>(
-    inp: &mut InputRef<'src, '_, &'src str, EmptyText>,
+    inp: &mut TextRef<'src, '_, EmptyText>,
     wanted: bool,
     depth: usize,
 ) -> PResult<Option<Expression<'src>>>

@@ -5,7 +5,7 @@ ghost use Rattle.exact.specs.Nested.{IsNested, IsTooDeep};
 
 use chumsky::combinator::{DelimitedBy, Ignored, OrNot, run_part};
 use chumsky::extra::EmptyText;
-use chumsky::input::InputRef;
+use chumsky::input::TextRef;
 use chumsky::prelude::*;
 use chumsky::primitive::Just;
 use chumsky::recursive::{Body, Recursion, RunsUnder, recursive_as};
@@ -53,7 +53,7 @@ impl<'src> Recursion<'src, &'src str, (), EmptyText> for OfPair {
 
 /// A pair of brackets, perhaps with another in it.
 fn pair<'src>(
-    inp: &mut InputRef<'src, '_, &'src str, EmptyText>,
+    inp: &mut TextRef<'src, '_, EmptyText>,
     wanted: bool,
     depth: usize,
 ) -> PResult<Option<()>>

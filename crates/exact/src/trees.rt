@@ -6,7 +6,7 @@ ghost use Rattle.exact.specs.Trees.{IsTree};
 
 use chumsky::combinator::{Collect, DelimitedBy, Map, Mapper, Or, PickBy, SeparatedBy, run_part};
 use chumsky::extra::EmptyText;
-use chumsky::input::InputRef;
+use chumsky::input::TextRef;
 use chumsky::prelude::*;
 use chumsky::primitive::Just;
 use chumsky::recursive::{Body, Recursion, RunsUnder, recursive_as};
@@ -144,7 +144,7 @@ pub fn list_of<'src, P: IsParser<&'src str, Tree, EmptyText>>(tree: P) -> ListPa
 
 /// A number, or a list of trees.
 fn any_tree<'src>(
-    inp: &mut InputRef<'src, '_, &'src str, EmptyText>,
+    inp: &mut TextRef<'src, '_, EmptyText>,
     wanted: bool,
     depth: usize,
 ) -> PResult<Option<Tree>>
