@@ -1,8 +1,13 @@
 //! Operators by precedence.
-use chumsky::Stop;
-use chumsky::extra::RichText;
-use chumsky::pratt::{infix, infix_with, left, prefix};
+ghost use Rattle.std.specs.Prelude.{All};
+
+use chumsky::combinator::{Part, part_of, run_part};
+use chumsky::extra::{ParserExtra, RichText};
+use chumsky::input::{InputRef, TextRef};
+use chumsky::pratt::{Operator, infix, infix_with, left, prefix};
 use chumsky::prelude::*;
+use chumsky::recursive::{RunsUnder, Unsaid};
+use chumsky::{PResult, Stop};
 use std::alloc::Global;
 
 /// What two numbers come to, or nothing where an `i64` doesn't hold it.
@@ -77,4 +82,51 @@ pub fn sum_or_span(
         ),
     ));
     sum.parse(alloc, text)
+}
+
+/// An expression with operators of one type, as many as a list of them has.
+pub fn run_listed<'src, I, O, E, P, T>(
+    atom: P,
+    operators: &[T],
+    wanted: bool,
+    inp: &mut InputRef<'src, '_, I, E>,
+) -> PResult<Option<O>>
+where
+    I: Input<'src>,
+    I::Token: 'src,
+    O: Drop,
+    E: ParserExtra<I>,
+    P: IsParser<I, O, E> + Parser<'src, I, O, E> + Drop,
+    T: Operator<'src, I, O, E>,
+    requires atom { P.ready atom }
+    requires operators { All T.ready operators.now }
+    ensures { ⟦<Unsaid as RunsUnder<'src, I, O, E>>⟧.runs 0 wanted inp.old inp.new result }
+{
+    run_part(&atom.pratt(operators), wanted, inp)
+}
+
+/// A sum whose operators stand in an array.
+#[derive(Clone, Copy)]
+struct ListedSum;
+
+impl<'src> IsParser<&'src str, Option<i64>, RichText> for ListedSum {}
+
+impl<'src> Part<'src, &'src str, Option<i64>, RichText> for ListedSum {
+    fn run(
+        &self,
+        wanted: bool,
+        inp: &mut TextRef<'src, '_, RichText>,
+    ) -> PResult<Option<Option<i64>>> {
+        let number = text::int(10).from_str::<i64>().map(|read| read.ok());
+        let operators = [
+            infix(left(2), one_of("*/"), work_out),
+            infix(left(1), one_of("+-"), work_out),
+        ];
+        run_listed(number, &operators, wanted, inp)
+    }
+}
+
+/// What a sum comes to, without spaces: `1+2*3` is 7.
+pub fn listed_sum(alloc: Global, text: &str) -> Result<ParseResult<Option<i64>, Rich<char>>, Stop> {
+    part_of(ListedSum).parse(alloc, text)
 }
