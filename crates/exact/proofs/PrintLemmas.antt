@@ -1,6 +1,6 @@
 -- What is written at the end of a text, in characters.
 -- Main laws: pushed-text, pushed-char, one_printed, list_printed.
-use Rattle.std.proofs.Common.{◌≡◌, ℕ, zero, suc, ◌<◌, List, [], ◌∷◌, ◌++◌, append_assoc, drop, refl, sym, ◌∙◌, ap}
+use Rattle.std.proofs.Common.{◌≡◌, ℕ, zero, suc, ◌<◌, List, [], ◌∷◌, ◌++◌, append_assoc, drop, refl, ◌∙◌, ap}
 use Rattle.std.specs.Prelude.{map, encode_utf8}
 use Rattle.std.specs.Str.{chars, IsUtf8}
 use Rattle.std.proofs.lemmas.List.{append-nil}

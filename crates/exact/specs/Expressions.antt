@@ -1,17 +1,20 @@
 -- Expressions as Lisp writes them: what one says, how it is written, and the language of the function that reads them.
--- Main words: Form, form_of, IsExpression, written, HasNames, expressions. Laws: ExpressionsLaws.antt, WrittenLaws.antt.
+-- Main words: Form, form_of, IsExpression, written, IsSound, expressions. Laws: ExpressionsLaws.antt, WrittenLaws.antt.
 use Rattle.std.specs.Prelude.{ℕ, zero, suc, ◌||◌, nat_eq, true, Bool, List, [], ◌∷◌, ◌++◌, codes, ⊤}
+use Rattle.std.specs.Char.{is_digit}
 use Rattle.std.specs.Str.{chars}
 use Rattle.chumsky_parser.specs.Words.{StopsAt}
+use Rattle.chumsky_text.specs.Decimals.{IsDecimal}
 use Rattle.chumsky_text.specs.Names.{IsName, begins_name, in_name}
 use Rattle.chumsky_descent.specs.Calls.{Intended}
 use Rattle.exact.specs.declared.expressions.Expression.{Expression, fold-Expression}
 use Rattle.exact.specs.declared.expressions.Expression.TheOpen.{Expression-F}
 
 mutual
-  -- what an expression says, wherever it lies in memory: a name, or a list
+  -- what an expression says, wherever it lies in memory: a name, a number in digits, or a list
   pub data Form : Type 0 where
     name : List ℕ → Form
+    number : List ℕ → Form
     list : Forms → Form
 
   -- what each of some expressions says, in order
@@ -26,6 +29,7 @@ forms_of (f ∷ fs) = form f (forms_of fs)
 -- one level, in which each expression inside is already seen as what it says
 abbrev pub form_step : Expression-F Form → Form
 form_step (Expression-F.Name text) = name (chars text.now)
+form_step (Expression-F.Number text) = number (chars text.now)
 form_step (Expression-F.List v) = list (forms_of v.items)
 
 -- what an expression says
@@ -33,9 +37,10 @@ abbrev pub form_of : Expression → Form
 form_of = fold-Expression Form form_step
 
 mutual
-  -- a text is an expression: a name, or expressions in round brackets
+  -- a text is an expression: a name, a decimal number, or expressions in round brackets
   pub data IsExpression : List ℕ → Form → Type 0 where
     is_name : {w : List ℕ} → IsName w → IsExpression w (name w)
+    is_number : {w : List ℕ} → IsDecimal w → IsExpression w (number w)
     is_list : {w : List ℕ} {fs : Forms} → AreExpressions w fs → IsExpression (codes "(" ++ (w ++ codes ")")) (list fs)
 
   -- expressions, with one space between each two
@@ -52,6 +57,7 @@ abbrev mutual
   -- how it is written
   pub written : Form → List ℕ
   written (name w) = w
+  written (number w) = w
   written (list fs) = codes "(" ++ (all_written fs ++ codes ")")
 
   pub all_written : Forms → List ℕ
@@ -69,23 +75,24 @@ gap_before zero = []
 gap_before (suc i) = codes " "
 
 abbrev mutual
-  -- each name in it is one
-  pub HasNames : Form → Type 0
-  HasNames (name w) = IsName w
-  HasNames (list fs) = HaveNames fs
+  -- each name in it is a name, and each number a number
+  pub IsSound : Form → Type 0
+  IsSound (name w) = IsName w
+  IsSound (number w) = IsDecimal w
+  IsSound (list fs) = AreSound fs
 
-  pub HaveNames : Forms → Type 0
-  HaveNames no_forms = ⊤
-  HaveNames (form f fs) = HasNames f × HaveNames fs
+  pub AreSound : Forms → Type 0
+  AreSound no_forms = ⊤
+  AreSound (form f fs) = IsSound f × AreSound fs
 
--- an expression begins with a letter, `_` or a bracket
+-- an expression begins with a letter, `_`, a digit or a bracket
 abbrev pub begins_expression : ℕ → Bool
-begins_expression c = begins_name c || nat_eq 40 c
+begins_expression c = (begins_name c || is_digit c 10) || nat_eq 40 c
 
 -- a text that is some expression
 abbrev pub IsText : List ℕ → Type 0
 IsText w = (f : Form) × IsExpression w f
 
--- these are the words of the function, where none goes on with a name
+-- these are the words of the function, where none goes on with a name or a number
 abbrev pub expressions : Intended ℕ Expression
 expressions = record { word = IsText; stands_for = HoldsExpression; follow = StopsAt in_name; fails = StopsAt begins_expression; moves = true }

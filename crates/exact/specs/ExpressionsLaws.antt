@@ -1,32 +1,32 @@
 -- The function that reads expressions accepts just these.
 -- Main word: grammar. Main law: expressions-intended. Read first: Expressions.antt.
-use Rattle.std.proofs.Common.{◌≡◌, ℕ, suc, ◌<◌, ◌||◌, Bool, true, false, nat_eq, None, List, [], ◌∷◌, ◌++◌, refl, sym, ◌∙◌, ap, subst, arith, rules, inl, inr}
+use Rattle.std.proofs.Common.{◌≡◌, ℕ, suc, ◌||◌, Bool, true, false, nat_eq, None, List, [], ◌∷◌, ◌++◌, refl, sym, ◌∙◌, ap, subst, arith, rules, inl, inr}
 use Rattle.std.specs.Prelude.{codes, map}
 use Rattle.std.specs.Borrow.{Bor}
 use Rattle.std.specs.declared.alloc.Global.{Global}
 use Rattle.std.specs.declared.vec.Vec.{Vec}
-use Rattle.std.specs.Str.{chars, IsAscii}
-use Rattle.std.proofs.lemmas.Bool.Decides.{nat_tests}
+use Rattle.std.specs.Char.{is_digit}
+use Rattle.std.specs.Str.{chars}
 use Rattle.std.proofs.lemmas.List.{append-nil}
 use Rattle.std.proofs.lemmas.Str.{chars-IsAscii}
-use Rattle.std.proofs.lemmas.Str.Ascii.{IsAscii-nil, IsAscii-cons}
 use Rattle.chumsky_parser.specs.Ending.{DoesNotEnd}
 use Rattle.chumsky_parser.specs.FurtherLaws.{both-below, behind-below}
 use Rattle.chumsky_parser.specs.ItemsLanguage.{IsListFrom}
 use Rattle.chumsky_parser.specs.Language.{Language, sooner}
 use Rattle.chumsky_parser.specs.Slices.{IsSliceOf}
-use Rattle.chumsky_parser.specs.Words.{Joined, AllPass, StopsAt}
+use Rattle.chumsky_parser.specs.Words.{Joined, StopsAt}
 use Rattle.chumsky_primitive.specs.PrimitiveLanguage.{Equals}
 use Rattle.chumsky_primitive.specs.Literals.{equals-same, same-equals}
 use Rattle.chumsky_items.specs.ListWords.{SeparatedWord, SeparatedEnd}
-use Rattle.chumsky_text.specs.Names.{IsName, begins_name, in_name, name-slice}
-use Rattle.chumsky_text.specs.Decimals.{TextSlice}
+use Rattle.chumsky_text.specs.Names.{IsName, begins_name, name-slice}
+use Rattle.chumsky_text.specs.Decimals.{IsInt, TextSlice, int-decimal, decimal-int, numeral-bytes, slice-bytes}
 use Rattle.chumsky_descent.specs.CallLanguage.{call_language, IsIntended, call-is_intended}
 use Rattle.chumsky_descent.specs.Exactly.{grammar_of}
 use Rattle.exact.specs.declared.expressions.Expression.{Expression, the_lemmas}
 use Rattle.exact.specs.declared.expressions.Expression as expression
+use Rattle.exact.specs.AtomLaws.{name-passes, number-passes, passes-ascii, number-stops, no_name-begins}
 use Rattle.exact.specs.Listed.{listed}
-use Rattle.exact.specs.Expressions.{Form, name, list, Forms, no_forms, form, forms_of, form_of, IsExpression, is_name, is_list, AreExpressions, no_expression, one_expression, more_expressions, HoldsExpression, begins_expression, IsText, expressions}
+use Rattle.exact.specs.Expressions.{Form, name, number, list, Forms, no_forms, form, forms_of, form_of, IsExpression, is_name, is_number, is_list, AreExpressions, no_expression, one_expression, more_expressions, HoldsExpression, begins_expression, IsText, expressions}
 use Rattle.exact.specs.contracts.expressions.OfExpressionBodyRefStrExpressionEmptyText.TheImpl.{ghosts, no_dict}
 use denote.Builtin.{unit}
 
@@ -41,23 +41,11 @@ Is = Equals nat_eq
 pub form-name : (text : Bor (List ℕ)) → form_of (expression.Name text) ≡ name (chars text.now)
 form-name text = search (rules, the_lemmas)
 
+pub form-number : (text : Bor (List ℕ)) → form_of (expression.Number text) ≡ number (chars text.now)
+form-number text = search (rules, the_lemmas)
+
 pub form-list : (es : Vec Expression Global) → form_of (expression.List es) ≡ list (forms_of (map form_of es.items))
 form-list es = search (rules, the_lemmas)
-
--- a name is of ASCII
-begins_ascii : (c : ℕ) → begins_name c ≡ true → c < 128
-begins_ascii c e = grind (arith, nat_tests)
-
-in_ascii : (c : ℕ) → in_name c ≡ true → c < 128
-in_ascii c e = grind (arith, nat_tests)
-
-all_ascii : (cs : List ℕ) → AllPass in_name cs → IsAscii cs
-all_ascii [] h = IsAscii-nil
-all_ascii (c ∷ cs) h = IsAscii-cons c cs (in_ascii c h.0) (all_ascii cs h.1)
-
-pub name-ascii : (w : List ℕ) → IsName w → IsAscii w
-name-ascii [] h = absurd h
-name-ascii (c ∷ cs) h = IsAscii-cons c cs (begins_ascii c h.0) (all_ascii cs h.1)
 
 -- a text of them is a word of a list
 module _ (P : List ℕ → Type 0) (is : (w : List ℕ) (f : Form) → IsExpression w f → P w) where
@@ -100,8 +88,15 @@ in_list w (u ∷ us) a = (list (form a.0 a.1), is_list a.2)
 named : (w : List ℕ) (text : Bor (List ℕ)) → IsName w → IsSliceOf (TextSlice (λ s. s.now)) w text → IsExpression w (name (chars text.now))
 named w text n s =
     let e : text.now ≡ w = name-slice (λ s. s.now) w text n s in
-    let a : chars w ≡ w = chars-IsAscii w (name-ascii w n) in
+    let a : chars w ≡ w = chars-IsAscii w (passes-ascii w (name-passes w n)) in
     subst (λ z. IsExpression w (name z)) (sym (ap chars e ∙ a)) (is_name n)
+
+numbered : (w : List ℕ) (text : Bor (List ℕ)) → IsInt w → IsSliceOf (TextSlice (λ s. s.now)) w text → IsExpression w (number (chars text.now))
+numbered w text n s =
+    let d = int-decimal w n in
+    let e : text.now ≡ w = slice-bytes (λ s. s.now) w text s ∙ numeral-bytes w d.0 in
+    let a : chars w ≡ w = chars-IsAscii w (passes-ascii w (number-passes w d)) in
+    subst (λ z. IsExpression w (number z)) (sym (ap chars e ∙ a)) (is_number d)
 
 module _ (call : Language ℕ Expression) (depth : ℕ) (i : IsIntended expressions call depth) where
   -- what stands between brackets
@@ -114,7 +109,8 @@ module _ (call : Language ℕ Expression) (depth : ℕ) (i : IsIntended expressi
 
   only : (w : List ℕ) → (grammar call).word w → IsText w
   only w j = elim j [
-    | inl n ↦ (name w, is_name n)
+    | inl (inl n) ↦ (name w, is_name n)
+    | inl (inr n) ↦ (number w, is_number (int-decimal w n))
     | inr l ↦ in_brackets _ w (λ v k. in_list v k.items (listed (Is (codes " ")) (λ u z. call.word u) AreSome no_expression
         (λ u z h. let t = i.only u h in (t.0, no_forms, one_expression t.1))
         (λ u c us z y zs h s a. let t = i.only u h in (t.0, form a.0 a.1, by_space (λ x. AreExpressions (u ++ (x ++ us)) (form t.0 (form a.0 a.1))) c s (more_expressions t.1 a.2))) k.items v k.are)) l
@@ -122,7 +118,8 @@ module _ (call : Language ℕ Expression) (depth : ℕ) (i : IsIntended expressi
 
   given : (w : List ℕ) (e : Expression) → (grammar call).stands_for w e → HoldsExpression w e
   given w e j = elim j [
-    | inl m ↦ subst (IsExpression w) (sym (ap form_of m.2 ∙ form-name m.0)) (named w m.0 m.1.0 m.1.1)
+    | inl (inl m) ↦ subst (IsExpression w) (sym (ap form_of m.2 ∙ form-name m.0)) (named w m.0 m.1.0 m.1.1)
+    | inl (inr m) ↦ subst (IsExpression w) (sym (ap form_of m.2 ∙ form-number m.0)) (numbered w m.0 m.1.0 m.1.1)
     | inr m ↦ (
         let es : Vec Expression Global = m.0 in
         let j = m.1 in
@@ -139,7 +136,8 @@ module _ (call : Language ℕ Expression) (depth : ℕ) (i : IsIntended expressi
   ]
 
   each_form : (w : List ℕ) (f : Form) → IsExpression w f → (grammar call).word w
-  each_form w _ (is_name n) = inl n
+  each_form w _ (is_name n) = inl (inl n)
+  each_form w _ (is_number d) = inl (inr (decimal-int w d))
   each_form _ _ (is_list {w} a) = inr (record {
     first = codes "(";
     second = w ++ codes ")";
@@ -151,12 +149,14 @@ module _ (call : Language ℕ Expression) (depth : ℕ) (i : IsIntended expressi
   fails : (ts : List ℕ) → StopsAt begins_expression ts → DoesNotEnd ((grammar call).ends ts)
   fails [] s = tt
   fails (c ∷ cs) s =
-      let p = both_false (begins_name c) (nat_eq 40 c) s in
-      let d : begins_name c ≡ false = p.0 in
+      let p = both_false (begins_name c || is_digit c 10) (nat_eq 40 c) s in
+      let q = both_false (begins_name c) (is_digit c 10) p.0 in
+      let d : begins_name c ≡ false = q.0 in
+      let g : is_digit c 10 ≡ false = q.1 in
       let b : nat_eq 40 c ≡ false = p.1 in
-      rw (d, b) tt
+      rw (d, g, b) tt
 
-  -- neither a space nor a bracket that closes is in a name, or begins an expression; and no name begins with a bracket
+  -- neither a space nor a bracket that closes is in a name or a number, or begins an expression; and no atom begins with a bracket
   space_stops : (w rest : List ℕ) → Is (32 ∷ []) w → call.follow (w ++ rest)
   space_stops w rest j = let e : w ≡ 32 ∷ [] = equals-same (32 ∷ []) w j in rw e (i.follows (32 ∷ rest) refl)
 
@@ -173,10 +173,10 @@ module _ (call : Language ℕ Expression) (depth : ℕ) (i : IsIntended expressi
     only = only;
     given = given;
     each = λ w t. each_form w t.0 t.1;
-    follows = λ rest s. (λ t. s, tt);
+    follows = λ rest s. ((λ t. s, λ t. number-stops t rest s), tt);
     fails = fails;
     unambiguous = (
-      tt,
+      (tt, tt, λ w rest j f. no_name-begins w rest j),
       (
         tt,
         (

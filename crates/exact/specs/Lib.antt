@@ -1,3 +1,4 @@
+pub mod AtomLaws
 pub mod Bits
 pub mod BitsLaws
 pub mod Date

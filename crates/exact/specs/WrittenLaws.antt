@@ -1,41 +1,44 @@
 -- How expressions are written: what is written is one, and is read in one way.
 -- Main laws: written-is, is-written, written-once, gives_back-unless. Read first: Expressions.antt.
-use Rattle.std.proofs.Common.{◌≡◌, ℕ, true, false, nat_eq, Option, Some, None, List, [], ◌∷◌, ◌++◌, append_assoc, refl, sym, ◌∙◌, ap, subst, arith, inl, inr}
+use Rattle.std.proofs.Common.{◌≡◌, ℕ, false, nat_eq, Option, Some, None, List, [], ◌∷◌, ◌++◌, append_assoc, refl, sym, ◌∙◌, ap, subst, arith, inl, inr}
 use Rattle.std.specs.Prelude.{codes, Result, Ok, Err}
 use Rattle.std.proofs.lemmas.Bool.Decides.{nat_tests}
 use Rattle.std.proofs.lemmas.List.{append-nil}
 use Rattle.chumsky_input.specs.declared.stop.Stop.{Stop}
 use Rattle.chumsky_parser.specs.Ending.{At, Refused}
 use Rattle.chumsky_parser.specs.Language.{Language}
-use Rattle.chumsky_parser.specs.Words.{AllPass, StopsAt}
+use Rattle.chumsky_parser.specs.Words.{StopsAt}
 use Rattle.chumsky_parser.specs.WordsLaws.{ends-unless}
 use Rattle.chumsky_parser.specs.declared.result.ParseResult.{ParseResult}
 use Rattle.chumsky.specs.Accepted.{FallsShort, AnswersText, IsOutputOf, IsAnswerOf}
 use Rattle.chumsky_exact.specs.ReadBack.{IsOutput, GivesBack}
-use Rattle.chumsky_text.specs.Names.{IsName, begins_name, in_name}
-use Rattle.exact.specs.Expressions.{Form, name, list, Forms, no_forms, form, IsExpression, is_name, is_list, AreExpressions, no_expression, one_expression, more_expressions, written, all_written, more_written, HasNames, HaveNames}
+use Rattle.chumsky_text.specs.Names.{in_name}
+use Rattle.exact.specs.AtomLaws.{atom-front, name-passes, name-some, number-passes, number-some, starts-no_atom, number-no_name}
+use Rattle.exact.specs.Expressions.{Form, name, number, list, Forms, no_forms, form, IsExpression, is_name, is_number, is_list, AreExpressions, no_expression, one_expression, more_expressions, written, all_written, more_written, IsSound, AreSound}
 
 mutual
   -- what is written is the expression
-  pub written-is : (f : Form) → HasNames f → IsExpression (written f) f
+  pub written-is : (f : Form) → IsSound f → IsExpression (written f) f
   written-is (name w) h = is_name h
+  written-is (number w) h = is_number h
   written-is (list fs) h = is_list (all-are fs h)
 
-  all-are : (fs : Forms) → HaveNames fs → AreExpressions (all_written fs) fs
+  all-are : (fs : Forms) → AreSound fs → AreExpressions (all_written fs) fs
   all-are no_forms h = no_expression
   all-are (form f fs) h = more-are fs h.1 (written f) f (written-is f h.0)
 
-  more-are : (fs : Forms) → HaveNames fs → (w : List ℕ) (f : Form) → IsExpression w f → AreExpressions (w ++ more_written fs) (form f fs)
+  more-are : (fs : Forms) → AreSound fs → (w : List ℕ) (f : Form) → IsExpression w f → AreExpressions (w ++ more_written fs) (form f fs)
   more-are no_forms h w f i = subst (λ z. AreExpressions z (form f no_forms)) (sym (append-nil w)) (one_expression i)
   more-are (form g gs) h w f i = more_expressions i (more-are gs h.1 (written g) g (written-is g h.0))
 
 mutual
   -- and each text of it is what is written
-  pub is-written : {w : List ℕ} {f : Form} → IsExpression w f → (w ≡ written f) × HasNames f
+  pub is-written : {w : List ℕ} {f : Form} → IsExpression w f → (w ≡ written f) × IsSound f
   is-written (is_name n) = (refl, n)
+  is-written (is_number n) = (refl, n)
   is-written (is_list a) = let r = are-written a in (ap (λ z. codes "(" ++ (z ++ codes ")")) r.0, r.1)
 
-  are-written : {w : List ℕ} {fs : Forms} → AreExpressions w fs → (w ≡ all_written fs) × HaveNames fs
+  are-written : {w : List ℕ} {fs : Forms} → AreExpressions w fs → (w ≡ all_written fs) × AreSound fs
   are-written no_expression = (refl, tt)
   are-written (one_expression {w} {f} i) = let r = is-written i in (r.0 ∙ sym (append-nil (written f)), (r.1, tt))
   are-written (more_expressions {w} {ws} {f} {g} {fs} i a) =
@@ -45,40 +48,14 @@ mutual
       let q : ws ≡ all_written (form g fs) = s.0 in
       (cc (p, q), (r.1, s.1))
 
--- a name, up to where none goes on with it, is one alone
-name-front : (w v x y : List ℕ) → AllPass in_name w → AllPass in_name v → StopsAt in_name x → StopsAt in_name y → w ++ x ≡ v ++ y → (w ≡ v) × (x ≡ y)
-name-front [] [] x y p q s t e = (refl, e)
-name-front [] (d ∷ v) [] y p q s t e = absurd (cc e)
-name-front [] (d ∷ v) (c ∷ x) y p q s t e = let h : c ≡ d = cc e in let b : in_name d ≡ true = q.0 in absurd (cc (s, h, b))
-name-front (c ∷ w) [] x [] p q s t e = absurd (cc e)
-name-front (c ∷ w) [] x (d ∷ y) p q s t e = let h : c ≡ d = cc e in let b : in_name c ≡ true = p.0 in absurd (cc (t, h, b))
-name-front (c ∷ w) (d ∷ v) x y p q s t e =
-    let h : c ≡ d = cc e in
-    let r = name-front w v x y p.1 q.1 s t (cc e) in
-    let a : w ≡ v = r.0 in
-    (cc (h, a), r.1)
-
-name-once : (w v x y : List ℕ) → IsName w → IsName v → StopsAt in_name x → StopsAt in_name y → w ++ x ≡ v ++ y → (w ≡ v) × (x ≡ y)
-name-once [] v x y p q s t e = absurd p
-name-once (c ∷ w) [] x y p q s t e = absurd q
-name-once (c ∷ w) (d ∷ v) x y p q s t e =
-    let h : c ≡ d = cc e in
-    let r = name-front w v x y p.1 q.1 s t (cc e) in
-    let a : w ≡ v = r.0 in
-    (cc (h, a), r.1)
-
 -- texts that begin otherwise
 apart : (c d : ℕ) (x z : List ℕ) → nat_eq c d ≡ false → c ∷ x ≡ d ∷ z → ⊥
 apart c d x z n e = let q : c ≡ d = cc e in absurd (grind (arith, nat_tests))
 
--- no name begins with a bracket
-no_name : (c : ℕ) (w x z : List ℕ) → begins_name c ≡ false → IsName w → c ∷ x ≡ w ++ z → ⊥
-no_name c [] x z n h e = h
-no_name c (d ∷ ds) x z n h e = let q : c ≡ d = cc e in let b : begins_name d ≡ true = h.0 in absurd (cc (n, q, b))
-
--- and no expression with one that closes
-none_closes : (f : Form) (x z : List ℕ) → HasNames f → 41 ∷ x ≡ written f ++ z → ⊥
-none_closes (name w) x z h e = no_name 41 w x z refl h e
+-- no expression begins with a bracket that closes
+none_closes : (f : Form) (x z : List ℕ) → IsSound f → 41 ∷ x ≡ written f ++ z → ⊥
+none_closes (name w) x z h e = starts-no_atom 41 w x z refl (name-passes w h) (name-some w h) e
+none_closes (number w) x z h e = starts-no_atom 41 w x z refl (number-passes w h) (number-some w h) e
 none_closes (list fs) x z h e = apart 41 40 x ((all_written fs ++ codes ")") ++ z) refl e
 
 more-stops : (fs : Forms) (x : List ℕ) → StopsAt in_name (more_written fs ++ (41 ∷ x))
@@ -86,10 +63,15 @@ more-stops no_forms x = refl
 more-stops (form f fs) x = refl
 
 mutual
-  form-once : (f g : Form) (x y : List ℕ) → HasNames f → HasNames g → StopsAt in_name x → StopsAt in_name y → written f ++ x ≡ written g ++ y → (f ≡ g) × (x ≡ y)
-  form-once (name w) (name v) x y h k s t e = let r = name-once w v x y h k s t e in (ap name r.0, r.1)
-  form-once (name w) (list gs) x y h k s t e = absurd (no_name 40 w ((all_written gs ++ codes ")") ++ y) x refl h (sym e))
-  form-once (list fs) (name v) x y h k s t e = absurd (no_name 40 v ((all_written fs ++ codes ")") ++ x) y refl k e)
+  form-once : (f g : Form) (x y : List ℕ) → IsSound f → IsSound g → StopsAt in_name x → StopsAt in_name y → written f ++ x ≡ written g ++ y → (f ≡ g) × (x ≡ y)
+  form-once (name w) (name v) x y h k s t e = let r = atom-front w v x y (name-passes w h) (name-passes v k) s t e in (ap name r.0, r.1)
+  form-once (name w) (number v) x y h k s t e = absurd (number-no_name w v x y h k e)
+  form-once (name w) (list gs) x y h k s t e = absurd (starts-no_atom 40 w ((all_written gs ++ codes ")") ++ y) x refl (name-passes w h) (name-some w h) (sym e))
+  form-once (number w) (name v) x y h k s t e = absurd (number-no_name v w y x k h (sym e))
+  form-once (number w) (number v) x y h k s t e = let r = atom-front w v x y (number-passes w h) (number-passes v k) s t e in (ap number r.0, r.1)
+  form-once (number w) (list gs) x y h k s t e = absurd (starts-no_atom 40 w ((all_written gs ++ codes ")") ++ y) x refl (number-passes w h) (number-some w h) (sym e))
+  form-once (list fs) (name v) x y h k s t e = absurd (starts-no_atom 40 v ((all_written fs ++ codes ")") ++ x) y refl (name-passes v k) (name-some v k) e)
+  form-once (list fs) (number v) x y h k s t e = absurd (starts-no_atom 40 v ((all_written fs ++ codes ")") ++ x) y refl (number-passes v k) (number-some v k) e)
   form-once (list fs) (list gs) x y h k s t e =
       let a : (all_written fs ++ codes ")") ++ x ≡ all_written fs ++ (41 ∷ x) = append_assoc (all_written fs) (codes ")") x in
       let b : (all_written gs ++ codes ")") ++ y ≡ all_written gs ++ (41 ∷ y) = append_assoc (all_written gs) (codes ")") y in
@@ -97,7 +79,7 @@ mutual
       let r = all-once fs gs x y h k (sym a ∙ i ∙ b) in
       (ap list r.0, r.1)
 
-  all-once : (fs gs : Forms) (x y : List ℕ) → HaveNames fs → HaveNames gs → all_written fs ++ (41 ∷ x) ≡ all_written gs ++ (41 ∷ y) → (fs ≡ gs) × (x ≡ y)
+  all-once : (fs gs : Forms) (x y : List ℕ) → AreSound fs → AreSound gs → all_written fs ++ (41 ∷ x) ≡ all_written gs ++ (41 ∷ y) → (fs ≡ gs) × (x ≡ y)
   all-once no_forms no_forms x y h k e = (refl, cc e)
   all-once no_forms (form g gs) x y h k e = absurd (none_closes g x (more_written gs ++ (41 ∷ y)) k.0 (e ∙ append_assoc (written g) (more_written gs) (41 ∷ y)))
   all-once (form f fs) no_forms x y h k e = absurd (none_closes f y (more_written fs ++ (41 ∷ x)) h.0 (sym e ∙ append_assoc (written f) (more_written fs) (41 ∷ x)))
@@ -110,7 +92,7 @@ mutual
       let q : fs ≡ gs = m.0 in
       (cc (p, q), m.1)
 
-  more-once : (fs gs : Forms) (x y : List ℕ) → HaveNames fs → HaveNames gs → more_written fs ++ (41 ∷ x) ≡ more_written gs ++ (41 ∷ y) → (fs ≡ gs) × (x ≡ y)
+  more-once : (fs gs : Forms) (x y : List ℕ) → AreSound fs → AreSound gs → more_written fs ++ (41 ∷ x) ≡ more_written gs ++ (41 ∷ y) → (fs ≡ gs) × (x ≡ y)
   more-once no_forms no_forms x y h k e = (refl, cc e)
   more-once no_forms (form g gs) x y h k e = absurd (apart 41 32 x (all_written (form g gs) ++ (41 ∷ y)) refl e)
   more-once (form f fs) no_forms x y h k e = absurd (apart 32 41 (all_written (form f fs) ++ (41 ∷ x)) y refl e)
@@ -125,7 +107,7 @@ mutual
       (cc (p, q), m.1)
 
 -- no two expressions are written alike
-pub written-once : (f g : Form) → HasNames f → HasNames g → written f ≡ written g → f ≡ g
+pub written-once : (f g : Form) → IsSound f → IsSound g → written f ≡ written g → f ≡ g
 written-once f g h k e =
     let a : written f ++ [] ≡ written f = append-nil (written f) in
     let b : written g ++ [] ≡ written g = append-nil (written g) in

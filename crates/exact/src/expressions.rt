@@ -1,9 +1,9 @@
-//! Expressions as Lisp writes them, names in lists within one another, by a function that calls itself.
+//! Expressions as Lisp writes them, names and numbers in lists within one another, by a function that calls itself.
 ghost use Rattle.std.specs.Prelude.{◌≡◌, ◌≤◌, ◌<◌, false, None, length};
 ghost use Rattle.std.specs.Str.{chars};
 ghost use Rattle.chumsky.specs.Accepted.{ExactlyUnless};
 ghost use Rattle.chumsky_exact.specs.ReadBack.{GivesBack};
-ghost use Rattle.exact.specs.Expressions.{Form, form_of, HasNames, HoldsExpression, written};
+ghost use Rattle.exact.specs.Expressions.{Form, form_of, IsSound, HoldsExpression, written};
 
 use chumsky::combinator::{Collect, DelimitedBy, Map, Mapper, Or, SeparatedBy, run_part};
 use chumsky::extra::EmptyText;
@@ -11,15 +11,17 @@ use chumsky::input::TextRef;
 use chumsky::prelude::*;
 use chumsky::primitive::Just;
 use chumsky::recursive::{Body, Recursion, RunsUnder, recursive_as};
-use chumsky::text::{AsciiIdent, Word};
+use chumsky::text::{AsciiIdent, Int, Word};
 use chumsky::{IsParser, PResult, Stop};
 use chumsky_parser::parser::Parser;
 use std::alloc::Global;
 
-/// A name, or a list of expressions.
+/// A name, a number, or a list of expressions.
 #[derive(Debug, Drop, PartialEq)]
 pub enum Expression<'src> {
     Name(&'src str),
+    /// A decimal number, as its text.
+    Number(&'src str),
     List(Vec<Expression<'src>>),
 }
 
@@ -34,6 +36,20 @@ impl<'src> Mapper<&'src str, Expression<'src>> for ToName {
 
     fn apply(&self, name: &'src str) -> Expression<'src> {
         Expression::Name(name)
+    }
+}
+
+/// Makes an expression of a number.
+#[derive(Clone, Copy, Drop)]
+pub struct ToNumber;
+
+impl<'src> Mapper<&'src str, Expression<'src>> for ToNumber {
+    ghost use Rattle.exact.specs.declared.expressions.Expression.{Number};
+
+    ghost gives = { λ _ number expression. expression ≡ Number number };
+
+    fn apply(&self, number: &'src str) -> Expression<'src> {
+        Expression::Number(number)
     }
 }
 
@@ -58,6 +74,17 @@ pub type NameParser<'src> = Map<
     ToName,
     Expression<'src>,
 >;
+
+/// The parser of a number.
+pub type NumberParser<'src> = Map<
+    Word<Int, &'src str, EmptyText>,
+    &'src str,
+    ToNumber,
+    Expression<'src>,
+>;
+
+/// The parser of a name or a number.
+pub type AtomParser<'src> = Or<NameParser<'src>, NumberParser<'src>>;
 
 /// The parser of a list of what `P` takes.
 pub type ListParser<'src, P> = Map<
@@ -84,8 +111,8 @@ pub type ListParser<'src, P> = Map<
     Expression<'src>,
 >;
 
-/// The parser of a name, or of a list of what `P` takes.
-pub type ExpressionOf<'src, P> = Or<NameParser<'src>, ListParser<'src, P>>;
+/// The parser of an atom, or of a list of what `P` takes.
+pub type ExpressionOf<'src, P> = Or<AtomParser<'src>, ListParser<'src, P>>;
 
 /// What the body of `any_expression` is.
 #[derive(Drop)]
@@ -102,7 +129,10 @@ impl<'src, P: Parser<'src, &'src str, Expression<'src>, EmptyText>> Body<
     ghost use Rattle.chumsky_descent.specs.Body.{told};
 
     ghost body = { λ call. told ⟦<ExpressionOf<'src, P> as Parser<'src, &'src str, Expression<'src>, EmptyText>>⟧ (record {
-      first = record { parser = record { kind = record {}; of = record {} }; mapper = record {}; of = record {} };
+      first = record {
+        first = record { parser = record { kind = record {}; of = record {} }; mapper = record {}; of = record {} };
+        second = record { parser = record { kind = record { radix = 10 }; of = record {} }; mapper = record {}; of = record {} };
+      };
       second = record {
         parser = record {
           parser = record {
@@ -128,12 +158,16 @@ impl<'src> Recursion<'src, &'src str, Expression<'src>, EmptyText> for OfExpress
     ghost use Rattle.exact.specs.Expressions.{expressions};
 
     ghost says = { λ errors states. exactly (λ call. (ghosts unit call no_dict).body tt) errors states expressions
-        (λ call l h. or-lawful (map-lawful word-lawful) (map-lawful (between-lawful (just-lawful (codes "(") _ _ _ _ _ _) (separated-lawful h (just-lawful (codes " ") _ _ _ _ _ _)) (just-lawful (codes ")") _ _ _ _ _ _)))) };
+        (λ call l h. or-lawful (or-lawful (map-lawful word-lawful) (map-lawful word-lawful)) (map-lawful (between-lawful (just-lawful (codes "(") _ _ _ _ _ _) (separated-lawful h (just-lawful (codes " ") _ _ _ _ _ _)) (just-lawful (codes ")") _ _ _ _ _ _)))) };
 }
 
-/// The parser of a name: letters and digits of ASCII and `_`, of which the first is no digit.
-pub fn name<'src>() -> NameParser<'src> {
-    text::ascii::ident().map_by(ToName)
+/// The parser of a name, letters and digits of ASCII and `_`, of which the first is no digit; or of a decimal number, without
+/// zeros before it.
+pub fn atom<'src>() -> AtomParser<'src>
+    ensures { result.second.parser.kind.radix ≡ 10 }
+{
+    let name = text::ascii::ident().map_by(ToName);
+    name.or(text::int(10).map_by(ToNumber))
 }
 
 /// The parser of expressions in round brackets, with a space between each two.
@@ -157,7 +191,7 @@ pub fn list_of<'src, P: IsParser<&'src str, Expression<'src>, EmptyText>>(
         .map_by(ToList)
 }
 
-/// A name, or a list of expressions.
+/// An atom, or a list of expressions.
 fn any_expression<'src>(
     inp: &mut TextRef<'src, '_, EmptyText>,
     wanted: bool,
@@ -166,11 +200,11 @@ fn any_expression<'src>(
     ensures { ⟦<OfExpression as RunsUnder<'src, &'src str, Expression<'src>, EmptyText>>⟧.runs depth wanted inp.old inp.new result }
 {
     let inner = recursive_as::<OfExpression, _, _, _, _>(any_expression, depth);
-    let name_or_list = name().or(list_of(inner));
-    run_part(&name_or_list, wanted, inp)
+    let atom_or_list = atom().or(list_of(inner));
+    run_part(&atom_or_list, wanted, inp)
 }
 
-/// Reads a name, or a list of what it reads, as `(add one (double two) ())`: in round brackets, with one space between each
+/// Reads a name, a decimal number, or a list of what it reads, as `(add 1 (double x) ())`: in round brackets, with one space between each
 /// two. Of any other text there is no output. A run is refused for memory, or of a text of `limit` characters or more. What an
 /// expression is written as gives it back.
 pub fn parse_expression<'src>(
@@ -179,7 +213,7 @@ pub fn parse_expression<'src>(
     limit: usize,
 ) -> Result<ParseResult<Expression<'src>, EmptyErr>, Stop>
     ensures exact { ExactlyUnless HoldsExpression (chars text.now) (limit ≤ length (chars text.now)) result }
-    ensures read_back { (f : Form) → HasNames f → chars text.now ≡ written f → length (written f) < limit → GivesBack form_of f result }
+    ensures read_back { (f : Form) → IsSound f → chars text.now ≡ written f → length (written f) < limit → GivesBack form_of f result }
 {
     recursive_as::<OfExpression, _, _, _, EmptyText>(any_expression, limit).parse(alloc, text)
 }

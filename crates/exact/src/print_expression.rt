@@ -26,6 +26,10 @@ fn push_expression(text: &mut String, expression: &Expression<'_>) -> Result<(),
             text.push_str(*name)?;
             Ok(())
         }
+        Expression::Number(number) => {
+            text.push_str(*number)?;
+            Ok(())
+        }
         Expression::List(expressions) => {
             text.push('(')?;
             for (index, inner) in expressions.iter().enumerate() {

@@ -1,4 +1,4 @@
-use Rattle.std.proofs.Common.{◌≡◌, ℕ, ◌≤◌, List, [], length, sym, ap, subst, arith}
+use Rattle.std.proofs.Common.{◌≡◌, ◌≤◌, [], length, sym, ap, subst, arith}
 use Rattle.std.specs.Str.{chars}
 use Rattle.chumsky.specs.AcceptedLaws.{unless-by_words, refused-long}
 use Rattle.exact.specs.Expressions.{HoldsExpression, IsExpression, form_of, written}

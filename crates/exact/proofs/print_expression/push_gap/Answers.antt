@@ -1,4 +1,4 @@
-use Rattle.std.proofs.Common.{◌≡◌, sym, ap, ◌∙◌, arith, string_bytes, ◌++◌}
+use Rattle.std.proofs.Common.{sym, ap, ◌∙◌, arith, string_bytes, ◌++◌}
 use Rattle.std.specs.Str.{chars}
 use Rattle.std.proofs.lemmas.Str.{IsUtf8-string_bytes}
 use Rattle.exact.proofs.PrintLemmas.{pushed-char, gap-later}
