@@ -14,7 +14,7 @@ use guide::forms::{range, word_of};
 use guide::handed::{check_two_tokens, each};
 use guide::laws::token_past;
 use guide::mapping::percent;
-use guide::operators::{sum as sum_by_operators, sum_or_span};
+use guide::operators::{listed_sum, sum as sum_by_operators, sum_or_span};
 use guide::parts::{on_or_off, switch_is_steady, ticket, time_of_day};
 use guide::picking::span_past_x;
 use guide::readme::tell_level;
@@ -359,6 +359,19 @@ fn operators_bind_by_their_powers(rt: HostRuntime) {
     ];
     for (text, line) in rows {
         assert_line(&rt, sum_by_operators(rt.alloc(), text), line);
+    }
+}
+
+#[test]
+fn operators_may_stand_in_a_list(rt: HostRuntime) {
+    let rows = [
+        ("1+2*3", "ok Some(7)"),
+        ("8-3-2", "ok Some(3)"),
+        ("1+8/0", "ok None"),
+        ("1+", "error 2..2 expected int found end"),
+    ];
+    for (text, line) in rows {
+        assert_line(&rt, listed_sum(rt.alloc(), text), line);
     }
 }
 
