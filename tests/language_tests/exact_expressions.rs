@@ -7,7 +7,7 @@ use std::test::Fail;
 #[test]
 fn what_is_read_is_printed_as_it_was_written(rt: HostRuntime) -> Result<(), Fail> {
     let alloc = rt.alloc();
-    for text in ["a", "_", "x1", "()", "(a)", "(())", "(() ())", "(add one (double two) ())", "((((deep))) (a b c))", "(if (is_zero n) one (times n (factorial (minus n one))))"] {
+    for text in ["a", "_", "x1", "0", "42", "()", "(a)", "(())", "(() ())", "(add 1 (double x) ())", "(0 10 (99999999999999999999))", "((((deep))) (a b c))", "(if (is_zero n) 1 (times n (factorial (minus n 1))))"] {
         let parsed = parse_expression(alloc, text, text.len() + 1)?;
         let expression = parsed.into_output();
         assert!(rt; expression.is_some(), "{text}");
@@ -19,15 +19,15 @@ fn what_is_read_is_printed_as_it_was_written(rt: HostRuntime) -> Result<(), Fail
 }
 
 #[test]
-fn each_name_and_list_stands_where_it_was_written(rt: HostRuntime) -> Result<(), Fail> {
+fn each_name_number_and_list_stands_where_it_was_written(rt: HostRuntime) -> Result<(), Fail> {
     let alloc = rt.alloc();
-    let parsed = parse_expression(alloc, "(f (x) y)", 10)?;
+    let parsed = parse_expression(alloc, "(f (x) 1)", 10)?;
     let mut inner = Vec::new(alloc);
     inner.push(Expression::Name("x"))?;
     let mut outer = Vec::new(alloc);
     outer.push(Expression::Name("f"))?;
     outer.push(Expression::List(inner))?;
-    outer.push(Expression::Name("y"))?;
+    outer.push(Expression::Number("1"))?;
     assert!(rt; parsed.into_output().is_some_and(|read| read == Expression::List(outer)));
     Ok(())
 }
@@ -35,7 +35,7 @@ fn each_name_and_list_stands_where_it_was_written(rt: HostRuntime) -> Result<(),
 #[test]
 fn other_texts_are_no_expressions(rt: HostRuntime) -> Result<(), Fail> {
     let alloc = rt.alloc();
-    for text in ["", " ", "1", "1x", "a ", " a", "a b", "a)", "(", ")", "(a", "( )", "(a )", "( a)", "(a  b)", "(a\tb)", "(a,b)", "[a]", "()()", "() ()", "(a)(b)", "(é)", "(a-b)", "((a)", "(a))"] {
+    for text in ["", " ", "01", "1x", "-1", "1.5", "(1 02)", "a ", " a", "a b", "a)", "(", ")", "(a", "( )", "(a )", "( a)", "(a  b)", "(a\tb)", "(a,b)", "[a]", "()()", "() ()", "(a)(b)", "(é)", "(a-b)", "((a)", "(a))"] {
         let parsed = parse_expression(alloc, text, 100)?;
         assert!(rt; parsed.into_output().is_none(), "{text}");
     }
