@@ -120,10 +120,10 @@ module _ (sign digits : List ℕ) (least : ℕ) (most : Option ℕ) (equals : si
 
   -- what a word stands for is its setting
   pub setting-sound : {P : Type 0} (KeyOf : List ℕ → Key → Type 0) (SwitchOf : List ℕ → Value → Type 0) (gives : ℕ → Value → Type 0)
-      → ((w : List ℕ) (k : Key) → KeyOf w k → Names keys w k) → ((w : List ℕ) (v : Value) → SwitchOf w v → Names switches w v) → ((n : ℕ) (v : Value) → gives n v → v ≡ Number n)
+      → ((w : List ℕ) (k : Key) → KeyOf w k → Names keys w k) → ((w : List ℕ) (v : Value) → SwitchOf w v → Names switches w v)
       → (text : List ℕ) (key : Key) (value : Value) (setting : Setting) → Joined (λ u. Joined (λ u. KeyOf u key) (λ u. Is sign u × P) u) (λ u. SwitchOf u value ⊎ NumberIn gives digits least most u value) text
-      → setting.key ≡ key → setting.value ≡ value → IsSetting text setting
-  setting-sound KeyOf SwitchOf gives is_key is_switch is_number text key value setting j ek ev =
+      → setting.key ≡ key → setting.value ≡ value → ((n : ℕ) (v : Value) → gives n v → v ≡ Number n) → IsSetting text setting
+  setting-sound KeyOf SwitchOf gives is_key is_switch text key value setting j ek ev is_number =
       let k = j.is_first in
       let s : k.second ≡ codes " = " = equals-same sign k.second k.is_second.0 ∙ equals in
       record {

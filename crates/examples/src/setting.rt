@@ -1,4 +1,5 @@
 //! A line of settings, as `port = 8080`.
+ghost use Rattle.std.specs.Prelude.{◌≡◌};
 ghost use Rattle.std.specs.Str.{chars};
 ghost use Rattle.chumsky.specs.Accepted.{Exactly};
 ghost use Rattle.chumsky_exact.specs.Table.{IsOfTable};
@@ -6,6 +7,7 @@ ghost use Rattle.examples.specs.Setting.{IsSetting, keys, switches};
 
 use crate::words::{Word, word};
 use chumsky::Stop;
+use chumsky::combinator::Mapper;
 use chumsky::extra::RichText;
 use chumsky::prelude::*;
 use chumsky::primitive::Choice;
@@ -41,6 +43,20 @@ pub enum Value {
 pub struct Setting {
     pub key: Key,
     pub value: Value,
+}
+
+/// Makes a value of a number.
+#[derive(Clone, Copy)]
+struct ToNumber;
+
+impl Mapper<u16, Value> for ToNumber {
+    ghost use Rattle.examples.specs.declared.setting.Value.TheVariants.{Number};
+
+    ghost gives = { λ _ number value. value ≡ Number number };
+
+    fn apply(&self, number: u16) -> Value {
+        Value::Number(number)
+    }
 }
 
 /// One of twelve keywords.
@@ -80,7 +96,7 @@ pub fn parse_setting(alloc: Global, text: &str) -> Result<ParseResult<Setting, R
 {
     let digits = one_of("0123456789").repeated().at_least(1).at_most(4);
     let number = digits.to_slice().pick_by(text::decimal::<u16>());
-    let value = switch().or(number.map(|number| Value::Number(number)));
+    let value = switch().or(number.map_by(ToNumber));
     group((keyword(), just(" = "), value))
         .map(|(key, _, value)| Setting { key, value })
         .parse(alloc, text)

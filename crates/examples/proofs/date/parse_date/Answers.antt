@@ -10,7 +10,7 @@ use Rattle.examples.proofs.date.parse_date.Goals as goal
 pub returns : goal.returns
 returns c =
     let cs = chars c.args.text.now in
-    let b = ap (λ g. g.parsers) c.map.ensures.parser ∙ c.group.ensures in
+    let b = ap (λ g. g.parsers) (c.map.ensures.parser ∙ c.group.ensures) in
     let y = c.pick_by-year.ensures in
     let m = c.pick_by-month.ensures in
     let d = c.pick_by-day.ensures in
