@@ -1,7 +1,6 @@
 pub mod Header
 pub mod HeaderLaws
 pub mod Request
-pub mod RequestLaws
 pub mod Date
 pub mod DateLaws
 pub mod Setting

@@ -1,14 +1,14 @@
 //! The first line of an HTTP request, as `GET /index.html HTTP/1.1`.
-ghost use Rattle.std.specs.Str.{chars};
-ghost use Rattle.chumsky.specs.Accepted.{Exactly};
 ghost use Rattle.chumsky_exact.specs.Table.{IsOfTable};
-ghost use Rattle.examples.specs.Request.{IsRequest, methods, versions};
+ghost use Rattle.examples.specs.Request.{methods, versions};
 
 use crate::words::{Word, word};
-use chumsky::Stop;
+use chumsky::combinator::{Part, part_of, run_part};
 use chumsky::extra::RichText;
+use chumsky::input::InputRef;
 use chumsky::prelude::*;
 use chumsky::primitive::Choice;
+use chumsky::{PResult, Stop};
 use chumsky_parser::parser::Parser;
 use std::alloc::Global;
 
@@ -60,16 +60,29 @@ fn known_version<'src>() -> Choice<[Word<'src, Version>; 2]>
     ])
 }
 
-/// The first line of a request, with its line end: a method, what is asked for, and a version. Of any other text there is no
-/// output.
-pub fn parse_request(alloc: Global, text: &str) -> Result<ParseResult<Request, Rich<char>>, Stop>
-    ensures { Exactly IsRequest (chars text.now) result }
-{
-    let target = none_of(" \r\n").repeated().at_least(1);
+/// What is asked for, as it stands between two spaces.
+#[derive(Clone, Copy)]
+struct Target;
+
+impl<'src> IsParser<&'src str, String, RichText> for Target {}
+
+impl<'src> Part<'src, &'src str, String, RichText> for Target {
+    fn run(
+        &self,
+        wanted: bool,
+        inp: &mut InputRef<'src, '_, &'src str, RichText>,
+    ) -> PResult<Option<String>> {
+        let target = none_of(" \r\n").repeated().at_least(1).collect::<String>();
+        run_part(&target, wanted, inp)
+    }
+}
+
+/// The first line of a request, with its line end.
+pub fn parse_request(alloc: Global, text: &str) -> Result<ParseResult<Request, Rich<char>>, Stop> {
     group((
         known_method(),
         just(' '),
-        target.collect::<String>(),
+        part_of(Target),
         just(' '),
         known_version(),
         just("\r\n"),
