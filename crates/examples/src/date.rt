@@ -1,9 +1,11 @@
 //! A date, as `2026-11-23`.
 ghost use Rattle.std.specs.Prelude.{◌≤◌, IfOk, IfSome};
+ghost use Rattle.std.specs.Str.{chars};
+ghost use Rattle.chumsky.specs.Accepted.{Exactly};
+ghost use Rattle.examples.specs.Date.{IsDate};
 
-use crate::digits::TwoDigits;
+use crate::digits::{FourDigits, TwoDigits};
 use chumsky::Stop;
-use chumsky::combinator::Picker;
 use chumsky::extra::RichText;
 use chumsky::prelude::*;
 use std::alloc::Global;
@@ -16,29 +18,16 @@ pub struct Date {
     pub day: u8,
 }
 
-/// Picks the number that four digits make.
-#[derive(Clone, Copy)]
-struct FourDigits;
-
-impl<'src> Picker<&'src str, u16> for FourDigits {
-    fn pick(&self, digits: &'src str) -> Option<u16> {
-        if digits.len() == 4 {
-            digits.parse::<u16>().ok()
-        } else {
-            None
-        }
-    }
-}
-
 /// A date, as `2026-11-23`. How many days that month has is not asked. Of digits that make no year, month or day all are in
-/// the error's span.
+/// the error's span, and of any text that is no date there is no output.
 pub fn parse_date(alloc: Global, text: &str) -> Result<ParseResult<Date, Rich<char>>, Stop>
+    ensures exact { Exactly IsDate (chars text.now) result }
     ensures month { IfOk result (λ parsed. IfSome parsed.output (λ date. (1 ≤ date.month) × (date.month ≤ 12))) }
     ensures day { IfOk result (λ parsed. IfSome parsed.output (λ date. (1 ≤ date.day) × (date.day ≤ 31))) }
 {
-    let year = text::digits::<_, RichText>(10).filter_map_by(FourDigits);
-    let month = text::digits(10).filter_map_by(TwoDigits { least: 1, most: 12 });
-    let day = text::digits(10).filter_map_by(TwoDigits { least: 1, most: 31 });
+    let year = text::digits::<_, RichText>(10).pick_by(FourDigits);
+    let month = text::digits(10).pick_by(TwoDigits { least: 1, most: 12 });
+    let day = text::digits(10).pick_by(TwoDigits { least: 1, most: 31 });
     group((
         year.labelled("a year"),
         just('-'),

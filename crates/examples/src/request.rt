@@ -1,4 +1,7 @@
 //! The first line of an HTTP request, as `GET /index.html HTTP/1.1`.
+ghost use Rattle.chumsky_exact.specs.Table.{IsOfTable};
+ghost use Rattle.examples.specs.Request.{methods, versions};
+
 use crate::words::{Word, word};
 use chumsky::combinator::{Part, part_of, run_part};
 use chumsky::extra::RichText;
@@ -6,6 +9,7 @@ use chumsky::input::TextRef;
 use chumsky::prelude::*;
 use chumsky::primitive::Choice;
 use chumsky::{PResult, Stop};
+use chumsky_parser::parser::Parser;
 use std::alloc::Global;
 
 /// What is to be done.
@@ -34,7 +38,9 @@ pub struct Request {
 }
 
 /// The name of a method.
-fn known_method<'src>() -> Choice<[Word<'src, Method>; 5]> {
+fn known_method<'src>() -> Choice<[Word<'src, Method>; 5]>
+    ensures { IsOfTable (⟦<Choice<[Word<'src, Method>; 5]> as Parser<'src, &'src str, Method, RichText>>⟧.language result) methods }
+{
     choice([
         word("GET", Method::Get),
         word("HEAD", Method::Head),
@@ -45,7 +51,9 @@ fn known_method<'src>() -> Choice<[Word<'src, Method>; 5]> {
 }
 
 /// The name of a version.
-fn known_version<'src>() -> Choice<[Word<'src, Version>; 2]> {
+fn known_version<'src>() -> Choice<[Word<'src, Version>; 2]>
+    ensures { IsOfTable (⟦<Choice<[Word<'src, Version>; 2]> as Parser<'src, &'src str, Version, RichText>>⟧.language result) versions }
+{
     choice([
         word("HTTP/1.0", Version::Http10),
         word("HTTP/1.1", Version::Http11),

@@ -1,11 +1,17 @@
 //! A line of settings, as `port = 8080`.
+ghost use Rattle.std.specs.Prelude.{◌≡◌};
+ghost use Rattle.std.specs.Str.{chars};
+ghost use Rattle.chumsky.specs.Accepted.{Exactly};
+ghost use Rattle.chumsky_exact.specs.Table.{IsOfTable};
+ghost use Rattle.examples.specs.Setting.{IsSetting, keys, switches};
+
 use crate::words::{Word, word};
-use chumsky::combinator::{Part, part_of, run_part};
+use chumsky::Stop;
+use chumsky::combinator::Mapper;
 use chumsky::extra::RichText;
-use chumsky::input::TextRef;
 use chumsky::prelude::*;
 use chumsky::primitive::Choice;
-use chumsky::{PResult, Stop};
+use chumsky_parser::parser::Parser;
 use std::alloc::Global;
 
 /// What may be set.
@@ -39,8 +45,24 @@ pub struct Setting {
     pub value: Value,
 }
 
+/// Makes a value of a number.
+#[derive(Clone, Copy)]
+struct ToNumber;
+
+impl Mapper<u16, Value> for ToNumber {
+    ghost use Rattle.examples.specs.declared.setting.Value.TheVariants.{Number};
+
+    ghost gives = { λ _ number value. value ≡ Number number };
+
+    fn apply(&self, number: u16) -> Value {
+        Value::Number(number)
+    }
+}
+
 /// One of twelve keywords.
-fn keyword<'src>() -> Choice<[Word<'src, Key>; 12]> {
+fn keyword<'src>() -> Choice<[Word<'src, Key>; 12]>
+    ensures { IsOfTable (⟦<Choice<[Word<'src, Key>; 12]> as Parser<'src, &'src str, Key, RichText>>⟧.language result) keys }
+{
     choice([
         word("host", Key::Host),
         word("port", Key::Port),
@@ -58,39 +80,24 @@ fn keyword<'src>() -> Choice<[Word<'src, Key>; 12]> {
 }
 
 /// `true` or `false`.
-fn switch<'src>() -> Choice<[Word<'src, Value>; 2]> {
+fn switch<'src>() -> Choice<[Word<'src, Value>; 2]>
+    ensures { IsOfTable (⟦<Choice<[Word<'src, Value>; 2]> as Parser<'src, &'src str, Value, RichText>>⟧.language result) switches }
+{
     choice([
         word("true", Value::Switch(true)),
         word("false", Value::Switch(false)),
     ])
 }
 
-/// A number of four digits at most.
-#[derive(Clone, Copy)]
-struct Digits;
-
-impl<'src> IsParser<&'src str, Value, RichText> for Digits {}
-
-impl<'src> Part<'src, &'src str, Value, RichText> for Digits {
-    fn run(&self, wanted: bool, inp: &mut TextRef<'src, '_, RichText>) -> PResult<Option<Value>> {
-        let number = one_of('0'..='9')
-            .repeated()
-            .at_least(1)
-            .at_most(4)
-            .collect::<String>()
-            .map(number_of);
-        run_part(&number, wanted, inp)
-    }
-}
-
-/// The number of some digits, of which there are four at most.
-fn number_of(digits: String) -> Value {
-    Value::Number(digits.as_str().parse().unwrap_or(u16::MAX))
-}
-
-/// A line such as `port = 8080` or `verbose = true`.
-pub fn parse_setting(alloc: Global, text: &str) -> Result<ParseResult<Setting, Rich<char>>, Stop> {
-    group((keyword(), just(" = "), switch().or(part_of(Digits))))
+/// A line such as `port = 8080` or `verbose = true`: one of the twelve keys, and a switch or a number of four digits at most. Of
+/// any other text there is no output.
+pub fn parse_setting(alloc: Global, text: &str) -> Result<ParseResult<Setting, Rich<char>>, Stop>
+    ensures { Exactly IsSetting (chars text.now) result }
+{
+    let digits = one_of("0123456789").repeated().at_least(1).at_most(4);
+    let number = digits.to_slice().pick_by(text::decimal::<u16>());
+    let value = switch().or(number.map_by(ToNumber));
+    group((keyword(), just(" = "), value))
         .map(|(key, _, value)| Setting { key, value })
         .parse(alloc, text)
 }

@@ -1,4 +1,6 @@
 //! Words that stand for values, texts without what is around them, and values that may be wanting.
+ghost use Rattle.std.specs.Prelude.{◌≡◌};
+
 use chumsky::combinator::{Mapper, To};
 use chumsky::extra::RichText;
 use chumsky::prelude::*;
@@ -8,7 +10,10 @@ use chumsky::primitive::Just;
 pub type Word<'src, V> = To<Just<&'static str, &'src str, RichText>, &'static str, V>;
 
 /// A word that stands for a value.
-pub fn word<'src, V: Clone>(text: &'static str, value: V) -> Word<'src, V> {
+pub fn word<'src, V: Clone>(text: &'static str, value: V) -> Word<'src, V>
+    ensures text { result.parser.seq ≡ text.entry }
+    ensures value { result.value ≡ value }
+{
     just(text).to(value)
 }
 

@@ -1,0 +1,13 @@
+use Rattle.std.proofs.Common.{◌≡◌, refl}
+use Rattle.std.specs.Prelude.{map}
+use Rattle.std.specs.Str.{chars}
+use Rattle.chumsky_exact.specs.TableLaws.{word-spelled, choice-of_table}
+use Rattle.examples.specs.Setting.{keys}
+use Rattle.examples.proofs.setting.keyword.Goals as goal
+
+pub returns : goal.returns
+unfolding chars
+returns c =
+    let ws = c.choice.result.parsers in
+    let e : map (λ x. (chars x.parser.seq.now, x.value)) ws ≡ keys = rw (c.choice.ensures, c.word.ensures.text, c.word.ensures.value, c.word-2.ensures.text, c.word-2.ensures.value, c.word-3.ensures.text, c.word-3.ensures.value, c.word-4.ensures.text, c.word-4.ensures.value, c.word-5.ensures.text, c.word-5.ensures.value, c.word-6.ensures.text, c.word-6.ensures.value, c.word-7.ensures.text, c.word-7.ensures.value, c.word-8.ensures.text, c.word-8.ensures.value, c.word-9.ensures.text, c.word-9.ensures.value, c.word-10.ensures.text, c.word-10.ensures.value, c.word-11.ensures.text, c.word-11.ensures.value, c.word-12.ensures.text, c.word-12.ensures.value) refl in
+    choice-of_table ws keys (λ x. chars x.parser.seq.now) (λ x. x.value) (λ x. word-spelled {S = Unit {0}} _ _ (λ s. Unit {0}) _ _) e refl
