@@ -3,6 +3,8 @@ pub mod BitsLaws
 pub mod Date
 pub mod DateLaws
 pub mod Listed
+pub mod Json
+pub mod JsonLaws
 pub mod Level
 pub mod LevelLaws
 pub mod Nested

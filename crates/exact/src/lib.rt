@@ -3,6 +3,7 @@
 
 pub mod bits;
 pub mod date;
+pub mod json;
 pub mod level;
 pub mod nested;
 pub mod number;

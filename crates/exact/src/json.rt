@@ -1,0 +1,348 @@
+//! JSON, by a function that calls itself.
+ghost use Rattle.std.specs.Prelude.{◌≡◌, ◌≤◌, [], ◌∷◌, true, false, None, length};
+ghost use Rattle.std.specs.Str.{chars};
+ghost use Rattle.chumsky.specs.Accepted.{ExactlyUnless};
+ghost use Rattle.exact.specs.Json.{IsJson};
+
+use chumsky::combinator::{
+    Collect, DelimitedBy, IgnoreThen, Map, Mapper, Or, PickBy, SeparatedBy, Then, run_part,
+};
+use chumsky::extra::EmptyText;
+use chumsky::input::InputRef;
+use chumsky::prelude::*;
+use chumsky::primitive::{End, Just};
+use chumsky::recursive::{Body, Recursion, RunsUnder, recursive_as};
+use chumsky::text::{DecimalOf, Int, Kind, Run, Word, run_of};
+use chumsky::util::Plain;
+use chumsky::{IsParser, PResult, Stop};
+use chumsky_parser::parser::Parser;
+use std::alloc::Global;
+
+/// A value of JSON.
+#[derive(Debug, Drop, PartialEq)]
+pub enum Json {
+    Null,
+    Bool(bool),
+    Number(u32),
+    Array(Vec<Json>),
+}
+
+/// Spaces, tabs and ends of lines.
+#[derive(Clone, Copy, Drop)]
+pub struct Blank;
+
+impl Kind<char> for Blank {
+    ghost use Rattle.std.specs.Prelude.{[], ⊤};
+    ghost use Rattle.exact.specs.Blanks.{is_blank};
+
+    ghost fits = { λ _. ⊤ };
+
+    ghost holds = { λ _. is_blank };
+
+    ghost wants = { λ _. [] };
+
+    fn test(&self, token: &char) -> bool {
+        *token == ' ' || *token == '\t' || *token == '\n' || *token == '\r'
+    }
+
+    fn expected(&self) -> Plain<'_> {
+        Plain::Nothing
+    }
+}
+
+/// Makes a value of the word `null`.
+#[derive(Clone, Copy, Drop)]
+pub struct ToNull;
+
+impl Mapper<[char; 4], Json> for ToNull {
+    ghost use Rattle.exact.specs.declared.json.Json.{Null};
+
+    ghost gives = { λ _ _ json. json ≡ Null };
+
+    fn apply(&self, _word: [char; 4]) -> Json {
+        Json::Null
+    }
+}
+
+/// Makes a truth value of its word.
+#[derive(Clone, Copy, Drop)]
+pub struct ToBool {
+    pub value: bool,
+}
+
+impl<const N: usize> Mapper<[char; N], Json> for ToBool {
+    ghost use Rattle.exact.specs.declared.json.Json.{Bool};
+
+    ghost gives = { λ mapper _ json. json ≡ Bool mapper.value };
+
+    fn apply(&self, _word: [char; N]) -> Json {
+        Json::Bool(self.value)
+    }
+}
+
+/// Makes a value of a number.
+#[derive(Clone, Copy, Drop)]
+pub struct ToNumber;
+
+impl Mapper<u32, Json> for ToNumber {
+    ghost use Rattle.exact.specs.declared.json.Json.{Number};
+
+    ghost gives = { λ _ number json. json ≡ Number number };
+
+    fn apply(&self, number: u32) -> Json {
+        Json::Number(number)
+    }
+}
+
+/// Makes a value of a list of values.
+#[derive(Clone, Copy, Drop)]
+pub struct ToArray;
+
+impl Mapper<Vec<Json>, Json> for ToArray {
+    ghost use Rattle.exact.specs.declared.json.Json.{Array};
+
+    ghost gives = { λ _ values json. json ≡ Array values };
+
+    fn apply(&self, values: Vec<Json>) -> Json {
+        Json::Array(values)
+    }
+}
+
+/// The parser of blanks, be it none.
+pub type Blanks<'src> = Run<Blank, &'src str, EmptyText>;
+
+/// The parser of a character after blanks.
+pub type Mark<'src> = IgnoreThen<Blanks<'src>, Just<char, &'src str, EmptyText>, &'src str>;
+
+/// The parser of a number.
+pub type NumberParser<'src> = Map<
+    PickBy<Word<Int, &'src str, EmptyText>, &'src str, DecimalOf<u32>, u32>,
+    u32,
+    ToNumber,
+    Json,
+>;
+
+/// The parser of a word of `N` characters.
+pub type WordParser<'src, F, const N: usize> = Map<
+    Just<[char; N], &'src str, EmptyText>,
+    [char; N],
+    F,
+    Json,
+>;
+
+/// The parser of a value that has no others in it.
+pub type ScalarParser<'src> = Or<
+    NumberParser<'src>,
+    Or<WordParser<'src, ToNull, 4>, Or<WordParser<'src, ToBool, 4>, WordParser<'src, ToBool, 5>>>,
+>;
+
+/// The parser of an array of what `P` takes.
+pub type ArrayParser<'src, P> = Map<
+    DelimitedBy<
+        Collect<
+            SeparatedBy<P, Mark<'src>, Json, char, &'src str, EmptyText>,
+            Json,
+            Vec<Json>,
+        >,
+        Just<char, &'src str, EmptyText>,
+        Mark<'src>,
+        char,
+        char,
+    >,
+    Vec<Json>,
+    ToArray,
+    Json,
+>;
+
+/// The parser of a value after blanks, where `P` takes the values in it.
+pub type ValueOf<'src, P> = IgnoreThen<
+    Blanks<'src>,
+    Or<ScalarParser<'src>, ArrayParser<'src, P>>,
+    &'src str,
+>;
+
+/// The parser of what may stand after a value.
+pub type Rest<'src> = Then<Blanks<'src>, End<&'src str, EmptyText>, &'src str, ()>;
+
+/// What the body of `any_value` is.
+#[derive(Drop)]
+pub struct OfValue;
+
+impl<'src, P: Parser<'src, &'src str, Json, EmptyText>> Body<'src, &'src str, Json, EmptyText, P>
+    for OfValue {
+    ghost use Rattle.std.specs.Prelude.{[], ◌∷◌, true, false, None};
+    ghost use Rattle.chumsky_descent.specs.Body.{told};
+
+    ghost body = { λ call. told ⟦<ValueOf<'src, P> as Parser<'src, &'src str, Json, EmptyText>>⟧ (record {
+      first = record { kind = record {}; of = record {} };
+      second = record {
+        first = record {
+          first = record { parser = record { picked = record { parser = record { kind = record { radix = 10 }; of = record {} }; picker = record { of = record {} }; of = record {} } }; mapper = record {}; of = record {} };
+          second = record {
+            first = record { parser = record { seq = 110 ∷ 117 ∷ 108 ∷ 108 ∷ []; of = record {} }; mapper = record {}; of = record {} };
+            second = record {
+              first = record { parser = record { seq = 116 ∷ 114 ∷ 117 ∷ 101 ∷ []; of = record {} }; mapper = record { value = true }; of = record {} };
+              second = record { parser = record { seq = 102 ∷ 97 ∷ 108 ∷ 115 ∷ 101 ∷ []; of = record {} }; mapper = record { value = false }; of = record {} };
+            };
+          };
+        };
+        second = record {
+          parser = record {
+            parser = record {
+              parser = record {
+                parser = call;
+                separator = record { first = record { kind = record {}; of = record {} }; second = record { seq = 44; of = record {} }; of = record {} };
+                at_least = 0;
+                at_most = None;
+                allow_leading = false;
+                allow_trailing = false;
+                of = record {};
+              };
+              of = record {};
+            };
+            opening = record { seq = 91; of = record {} };
+            closing = record { first = record { kind = record {}; of = record {} }; second = record { seq = 93; of = record {} }; of = record {} };
+            of = record {};
+          };
+          mapper = record {};
+          of = record {};
+        };
+      };
+      of = record {};
+    }) };
+}
+
+impl<'src> Recursion<'src, &'src str, Json, EmptyText> for OfValue {
+    ghost use Rattle.std.specs.Prelude.{codes};
+    ghost use Rattle.chumsky_descent.specs.Exactly.{exactly};
+    ghost use Rattle.chumsky_descent.specs.Lawful.{just-lawful, run-lawful, decimal-lawful, map-lawful, separated-lawful, ignore_then-lawful, between-lawful, or-lawful};
+    ghost use Rattle.exact.specs.contracts.json.OfValueBodyRefStrJsonEmptyText.TheImpl.{ghosts, no_dict};
+    ghost use denote.Builtin.{unit};
+    ghost use Rattle.exact.specs.Json.{values};
+
+    ghost says = { λ errors states. exactly (λ call. (ghosts unit call no_dict).body tt) errors states values
+        (λ call l h. ignore_then-lawful run-lawful
+        (or-lawful
+        (or-lawful (map-lawful (decimal-lawful 32)) (or-lawful (map-lawful (just-lawful (codes "null") _ _ _ _ _ _)) (or-lawful (map-lawful (just-lawful (codes "true") _ _ _ _ _ _)) (map-lawful (just-lawful (codes "false") _ _ _ _ _ _)))))
+        (map-lawful (between-lawful (just-lawful (codes "[") _ _ _ _ _ _) (separated-lawful h (ignore_then-lawful run-lawful (just-lawful (codes ",") _ _ _ _ _ _))) (ignore_then-lawful run-lawful (just-lawful (codes "]") _ _ _ _ _ _)))))) };
+}
+
+/// The parser of spaces, tabs and ends of lines, be it none.
+pub fn blanks<'src>() -> Blanks<'src> {
+    run_of(Blank)
+}
+
+/// The parser of a character, after blanks.
+pub fn mark<'src>(character: char) -> Mark<'src>
+    ensures { result.second.seq ≡ character }
+{
+    blanks().ignore_then(just(character))
+}
+
+/// The parser of a number that a `u32` holds.
+pub fn number<'src>() -> NumberParser<'src>
+    ensures { result.parser.picked.parser.kind.radix ≡ 10 }
+{
+    text::int(10)
+        .pick_by(text::decimal::<u32>())
+        .map_by(ToNumber)
+}
+
+/// The parser of the word `null`.
+pub fn null_word<'src>() -> WordParser<'src, ToNull, 4>
+    ensures { result.parser.seq ≡ 110 ∷ 117 ∷ 108 ∷ 108 ∷ [] }
+{
+    just(['n', 'u', 'l', 'l']).map_by(ToNull)
+}
+
+/// The parser of the word `true`.
+pub fn true_word<'src>() -> WordParser<'src, ToBool, 4>
+    ensures word { result.parser.seq ≡ 116 ∷ 114 ∷ 117 ∷ 101 ∷ [] }
+    ensures value { result.mapper.value ≡ true }
+{
+    just(['t', 'r', 'u', 'e']).map_by(ToBool { value: true })
+}
+
+/// The parser of the word `false`.
+pub fn false_word<'src>() -> WordParser<'src, ToBool, 5>
+    ensures word { result.parser.seq ≡ 102 ∷ 97 ∷ 108 ∷ 115 ∷ 101 ∷ [] }
+    ensures value { result.mapper.value ≡ false }
+{
+    just(['f', 'a', 'l', 's', 'e']).map_by(ToBool { value: false })
+}
+
+/// The parser of a value that has no others in it.
+pub fn scalar<'src>() -> ScalarParser<'src>
+    ensures radix { result.first.parser.picked.parser.kind.radix ≡ 10 }
+    ensures null { result.second.first.parser.seq ≡ 110 ∷ 117 ∷ 108 ∷ 108 ∷ [] }
+    ensures yes { result.second.second.first.parser.seq ≡ 116 ∷ 114 ∷ 117 ∷ 101 ∷ [] }
+    ensures is_yes { result.second.second.first.mapper.value ≡ true }
+    ensures no { result.second.second.second.parser.seq ≡ 102 ∷ 97 ∷ 108 ∷ 115 ∷ 101 ∷ [] }
+    ensures is_no { result.second.second.second.mapper.value ≡ false }
+{
+    let truth = true_word().or(false_word());
+    let word = null_word().or(truth);
+    number().or(word)
+}
+
+/// The parser of values in brackets, with a comma between each two.
+pub fn array_of<'src, P: IsParser<&'src str, Json, EmptyText>>(value: P) -> ArrayParser<'src, P>
+    ensures value { result.parser.parser.parser.parser ≡ value }
+    ensures comma { result.parser.parser.parser.separator.second.seq ≡ 44 }
+    ensures at_least { result.parser.parser.parser.at_least ≡ 0 }
+    ensures at_most { result.parser.parser.parser.at_most ≡ None }
+    ensures leading { result.parser.parser.parser.allow_leading ≡ false }
+    ensures trailing { result.parser.parser.parser.allow_trailing ≡ false }
+    ensures opening { result.parser.opening.seq ≡ 91 }
+    ensures closing { result.parser.closing.second.seq ≡ 93 }
+{
+    let values = value.separated_by(mark(',')).collect::<Vec<Json>>();
+    values.delimited_by(just('['), mark(']')).map_by(ToArray)
+}
+
+/// The parser of a value after blanks, where another takes the values in it.
+pub fn value_of<'src, P: IsParser<&'src str, Json, EmptyText>>(inner: P) -> ValueOf<'src, P>
+    ensures radix { result.second.first.first.parser.picked.parser.kind.radix ≡ 10 }
+    ensures null { result.second.first.second.first.parser.seq ≡ 110 ∷ 117 ∷ 108 ∷ 108 ∷ [] }
+    ensures yes { result.second.first.second.second.first.parser.seq ≡ 116 ∷ 114 ∷ 117 ∷ 101 ∷ [] }
+    ensures is_yes { result.second.first.second.second.first.mapper.value ≡ true }
+    ensures no { result.second.first.second.second.second.parser.seq ≡ 102 ∷ 97 ∷ 108 ∷ 115 ∷ 101 ∷ [] }
+    ensures is_no { result.second.first.second.second.second.mapper.value ≡ false }
+    ensures inner { result.second.second.parser.parser.parser.parser ≡ inner }
+    ensures comma { result.second.second.parser.parser.parser.separator.second.seq ≡ 44 }
+    ensures at_least { result.second.second.parser.parser.parser.at_least ≡ 0 }
+    ensures at_most { result.second.second.parser.parser.parser.at_most ≡ None }
+    ensures leading { result.second.second.parser.parser.parser.allow_leading ≡ false }
+    ensures trailing { result.second.second.parser.parser.parser.allow_trailing ≡ false }
+    ensures opening { result.second.second.parser.opening.seq ≡ 91 }
+    ensures closing { result.second.second.parser.closing.second.seq ≡ 93 }
+{
+    let value = scalar().or(array_of(inner));
+    blanks().ignore_then(value)
+}
+
+/// A value, after blanks.
+fn any_value<'src>(
+    inp: &mut InputRef<'src, '_, &'src str, EmptyText>,
+    wanted: bool,
+    depth: usize,
+) -> PResult<Option<Json>>
+    ensures { ⟦<OfValue as RunsUnder<'src, &'src str, Json, EmptyText>>⟧.runs depth wanted inp.old inp.new result }
+{
+    let inner = recursive_as::<OfValue, _, _, _, _>(any_value, depth);
+    let value = value_of(inner);
+    run_part(&value, wanted, inp)
+}
+
+/// Reads a value of JSON whose numbers are below 2^32, as ` [1, [null], true]`; of any other text there is no output. A run is
+/// refused for memory, or of a text of `limit` characters or more.
+pub fn parse_json(
+    alloc: Global,
+    text: &str,
+    limit: usize,
+) -> Result<ParseResult<Json, EmptyErr>, Stop>
+    ensures { ExactlyUnless IsJson (chars text.now) (limit ≤ length (chars text.now)) result }
+{
+    let value = recursive_as::<OfValue, _, _, _, EmptyText>(any_value, limit);
+    value.then_ignore(blanks().then(end())).parse(alloc, text)
+}
