@@ -25,17 +25,17 @@ mutual
     is_true : IsValue (codes "true") (json.Bool true)
     is_false : IsValue (codes "false") (json.Bool false)
     is_number : {w : List ℕ} (n : ℕ) → IsNumber w n → IsValue w (json.Number n)
-    is_array : {w b : List ℕ} (vs : Vec Json Global) → AreElements w vs.items → AreBlanks b → IsValue (codes "[" ++ (w ++ (b ++ codes "]"))) (json.Array vs)
+    is_array : {w : List ℕ} (b : List ℕ) (vs : Vec Json Global) → AreElements w vs.items → AreBlanks b → IsValue (codes "[" ++ (w ++ (b ++ codes "]"))) (json.Array vs)
 
   -- an element: a value after blanks
   pub data IsElement : List ℕ → Json → Type 0 where
-    is_element : {b w : List ℕ} {v : Json} → AreBlanks b → IsValue w v → IsElement (b ++ w) v
+    is_element : {w : List ℕ} {v : Json} (b : List ℕ) → AreBlanks b → IsValue w v → IsElement (b ++ w) v
 
   -- elements, with blanks and a comma between each two
   pub data AreElements : List ℕ → List Json → Type 0 where
     no_element : AreElements [] []
     one_element : {w : List ℕ} {v : Json} → IsElement w v → AreElements w (v ∷ [])
-    more_elements : {w b ws : List ℕ} {v u : Json} {vs : List Json} → IsElement w v → AreBlanks b → AreElements ws (u ∷ vs) → AreElements (w ++ ((b ++ codes ",") ++ ws)) (v ∷ u ∷ vs)
+    more_elements : {w ws : List ℕ} {v u : Json} {vs : List Json} (b : List ℕ) → IsElement w v → AreBlanks b → AreElements ws (u ∷ vs) → AreElements (w ++ ((b ++ codes ",") ++ ws)) (v ∷ u ∷ vs)
 
 -- a text is JSON: an element, and blanks
 pub record IsJson (text : List ℕ) (value : Json) : Type 0 where
@@ -52,16 +52,16 @@ mutual
     true_text : IsValueText (codes "true")
     false_text : IsValueText (codes "false")
     number_text : {w : List ℕ} (n : ℕ) → IsNumber w n → IsValueText w
-    array_text : {w b : List ℕ} (n : ℕ) → AreElementTexts w n → AreBlanks b → IsValueText (codes "[" ++ (w ++ (b ++ codes "]")))
+    array_text : {w : List ℕ} (b : List ℕ) (n : ℕ) → AreElementTexts w n → AreBlanks b → IsValueText (codes "[" ++ (w ++ (b ++ codes "]")))
 
   pub data IsElementText : List ℕ → Type 0 where
-    element_text : {b w : List ℕ} → AreBlanks b → IsValueText w → IsElementText (b ++ w)
+    element_text : {w : List ℕ} (b : List ℕ) → AreBlanks b → IsValueText w → IsElementText (b ++ w)
 
   -- so many of them
   pub data AreElementTexts : List ℕ → ℕ → Type 0 where
     no_text : AreElementTexts [] zero
     one_text : {w : List ℕ} → IsElementText w → AreElementTexts w (suc zero)
-    more_texts : {w b ws : List ℕ} {n : ℕ} → IsElementText w → AreBlanks b → AreElementTexts ws (suc n) → AreElementTexts (w ++ ((b ++ codes ",") ++ ws)) (suc (suc n))
+    more_texts : {w ws : List ℕ} {n : ℕ} (b : List ℕ) → IsElementText w → AreBlanks b → AreElementTexts ws (suc n) → AreElementTexts (w ++ ((b ++ codes ",") ++ ws)) (suc (suc n))
 
 -- a value begins with a digit, a letter of its word or a bracket
 abbrev pub begins_value : ℕ → Bool

@@ -51,15 +51,15 @@ mutual
   value-text is_true = true_text
   value-text is_false = false_text
   value-text (is_number n i) = number_text n i
-  value-text (is_array vs a k) = array_text (length vs.items) (element-texts a) k
+  value-text (is_array b vs a k) = array_text b (length vs.items) (element-texts a) k
 
   pub element-text : {w : List ℕ} {v : Json} → IsElement w v → IsElementText w
-  element-text (is_element k i) = element_text k (value-text i)
+  element-text (is_element b k i) = element_text b k (value-text i)
 
   pub element-texts : {w : List ℕ} {vs : List Json} → AreElements w vs → AreElementTexts w (length vs)
   element-texts no_element = no_text
   element-texts (one_element i) = one_text (element-text i)
-  element-texts (more_elements i k a) = more_texts (element-text i) k (element-texts a)
+  element-texts (more_elements b i k a) = more_texts b (element-text i) k (element-texts a)
 
 -- no blank is a digit, and none begins a value
 blank_no_digit : (c : ℕ) → is_blank c ≡ true → is_digit c 10 ≡ false
@@ -121,7 +121,7 @@ module _ (P : List ℕ → Type 0) (is : (w : List ℕ) → IsElementText w → 
     items = w ∷ [];
     are = record { first = (b ++ codes ",") ++ w; second = []; all = sym (append-nil ((b ++ codes ",") ++ w)); is_first = (tt, record { first = b ++ codes ","; second = w; all = refl; is_first = comma b s; is_second = is w i }); is_second = (omega arith, refl) };
   }
-  led k b s (more_texts {w} {c} {ws} i t a) =
+  led k b s (more_texts {w} {ws} c i t a) =
       let l = led (suc k) c t a in record {
         items = w ∷ l.items;
         are = record {
@@ -136,7 +136,7 @@ module _ (P : List ℕ → Type 0) (is : (w : List ℕ) → IsElementText w → 
   is_list_word : {w : List ℕ} {n : ℕ} → AreElementTexts w n → IsList 0 w
   is_list_word no_text = record { items = []; are = (omega arith, refl) }
   is_list_word (one_text {w} i) = record { items = w ∷ []; are = record { first = w; second = []; all = sym (append-nil w); is_first = (tt, is w i); is_second = (omega arith, refl) } }
-  is_list_word (more_texts {w} {b} {ws} i t a) = let l = led 0 b t a in record { items = w ∷ l.items; are = record { first = w; second = (b ++ codes ",") ++ ws; all = refl; is_first = (tt, is w i); is_second = l.are } }
+  is_list_word (more_texts {w} {ws} b i t a) = let l = led 0 b t a in record { items = w ∷ l.items; are = record { first = w; second = (b ++ codes ",") ++ ws; all = refl; is_first = (tt, is w i); is_second = l.are } }
 
 by_comma : (P : List ℕ → Type 0) (s : List ℕ) → IsMark 44 s → ((b : List ℕ) → AreBlanks b → P (b ++ codes ",")) → P s
 by_comma P s i p = let m = mark 44 s i in subst P (sym m.2) (p m.0 m.1)
@@ -179,16 +179,16 @@ module _ (call : Language ℕ Json) (depth : ℕ) (i : IsIntended values call de
   value_only w (inl (inr (inl j))) = word (codes "null") w j null_text
   value_only w (inl (inr (inr (inl j)))) = word (codes "true") w j true_text
   value_only w (inl (inr (inr (inr j)))) = word (codes "false") w j false_text
-  value_only w (inr l) = in_brackets _ w (λ v b k s. array_text (length k.items) (listed (IsMark 44) (λ u z. call.word u) (λ u us. AreElementTexts u (length us)) no_text (λ u z h. one_text (i.only u h)) (λ u c us z y zs h s a. by_comma (λ x. AreElementTexts (u ++ (x ++ us)) (suc (suc (length zs)))) c s (λ b k. more_texts (i.only u h) k a)) k.items v k.are) s) l
+  value_only w (inr l) = in_brackets _ w (λ v b k s. array_text b (length k.items) (listed (IsMark 44) (λ u z. call.word u) (λ u us. AreElementTexts u (length us)) no_text (λ u z h. one_text (i.only u h)) (λ u c us z y zs h s a. by_comma (λ x. AreElementTexts (u ++ (x ++ us)) (suc (suc (length zs)))) c s (λ b k. more_texts b (i.only u h) k a)) k.items v k.are) s) l
 
   only : (w : List ℕ) → (grammar call).word w → IsElementText w
-  only w j = subst IsElementText (sym j.all) (element_text j.is_first (value_only j.second j.is_second))
+  only w j = subst IsElementText (sym j.all) (element_text j.first j.is_first (value_only j.second j.is_second))
 
   of_word : (cs w : List ℕ) (v x : Json) → Is cs w → v ≡ x → IsValue cs x → IsValue w v
   of_word cs w v x j e t = let d : w ≡ cs = equals-same cs w j in rw (d, e) t
 
   of_array : (w : List ℕ) (vs : Vec Json Global) (v : Json) (b a : List ℕ) → AreElements b vs.items → AreBlanks a → codes "[" ++ (b ++ (a ++ codes "]")) ≡ w → v ≡ json.Array vs → IsValue w v
-  of_array w vs v b a h k e d = let r : IsValue w (json.Array vs) = subst (λ z. IsValue z (json.Array vs)) e (is_array vs h k) in subst (IsValue w) (sym d) r
+  of_array w vs v b a h k e d = let r : IsValue w (json.Array vs) = subst (λ z. IsValue z (json.Array vs)) e (is_array a vs h k) in subst (IsValue w) (sym d) r
 
   abbrev IsArrayOf : List ℕ → Json → Type 0
   IsArrayOf w v = (vs : Vec Json Global) × Joined (Is (codes "[")) (Joined (λ z. Holding (ListFrom (λ k u x. SeparatedWord (IsMark 44) false None (λ y. call.stands_for y x) k u) (SeparatedEnd (IsMark 44) false false 0 None) 0) (λ xs ys. ys.items ≡ xs) z vs) (IsMark 93)) w × (v ≡ json.Array vs)
@@ -202,7 +202,7 @@ module _ (call : Language ℕ Json) (depth : ℕ) (i : IsIntended values call de
       let c : q.is_second.second ≡ p.0 ++ codes "]" = p.2 in
       let e : codes "[" ++ (q.is_second.first ++ (p.0 ++ codes "]")) ≡ u = cc (q.all, o, q.is_second.all, c) in
       let k = q.is_second.is_first in
-      let a : AreElements q.is_second.first k.items = listed (IsMark 44) call.stands_for AreElements no_element (λ u z h. one_element (i.given u z h)) (λ u c us z y zs h s a. by_comma (λ x. AreElements (u ++ (x ++ us)) (z ∷ y ∷ zs)) c s (λ b k. more_elements (i.given u z h) k a)) k.items q.is_second.first k.is in
+      let a : AreElements q.is_second.first k.items = listed (IsMark 44) call.stands_for AreElements no_element (λ u z h. one_element (i.given u z h)) (λ u c us z y zs h s a. by_comma (λ x. AreElements (u ++ (x ++ us)) (z ∷ y ∷ zs)) c s (λ b k. more_elements b (i.given u z h) k a)) k.items q.is_second.first k.is in
       let b : AreElements q.is_second.first vs.items = subst (AreElements q.is_second.first) (sym k.held) a in
       of_array u vs v q.is_second.first p.0 b p.1 e m.2
 
@@ -219,14 +219,14 @@ module _ (call : Language ℕ Json) (depth : ℕ) (i : IsIntended values call de
         ]
         | inr m ↦ given_array u v m
       ] in
-      subst (λ z. IsElement z v) (sym j.all) (is_element j.is_first k)
+      subst (λ z. IsElement z v) (sym j.all) (is_element j.first j.is_first k)
 
   value_word : {w : List ℕ} → IsValueText w → IsWord w
   value_word null_text = inl (inr (inl (same-equals (codes "null"))))
   value_word true_text = inl (inr (inr (inl (same-equals (codes "true")))))
   value_word false_text = inl (inr (inr (inr (same-equals (codes "false")))))
   value_word (number_text {w} n m) = inl (inl (number-complete w n m))
-  value_word (array_text {w} {b} n a k) = inr (record {
+  value_word (array_text {w} b n a k) = inr (record {
     first = codes "[";
     second = w ++ (b ++ codes "]");
     all = refl;
@@ -235,7 +235,7 @@ module _ (call : Language ℕ Json) (depth : ℕ) (i : IsIntended values call de
   })
 
   each : (w : List ℕ) → IsElementText w → (grammar call).word w
-  each _ (element_text {b} {w} k t) = record { first = b; second = w; all = refl; is_first = k; is_second = value_word t }
+  each _ (element_text {w} b k t) = record { first = b; second = w; all = refl; is_first = k; is_second = value_word t }
 
   fails : (ts : List ℕ) → StopsAt begins_value (past_blanks ts) → DoesNotEnd ((grammar call).ends ts)
   fails ts s = by_rest (past_blanks ts) refl s

@@ -11,12 +11,13 @@ use chumsky::extra::EmptyText;
 use chumsky::input::InputRef;
 use chumsky::prelude::*;
 use chumsky::primitive::{End, Just};
-use chumsky::recursive::{Body, Recursion, RunsUnder, recursive_as};
+use chumsky::recursive::{Body, Called, Recursion, RunsUnder, recursive_as};
 use chumsky::text::{DecimalOf, Int, Kind, Run, Word, run_of};
 use chumsky::util::Plain;
-use chumsky::{IsParser, PResult, Stop};
+use chumsky::{PResult, Stop};
 use chumsky_parser::parser::Parser;
 use std::alloc::Global;
+use std::marker::PhantomData;
 
 /// A value of JSON.
 #[derive(Debug, Drop, PartialEq)]
@@ -33,7 +34,7 @@ pub struct Blank;
 
 impl Kind<char> for Blank {
     ghost use Rattle.std.specs.Prelude.{[], ⊤};
-    ghost use Rattle.exact.specs.Blanks.{is_blank};
+    ghost use Rattle.exact.specs.Json.{is_blank};
 
     ghost fits = { λ _. ⊤ };
 
@@ -136,6 +137,39 @@ pub type ScalarParser<'src> = Or<
     Or<WordParser<'src, ToNull, 4>, Or<WordParser<'src, ToBool, 4>, WordParser<'src, ToBool, 5>>>,
 >;
 
+/// A value that has no others in it: a parser with a name, as the two below, so that the function that calls itself has one type
+/// of them in it.
+#[derive(Clone, Copy, Drop)]
+pub struct Scalar;
+
+impl<'src> Parser<'src, &'src str, Json, EmptyText> for Scalar {
+    ghost use Rattle.std.specs.Prelude.{[], ◌∷◌, true, false, ⊤};
+
+    ghost ready = { λ p. ⊤ };
+
+    ghost meaning = { λ p. ⟦<ScalarParser<'src> as Parser<'src, &'src str, Json, EmptyText>>⟧.meaning (record { first = record { parser = record { picked = record { parser = record { kind = record { radix = 10 }; of = record {} }; picker = record { of = record {} }; of = record {} } }; mapper = record {}; of = record {} }; second = record { first = record { parser = record { seq = 110 ∷ 117 ∷ 108 ∷ 108 ∷ []; of = record {} }; mapper = record {}; of = record {} }; second = record { first = record { parser = record { seq = 116 ∷ 114 ∷ 117 ∷ 101 ∷ []; of = record {} }; mapper = record { value = true }; of = record {} }; second = record { parser = record { seq = 102 ∷ 97 ∷ 108 ∷ 115 ∷ 101 ∷ []; of = record {} }; mapper = record { value = false }; of = record {} } } } }) };
+
+    ghost steady = { λ _. ⊥ };
+
+    ghost same = { λ _ _ _. ⊤ };
+
+    ghost language = { λ p. ⟦<ScalarParser<'src> as Parser<'src, &'src str, Json, EmptyText>>⟧.language (record { first = record { parser = record { picked = record { parser = record { kind = record { radix = 10 }; of = record {} }; picker = record { of = record {} }; of = record {} } }; mapper = record {}; of = record {} }; second = record { first = record { parser = record { seq = 110 ∷ 117 ∷ 108 ∷ 108 ∷ []; of = record {} }; mapper = record {}; of = record {} }; second = record { first = record { parser = record { seq = 116 ∷ 114 ∷ 117 ∷ 101 ∷ []; of = record {} }; mapper = record { value = true }; of = record {} }; second = record { parser = record { seq = 102 ∷ 97 ∷ 108 ∷ 115 ∷ 101 ∷ []; of = record {} }; mapper = record { value = false }; of = record {} } } } }) };
+
+    ghost ends_after_start = { λ p. ⟦<ScalarParser<'src> as Parser<'src, &'src str, Json, EmptyText>>⟧.ends_after_start (record { first = record { parser = record { picked = record { parser = record { kind = record { radix = 10 }; of = record {} }; picker = record { of = record {} }; of = record {} } }; mapper = record {}; of = record {} }; second = record { first = record { parser = record { seq = 110 ∷ 117 ∷ 108 ∷ 108 ∷ []; of = record {} }; mapper = record {}; of = record {} }; second = record { first = record { parser = record { seq = 116 ∷ 114 ∷ 117 ∷ 101 ∷ []; of = record {} }; mapper = record { value = true }; of = record {} }; second = record { parser = record { seq = 102 ∷ 97 ∷ 108 ∷ 115 ∷ 101 ∷ []; of = record {} }; mapper = record { value = false }; of = record {} } } } }) };
+
+    ghost agrees = { λ _ never. absurd never };
+
+    ghost accepts = { λ p. ⟦<ScalarParser<'src> as Parser<'src, &'src str, Json, EmptyText>>⟧.accepts (record { first = record { parser = record { picked = record { parser = record { kind = record { radix = 10 }; of = record {} }; picker = record { of = record {} }; of = record {} } }; mapper = record {}; of = record {} }; second = record { first = record { parser = record { seq = 110 ∷ 117 ∷ 108 ∷ 108 ∷ []; of = record {} }; mapper = record {}; of = record {} }; second = record { first = record { parser = record { seq = 116 ∷ 114 ∷ 117 ∷ 101 ∷ []; of = record {} }; mapper = record { value = true }; of = record {} }; second = record { parser = record { seq = 102 ∷ 97 ∷ 108 ∷ 115 ∷ 101 ∷ []; of = record {} }; mapper = record { value = false }; of = record {} } } } }) };
+
+    fn go_emit(&self, inp: &mut InputRef<'src, '_, &'src str, EmptyText>) -> PResult<Json> {
+        scalar_parser().go_emit(inp)
+    }
+
+    fn go_check(&self, inp: &mut InputRef<'src, '_, &'src str, EmptyText>) -> PResult<()> {
+        scalar_parser().go_check(inp)
+    }
+}
+
 /// The parser of an array of what `P` takes.
 pub type ArrayParser<'src, P> = Map<
     DelimitedBy<
@@ -154,12 +188,92 @@ pub type ArrayParser<'src, P> = Map<
     Json,
 >;
 
+/// An array of what a parser takes.
+#[derive(Drop)]
+pub struct ArrayOf<P> {
+    pub value: P,
+}
+
+impl<'src, P: Parser<'src, &'src str, Json, EmptyText>> Parser<'src, &'src str, Json, EmptyText> for ArrayOf<P> {
+    ghost use Rattle.std.specs.Prelude.{[], ◌∷◌, false, None, ⊤};
+
+    ghost ready = { λ p. P.ready p.value };
+
+    ghost meaning = { λ p. ⟦<ArrayParser<'src, P> as Parser<'src, &'src str, Json, EmptyText>>⟧.meaning (record { parser = record { parser = record { parser = record { parser = p.value; separator = record { first = record { kind = record {}; of = record {} }; second = record { seq = 44; of = record {} }; of = record {} }; at_least = 0; at_most = None; allow_leading = false; allow_trailing = false; of = record {} }; of = record {} }; opening = record { seq = 91; of = record {} }; closing = record { first = record { kind = record {}; of = record {} }; second = record { seq = 93; of = record {} }; of = record {} }; of = record {} }; mapper = record {}; of = record {} }) };
+
+    ghost steady = { λ _. ⊥ };
+
+    ghost same = { λ _ _ _. ⊤ };
+
+    ghost language = { λ p. ⟦<ArrayParser<'src, P> as Parser<'src, &'src str, Json, EmptyText>>⟧.language (record { parser = record { parser = record { parser = record { parser = p.value; separator = record { first = record { kind = record {}; of = record {} }; second = record { seq = 44; of = record {} }; of = record {} }; at_least = 0; at_most = None; allow_leading = false; allow_trailing = false; of = record {} }; of = record {} }; opening = record { seq = 91; of = record {} }; closing = record { first = record { kind = record {}; of = record {} }; second = record { seq = 93; of = record {} }; of = record {} }; of = record {} }; mapper = record {}; of = record {} }) };
+
+    ghost ends_after_start = { λ p. ⟦<ArrayParser<'src, P> as Parser<'src, &'src str, Json, EmptyText>>⟧.ends_after_start (record { parser = record { parser = record { parser = record { parser = p.value; separator = record { first = record { kind = record {}; of = record {} }; second = record { seq = 44; of = record {} }; of = record {} }; at_least = 0; at_most = None; allow_leading = false; allow_trailing = false; of = record {} }; of = record {} }; opening = record { seq = 91; of = record {} }; closing = record { first = record { kind = record {}; of = record {} }; second = record { seq = 93; of = record {} }; of = record {} }; of = record {} }; mapper = record {}; of = record {} }) };
+
+    ghost agrees = { λ _ never. absurd never };
+
+    ghost accepts = { λ p. ⟦<ArrayParser<'src, P> as Parser<'src, &'src str, Json, EmptyText>>⟧.accepts (record { parser = record { parser = record { parser = record { parser = p.value; separator = record { first = record { kind = record {}; of = record {} }; second = record { seq = 44; of = record {} }; of = record {} }; at_least = 0; at_most = None; allow_leading = false; allow_trailing = false; of = record {} }; of = record {} }; opening = record { seq = 91; of = record {} }; closing = record { first = record { kind = record {}; of = record {} }; second = record { seq = 93; of = record {} }; of = record {} }; of = record {} }; mapper = record {}; of = record {} }) };
+
+    fn go_emit(&self, inp: &mut InputRef<'src, '_, &'src str, EmptyText>) -> PResult<Json> {
+        array_of(&self.value).go_emit(inp)
+    }
+
+    fn go_check(&self, inp: &mut InputRef<'src, '_, &'src str, EmptyText>) -> PResult<()> {
+        array_of(&self.value).go_check(inp)
+    }
+}
+
 /// The parser of a value after blanks, where `P` takes the values in it.
-pub type ValueOf<'src, P> = IgnoreThen<
-    Blanks<'src>,
-    Or<ScalarParser<'src>, ArrayParser<'src, P>>,
-    &'src str,
->;
+pub type ValueParser<'src, P> = IgnoreThen<Blanks<'src>, Or<Scalar, ArrayOf<P>>, &'src str>;
+
+/// A value after blanks, where a parser takes the values in it.
+#[derive(Drop)]
+pub struct ValueOf<P> {
+    pub inner: P,
+}
+
+impl<'src, P: Parser<'src, &'src str, Json, EmptyText>> Parser<'src, &'src str, Json, EmptyText> for ValueOf<P> {
+    ghost use Rattle.std.specs.Prelude.{⊤};
+
+    ghost ready = { λ p. P.ready p.inner };
+
+    ghost meaning = { λ p. ⟦<ValueParser<'src, P> as Parser<'src, &'src str, Json, EmptyText>>⟧.meaning (record { first = record { kind = record {}; of = record {} }; second = record { first = record {}; second = record { value = p.inner } }; of = record {} }) };
+
+    ghost steady = { λ _. ⊥ };
+
+    ghost same = { λ _ _ _. ⊤ };
+
+    ghost language = { λ p. ⟦<ValueParser<'src, P> as Parser<'src, &'src str, Json, EmptyText>>⟧.language (record { first = record { kind = record {}; of = record {} }; second = record { first = record {}; second = record { value = p.inner } }; of = record {} }) };
+
+    ghost ends_after_start = { λ p. ⟦<ValueParser<'src, P> as Parser<'src, &'src str, Json, EmptyText>>⟧.ends_after_start (record { first = record { kind = record {}; of = record {} }; second = record { first = record {}; second = record { value = p.inner } }; of = record {} }) };
+
+    ghost agrees = { λ _ never. absurd never };
+
+    ghost accepts = { λ p. ⟦<ValueParser<'src, P> as Parser<'src, &'src str, Json, EmptyText>>⟧.accepts (record { first = record { kind = record {}; of = record {} }; second = record { first = record {}; second = record { value = p.inner } }; of = record {} }) };
+
+    fn go_emit(&self, inp: &mut InputRef<'src, '_, &'src str, EmptyText>) -> PResult<Json> {
+        let value = IgnoreThen {
+            first: blanks(),
+            second: Or {
+                first: Scalar,
+                second: ArrayOf { value: &self.inner },
+            },
+            of: PhantomData,
+        };
+        value.go_emit(inp)
+    }
+
+    fn go_check(&self, inp: &mut InputRef<'src, '_, &'src str, EmptyText>) -> PResult<()> {
+        let value = IgnoreThen {
+            first: blanks(),
+            second: Or {
+                first: Scalar,
+                second: ArrayOf { value: &self.inner },
+            },
+            of: PhantomData,
+        };
+        value.go_check(inp)
+    }
+}
 
 /// The parser of what may stand after a value.
 pub type Rest<'src> = Then<Blanks<'src>, End<&'src str, EmptyText>, &'src str, ()>;
@@ -170,46 +284,9 @@ pub struct OfValue;
 
 impl<'src, P: Parser<'src, &'src str, Json, EmptyText>> Body<'src, &'src str, Json, EmptyText, P>
     for OfValue {
-    ghost use Rattle.std.specs.Prelude.{[], ◌∷◌, true, false, None};
     ghost use Rattle.chumsky_descent.specs.Body.{told};
 
-    ghost body = { λ call. told ⟦<ValueOf<'src, P> as Parser<'src, &'src str, Json, EmptyText>>⟧ (record {
-      first = record { kind = record {}; of = record {} };
-      second = record {
-        first = record {
-          first = record { parser = record { picked = record { parser = record { kind = record { radix = 10 }; of = record {} }; picker = record { of = record {} }; of = record {} } }; mapper = record {}; of = record {} };
-          second = record {
-            first = record { parser = record { seq = 110 ∷ 117 ∷ 108 ∷ 108 ∷ []; of = record {} }; mapper = record {}; of = record {} };
-            second = record {
-              first = record { parser = record { seq = 116 ∷ 114 ∷ 117 ∷ 101 ∷ []; of = record {} }; mapper = record { value = true }; of = record {} };
-              second = record { parser = record { seq = 102 ∷ 97 ∷ 108 ∷ 115 ∷ 101 ∷ []; of = record {} }; mapper = record { value = false }; of = record {} };
-            };
-          };
-        };
-        second = record {
-          parser = record {
-            parser = record {
-              parser = record {
-                parser = call;
-                separator = record { first = record { kind = record {}; of = record {} }; second = record { seq = 44; of = record {} }; of = record {} };
-                at_least = 0;
-                at_most = None;
-                allow_leading = false;
-                allow_trailing = false;
-                of = record {};
-              };
-              of = record {};
-            };
-            opening = record { seq = 91; of = record {} };
-            closing = record { first = record { kind = record {}; of = record {} }; second = record { seq = 93; of = record {} }; of = record {} };
-            of = record {};
-          };
-          mapper = record {};
-          of = record {};
-        };
-      };
-      of = record {};
-    }) };
+    ghost body = { λ call. told ⟦<ValueOf<P> as Parser<'src, &'src str, Json, EmptyText>>⟧ (record { inner = call }) };
 }
 
 impl<'src> Recursion<'src, &'src str, Json, EmptyText> for OfValue {
@@ -272,7 +349,7 @@ pub fn false_word<'src>() -> WordParser<'src, ToBool, 5>
 }
 
 /// The parser of a value that has no others in it.
-pub fn scalar<'src>() -> ScalarParser<'src>
+pub fn scalar_parser<'src>() -> ScalarParser<'src>
     ensures radix { result.first.parser.picked.parser.kind.radix ≡ 10 }
     ensures null { result.second.first.parser.seq ≡ 110 ∷ 117 ∷ 108 ∷ 108 ∷ [] }
     ensures yes { result.second.second.first.parser.seq ≡ 116 ∷ 114 ∷ 117 ∷ 101 ∷ [] }
@@ -286,7 +363,7 @@ pub fn scalar<'src>() -> ScalarParser<'src>
 }
 
 /// The parser of values in brackets, with a comma between each two.
-pub fn array_of<'src, P: IsParser<&'src str, Json, EmptyText>>(value: P) -> ArrayParser<'src, P>
+pub fn array_of<'src, P>(value: P) -> ArrayParser<'src, P>
     ensures value { result.parser.parser.parser.parser ≡ value }
     ensures comma { result.parser.parser.parser.separator.second.seq ≡ 44 }
     ensures at_least { result.parser.parser.parser.at_least ≡ 0 }
@@ -296,29 +373,17 @@ pub fn array_of<'src, P: IsParser<&'src str, Json, EmptyText>>(value: P) -> Arra
     ensures opening { result.parser.opening.seq ≡ 91 }
     ensures closing { result.parser.closing.second.seq ≡ 93 }
 {
-    let values = value.separated_by(mark(',')).collect::<Vec<Json>>();
+    let values = SeparatedBy {
+        parser: value,
+        separator: mark(','),
+        at_least: 0,
+        at_most: None,
+        allow_leading: false,
+        allow_trailing: false,
+        of: PhantomData,
+    };
+    let values = values.collect::<Vec<Json>>();
     values.delimited_by(just('['), mark(']')).map_by(ToArray)
-}
-
-/// The parser of a value after blanks, where another takes the values in it.
-pub fn value_of<'src, P: IsParser<&'src str, Json, EmptyText>>(inner: P) -> ValueOf<'src, P>
-    ensures radix { result.second.first.first.parser.picked.parser.kind.radix ≡ 10 }
-    ensures null { result.second.first.second.first.parser.seq ≡ 110 ∷ 117 ∷ 108 ∷ 108 ∷ [] }
-    ensures yes { result.second.first.second.second.first.parser.seq ≡ 116 ∷ 114 ∷ 117 ∷ 101 ∷ [] }
-    ensures is_yes { result.second.first.second.second.first.mapper.value ≡ true }
-    ensures no { result.second.first.second.second.second.parser.seq ≡ 102 ∷ 97 ∷ 108 ∷ 115 ∷ 101 ∷ [] }
-    ensures is_no { result.second.first.second.second.second.mapper.value ≡ false }
-    ensures inner { result.second.second.parser.parser.parser.parser ≡ inner }
-    ensures comma { result.second.second.parser.parser.parser.separator.second.seq ≡ 44 }
-    ensures at_least { result.second.second.parser.parser.parser.at_least ≡ 0 }
-    ensures at_most { result.second.second.parser.parser.parser.at_most ≡ None }
-    ensures leading { result.second.second.parser.parser.parser.allow_leading ≡ false }
-    ensures trailing { result.second.second.parser.parser.parser.allow_trailing ≡ false }
-    ensures opening { result.second.second.parser.opening.seq ≡ 91 }
-    ensures closing { result.second.second.parser.closing.second.seq ≡ 93 }
-{
-    let value = scalar().or(array_of(inner));
-    blanks().ignore_then(value)
 }
 
 /// A value, after blanks.
@@ -329,9 +394,12 @@ fn any_value<'src>(
 ) -> PResult<Option<Json>>
     ensures { ⟦<OfValue as RunsUnder<'src, &'src str, Json, EmptyText>>⟧.runs depth wanted inp.old inp.new result }
 {
-    let inner = recursive_as::<OfValue, _, _, _, _>(any_value, depth);
-    let value = value_of(inner);
-    run_part(&value, wanted, inp)
+    let inner: Called<_, OfValue, _, _, _> = Called {
+        function: any_value,
+        depth,
+        of: PhantomData,
+    };
+    run_part(&ValueOf { inner }, wanted, inp)
 }
 
 /// Reads a value of JSON whose numbers are below 2^32, as ` [1, [null], true]`; of any other text there is no output. A run is

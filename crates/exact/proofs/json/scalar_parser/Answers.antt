@@ -1,4 +1,4 @@
-use Rattle.exact.proofs.json.scalar.Goals as goal
+use Rattle.exact.proofs.json.scalar_parser.Goals as goal
 
 pub returns : goal.returns
 returns c =
