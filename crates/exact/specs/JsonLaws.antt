@@ -63,7 +63,7 @@ mutual
 
 -- no blank is a digit, and none begins a value
 blank_no_digit : (c : ℕ) → is_blank c ≡ true → is_digit c 10 ≡ false
-blank_no_digit c e = elim (blank_is c e) [ | inl a ↦ rw a refl | inr x ↦ elim x [ | inl a ↦ rw a refl | inr y ↦ elim y [ | inl a ↦ rw a refl | inr a ↦ rw a refl ] ] ]
+blank_no_digit c e = elim (blank_is c e) [ inl a ↦ rw a refl | inr x ↦ elim x [ inl a ↦ rw a refl | inr y ↦ elim y [ inl a ↦ rw a refl | inr a ↦ rw a refl ] ] ]
   where
     blank_is : (c : ℕ) → is_blank c ≡ true → (c ≡ 32) ⊎ ((c ≡ 9) ⊎ ((c ≡ 10) ⊎ (c ≡ 13)))
     blank_is c e = grind (arith, nat_tests)
@@ -214,7 +214,7 @@ module _ (call : Language ℕ Json) (depth : ℕ) (i : IsIntended values call de
           | inl m ↦ subst (IsValue u) (sym m.2) (is_number m.0 (number-sound u m.0 m.1))
           | inr t ↦ elim t [
             | inl m ↦ of_word (codes "null") u v json.Null m.1.0 m.2 is_null
-            | inr t ↦ elim t [ | inl m ↦ of_word (codes "true") u v (json.Bool true) m.1.0 m.2 is_true | inr m ↦ of_word (codes "false") u v (json.Bool false) m.1.0 m.2 is_false ]
+            | inr t ↦ elim t [ inl m ↦ of_word (codes "true") u v (json.Bool true) m.1.0 m.2 is_true | inr m ↦ of_word (codes "false") u v (json.Bool false) m.1.0 m.2 is_false ]
           ]
         ]
         | inr m ↦ given_array u v m
@@ -283,13 +283,17 @@ module _ (call : Language ℕ Json) (depth : ℕ) (i : IsIntended values call de
       (
         (
           tt,
-          (tt, (tt, tt, λ w rest j f. let e : w ≡ codes "false" = equals-same (codes "false") w j in rw e tt), λ w rest j f. elim j [
-            | inl k ↦ let e : w ≡ codes "true" = equals-same (codes "true") w k in rw e tt
-            | inr k ↦ let e : w ≡ codes "false" = equals-same (codes "false") w k in rw e tt
-          ]),
+          (
+            tt,
+            (tt, tt, λ w rest j f. let e : w ≡ codes "false" = equals-same (codes "false") w j in rw e tt),
+            λ w rest j f. elim j [
+              | inl k ↦ let e : w ≡ codes "true" = equals-same (codes "true") w k in rw e tt
+              | inr k ↦ let e : w ≡ codes "false" = equals-same (codes "false") w k in rw e tt
+            ],
+          ),
           λ w rest j f. elim j [
             | inl k ↦ let e : w ≡ codes "null" = equals-same (codes "null") w k in rw e tt
-            | inr x ↦ elim x [ | inl k ↦ let e : w ≡ codes "true" = equals-same (codes "true") w k in rw e tt | inr k ↦ let e : w ≡ codes "false" = equals-same (codes "false") w k in rw e tt ]
+            | inr x ↦ elim x [ inl k ↦ let e : w ≡ codes "true" = equals-same (codes "true") w k in rw e tt | inr k ↦ let e : w ≡ codes "false" = equals-same (codes "false") w k in rw e tt ]
           ],
         ),
         (

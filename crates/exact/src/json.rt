@@ -7,8 +7,10 @@ ghost use Rattle.exact.specs.Json.{IsJson};
 use chumsky::combinator::{
     Collect, DelimitedBy, IgnoreThen, Map, Mapper, Or, PickBy, SeparatedBy, Then, run_part,
 };
+use chumsky::error::Error;
 use chumsky::extra::EmptyText;
-use chumsky::input::InputRef;
+use chumsky::input::{Input, InputRef};
+use chumsky::inspector::Inspector;
 use chumsky::prelude::*;
 use chumsky::primitive::{End, Just};
 use chumsky::recursive::{Body, Called, Recursion, RunsUnder, recursive_as};
@@ -154,7 +156,7 @@ impl<'src> Parser<'src, &'src str, Json, EmptyText> for Scalar {
     ghost use Rattle.chumsky_text.specs.Decimals.{slice-bytes, unsigned-by_word};
     ghost use Rattle.chumsky_text.specs.TextRunLaws.{word-ends};
     ghost use Rattle.chumsky_text.specs.TextLanguageLaws.{word-accepts};
-    ghost use Rattle.std.specs.Prelude.{[], ◌∷◌, true, false, ⊤};
+    ghost use Rattle.std.specs.Prelude.{[], ◌∷◌, true, false, ⊤, nat_eq, codes};
 
     ghost ready = { λ p. ⊤ };
 
@@ -166,11 +168,11 @@ impl<'src> Parser<'src, &'src str, Json, EmptyText> for Scalar {
 
     ghost language = { λ p. ⟦<ScalarParser<'src> as Parser<'src, &'src str, Json, EmptyText>>⟧.language (record { first = record { parser = record { picked = record { parser = record { kind = record { radix = 10 }; of = record {} }; picker = record { of = record {} }; of = record {} } }; mapper = record {}; of = record {} }; second = record { first = record { parser = record { seq = 110 ∷ 117 ∷ 108 ∷ 108 ∷ []; of = record {} }; mapper = record {}; of = record {} }; second = record { first = record { parser = record { seq = 116 ∷ 114 ∷ 117 ∷ 101 ∷ []; of = record {} }; mapper = record { value = true }; of = record {} }; second = record { parser = record { seq = 102 ∷ 97 ∷ 108 ∷ 115 ∷ 101 ∷ []; of = record {} }; mapper = record { value = false }; of = record {} } } } }) };
 
-    ghost ends_after_start = { λ p. or_else-ends _ _ _ _ _ (mapped-ends _ _ (vetted-ends _ _ _ _ (word-ends _ _ _ _ _ _ _ _))) (or_else-ends _ _ _ _ _ (mapped-ends _ _ (just-ends _ _ _ _ _ _ _)) (or_else-ends _ _ _ _ _ (mapped-ends _ _ (just-ends _ _ _ _ _ _ _)) (mapped-ends _ _ (just-ends _ _ _ _ _ _ _)))) };
+    ghost ends_after_start = { λ p. or_else-ends _ _ _ _ _ (mapped-ends _ _ (vetted-ends _ _ _ _ (word-ends ⟦<&'src str as Input<'src>>⟧ _ ⟦<EmptyErr as Error<&'src str>>⟧ ⟦<() as Inspector<&'src str>>⟧ _ _ _ _))) (or_else-ends _ _ _ _ _ (mapped-ends _ _ (just-ends ⟦<&'src str as Input<'src>>⟧ nat_eq ⟦<EmptyErr as Error<&'src str>>⟧ ⟦<() as Inspector<&'src str>>⟧ _ _ (codes "null"))) (or_else-ends _ _ _ _ _ (mapped-ends _ _ (just-ends ⟦<&'src str as Input<'src>>⟧ nat_eq ⟦<EmptyErr as Error<&'src str>>⟧ ⟦<() as Inspector<&'src str>>⟧ _ _ (codes "true"))) (mapped-ends _ _ (just-ends ⟦<&'src str as Input<'src>>⟧ nat_eq ⟦<EmptyErr as Error<&'src str>>⟧ ⟦<() as Inspector<&'src str>>⟧ _ _ (codes "false"))))) };
 
     ghost agrees = { λ _ never. absurd never };
 
-    ghost accepts = { λ p. or-accepts _ _ (λ q. q.1) _ _ (map-accepts _ _ (picked-accepts _ _ _ _ _ (λ w v x s g. unsigned-by_word 32 w v.now x (slice-bytes (λ t. t.now) w v s.1) g) (word-accepts _ _ _ _ _ _ _ _))) (or-accepts _ _ (λ q. q.1) _ _ (map-accepts _ _ (just-accepts _ _ _ _ _ _ _)) (or-accepts _ _ (λ q. q.1) _ _ (map-accepts _ _ (just-accepts _ _ _ _ _ _ _)) (map-accepts _ _ (just-accepts _ _ _ _ _ _ _)))) };
+    ghost accepts = { λ p. or-accepts _ _ (λ q. q.1) _ _ (map-accepts _ _ (picked-accepts ⟦<&'src str as Input<'src>>⟧ ⟦<EmptyErr as Error<&'src str>>⟧ _ _ _ (λ w v x s g. unsigned-by_word 32 w v.now x (slice-bytes (λ t. t.now) w v s.1) g) (word-accepts ⟦<&'src str as Input<'src>>⟧ _ ⟦<EmptyErr as Error<&'src str>>⟧ ⟦<() as Inspector<&'src str>>⟧ _ _ _ _))) (or-accepts _ _ (λ q. q.1) _ _ (map-accepts _ _ (just-accepts ⟦<&'src str as Input<'src>>⟧ nat_eq ⟦<EmptyErr as Error<&'src str>>⟧ ⟦<() as Inspector<&'src str>>⟧ _ _ (codes "null"))) (or-accepts _ _ (λ q. q.1) _ _ (map-accepts _ _ (just-accepts ⟦<&'src str as Input<'src>>⟧ nat_eq ⟦<EmptyErr as Error<&'src str>>⟧ ⟦<() as Inspector<&'src str>>⟧ _ _ (codes "true"))) (map-accepts _ _ (just-accepts ⟦<&'src str as Input<'src>>⟧ nat_eq ⟦<EmptyErr as Error<&'src str>>⟧ ⟦<() as Inspector<&'src str>>⟧ _ _ (codes "false"))))) };
 
     fn go_emit(&self, inp: &mut InputRef<'src, '_, &'src str, EmptyText>) -> PResult<Json> {
         scalar_parser().go_emit(inp)
@@ -184,11 +186,7 @@ impl<'src> Parser<'src, &'src str, Json, EmptyText> for Scalar {
 /// The parser of an array of what `P` takes.
 pub type ArrayParser<'src, P> = Map<
     DelimitedBy<
-        Collect<
-            SeparatedBy<P, Mark<'src>, Json, char, &'src str, EmptyText>,
-            Json,
-            Vec<Json>,
-        >,
+        Collect<SeparatedBy<P, Mark<'src>, Json, char, &'src str, EmptyText>, Json, Vec<Json>>,
         Just<char, &'src str, EmptyText>,
         Mark<'src>,
         char,
@@ -205,7 +203,8 @@ pub struct ArrayOf<P> {
     pub value: P,
 }
 
-impl<'src, P: Parser<'src, &'src str, Json, EmptyText>> Parser<'src, &'src str, Json, EmptyText> for ArrayOf<P> {
+impl<'src, P: Parser<'src, &'src str, Json, EmptyText>> Parser<'src, &'src str, Json, EmptyText>
+    for ArrayOf<P> {
     ghost use Rattle.chumsky_primitive.specs.JustLaws.{just-ends};
     ghost use Rattle.chumsky_primitive.specs.PrimitiveLanguageLaws.{just-accepts};
     ghost use Rattle.chumsky_combinator.specs.MappedLaws.{mapped-ends};
@@ -218,7 +217,7 @@ impl<'src, P: Parser<'src, &'src str, Json, EmptyText>> Parser<'src, &'src str, 
     ghost use Rattle.chumsky_items.specs.SeparatedLanguage.{separated-accepts};
     ghost use Rattle.chumsky_text.specs.TextRunLaws.{run-ends};
     ghost use Rattle.chumsky_text.specs.TextLanguageLaws.{run-accepts};
-    ghost use Rattle.std.specs.Prelude.{[], ◌∷◌, false, None, ⊤};
+    ghost use Rattle.std.specs.Prelude.{[], ◌∷◌, false, None, ⊤, nat_eq, codes};
 
     ghost ready = { λ p. P.ready p.value };
 
@@ -230,11 +229,11 @@ impl<'src, P: Parser<'src, &'src str, Json, EmptyText>> Parser<'src, &'src str, 
 
     ghost language = { λ p. ⟦<ArrayParser<'src, P> as Parser<'src, &'src str, Json, EmptyText>>⟧.language (record { parser = record { parser = record { parser = record { parser = p.value; separator = record { first = record { kind = record {}; of = record {} }; second = record { seq = 44; of = record {} }; of = record {} }; at_least = 0; at_most = None; allow_leading = false; allow_trailing = false; of = record {} }; of = record {} }; opening = record { seq = 91; of = record {} }; closing = record { first = record { kind = record {}; of = record {} }; second = record { seq = 93; of = record {} }; of = record {} }; of = record {} }; mapper = record {}; of = record {} }) };
 
-    ghost ends_after_start = { λ p. mapped-ends _ _ (between-ends _ _ _ (just-ends _ _ _ _ _ _ _) (collects-ends _ _ _ _ (separates-end _ _ _ _ _ _ (ignoring_first-ends _ _ (run-ends _ _ _ _ _ _) (just-ends _ _ _ _ _ _ _)) (P.ends_after_start p.value))) (ignoring_first-ends _ _ (run-ends _ _ _ _ _ _) (just-ends _ _ _ _ _ _ _))) };
+    ghost ends_after_start = { λ p. mapped-ends _ _ (between-ends _ _ _ (just-ends ⟦<&'src str as Input<'src>>⟧ nat_eq ⟦<EmptyErr as Error<&'src str>>⟧ ⟦<() as Inspector<&'src str>>⟧ _ _ (codes "[")) (collects-ends _ _ _ _ (separates-end _ _ _ _ _ _ (ignoring_first-ends _ _ (run-ends ⟦<&'src str as Input<'src>>⟧ _ ⟦<EmptyErr as Error<&'src str>>⟧ ⟦<() as Inspector<&'src str>>⟧ _ _) (just-ends ⟦<&'src str as Input<'src>>⟧ nat_eq ⟦<EmptyErr as Error<&'src str>>⟧ ⟦<() as Inspector<&'src str>>⟧ _ _ (codes ","))) (P.ends_after_start p.value))) (ignoring_first-ends _ _ (run-ends ⟦<&'src str as Input<'src>>⟧ _ ⟦<EmptyErr as Error<&'src str>>⟧ ⟦<() as Inspector<&'src str>>⟧ _ _) (just-ends ⟦<&'src str as Input<'src>>⟧ nat_eq ⟦<EmptyErr as Error<&'src str>>⟧ ⟦<() as Inspector<&'src str>>⟧ _ _ (codes "]")))) };
 
     ghost agrees = { λ _ never. absurd never };
 
-    ghost accepts = { λ p. map-accepts _ _ (between-accepts _ _ _ (just-ends _ _ _ _ _ _ _) (collects-ends _ _ _ _ (separates-end _ _ _ _ _ _ (ignoring_first-ends _ _ (run-ends _ _ _ _ _ _) (just-ends _ _ _ _ _ _ _)) (P.ends_after_start p.value))) (ignoring_first-ends _ _ (run-ends _ _ _ _ _ _) (just-ends _ _ _ _ _ _ _)) (just-accepts _ _ _ _ _ _ _) (collects-accepts _ _ _ _ _ (separated-accepts _ _ _ _ _ _ _ _ (ignore_then-accepts _ _ (run-ends _ _ _ _ _ _) (just-ends _ _ _ _ _ _ _) (run-accepts _ _ _ _ _ _) (just-accepts _ _ _ _ _ _ _)) (P.accepts p.value))) (ignore_then-accepts _ _ (run-ends _ _ _ _ _ _) (just-ends _ _ _ _ _ _ _) (run-accepts _ _ _ _ _ _) (just-accepts _ _ _ _ _ _ _))) };
+    ghost accepts = { λ p. map-accepts _ _ (between-accepts _ _ _ (just-ends ⟦<&'src str as Input<'src>>⟧ nat_eq ⟦<EmptyErr as Error<&'src str>>⟧ ⟦<() as Inspector<&'src str>>⟧ _ _ (codes "[")) (collects-ends _ _ _ _ (separates-end _ _ _ _ _ _ (ignoring_first-ends _ _ (run-ends ⟦<&'src str as Input<'src>>⟧ _ ⟦<EmptyErr as Error<&'src str>>⟧ ⟦<() as Inspector<&'src str>>⟧ _ _) (just-ends ⟦<&'src str as Input<'src>>⟧ nat_eq ⟦<EmptyErr as Error<&'src str>>⟧ ⟦<() as Inspector<&'src str>>⟧ _ _ (codes ","))) (P.ends_after_start p.value))) (ignoring_first-ends _ _ (run-ends ⟦<&'src str as Input<'src>>⟧ _ ⟦<EmptyErr as Error<&'src str>>⟧ ⟦<() as Inspector<&'src str>>⟧ _ _) (just-ends ⟦<&'src str as Input<'src>>⟧ nat_eq ⟦<EmptyErr as Error<&'src str>>⟧ ⟦<() as Inspector<&'src str>>⟧ _ _ (codes "]"))) (just-accepts ⟦<&'src str as Input<'src>>⟧ nat_eq ⟦<EmptyErr as Error<&'src str>>⟧ ⟦<() as Inspector<&'src str>>⟧ _ _ (codes "[")) (collects-accepts _ _ _ _ _ (separated-accepts _ _ _ _ _ _ _ _ (ignore_then-accepts _ _ (run-ends ⟦<&'src str as Input<'src>>⟧ _ ⟦<EmptyErr as Error<&'src str>>⟧ ⟦<() as Inspector<&'src str>>⟧ _ _) (just-ends ⟦<&'src str as Input<'src>>⟧ nat_eq ⟦<EmptyErr as Error<&'src str>>⟧ ⟦<() as Inspector<&'src str>>⟧ _ _ (codes ",")) (run-accepts ⟦<&'src str as Input<'src>>⟧ _ ⟦<EmptyErr as Error<&'src str>>⟧ ⟦<() as Inspector<&'src str>>⟧ _ _) (just-accepts ⟦<&'src str as Input<'src>>⟧ nat_eq ⟦<EmptyErr as Error<&'src str>>⟧ ⟦<() as Inspector<&'src str>>⟧ _ _ (codes ","))) (P.accepts p.value))) (ignore_then-accepts _ _ (run-ends ⟦<&'src str as Input<'src>>⟧ _ ⟦<EmptyErr as Error<&'src str>>⟧ ⟦<() as Inspector<&'src str>>⟧ _ _) (just-ends ⟦<&'src str as Input<'src>>⟧ nat_eq ⟦<EmptyErr as Error<&'src str>>⟧ ⟦<() as Inspector<&'src str>>⟧ _ _ (codes "]")) (run-accepts ⟦<&'src str as Input<'src>>⟧ _ ⟦<EmptyErr as Error<&'src str>>⟧ ⟦<() as Inspector<&'src str>>⟧ _ _) (just-accepts ⟦<&'src str as Input<'src>>⟧ nat_eq ⟦<EmptyErr as Error<&'src str>>⟧ ⟦<() as Inspector<&'src str>>⟧ _ _ (codes "]")))) };
 
     fn go_emit(&self, inp: &mut InputRef<'src, '_, &'src str, EmptyText>) -> PResult<Json> {
         array_of(&self.value).go_emit(inp)
@@ -254,7 +253,8 @@ pub struct ValueOf<P> {
     pub inner: P,
 }
 
-impl<'src, P: Parser<'src, &'src str, Json, EmptyText>> Parser<'src, &'src str, Json, EmptyText> for ValueOf<P> {
+impl<'src, P: Parser<'src, &'src str, Json, EmptyText>> Parser<'src, &'src str, Json, EmptyText>
+    for ValueOf<P> {
     ghost use Rattle.chumsky_primitive.specs.JustLaws.{just-ends};
     ghost use Rattle.chumsky_primitive.specs.PrimitiveLanguageLaws.{just-accepts};
     ghost use Rattle.chumsky_combinator.specs.MappedLaws.{mapped-ends};
@@ -272,7 +272,7 @@ impl<'src, P: Parser<'src, &'src str, Json, EmptyText>> Parser<'src, &'src str, 
     ghost use Rattle.chumsky_items.specs.SeparatedLanguage.{separated-accepts};
     ghost use Rattle.chumsky_text.specs.TextRunLaws.{word-ends, run-ends};
     ghost use Rattle.chumsky_text.specs.TextLanguageLaws.{word-accepts, run-accepts};
-    ghost use Rattle.std.specs.Prelude.{⊤};
+    ghost use Rattle.std.specs.Prelude.{⊤, nat_eq, codes};
 
     ghost ready = { λ p. P.ready p.inner };
 
@@ -284,11 +284,11 @@ impl<'src, P: Parser<'src, &'src str, Json, EmptyText>> Parser<'src, &'src str, 
 
     ghost language = { λ p. ⟦<ValueParser<'src, P> as Parser<'src, &'src str, Json, EmptyText>>⟧.language (record { first = record { kind = record {}; of = record {} }; second = record { first = record {}; second = record { value = p.inner } }; of = record {} }) };
 
-    ghost ends_after_start = { λ p. ignoring_first-ends _ _ (run-ends _ _ _ _ _ _) (or_else-ends _ _ _ _ _ (or_else-ends _ _ _ _ _ (mapped-ends _ _ (vetted-ends _ _ _ _ (word-ends _ _ _ _ _ _ _ _))) (or_else-ends _ _ _ _ _ (mapped-ends _ _ (just-ends _ _ _ _ _ _ _)) (or_else-ends _ _ _ _ _ (mapped-ends _ _ (just-ends _ _ _ _ _ _ _)) (mapped-ends _ _ (just-ends _ _ _ _ _ _ _))))) (mapped-ends _ _ (between-ends _ _ _ (just-ends _ _ _ _ _ _ _) (collects-ends _ _ _ _ (separates-end _ _ _ _ _ _ (ignoring_first-ends _ _ (run-ends _ _ _ _ _ _) (just-ends _ _ _ _ _ _ _)) (P.ends_after_start p.inner))) (ignoring_first-ends _ _ (run-ends _ _ _ _ _ _) (just-ends _ _ _ _ _ _ _))))) };
+    ghost ends_after_start = { λ p. ignoring_first-ends _ _ (run-ends ⟦<&'src str as Input<'src>>⟧ _ ⟦<EmptyErr as Error<&'src str>>⟧ ⟦<() as Inspector<&'src str>>⟧ _ _) (or_else-ends _ _ _ _ _ (or_else-ends _ _ _ _ _ (mapped-ends _ _ (vetted-ends _ _ _ _ (word-ends ⟦<&'src str as Input<'src>>⟧ _ ⟦<EmptyErr as Error<&'src str>>⟧ ⟦<() as Inspector<&'src str>>⟧ _ _ _ _))) (or_else-ends _ _ _ _ _ (mapped-ends _ _ (just-ends ⟦<&'src str as Input<'src>>⟧ nat_eq ⟦<EmptyErr as Error<&'src str>>⟧ ⟦<() as Inspector<&'src str>>⟧ _ _ (codes "null"))) (or_else-ends _ _ _ _ _ (mapped-ends _ _ (just-ends ⟦<&'src str as Input<'src>>⟧ nat_eq ⟦<EmptyErr as Error<&'src str>>⟧ ⟦<() as Inspector<&'src str>>⟧ _ _ (codes "true"))) (mapped-ends _ _ (just-ends ⟦<&'src str as Input<'src>>⟧ nat_eq ⟦<EmptyErr as Error<&'src str>>⟧ ⟦<() as Inspector<&'src str>>⟧ _ _ (codes "false")))))) (mapped-ends _ _ (between-ends _ _ _ (just-ends ⟦<&'src str as Input<'src>>⟧ nat_eq ⟦<EmptyErr as Error<&'src str>>⟧ ⟦<() as Inspector<&'src str>>⟧ _ _ (codes "[")) (collects-ends _ _ _ _ (separates-end _ _ _ _ _ _ (ignoring_first-ends _ _ (run-ends ⟦<&'src str as Input<'src>>⟧ _ ⟦<EmptyErr as Error<&'src str>>⟧ ⟦<() as Inspector<&'src str>>⟧ _ _) (just-ends ⟦<&'src str as Input<'src>>⟧ nat_eq ⟦<EmptyErr as Error<&'src str>>⟧ ⟦<() as Inspector<&'src str>>⟧ _ _ (codes ","))) (P.ends_after_start p.inner))) (ignoring_first-ends _ _ (run-ends ⟦<&'src str as Input<'src>>⟧ _ ⟦<EmptyErr as Error<&'src str>>⟧ ⟦<() as Inspector<&'src str>>⟧ _ _) (just-ends ⟦<&'src str as Input<'src>>⟧ nat_eq ⟦<EmptyErr as Error<&'src str>>⟧ ⟦<() as Inspector<&'src str>>⟧ _ _ (codes "]")))))) };
 
     ghost agrees = { λ _ never. absurd never };
 
-    ghost accepts = { λ p. ignore_then-accepts _ _ (run-ends _ _ _ _ _ _) (or_else-ends _ _ _ _ _ (or_else-ends _ _ _ _ _ (mapped-ends _ _ (vetted-ends _ _ _ _ (word-ends _ _ _ _ _ _ _ _))) (or_else-ends _ _ _ _ _ (mapped-ends _ _ (just-ends _ _ _ _ _ _ _)) (or_else-ends _ _ _ _ _ (mapped-ends _ _ (just-ends _ _ _ _ _ _ _)) (mapped-ends _ _ (just-ends _ _ _ _ _ _ _))))) (mapped-ends _ _ (between-ends _ _ _ (just-ends _ _ _ _ _ _ _) (collects-ends _ _ _ _ (separates-end _ _ _ _ _ _ (ignoring_first-ends _ _ (run-ends _ _ _ _ _ _) (just-ends _ _ _ _ _ _ _)) (P.ends_after_start p.inner))) (ignoring_first-ends _ _ (run-ends _ _ _ _ _ _) (just-ends _ _ _ _ _ _ _))))) (run-accepts _ _ _ _ _ _) (or-accepts _ _ (λ q. q.1) _ _ (or-accepts _ _ (λ q. q.1) _ _ (map-accepts _ _ (picked-accepts _ _ _ _ _ (λ w v x s g. unsigned-by_word 32 w v.now x (slice-bytes (λ t. t.now) w v s.1) g) (word-accepts _ _ _ _ _ _ _ _))) (or-accepts _ _ (λ q. q.1) _ _ (map-accepts _ _ (just-accepts _ _ _ _ _ _ _)) (or-accepts _ _ (λ q. q.1) _ _ (map-accepts _ _ (just-accepts _ _ _ _ _ _ _)) (map-accepts _ _ (just-accepts _ _ _ _ _ _ _))))) (map-accepts _ _ (between-accepts _ _ _ (just-ends _ _ _ _ _ _ _) (collects-ends _ _ _ _ (separates-end _ _ _ _ _ _ (ignoring_first-ends _ _ (run-ends _ _ _ _ _ _) (just-ends _ _ _ _ _ _ _)) (P.ends_after_start p.inner))) (ignoring_first-ends _ _ (run-ends _ _ _ _ _ _) (just-ends _ _ _ _ _ _ _)) (just-accepts _ _ _ _ _ _ _) (collects-accepts _ _ _ _ _ (separated-accepts _ _ _ _ _ _ _ _ (ignore_then-accepts _ _ (run-ends _ _ _ _ _ _) (just-ends _ _ _ _ _ _ _) (run-accepts _ _ _ _ _ _) (just-accepts _ _ _ _ _ _ _)) (P.accepts p.inner))) (ignore_then-accepts _ _ (run-ends _ _ _ _ _ _) (just-ends _ _ _ _ _ _ _) (run-accepts _ _ _ _ _ _) (just-accepts _ _ _ _ _ _ _))))) };
+    ghost accepts = { λ p. ignore_then-accepts _ _ (run-ends ⟦<&'src str as Input<'src>>⟧ _ ⟦<EmptyErr as Error<&'src str>>⟧ ⟦<() as Inspector<&'src str>>⟧ _ _) (or_else-ends _ _ _ _ _ (or_else-ends _ _ _ _ _ (mapped-ends _ _ (vetted-ends _ _ _ _ (word-ends ⟦<&'src str as Input<'src>>⟧ _ ⟦<EmptyErr as Error<&'src str>>⟧ ⟦<() as Inspector<&'src str>>⟧ _ _ _ _))) (or_else-ends _ _ _ _ _ (mapped-ends _ _ (just-ends ⟦<&'src str as Input<'src>>⟧ nat_eq ⟦<EmptyErr as Error<&'src str>>⟧ ⟦<() as Inspector<&'src str>>⟧ _ _ (codes "null"))) (or_else-ends _ _ _ _ _ (mapped-ends _ _ (just-ends ⟦<&'src str as Input<'src>>⟧ nat_eq ⟦<EmptyErr as Error<&'src str>>⟧ ⟦<() as Inspector<&'src str>>⟧ _ _ (codes "true"))) (mapped-ends _ _ (just-ends ⟦<&'src str as Input<'src>>⟧ nat_eq ⟦<EmptyErr as Error<&'src str>>⟧ ⟦<() as Inspector<&'src str>>⟧ _ _ (codes "false")))))) (mapped-ends _ _ (between-ends _ _ _ (just-ends ⟦<&'src str as Input<'src>>⟧ nat_eq ⟦<EmptyErr as Error<&'src str>>⟧ ⟦<() as Inspector<&'src str>>⟧ _ _ (codes "[")) (collects-ends _ _ _ _ (separates-end _ _ _ _ _ _ (ignoring_first-ends _ _ (run-ends ⟦<&'src str as Input<'src>>⟧ _ ⟦<EmptyErr as Error<&'src str>>⟧ ⟦<() as Inspector<&'src str>>⟧ _ _) (just-ends ⟦<&'src str as Input<'src>>⟧ nat_eq ⟦<EmptyErr as Error<&'src str>>⟧ ⟦<() as Inspector<&'src str>>⟧ _ _ (codes ","))) (P.ends_after_start p.inner))) (ignoring_first-ends _ _ (run-ends ⟦<&'src str as Input<'src>>⟧ _ ⟦<EmptyErr as Error<&'src str>>⟧ ⟦<() as Inspector<&'src str>>⟧ _ _) (just-ends ⟦<&'src str as Input<'src>>⟧ nat_eq ⟦<EmptyErr as Error<&'src str>>⟧ ⟦<() as Inspector<&'src str>>⟧ _ _ (codes "]")))))) (run-accepts ⟦<&'src str as Input<'src>>⟧ _ ⟦<EmptyErr as Error<&'src str>>⟧ ⟦<() as Inspector<&'src str>>⟧ _ _) (or-accepts _ _ (λ q. q.1) _ _ (or-accepts _ _ (λ q. q.1) _ _ (map-accepts _ _ (picked-accepts ⟦<&'src str as Input<'src>>⟧ ⟦<EmptyErr as Error<&'src str>>⟧ _ _ _ (λ w v x s g. unsigned-by_word 32 w v.now x (slice-bytes (λ t. t.now) w v s.1) g) (word-accepts ⟦<&'src str as Input<'src>>⟧ _ ⟦<EmptyErr as Error<&'src str>>⟧ ⟦<() as Inspector<&'src str>>⟧ _ _ _ _))) (or-accepts _ _ (λ q. q.1) _ _ (map-accepts _ _ (just-accepts ⟦<&'src str as Input<'src>>⟧ nat_eq ⟦<EmptyErr as Error<&'src str>>⟧ ⟦<() as Inspector<&'src str>>⟧ _ _ (codes "null"))) (or-accepts _ _ (λ q. q.1) _ _ (map-accepts _ _ (just-accepts ⟦<&'src str as Input<'src>>⟧ nat_eq ⟦<EmptyErr as Error<&'src str>>⟧ ⟦<() as Inspector<&'src str>>⟧ _ _ (codes "true"))) (map-accepts _ _ (just-accepts ⟦<&'src str as Input<'src>>⟧ nat_eq ⟦<EmptyErr as Error<&'src str>>⟧ ⟦<() as Inspector<&'src str>>⟧ _ _ (codes "false")))))) (map-accepts _ _ (between-accepts _ _ _ (just-ends ⟦<&'src str as Input<'src>>⟧ nat_eq ⟦<EmptyErr as Error<&'src str>>⟧ ⟦<() as Inspector<&'src str>>⟧ _ _ (codes "[")) (collects-ends _ _ _ _ (separates-end _ _ _ _ _ _ (ignoring_first-ends _ _ (run-ends ⟦<&'src str as Input<'src>>⟧ _ ⟦<EmptyErr as Error<&'src str>>⟧ ⟦<() as Inspector<&'src str>>⟧ _ _) (just-ends ⟦<&'src str as Input<'src>>⟧ nat_eq ⟦<EmptyErr as Error<&'src str>>⟧ ⟦<() as Inspector<&'src str>>⟧ _ _ (codes ","))) (P.ends_after_start p.inner))) (ignoring_first-ends _ _ (run-ends ⟦<&'src str as Input<'src>>⟧ _ ⟦<EmptyErr as Error<&'src str>>⟧ ⟦<() as Inspector<&'src str>>⟧ _ _) (just-ends ⟦<&'src str as Input<'src>>⟧ nat_eq ⟦<EmptyErr as Error<&'src str>>⟧ ⟦<() as Inspector<&'src str>>⟧ _ _ (codes "]"))) (just-accepts ⟦<&'src str as Input<'src>>⟧ nat_eq ⟦<EmptyErr as Error<&'src str>>⟧ ⟦<() as Inspector<&'src str>>⟧ _ _ (codes "[")) (collects-accepts _ _ _ _ _ (separated-accepts _ _ _ _ _ _ _ _ (ignore_then-accepts _ _ (run-ends ⟦<&'src str as Input<'src>>⟧ _ ⟦<EmptyErr as Error<&'src str>>⟧ ⟦<() as Inspector<&'src str>>⟧ _ _) (just-ends ⟦<&'src str as Input<'src>>⟧ nat_eq ⟦<EmptyErr as Error<&'src str>>⟧ ⟦<() as Inspector<&'src str>>⟧ _ _ (codes ",")) (run-accepts ⟦<&'src str as Input<'src>>⟧ _ ⟦<EmptyErr as Error<&'src str>>⟧ ⟦<() as Inspector<&'src str>>⟧ _ _) (just-accepts ⟦<&'src str as Input<'src>>⟧ nat_eq ⟦<EmptyErr as Error<&'src str>>⟧ ⟦<() as Inspector<&'src str>>⟧ _ _ (codes ","))) (P.accepts p.inner))) (ignore_then-accepts _ _ (run-ends ⟦<&'src str as Input<'src>>⟧ _ ⟦<EmptyErr as Error<&'src str>>⟧ ⟦<() as Inspector<&'src str>>⟧ _ _) (just-ends ⟦<&'src str as Input<'src>>⟧ nat_eq ⟦<EmptyErr as Error<&'src str>>⟧ ⟦<() as Inspector<&'src str>>⟧ _ _ (codes "]")) (run-accepts ⟦<&'src str as Input<'src>>⟧ _ ⟦<EmptyErr as Error<&'src str>>⟧ ⟦<() as Inspector<&'src str>>⟧ _ _) (just-accepts ⟦<&'src str as Input<'src>>⟧ nat_eq ⟦<EmptyErr as Error<&'src str>>⟧ ⟦<() as Inspector<&'src str>>⟧ _ _ (codes "]")))))) };
 
     fn go_emit(&self, inp: &mut InputRef<'src, '_, &'src str, EmptyText>) -> PResult<Json> {
         let value = IgnoreThen {
