@@ -5,6 +5,7 @@
 mod arithmetic_answers;
 #[cfg(test)]
 mod exact_answers;
+mod exact_json;
 #[cfg(test)]
 mod exact_expressions;
 #[cfg(test)]

@@ -6,6 +6,8 @@ pub mod DateLaws
 pub mod Expressions
 pub mod ExpressionsLaws
 pub mod Listed
+pub mod Json
+pub mod JsonLaws
 pub mod Level
 pub mod LevelLaws
 pub mod Nested

@@ -4,6 +4,7 @@
 pub mod bits;
 pub mod date;
 pub mod expressions;
+pub mod json;
 pub mod level;
 pub mod nested;
 pub mod number;

@@ -1,0 +1,5 @@
+use Rattle.std.proofs.Common.{refl}
+use Rattle.exact.proofs.json.false_word.Goals as goal
+
+pub returns : goal.returns
+returns c = record { word = rw c.map_by.ensures.parser c.just.ensures; value = rw c.map_by.ensures.mapper refl }
