@@ -423,8 +423,9 @@ pub mod laws {
     };
     pub use chumsky_shield::steady::{
         and_is_is_steady, filter_is_steady, filter_map_is_steady, map_err_is_steady,
-        map_err_with_is_steady, map_err_with_state_is_steady, not_is_steady, try_map_is_steady,
-        try_map_with_is_steady, unwrapped_is_steady, validate_is_steady,
+        map_err_with_is_steady, map_err_with_state_is_steady, not_is_steady, pick_by_is_steady,
+        test_by_is_steady, try_map_is_steady, try_map_with_is_steady, unwrapped_is_steady,
+        validate_is_steady,
     };
 }
 

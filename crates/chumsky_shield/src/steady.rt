@@ -18,7 +18,9 @@ use crate::map_err::MapErr;
 use crate::map_err_with::MapErrWith;
 use crate::map_err_with_state::MapErrWithState;
 use crate::not::Not;
+use crate::pick_by::{PickBy, WordPicker};
 use crate::rewind::Rewind;
+use crate::test_by::{TestBy, WordTester};
 use crate::try_map::{TryMap, TryMapper};
 use crate::try_map_with::TryMapWith;
 use crate::unwrapped::Unwrapped;
@@ -69,6 +71,20 @@ pub fn filter_is_steady<
     ensures same { (x y : O) → ⟦<Filter<A, F> as Parser<'src, I, O, E>>⟧.same filter.now x y → A.same filter.now.parser x y }
 {}
 
+/// `a.test_by(f)`.
+pub fn test_by_is_steady<
+    'src,
+    I: Input<'src>,
+    O: Drop,
+    E: ParserExtra<I>,
+    A: Parser<'src, I, O, E>,
+    F: WordTester<'src, I, O, E, A>,
+>(test_by: &TestBy<A, F>)
+    ensures ready { A.ready test_by.now.tested.parser → F.callable test_by.now.tested.tester → ⟦<TestBy<A, F> as Parser<'src, I, O, E>>⟧.ready test_by.now }
+    ensures steady { A.steady test_by.now.tested.parser → TestsAlike (A.same test_by.now.tested.parser) (F.gives test_by.now.tested.tester) → ⟦<TestBy<A, F> as Parser<'src, I, O, E>>⟧.steady test_by.now }
+    ensures same { (x y : O) → ⟦<TestBy<A, F> as Parser<'src, I, O, E>>⟧.same test_by.now x y → A.same test_by.now.tested.parser x y }
+{}
+
 /// `a.filter_map(f)` and `a.filter_map_by(f)`.
 pub fn filter_map_is_steady<
     'src,
@@ -82,6 +98,21 @@ pub fn filter_map_is_steady<
     ensures ready { A.ready filter_map.now.parser → F.callable filter_map.now.picker → ⟦<FilterMap<A, O, F, U> as Parser<'src, I, U, E>>⟧.ready filter_map.now }
     ensures steady { A.steady filter_map.now.parser → FilterMapsAlike (A.same filter_map.now.parser) (F.gives filter_map.now.picker) → ⟦<FilterMap<A, O, F, U> as Parser<'src, I, U, E>>⟧.steady filter_map.now }
     ensures same { (x y : U) → ⟦<FilterMap<A, O, F, U> as Parser<'src, I, U, E>>⟧.same filter_map.now x y → SameFilterMapped (A.same filter_map.now.parser) (F.gives filter_map.now.picker) x y }
+{}
+
+/// `a.pick_by(f)`.
+pub fn pick_by_is_steady<
+    'src,
+    I: Input<'src>,
+    O,
+    U: Drop,
+    E: ParserExtra<I>,
+    A: Parser<'src, I, O, E>,
+    F: WordPicker<'src, I, O, U, E, A>,
+>(pick_by: &PickBy<A, O, F, U>)
+    ensures ready { A.ready pick_by.now.picked.parser → F.callable pick_by.now.picked.picker → ⟦<PickBy<A, O, F, U> as Parser<'src, I, U, E>>⟧.ready pick_by.now }
+    ensures steady { A.steady pick_by.now.picked.parser → FilterMapsAlike (A.same pick_by.now.picked.parser) (F.gives pick_by.now.picked.picker) → ⟦<PickBy<A, O, F, U> as Parser<'src, I, U, E>>⟧.steady pick_by.now }
+    ensures same { (x y : U) → ⟦<PickBy<A, O, F, U> as Parser<'src, I, U, E>>⟧.same pick_by.now x y → SameFilterMapped (A.same pick_by.now.picked.parser) (F.gives pick_by.now.picked.picker) x y }
 {}
 
 /// `a.try_map(f)` and `a.try_map_by(f)`.
