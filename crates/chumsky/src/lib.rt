@@ -343,6 +343,11 @@ pub mod context_laws {
     };
 }
 
+/// When parsers that decide by the word are ready and steady, as in `laws`.
+pub mod word_laws {
+    pub use chumsky_shield::steady::{pick_by_is_steady, test_by_is_steady};
+}
+
 /// Laws of parsers that recover, as those of `laws`: what each answer of one is, and when it is ready and steady.
 pub mod recovery_laws {
     pub use chumsky_recovery::laws::{
@@ -358,108 +363,74 @@ pub mod recovery_laws {
 /// Laws of parsers, each the contract of a function that does nothing: which of them mean the same, and which are ready and
 /// steady. Those of groups speak of any `primitive::Parts`.
 pub mod laws {
-    pub use crate::steady::from_str_is_steady;
-    pub use crate::steady::lazy_is_steady;
+    pub use crate::steady::{from_str_is_steady, lazy_is_steady};
     pub use chumsky_choice::alternatives::Alternatives;
-    pub use chumsky_choice::laws::choice_agrees_by_one_alternative;
-    pub use chumsky_choice::laws::choice_is_repeated_or;
-    pub use chumsky_choice::laws::choice_of_a_list_agrees_by_one_alternative;
-    pub use chumsky_choice::laws::one_alternative_of_a_list_stands;
-    pub use chumsky_choice::laws::one_alternative_stands;
-    pub use chumsky_choice::steady::choice_is_steady;
-    pub use chumsky_choice::steady::choice_of_a_list_is_steady;
-    pub use chumsky_combinator::laws::ignore_then_agrees_with_then;
-    pub use chumsky_combinator::laws::map_with_by_a_blind_mapper_is_map;
-    pub use chumsky_combinator::laws::or_agrees_by_one_alternative;
-    pub use chumsky_combinator::laws::or_not_never_says_no;
-    pub use chumsky_combinator::laws::then_is_associative;
-    pub use chumsky_combinator::steady::delimited_by_is_steady;
-    pub use chumsky_combinator::steady::ignore_then_is_steady;
-    pub use chumsky_combinator::steady::map_is_steady;
-    pub use chumsky_combinator::steady::map_items_is_steady;
-    pub use chumsky_combinator::steady::map_items_with_is_steady;
-    pub use chumsky_combinator::steady::map_with_is_steady;
-    pub use chumsky_combinator::steady::or_is_steady;
-    pub use chumsky_combinator::steady::part_is_steady;
-    pub use chumsky_combinator::steady::then_is_steady;
-    pub use chumsky_combinator::steady::then_items_is_steady;
-    pub use chumsky_combinator::steady::to_is_steady;
-    pub use chumsky_flatten::laws::flatten_gives_the_items_of_each_collection;
-    pub use chumsky_flatten::laws::into_iter_gives_the_items_of_the_output;
-    pub use chumsky_flatten::steady::flatten_is_steady;
-    pub use chumsky_flatten::steady::into_iter_is_steady;
-    pub use chumsky_folds::laws::enumerate_numbers_from_zero;
-    pub use chumsky_folds::laws::fold_is_the_fold_of_what_collect_gives;
-    pub use chumsky_folds::laws::foldl_is_the_fold_of_what_collect_gives;
-    pub use chumsky_folds::laws::foldl_with_by_a_blind_folder_is_foldl;
-    pub use chumsky_folds::laws::foldr_is_the_fold_of_the_reverse;
-    pub use chumsky_folds::laws::foldr_with_by_a_blind_folder_is_foldr;
-    pub use chumsky_folds::laws::try_foldl_that_never_refuses_is_foldl_with;
-    pub use chumsky_folds::steady::enumerate_is_steady;
-    pub use chumsky_folds::steady::fold_is_steady;
-    pub use chumsky_folds::steady::foldl_is_steady;
-    pub use chumsky_folds::steady::foldl_with_is_steady;
-    pub use chumsky_folds::steady::foldr_is_steady;
-    pub use chumsky_folds::steady::foldr_with_is_steady;
-    pub use chumsky_folds::steady::try_foldl_is_steady;
-    pub use chumsky_group::laws::group_of_three_is_then_twice;
-    pub use chumsky_group::laws::group_of_two_is_then;
-    pub use chumsky_group::steady::group_is_steady;
-    pub use chumsky_group::steady::group_of_an_array_is_steady;
-    pub use chumsky_items::laws::collect_exactly_adds_no_event;
-    pub use chumsky_items::laws::count_is_the_length_of_collect;
-    pub use chumsky_items::laws::repeated_is_one_more_or_no_more;
-    pub use chumsky_items::laws::repeated_never_gives_more_than_its_cap;
-    pub use chumsky_items::laws::separated_by_never_ends_with_a_separator;
-    pub use chumsky_items::steady::collect_exactly_is_steady;
-    pub use chumsky_items::steady::collect_is_steady;
-    pub use chumsky_items::steady::repeated_is_steady;
-    pub use chumsky_items::steady::separated_by_is_steady;
-    pub use chumsky_parse_iter::laws::finish_answers_the_whole;
-    pub use chumsky_parse_iter::laws::items_are_the_first_of_those_that_collect_gives;
-    pub use chumsky_parse_iter::laws::once_none_is_given_none_is_any_more;
-    pub use chumsky_parse_iter::laws::run_may_be_asked;
-    pub use chumsky_parser::steady::by_reference_is_steady;
-    pub use chumsky_parser::steady::either_is_steady;
-    pub use chumsky_primitive::steady::any_is_steady;
-    pub use chumsky_primitive::steady::any_ref_is_steady;
-    pub use chumsky_primitive::steady::closures_may_read;
-    pub use chumsky_primitive::steady::custom_is_steady;
-    pub use chumsky_primitive::steady::end_is_steady;
-    pub use chumsky_primitive::steady::just_is_steady;
-    pub use chumsky_primitive::steady::one_of_is_steady;
-    pub use chumsky_primitive::steady::select_is_steady;
-    pub use chumsky_primitive::steady::select_ref_is_steady;
-    pub use chumsky_set::laws::a_list_takes_at_most_one_round_more;
-    pub use chumsky_set::laws::a_set_takes_at_most_one_round_more;
-    pub use chumsky_set::steady::set_is_steady;
-    pub use chumsky_set::steady::set_of_a_list_is_steady;
-    pub use chumsky_shield::laws::and_is_ends_where_its_first_part_ends;
-    pub use chumsky_shield::laws::filter_gives_what_passed;
-    pub use chumsky_shield::laws::filter_map_gives_what_was_picked;
-    pub use chumsky_shield::laws::filter_map_of_all_answers_as_its_part;
-    pub use chumsky_shield::laws::filter_of_all_answers_as_its_part;
-    pub use chumsky_shield::laws::map_err_succeeds_as_its_part;
-    pub use chumsky_shield::laws::map_err_with_state_succeeds_as_its_part;
-    pub use chumsky_shield::laws::map_err_with_succeeds_as_its_part;
-    pub use chumsky_shield::laws::not_ends_where_it_began;
-    pub use chumsky_shield::laws::rewind_ends_where_it_began;
-    pub use chumsky_shield::laws::try_map_of_all_answers_as_its_part;
-    pub use chumsky_shield::laws::try_map_with_by_a_blind_closure_is_try_map;
-    pub use chumsky_shield::laws::validate_that_emits_nothing_answers_as_its_part;
-    pub use chumsky_shield::steady::and_is_is_steady;
-    pub use chumsky_shield::steady::filter_is_steady;
-    pub use chumsky_shield::steady::filter_map_is_steady;
-    pub use chumsky_shield::steady::map_err_is_steady;
-    pub use chumsky_shield::steady::map_err_with_is_steady;
-    pub use chumsky_shield::steady::map_err_with_state_is_steady;
-    pub use chumsky_shield::steady::not_is_steady;
-    pub use chumsky_shield::steady::pick_by_is_steady;
-    pub use chumsky_shield::steady::test_by_is_steady;
-    pub use chumsky_shield::steady::try_map_is_steady;
-    pub use chumsky_shield::steady::try_map_with_is_steady;
-    pub use chumsky_shield::steady::unwrapped_is_steady;
-    pub use chumsky_shield::steady::validate_is_steady;
+    pub use chumsky_choice::laws::{
+        choice_agrees_by_one_alternative, choice_is_repeated_or,
+        choice_of_a_list_agrees_by_one_alternative, one_alternative_of_a_list_stands,
+        one_alternative_stands,
+    };
+    pub use chumsky_choice::steady::{choice_is_steady, choice_of_a_list_is_steady};
+    pub use chumsky_combinator::laws::{
+        ignore_then_agrees_with_then, map_with_by_a_blind_mapper_is_map,
+        or_agrees_by_one_alternative, or_not_never_says_no, then_is_associative,
+    };
+    pub use chumsky_combinator::steady::{
+        delimited_by_is_steady, ignore_then_is_steady, map_is_steady, map_items_is_steady,
+        map_items_with_is_steady, map_with_is_steady, or_is_steady, part_is_steady, then_is_steady,
+        then_items_is_steady, to_is_steady,
+    };
+    pub use chumsky_flatten::laws::{
+        flatten_gives_the_items_of_each_collection, into_iter_gives_the_items_of_the_output,
+    };
+    pub use chumsky_flatten::steady::{flatten_is_steady, into_iter_is_steady};
+    pub use chumsky_folds::laws::{
+        enumerate_numbers_from_zero, fold_is_the_fold_of_what_collect_gives,
+        foldl_is_the_fold_of_what_collect_gives, foldl_with_by_a_blind_folder_is_foldl,
+        foldr_is_the_fold_of_the_reverse, foldr_with_by_a_blind_folder_is_foldr,
+        try_foldl_that_never_refuses_is_foldl_with,
+    };
+    pub use chumsky_folds::steady::{
+        enumerate_is_steady, fold_is_steady, foldl_is_steady, foldl_with_is_steady,
+        foldr_is_steady, foldr_with_is_steady, try_foldl_is_steady,
+    };
+    pub use chumsky_group::laws::{group_of_three_is_then_twice, group_of_two_is_then};
+    pub use chumsky_group::steady::{group_is_steady, group_of_an_array_is_steady};
+    pub use chumsky_items::laws::{
+        collect_exactly_adds_no_event, count_is_the_length_of_collect,
+        repeated_is_one_more_or_no_more, repeated_never_gives_more_than_its_cap,
+        separated_by_never_ends_with_a_separator,
+    };
+    pub use chumsky_items::steady::{
+        collect_exactly_is_steady, collect_is_steady, repeated_is_steady, separated_by_is_steady,
+    };
+    pub use chumsky_parse_iter::laws::{
+        finish_answers_the_whole, items_are_the_first_of_those_that_collect_gives,
+        once_none_is_given_none_is_any_more, run_may_be_asked,
+    };
+    pub use chumsky_parser::steady::{by_reference_is_steady, either_is_steady};
+    pub use chumsky_primitive::steady::{
+        any_is_steady, any_ref_is_steady, closures_may_read, custom_is_steady, end_is_steady,
+        just_is_steady, one_of_is_steady, select_is_steady, select_ref_is_steady,
+    };
+    pub use chumsky_set::laws::{
+        a_list_takes_at_most_one_round_more, a_set_takes_at_most_one_round_more,
+    };
+    pub use chumsky_set::steady::{set_is_steady, set_of_a_list_is_steady};
+    pub use chumsky_shield::laws::{
+        and_is_ends_where_its_first_part_ends, filter_gives_what_passed,
+        filter_map_gives_what_was_picked, filter_map_of_all_answers_as_its_part,
+        filter_of_all_answers_as_its_part, map_err_succeeds_as_its_part,
+        map_err_with_state_succeeds_as_its_part, map_err_with_succeeds_as_its_part,
+        not_ends_where_it_began, rewind_ends_where_it_began, try_map_of_all_answers_as_its_part,
+        try_map_with_by_a_blind_closure_is_try_map,
+        validate_that_emits_nothing_answers_as_its_part,
+    };
+    pub use chumsky_shield::steady::{
+        and_is_is_steady, filter_is_steady, filter_map_is_steady, map_err_is_steady,
+        map_err_with_is_steady, map_err_with_state_is_steady, not_is_steady, try_map_is_steady,
+        try_map_with_is_steady, unwrapped_is_steady, validate_is_steady,
+    };
 }
 
 pub use chumsky_context::config::{ConfigParser, Configurable, IsConfigParser};
