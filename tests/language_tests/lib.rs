@@ -15,6 +15,8 @@ mod json_answers;
 #[cfg(test)]
 mod json_oracle;
 #[cfg(test)]
+mod json_printed;
+#[cfg(test)]
 mod printed;
 #[cfg(test)]
 mod s_expression;

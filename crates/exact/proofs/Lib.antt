@@ -1,1 +1,2 @@
+pub mod JsonPrintLemmas
 pub mod PrintLemmas

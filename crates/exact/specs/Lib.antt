@@ -7,7 +7,12 @@ pub mod Expressions
 pub mod ExpressionsLaws
 pub mod Listed
 pub mod Json
+pub mod JsonForms
 pub mod JsonLaws
+pub mod JsonOnce
+pub mod JsonStrings
+pub mod JsonWritten
+pub mod JsonWrittenLaws
 pub mod Level
 pub mod LevelLaws
 pub mod Nested
