@@ -1,1 +1,2 @@
+pub mod JsonPickLemmas
 pub mod PrintLemmas

@@ -8,6 +8,10 @@ pub mod ExpressionsLaws
 pub mod Listed
 pub mod Json
 pub mod JsonLaws
+pub mod JsonPicks
+pub mod JsonPicksLaws
+pub mod JsonStrings
+pub mod JsonStringsLaws
 pub mod Level
 pub mod LevelLaws
 pub mod Nested

@@ -5,6 +5,7 @@ pub mod bits;
 pub mod date;
 pub mod expressions;
 pub mod json;
+pub mod json_string;
 pub mod level;
 pub mod nested;
 pub mod number;
