@@ -250,7 +250,7 @@ pub type PairParser<'src> = Map<
 /// The parser of what stands for a character of a string.
 pub type PieceParser<'src> = Or<
     PlainParser<'src>,
-    Or<LetterParser<'src>, Or<UnitParser<'src, Lone, char>, PairParser<'src>>>,
+    Or<LetterParser<'src>, Or<ByUnit, ByPair>>,
 >;
 
 /// The parser of a unit that a picker takes.
@@ -262,16 +262,113 @@ fn unit_by<'src, F: Picker<Digits, U>, U>(picker: F) -> UnitParser<'src, F, U>
     just(['\\', 'u']).ignore_then(four.pick_by(picker))
 }
 
+/// The parser of an escape by a pair.
+fn pair_parser<'src>() -> PairParser<'src>
+    ensures high { result.parser.first.first.seq ≡ 92 ∷ 117 ∷ [] }
+    ensures low { result.parser.second.first.seq ≡ 92 ∷ 117 ∷ [] }
+{
+    unit_by(High).then(unit_by(Low)).map_by(ToPair)
+}
+
+/// An escape by a unit that is no half of a pair: a parser with a name, as the two below, so that what holds it is checked by
+/// its name alone.
+#[derive(Clone, Copy, Drop)]
+pub struct ByUnit;
+
+impl<'src> IsParser<&'src str, char, EmptyText> for ByUnit {}
+
+impl<'src> Parser<'src, &'src str, char, EmptyText> for ByUnit {
+    ghost use Rattle.std.specs.Prelude.{[], ◌∷◌, ⊤, nat_eq};
+    ghost use Rattle.chumsky_primitive.specs.Any.{CountsAs};
+    ghost use Rattle.chumsky_primitive.specs.AnyLaws.{any-ends};
+    ghost use Rattle.chumsky_primitive.specs.JustLaws.{just-ends};
+    ghost use Rattle.chumsky_primitive.specs.PrimitiveLanguageLaws.{any-accepts, just-accepts};
+    ghost use Rattle.chumsky_parser.specs.IgnoringLaws.{ignoring_first-ends};
+    ghost use Rattle.chumsky_parser.specs.Laws.{sequence-ends};
+    ghost use Rattle.chumsky_parser.specs.SequenceLanguage.{then-accepts, ignore_then-accepts};
+    ghost use Rattle.chumsky_shield.specs.VettedLaws.{vetted-ends};
+    ghost use Rattle.chumsky_shield.specs.PickedLaws.{picked-accepts};
+    ghost use Rattle.exact.specs.JsonPicks.{lone_of};
+    ghost use Rattle.exact.specs.JsonPicksLaws.{four-by_word};
+
+    ghost ready = { λ _. ⊤ };
+
+    ghost meaning = { λ _. ⟦<UnitParser<'src, Lone, char> as Parser<'src, &'src str, char, EmptyText>>⟧.meaning (record { first = record { seq = 92 ∷ 117 ∷ []; of = record {} }; second = record { picked = record { parser = record { first = record { first = record { first = record { of = record {} }; second = record { of = record {} }; of = record {} }; second = record { of = record {} }; of = record {} }; second = record { of = record {} }; of = record {} }; picker = record {}; of = record {} } }; of = record {} }) };
+
+    ghost steady = { λ _. ⊥ };
+
+    ghost same = { λ _ _ _. ⊤ };
+
+    ghost language = { λ _. ⟦<UnitParser<'src, Lone, char> as Parser<'src, &'src str, char, EmptyText>>⟧.language (record { first = record { seq = 92 ∷ 117 ∷ []; of = record {} }; second = record { picked = record { parser = record { first = record { first = record { first = record { of = record {} }; second = record { of = record {} }; of = record {} }; second = record { of = record {} }; of = record {} }; second = record { of = record {} }; of = record {} }; picker = record {}; of = record {} } }; of = record {} }) };
+
+    ghost ends_after_start = { λ _. ignoring_first-ends _ _ (just-ends ⟦<&'src str as Input<'src>>⟧ nat_eq ⟦<EmptyErr as Error<&'src str>>⟧ ⟦<() as Inspector<&'src str>>⟧ _ _ (92 ∷ 117 ∷ [])) (vetted-ends _ _ _ _ (sequence-ends _ _ (sequence-ends _ _ (sequence-ends _ _ (any-ends ⟦<&'src str as Input<'src>>⟧ (CountsAs (λ c. c)) (λ _. ⊤) ⟦<EmptyErr as Error<&'src str>>⟧ ⟦<() as Inspector<&'src str>>⟧) (any-ends ⟦<&'src str as Input<'src>>⟧ (CountsAs (λ c. c)) (λ _. ⊤) ⟦<EmptyErr as Error<&'src str>>⟧ ⟦<() as Inspector<&'src str>>⟧)) (any-ends ⟦<&'src str as Input<'src>>⟧ (CountsAs (λ c. c)) (λ _. ⊤) ⟦<EmptyErr as Error<&'src str>>⟧ ⟦<() as Inspector<&'src str>>⟧)) (any-ends ⟦<&'src str as Input<'src>>⟧ (CountsAs (λ c. c)) (λ _. ⊤) ⟦<EmptyErr as Error<&'src str>>⟧ ⟦<() as Inspector<&'src str>>⟧))) };
+
+    ghost agrees = { λ _ never. absurd never };
+
+    ghost accepts = { λ _. ignore_then-accepts _ _ (just-ends ⟦<&'src str as Input<'src>>⟧ nat_eq ⟦<EmptyErr as Error<&'src str>>⟧ ⟦<() as Inspector<&'src str>>⟧ _ _ (92 ∷ 117 ∷ [])) (vetted-ends _ _ _ _ (sequence-ends _ _ (sequence-ends _ _ (sequence-ends _ _ (any-ends ⟦<&'src str as Input<'src>>⟧ (CountsAs (λ c. c)) (λ _. ⊤) ⟦<EmptyErr as Error<&'src str>>⟧ ⟦<() as Inspector<&'src str>>⟧) (any-ends ⟦<&'src str as Input<'src>>⟧ (CountsAs (λ c. c)) (λ _. ⊤) ⟦<EmptyErr as Error<&'src str>>⟧ ⟦<() as Inspector<&'src str>>⟧)) (any-ends ⟦<&'src str as Input<'src>>⟧ (CountsAs (λ c. c)) (λ _. ⊤) ⟦<EmptyErr as Error<&'src str>>⟧ ⟦<() as Inspector<&'src str>>⟧)) (any-ends ⟦<&'src str as Input<'src>>⟧ (CountsAs (λ c. c)) (λ _. ⊤) ⟦<EmptyErr as Error<&'src str>>⟧ ⟦<() as Inspector<&'src str>>⟧))) (just-accepts ⟦<&'src str as Input<'src>>⟧ nat_eq ⟦<EmptyErr as Error<&'src str>>⟧ ⟦<() as Inspector<&'src str>>⟧ _ _ (92 ∷ 117 ∷ [])) (picked-accepts ⟦<&'src str as Input<'src>>⟧ ⟦<EmptyErr as Error<&'src str>>⟧ _ _ _ (λ w v x s g. four-by_word lone_of w v x s g) (then-accepts _ _ (sequence-ends _ _ (sequence-ends _ _ (any-ends ⟦<&'src str as Input<'src>>⟧ (CountsAs (λ c. c)) (λ _. ⊤) ⟦<EmptyErr as Error<&'src str>>⟧ ⟦<() as Inspector<&'src str>>⟧) (any-ends ⟦<&'src str as Input<'src>>⟧ (CountsAs (λ c. c)) (λ _. ⊤) ⟦<EmptyErr as Error<&'src str>>⟧ ⟦<() as Inspector<&'src str>>⟧)) (any-ends ⟦<&'src str as Input<'src>>⟧ (CountsAs (λ c. c)) (λ _. ⊤) ⟦<EmptyErr as Error<&'src str>>⟧ ⟦<() as Inspector<&'src str>>⟧)) (any-ends ⟦<&'src str as Input<'src>>⟧ (CountsAs (λ c. c)) (λ _. ⊤) ⟦<EmptyErr as Error<&'src str>>⟧ ⟦<() as Inspector<&'src str>>⟧) (then-accepts _ _ (sequence-ends _ _ (any-ends ⟦<&'src str as Input<'src>>⟧ (CountsAs (λ c. c)) (λ _. ⊤) ⟦<EmptyErr as Error<&'src str>>⟧ ⟦<() as Inspector<&'src str>>⟧) (any-ends ⟦<&'src str as Input<'src>>⟧ (CountsAs (λ c. c)) (λ _. ⊤) ⟦<EmptyErr as Error<&'src str>>⟧ ⟦<() as Inspector<&'src str>>⟧)) (any-ends ⟦<&'src str as Input<'src>>⟧ (CountsAs (λ c. c)) (λ _. ⊤) ⟦<EmptyErr as Error<&'src str>>⟧ ⟦<() as Inspector<&'src str>>⟧) (then-accepts _ _ (any-ends ⟦<&'src str as Input<'src>>⟧ (CountsAs (λ c. c)) (λ _. ⊤) ⟦<EmptyErr as Error<&'src str>>⟧ ⟦<() as Inspector<&'src str>>⟧) (any-ends ⟦<&'src str as Input<'src>>⟧ (CountsAs (λ c. c)) (λ _. ⊤) ⟦<EmptyErr as Error<&'src str>>⟧ ⟦<() as Inspector<&'src str>>⟧) (any-accepts ⟦<&'src str as Input<'src>>⟧ (CountsAs (λ c. c)) (λ _. ⊤) ⟦<EmptyErr as Error<&'src str>>⟧ ⟦<() as Inspector<&'src str>>⟧) (any-accepts ⟦<&'src str as Input<'src>>⟧ (CountsAs (λ c. c)) (λ _. ⊤) ⟦<EmptyErr as Error<&'src str>>⟧ ⟦<() as Inspector<&'src str>>⟧)) (any-accepts ⟦<&'src str as Input<'src>>⟧ (CountsAs (λ c. c)) (λ _. ⊤) ⟦<EmptyErr as Error<&'src str>>⟧ ⟦<() as Inspector<&'src str>>⟧)) (any-accepts ⟦<&'src str as Input<'src>>⟧ (CountsAs (λ c. c)) (λ _. ⊤) ⟦<EmptyErr as Error<&'src str>>⟧ ⟦<() as Inspector<&'src str>>⟧))) };
+
+    fn go_emit(&self, inp: &mut TextRef<'src, '_, EmptyText>) -> PResult<char> {
+        unit_by(Lone).go_emit(inp)
+    }
+
+    fn go_check(&self, inp: &mut TextRef<'src, '_, EmptyText>) -> PResult<()> {
+        unit_by(Lone).go_check(inp)
+    }
+}
+
+/// An escape by a pair of surrogates.
+#[derive(Clone, Copy, Drop)]
+pub struct ByPair;
+
+impl<'src> IsParser<&'src str, char, EmptyText> for ByPair {}
+
+impl<'src> Parser<'src, &'src str, char, EmptyText> for ByPair {
+    ghost use Rattle.std.specs.Prelude.{[], ◌∷◌, ⊤, nat_eq};
+    ghost use Rattle.chumsky_primitive.specs.Any.{CountsAs};
+    ghost use Rattle.chumsky_primitive.specs.AnyLaws.{any-ends};
+    ghost use Rattle.chumsky_primitive.specs.JustLaws.{just-ends};
+    ghost use Rattle.chumsky_primitive.specs.PrimitiveLanguageLaws.{any-accepts, just-accepts};
+    ghost use Rattle.chumsky_combinator.specs.MappedLaws.{mapped-ends};
+    ghost use Rattle.chumsky_combinator.specs.MappedLanguage.{map-accepts};
+    ghost use Rattle.chumsky_parser.specs.IgnoringLaws.{ignoring_first-ends};
+    ghost use Rattle.chumsky_parser.specs.Laws.{sequence-ends};
+    ghost use Rattle.chumsky_parser.specs.SequenceLanguage.{then-accepts, ignore_then-accepts};
+    ghost use Rattle.chumsky_shield.specs.VettedLaws.{vetted-ends};
+    ghost use Rattle.chumsky_shield.specs.PickedLaws.{picked-accepts};
+    ghost use Rattle.exact.specs.JsonPicks.{high_of, low_of};
+    ghost use Rattle.exact.specs.JsonPicksLaws.{four-by_word};
+
+    ghost ready = { λ _. ⊤ };
+
+    ghost meaning = { λ _. ⟦<PairParser<'src> as Parser<'src, &'src str, char, EmptyText>>⟧.meaning (record { parser = record { first = record { first = record { seq = 92 ∷ 117 ∷ []; of = record {} }; second = record { picked = record { parser = record { first = record { first = record { first = record { of = record {} }; second = record { of = record {} }; of = record {} }; second = record { of = record {} }; of = record {} }; second = record { of = record {} }; of = record {} }; picker = record {}; of = record {} } }; of = record {} }; second = record { first = record { seq = 92 ∷ 117 ∷ []; of = record {} }; second = record { picked = record { parser = record { first = record { first = record { first = record { of = record {} }; second = record { of = record {} }; of = record {} }; second = record { of = record {} }; of = record {} }; second = record { of = record {} }; of = record {} }; picker = record {}; of = record {} } }; of = record {} }; of = record {} }; mapper = record {}; of = record {} }) };
+
+    ghost steady = { λ _. ⊥ };
+
+    ghost same = { λ _ _ _. ⊤ };
+
+    ghost language = { λ _. ⟦<PairParser<'src> as Parser<'src, &'src str, char, EmptyText>>⟧.language (record { parser = record { first = record { first = record { seq = 92 ∷ 117 ∷ []; of = record {} }; second = record { picked = record { parser = record { first = record { first = record { first = record { of = record {} }; second = record { of = record {} }; of = record {} }; second = record { of = record {} }; of = record {} }; second = record { of = record {} }; of = record {} }; picker = record {}; of = record {} } }; of = record {} }; second = record { first = record { seq = 92 ∷ 117 ∷ []; of = record {} }; second = record { picked = record { parser = record { first = record { first = record { first = record { of = record {} }; second = record { of = record {} }; of = record {} }; second = record { of = record {} }; of = record {} }; second = record { of = record {} }; of = record {} }; picker = record {}; of = record {} } }; of = record {} }; of = record {} }; mapper = record {}; of = record {} }) };
+
+    ghost ends_after_start = { λ _. mapped-ends _ _ (sequence-ends _ _ (ignoring_first-ends _ _ (just-ends ⟦<&'src str as Input<'src>>⟧ nat_eq ⟦<EmptyErr as Error<&'src str>>⟧ ⟦<() as Inspector<&'src str>>⟧ _ _ (92 ∷ 117 ∷ [])) (vetted-ends _ _ _ _ (sequence-ends _ _ (sequence-ends _ _ (sequence-ends _ _ (any-ends ⟦<&'src str as Input<'src>>⟧ (CountsAs (λ c. c)) (λ _. ⊤) ⟦<EmptyErr as Error<&'src str>>⟧ ⟦<() as Inspector<&'src str>>⟧) (any-ends ⟦<&'src str as Input<'src>>⟧ (CountsAs (λ c. c)) (λ _. ⊤) ⟦<EmptyErr as Error<&'src str>>⟧ ⟦<() as Inspector<&'src str>>⟧)) (any-ends ⟦<&'src str as Input<'src>>⟧ (CountsAs (λ c. c)) (λ _. ⊤) ⟦<EmptyErr as Error<&'src str>>⟧ ⟦<() as Inspector<&'src str>>⟧)) (any-ends ⟦<&'src str as Input<'src>>⟧ (CountsAs (λ c. c)) (λ _. ⊤) ⟦<EmptyErr as Error<&'src str>>⟧ ⟦<() as Inspector<&'src str>>⟧)))) (ignoring_first-ends _ _ (just-ends ⟦<&'src str as Input<'src>>⟧ nat_eq ⟦<EmptyErr as Error<&'src str>>⟧ ⟦<() as Inspector<&'src str>>⟧ _ _ (92 ∷ 117 ∷ [])) (vetted-ends _ _ _ _ (sequence-ends _ _ (sequence-ends _ _ (sequence-ends _ _ (any-ends ⟦<&'src str as Input<'src>>⟧ (CountsAs (λ c. c)) (λ _. ⊤) ⟦<EmptyErr as Error<&'src str>>⟧ ⟦<() as Inspector<&'src str>>⟧) (any-ends ⟦<&'src str as Input<'src>>⟧ (CountsAs (λ c. c)) (λ _. ⊤) ⟦<EmptyErr as Error<&'src str>>⟧ ⟦<() as Inspector<&'src str>>⟧)) (any-ends ⟦<&'src str as Input<'src>>⟧ (CountsAs (λ c. c)) (λ _. ⊤) ⟦<EmptyErr as Error<&'src str>>⟧ ⟦<() as Inspector<&'src str>>⟧)) (any-ends ⟦<&'src str as Input<'src>>⟧ (CountsAs (λ c. c)) (λ _. ⊤) ⟦<EmptyErr as Error<&'src str>>⟧ ⟦<() as Inspector<&'src str>>⟧))))) };
+
+    ghost agrees = { λ _ never. absurd never };
+
+    ghost accepts = { λ _. map-accepts _ _ (then-accepts _ _ (ignoring_first-ends _ _ (just-ends ⟦<&'src str as Input<'src>>⟧ nat_eq ⟦<EmptyErr as Error<&'src str>>⟧ ⟦<() as Inspector<&'src str>>⟧ _ _ (92 ∷ 117 ∷ [])) (vetted-ends _ _ _ _ (sequence-ends _ _ (sequence-ends _ _ (sequence-ends _ _ (any-ends ⟦<&'src str as Input<'src>>⟧ (CountsAs (λ c. c)) (λ _. ⊤) ⟦<EmptyErr as Error<&'src str>>⟧ ⟦<() as Inspector<&'src str>>⟧) (any-ends ⟦<&'src str as Input<'src>>⟧ (CountsAs (λ c. c)) (λ _. ⊤) ⟦<EmptyErr as Error<&'src str>>⟧ ⟦<() as Inspector<&'src str>>⟧)) (any-ends ⟦<&'src str as Input<'src>>⟧ (CountsAs (λ c. c)) (λ _. ⊤) ⟦<EmptyErr as Error<&'src str>>⟧ ⟦<() as Inspector<&'src str>>⟧)) (any-ends ⟦<&'src str as Input<'src>>⟧ (CountsAs (λ c. c)) (λ _. ⊤) ⟦<EmptyErr as Error<&'src str>>⟧ ⟦<() as Inspector<&'src str>>⟧)))) (ignoring_first-ends _ _ (just-ends ⟦<&'src str as Input<'src>>⟧ nat_eq ⟦<EmptyErr as Error<&'src str>>⟧ ⟦<() as Inspector<&'src str>>⟧ _ _ (92 ∷ 117 ∷ [])) (vetted-ends _ _ _ _ (sequence-ends _ _ (sequence-ends _ _ (sequence-ends _ _ (any-ends ⟦<&'src str as Input<'src>>⟧ (CountsAs (λ c. c)) (λ _. ⊤) ⟦<EmptyErr as Error<&'src str>>⟧ ⟦<() as Inspector<&'src str>>⟧) (any-ends ⟦<&'src str as Input<'src>>⟧ (CountsAs (λ c. c)) (λ _. ⊤) ⟦<EmptyErr as Error<&'src str>>⟧ ⟦<() as Inspector<&'src str>>⟧)) (any-ends ⟦<&'src str as Input<'src>>⟧ (CountsAs (λ c. c)) (λ _. ⊤) ⟦<EmptyErr as Error<&'src str>>⟧ ⟦<() as Inspector<&'src str>>⟧)) (any-ends ⟦<&'src str as Input<'src>>⟧ (CountsAs (λ c. c)) (λ _. ⊤) ⟦<EmptyErr as Error<&'src str>>⟧ ⟦<() as Inspector<&'src str>>⟧)))) (ignore_then-accepts _ _ (just-ends ⟦<&'src str as Input<'src>>⟧ nat_eq ⟦<EmptyErr as Error<&'src str>>⟧ ⟦<() as Inspector<&'src str>>⟧ _ _ (92 ∷ 117 ∷ [])) (vetted-ends _ _ _ _ (sequence-ends _ _ (sequence-ends _ _ (sequence-ends _ _ (any-ends ⟦<&'src str as Input<'src>>⟧ (CountsAs (λ c. c)) (λ _. ⊤) ⟦<EmptyErr as Error<&'src str>>⟧ ⟦<() as Inspector<&'src str>>⟧) (any-ends ⟦<&'src str as Input<'src>>⟧ (CountsAs (λ c. c)) (λ _. ⊤) ⟦<EmptyErr as Error<&'src str>>⟧ ⟦<() as Inspector<&'src str>>⟧)) (any-ends ⟦<&'src str as Input<'src>>⟧ (CountsAs (λ c. c)) (λ _. ⊤) ⟦<EmptyErr as Error<&'src str>>⟧ ⟦<() as Inspector<&'src str>>⟧)) (any-ends ⟦<&'src str as Input<'src>>⟧ (CountsAs (λ c. c)) (λ _. ⊤) ⟦<EmptyErr as Error<&'src str>>⟧ ⟦<() as Inspector<&'src str>>⟧))) (just-accepts ⟦<&'src str as Input<'src>>⟧ nat_eq ⟦<EmptyErr as Error<&'src str>>⟧ ⟦<() as Inspector<&'src str>>⟧ _ _ (92 ∷ 117 ∷ [])) (picked-accepts ⟦<&'src str as Input<'src>>⟧ ⟦<EmptyErr as Error<&'src str>>⟧ _ _ _ (λ w v x s g. four-by_word high_of w v x s g) (then-accepts _ _ (sequence-ends _ _ (sequence-ends _ _ (any-ends ⟦<&'src str as Input<'src>>⟧ (CountsAs (λ c. c)) (λ _. ⊤) ⟦<EmptyErr as Error<&'src str>>⟧ ⟦<() as Inspector<&'src str>>⟧) (any-ends ⟦<&'src str as Input<'src>>⟧ (CountsAs (λ c. c)) (λ _. ⊤) ⟦<EmptyErr as Error<&'src str>>⟧ ⟦<() as Inspector<&'src str>>⟧)) (any-ends ⟦<&'src str as Input<'src>>⟧ (CountsAs (λ c. c)) (λ _. ⊤) ⟦<EmptyErr as Error<&'src str>>⟧ ⟦<() as Inspector<&'src str>>⟧)) (any-ends ⟦<&'src str as Input<'src>>⟧ (CountsAs (λ c. c)) (λ _. ⊤) ⟦<EmptyErr as Error<&'src str>>⟧ ⟦<() as Inspector<&'src str>>⟧) (then-accepts _ _ (sequence-ends _ _ (any-ends ⟦<&'src str as Input<'src>>⟧ (CountsAs (λ c. c)) (λ _. ⊤) ⟦<EmptyErr as Error<&'src str>>⟧ ⟦<() as Inspector<&'src str>>⟧) (any-ends ⟦<&'src str as Input<'src>>⟧ (CountsAs (λ c. c)) (λ _. ⊤) ⟦<EmptyErr as Error<&'src str>>⟧ ⟦<() as Inspector<&'src str>>⟧)) (any-ends ⟦<&'src str as Input<'src>>⟧ (CountsAs (λ c. c)) (λ _. ⊤) ⟦<EmptyErr as Error<&'src str>>⟧ ⟦<() as Inspector<&'src str>>⟧) (then-accepts _ _ (any-ends ⟦<&'src str as Input<'src>>⟧ (CountsAs (λ c. c)) (λ _. ⊤) ⟦<EmptyErr as Error<&'src str>>⟧ ⟦<() as Inspector<&'src str>>⟧) (any-ends ⟦<&'src str as Input<'src>>⟧ (CountsAs (λ c. c)) (λ _. ⊤) ⟦<EmptyErr as Error<&'src str>>⟧ ⟦<() as Inspector<&'src str>>⟧) (any-accepts ⟦<&'src str as Input<'src>>⟧ (CountsAs (λ c. c)) (λ _. ⊤) ⟦<EmptyErr as Error<&'src str>>⟧ ⟦<() as Inspector<&'src str>>⟧) (any-accepts ⟦<&'src str as Input<'src>>⟧ (CountsAs (λ c. c)) (λ _. ⊤) ⟦<EmptyErr as Error<&'src str>>⟧ ⟦<() as Inspector<&'src str>>⟧)) (any-accepts ⟦<&'src str as Input<'src>>⟧ (CountsAs (λ c. c)) (λ _. ⊤) ⟦<EmptyErr as Error<&'src str>>⟧ ⟦<() as Inspector<&'src str>>⟧)) (any-accepts ⟦<&'src str as Input<'src>>⟧ (CountsAs (λ c. c)) (λ _. ⊤) ⟦<EmptyErr as Error<&'src str>>⟧ ⟦<() as Inspector<&'src str>>⟧)))) (ignore_then-accepts _ _ (just-ends ⟦<&'src str as Input<'src>>⟧ nat_eq ⟦<EmptyErr as Error<&'src str>>⟧ ⟦<() as Inspector<&'src str>>⟧ _ _ (92 ∷ 117 ∷ [])) (vetted-ends _ _ _ _ (sequence-ends _ _ (sequence-ends _ _ (sequence-ends _ _ (any-ends ⟦<&'src str as Input<'src>>⟧ (CountsAs (λ c. c)) (λ _. ⊤) ⟦<EmptyErr as Error<&'src str>>⟧ ⟦<() as Inspector<&'src str>>⟧) (any-ends ⟦<&'src str as Input<'src>>⟧ (CountsAs (λ c. c)) (λ _. ⊤) ⟦<EmptyErr as Error<&'src str>>⟧ ⟦<() as Inspector<&'src str>>⟧)) (any-ends ⟦<&'src str as Input<'src>>⟧ (CountsAs (λ c. c)) (λ _. ⊤) ⟦<EmptyErr as Error<&'src str>>⟧ ⟦<() as Inspector<&'src str>>⟧)) (any-ends ⟦<&'src str as Input<'src>>⟧ (CountsAs (λ c. c)) (λ _. ⊤) ⟦<EmptyErr as Error<&'src str>>⟧ ⟦<() as Inspector<&'src str>>⟧))) (just-accepts ⟦<&'src str as Input<'src>>⟧ nat_eq ⟦<EmptyErr as Error<&'src str>>⟧ ⟦<() as Inspector<&'src str>>⟧ _ _ (92 ∷ 117 ∷ [])) (picked-accepts ⟦<&'src str as Input<'src>>⟧ ⟦<EmptyErr as Error<&'src str>>⟧ _ _ _ (λ w v x s g. four-by_word low_of w v x s g) (then-accepts _ _ (sequence-ends _ _ (sequence-ends _ _ (any-ends ⟦<&'src str as Input<'src>>⟧ (CountsAs (λ c. c)) (λ _. ⊤) ⟦<EmptyErr as Error<&'src str>>⟧ ⟦<() as Inspector<&'src str>>⟧) (any-ends ⟦<&'src str as Input<'src>>⟧ (CountsAs (λ c. c)) (λ _. ⊤) ⟦<EmptyErr as Error<&'src str>>⟧ ⟦<() as Inspector<&'src str>>⟧)) (any-ends ⟦<&'src str as Input<'src>>⟧ (CountsAs (λ c. c)) (λ _. ⊤) ⟦<EmptyErr as Error<&'src str>>⟧ ⟦<() as Inspector<&'src str>>⟧)) (any-ends ⟦<&'src str as Input<'src>>⟧ (CountsAs (λ c. c)) (λ _. ⊤) ⟦<EmptyErr as Error<&'src str>>⟧ ⟦<() as Inspector<&'src str>>⟧) (then-accepts _ _ (sequence-ends _ _ (any-ends ⟦<&'src str as Input<'src>>⟧ (CountsAs (λ c. c)) (λ _. ⊤) ⟦<EmptyErr as Error<&'src str>>⟧ ⟦<() as Inspector<&'src str>>⟧) (any-ends ⟦<&'src str as Input<'src>>⟧ (CountsAs (λ c. c)) (λ _. ⊤) ⟦<EmptyErr as Error<&'src str>>⟧ ⟦<() as Inspector<&'src str>>⟧)) (any-ends ⟦<&'src str as Input<'src>>⟧ (CountsAs (λ c. c)) (λ _. ⊤) ⟦<EmptyErr as Error<&'src str>>⟧ ⟦<() as Inspector<&'src str>>⟧) (then-accepts _ _ (any-ends ⟦<&'src str as Input<'src>>⟧ (CountsAs (λ c. c)) (λ _. ⊤) ⟦<EmptyErr as Error<&'src str>>⟧ ⟦<() as Inspector<&'src str>>⟧) (any-ends ⟦<&'src str as Input<'src>>⟧ (CountsAs (λ c. c)) (λ _. ⊤) ⟦<EmptyErr as Error<&'src str>>⟧ ⟦<() as Inspector<&'src str>>⟧) (any-accepts ⟦<&'src str as Input<'src>>⟧ (CountsAs (λ c. c)) (λ _. ⊤) ⟦<EmptyErr as Error<&'src str>>⟧ ⟦<() as Inspector<&'src str>>⟧) (any-accepts ⟦<&'src str as Input<'src>>⟧ (CountsAs (λ c. c)) (λ _. ⊤) ⟦<EmptyErr as Error<&'src str>>⟧ ⟦<() as Inspector<&'src str>>⟧)) (any-accepts ⟦<&'src str as Input<'src>>⟧ (CountsAs (λ c. c)) (λ _. ⊤) ⟦<EmptyErr as Error<&'src str>>⟧ ⟦<() as Inspector<&'src str>>⟧)) (any-accepts ⟦<&'src str as Input<'src>>⟧ (CountsAs (λ c. c)) (λ _. ⊤) ⟦<EmptyErr as Error<&'src str>>⟧ ⟦<() as Inspector<&'src str>>⟧))))) };
+
+    fn go_emit(&self, inp: &mut TextRef<'src, '_, EmptyText>) -> PResult<char> {
+        pair_parser().go_emit(inp)
+    }
+
+    fn go_check(&self, inp: &mut TextRef<'src, '_, EmptyText>) -> PResult<()> {
+        pair_parser().go_check(inp)
+    }
+}
+
 /// The parser of what stands for a character of a string.
 fn piece_parser<'src>() -> PieceParser<'src>
-    ensures letter { result.second.first.first.seq ≡ 92 }
-    ensures lone { result.second.second.first.first.seq ≡ 92 ∷ 117 ∷ [] }
-    ensures high { result.second.second.second.parser.first.first.seq ≡ 92 ∷ 117 ∷ [] }
-    ensures low { result.second.second.second.parser.second.first.seq ≡ 92 ∷ 117 ∷ [] }
+    ensures { result.second.first.first.seq ≡ 92 }
 {
     let letter = just('\\').ignore_then(any().pick_by(Letter));
-    let pair = unit_by(High).then(unit_by(Low)).map_by(ToPair);
-    any().pick_by(Plain).or(letter.or(unit_by(Lone).or(pair)))
+    any().pick_by(Plain).or(letter.or(ByUnit.or(ByPair)))
 }
 
 /// What stands for a character of a string: a parser with a name, so that the check of what holds it reads its name alone.
@@ -301,13 +398,13 @@ impl<'src> Parser<'src, &'src str, char, EmptyText> for Piece {
 
     ghost ready = { λ _. ⊤ };
 
-    ghost meaning = { λ _. ⟦<PieceParser<'src> as Parser<'src, &'src str, char, EmptyText>>⟧.meaning (record { first = record { picked = record { parser = record { of = record {} }; picker = record {}; of = record {} } }; second = record { first = record { first = record { seq = 92; of = record {} }; second = record { picked = record { parser = record { of = record {} }; picker = record {}; of = record {} } }; of = record {} }; second = record { first = record { first = record { seq = 92 ∷ 117 ∷ []; of = record {} }; second = record { picked = record { parser = record { first = record { first = record { first = record { of = record {} }; second = record { of = record {} }; of = record {} }; second = record { of = record {} }; of = record {} }; second = record { of = record {} }; of = record {} }; picker = record {}; of = record {} } }; of = record {} }; second = record { parser = record { first = record { first = record { seq = 92 ∷ 117 ∷ []; of = record {} }; second = record { picked = record { parser = record { first = record { first = record { first = record { of = record {} }; second = record { of = record {} }; of = record {} }; second = record { of = record {} }; of = record {} }; second = record { of = record {} }; of = record {} }; picker = record {}; of = record {} } }; of = record {} }; second = record { first = record { seq = 92 ∷ 117 ∷ []; of = record {} }; second = record { picked = record { parser = record { first = record { first = record { first = record { of = record {} }; second = record { of = record {} }; of = record {} }; second = record { of = record {} }; of = record {} }; second = record { of = record {} }; of = record {} }; picker = record {}; of = record {} } }; of = record {} }; of = record {} }; mapper = record {}; of = record {} } } } }) };
+    ghost meaning = { λ _. ⟦<PieceParser<'src> as Parser<'src, &'src str, char, EmptyText>>⟧.meaning (record { first = record { picked = record { parser = record { of = record {} }; picker = record {}; of = record {} } }; second = record { first = record { first = record { seq = 92; of = record {} }; second = record { picked = record { parser = record { of = record {} }; picker = record {}; of = record {} } }; of = record {} }; second = record { first = record {}; second = record {} } } }) };
 
     ghost steady = { λ _. ⊥ };
 
     ghost same = { λ _ _ _. ⊤ };
 
-    ghost language = { λ _. ⟦<PieceParser<'src> as Parser<'src, &'src str, char, EmptyText>>⟧.language (record { first = record { picked = record { parser = record { of = record {} }; picker = record {}; of = record {} } }; second = record { first = record { first = record { seq = 92; of = record {} }; second = record { picked = record { parser = record { of = record {} }; picker = record {}; of = record {} } }; of = record {} }; second = record { first = record { first = record { seq = 92 ∷ 117 ∷ []; of = record {} }; second = record { picked = record { parser = record { first = record { first = record { first = record { of = record {} }; second = record { of = record {} }; of = record {} }; second = record { of = record {} }; of = record {} }; second = record { of = record {} }; of = record {} }; picker = record {}; of = record {} } }; of = record {} }; second = record { parser = record { first = record { first = record { seq = 92 ∷ 117 ∷ []; of = record {} }; second = record { picked = record { parser = record { first = record { first = record { first = record { of = record {} }; second = record { of = record {} }; of = record {} }; second = record { of = record {} }; of = record {} }; second = record { of = record {} }; of = record {} }; picker = record {}; of = record {} } }; of = record {} }; second = record { first = record { seq = 92 ∷ 117 ∷ []; of = record {} }; second = record { picked = record { parser = record { first = record { first = record { first = record { of = record {} }; second = record { of = record {} }; of = record {} }; second = record { of = record {} }; of = record {} }; second = record { of = record {} }; of = record {} }; picker = record {}; of = record {} } }; of = record {} }; of = record {} }; mapper = record {}; of = record {} } } } }) };
+    ghost language = { λ _. ⟦<PieceParser<'src> as Parser<'src, &'src str, char, EmptyText>>⟧.language (record { first = record { picked = record { parser = record { of = record {} }; picker = record {}; of = record {} } }; second = record { first = record { first = record { seq = 92; of = record {} }; second = record { picked = record { parser = record { of = record {} }; picker = record {}; of = record {} } }; of = record {} }; second = record { first = record {}; second = record {} } } }) };
 
     ghost ends_after_start = { λ _. or_else-ends _ _ _ _ _ (vetted-ends _ _ _ _ (any-ends ⟦<&'src str as Input<'src>>⟧ (CountsAs (λ c. c)) (λ _. ⊤) ⟦<EmptyErr as Error<&'src str>>⟧ ⟦<() as Inspector<&'src str>>⟧)) (or_else-ends _ _ _ _ _ (ignoring_first-ends _ _ (just-ends ⟦<&'src str as Input<'src>>⟧ nat_eq ⟦<EmptyErr as Error<&'src str>>⟧ ⟦<() as Inspector<&'src str>>⟧ _ _ (92 ∷ [])) (vetted-ends _ _ _ _ (any-ends ⟦<&'src str as Input<'src>>⟧ (CountsAs (λ c. c)) (λ _. ⊤) ⟦<EmptyErr as Error<&'src str>>⟧ ⟦<() as Inspector<&'src str>>⟧))) (or_else-ends _ _ _ _ _ (ignoring_first-ends _ _ (just-ends ⟦<&'src str as Input<'src>>⟧ nat_eq ⟦<EmptyErr as Error<&'src str>>⟧ ⟦<() as Inspector<&'src str>>⟧ _ _ (92 ∷ 117 ∷ [])) (vetted-ends _ _ _ _ (sequence-ends _ _ (sequence-ends _ _ (sequence-ends _ _ (any-ends ⟦<&'src str as Input<'src>>⟧ (CountsAs (λ c. c)) (λ _. ⊤) ⟦<EmptyErr as Error<&'src str>>⟧ ⟦<() as Inspector<&'src str>>⟧) (any-ends ⟦<&'src str as Input<'src>>⟧ (CountsAs (λ c. c)) (λ _. ⊤) ⟦<EmptyErr as Error<&'src str>>⟧ ⟦<() as Inspector<&'src str>>⟧)) (any-ends ⟦<&'src str as Input<'src>>⟧ (CountsAs (λ c. c)) (λ _. ⊤) ⟦<EmptyErr as Error<&'src str>>⟧ ⟦<() as Inspector<&'src str>>⟧)) (any-ends ⟦<&'src str as Input<'src>>⟧ (CountsAs (λ c. c)) (λ _. ⊤) ⟦<EmptyErr as Error<&'src str>>⟧ ⟦<() as Inspector<&'src str>>⟧)))) (mapped-ends _ _ (sequence-ends _ _ (ignoring_first-ends _ _ (just-ends ⟦<&'src str as Input<'src>>⟧ nat_eq ⟦<EmptyErr as Error<&'src str>>⟧ ⟦<() as Inspector<&'src str>>⟧ _ _ (92 ∷ 117 ∷ [])) (vetted-ends _ _ _ _ (sequence-ends _ _ (sequence-ends _ _ (sequence-ends _ _ (any-ends ⟦<&'src str as Input<'src>>⟧ (CountsAs (λ c. c)) (λ _. ⊤) ⟦<EmptyErr as Error<&'src str>>⟧ ⟦<() as Inspector<&'src str>>⟧) (any-ends ⟦<&'src str as Input<'src>>⟧ (CountsAs (λ c. c)) (λ _. ⊤) ⟦<EmptyErr as Error<&'src str>>⟧ ⟦<() as Inspector<&'src str>>⟧)) (any-ends ⟦<&'src str as Input<'src>>⟧ (CountsAs (λ c. c)) (λ _. ⊤) ⟦<EmptyErr as Error<&'src str>>⟧ ⟦<() as Inspector<&'src str>>⟧)) (any-ends ⟦<&'src str as Input<'src>>⟧ (CountsAs (λ c. c)) (λ _. ⊤) ⟦<EmptyErr as Error<&'src str>>⟧ ⟦<() as Inspector<&'src str>>⟧)))) (ignoring_first-ends _ _ (just-ends ⟦<&'src str as Input<'src>>⟧ nat_eq ⟦<EmptyErr as Error<&'src str>>⟧ ⟦<() as Inspector<&'src str>>⟧ _ _ (92 ∷ 117 ∷ [])) (vetted-ends _ _ _ _ (sequence-ends _ _ (sequence-ends _ _ (sequence-ends _ _ (any-ends ⟦<&'src str as Input<'src>>⟧ (CountsAs (λ c. c)) (λ _. ⊤) ⟦<EmptyErr as Error<&'src str>>⟧ ⟦<() as Inspector<&'src str>>⟧) (any-ends ⟦<&'src str as Input<'src>>⟧ (CountsAs (λ c. c)) (λ _. ⊤) ⟦<EmptyErr as Error<&'src str>>⟧ ⟦<() as Inspector<&'src str>>⟧)) (any-ends ⟦<&'src str as Input<'src>>⟧ (CountsAs (λ c. c)) (λ _. ⊤) ⟦<EmptyErr as Error<&'src str>>⟧ ⟦<() as Inspector<&'src str>>⟧)) (any-ends ⟦<&'src str as Input<'src>>⟧ (CountsAs (λ c. c)) (λ _. ⊤) ⟦<EmptyErr as Error<&'src str>>⟧ ⟦<() as Inspector<&'src str>>⟧)))))))) };
 

@@ -3,4 +3,4 @@ use Rattle.exact.proofs.json_string.PieceParserRefStrCharEmptyText.go_emit.Goals
 pub returns : goal.returns
 returns c =
     let p = c.piece_parser.ensures in
-    record { ran = rw (p.letter, p.lone, p.high, p.low) at c.go_emit.ensures.ran; lent = c.go_emit.ensures.lent }
+    record { ran = rw p at c.go_emit.ensures.ran; lent = c.go_emit.ensures.lent }
