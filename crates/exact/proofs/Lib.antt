@@ -1,2 +1,3 @@
+pub mod JsonPickLemmas
 pub mod JsonPrintLemmas
 pub mod PrintLemmas

@@ -10,7 +10,10 @@ pub mod Json
 pub mod JsonForms
 pub mod JsonLaws
 pub mod JsonOnce
+pub mod JsonPicks
+pub mod JsonPicksLaws
 pub mod JsonStrings
+pub mod JsonStringsLaws
 pub mod JsonWritten
 pub mod JsonWrittenLaws
 pub mod Level

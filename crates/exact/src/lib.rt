@@ -5,6 +5,7 @@ pub mod bits;
 pub mod date;
 pub mod expressions;
 pub mod json;
+pub mod json_string;
 pub mod json_value;
 pub mod level;
 pub mod nested;

@@ -1,0 +1,6 @@
+use Rattle.exact.proofs.json_string.ByPairParserRefStrCharEmptyText.go_check.Goals as goal
+
+pub returns : goal.returns
+returns c =
+    let p = c.pair_parser.ensures in
+    record { ran = rw (p.high, p.low) at c.go_check.ensures.ran; lent = c.go_check.ensures.lent }

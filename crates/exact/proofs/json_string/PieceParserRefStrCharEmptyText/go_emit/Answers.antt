@@ -1,0 +1,6 @@
+use Rattle.exact.proofs.json_string.PieceParserRefStrCharEmptyText.go_emit.Goals as goal
+
+pub returns : goal.returns
+returns c =
+    let p = c.piece_parser.ensures in
+    record { ran = rw p at c.go_emit.ensures.ran; lent = c.go_emit.ensures.lent }
