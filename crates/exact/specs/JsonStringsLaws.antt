@@ -303,4 +303,4 @@ pub complete-by : (o q : ℕ) → o ≡ 34 → q ≡ 34 → (w cs : List ℕ) �
 complete-by o q e f = rw (e, f) (λ w cs i. string-complete i)
 
 pub unambiguous-by : (o q : ℕ) → o ≡ 34 → q ≡ 34 → (between_quotes o q).unambiguous
-unambiguous-by o q e f = rw (e, f) string-unambiguous
+unambiguous-by o q e f = rw f string-unambiguous
