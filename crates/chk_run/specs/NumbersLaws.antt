@@ -1,6 +1,6 @@
 -- The parser of `list` accepts just its texts.
--- Main laws: numbers-sound, numbers-word, numbers-complete, comma_stops, closing_stops. Read first: Numbers.antt.
-use Rattle.std.proofs.Common.{◌≡◌, ℕ, zero, suc, ◌<◌, ◌≤◌, nat_eq, Bool, true, false, None, List, [], ◌∷◌, ◌++◌, length, refl, sym, ◌∙◌, ap, subst, arith, inl, inr}
+-- Main laws: sound-by, word-by, complete-by, comma_stops, closing_stops. Read first: Numbers.antt.
+use Rattle.std.proofs.Common.{◌≡◌, ℕ, zero, suc, ◌<◌, ◌≤◌, nat_eq, Bool, true, false, Option, None, List, [], ◌∷◌, ◌++◌, length, refl, sym, ◌∙◌, ap, subst, arith, inl, inr}
 use Rattle.std.proofs.lemmas.Bool.Decides.{nat_tests}
 use Rattle.std.proofs.lemmas.Str.Parse.{digit_from_value}
 use Rattle.std.specs.Prelude.{⊤, codes, map}
@@ -149,12 +149,39 @@ numbers-complete cs ns i = record {
   };
 }
 
+-- the words of a number, of the list and of the brackets, of parsers with these members
+abbrev pub NumberBy : List ℕ → List ℕ → ℕ → Option ℕ → List ℕ → Type 0
+NumberBy digits more few many = Joined (IsOne (among nat_eq digits) (λ t. ⊤)) (IsListFrom (RepeatedWord many (IsOne (among nat_eq more) (λ t. ⊤))) (RepeatedEnd few many) 0)
+
+abbrev pub ListBy : List ℕ → Bool → Bool → ℕ → Option ℕ → (List ℕ → Type 0) → List ℕ → Type 0
+ListBy comma leading trailing least most P = IsListFrom (SeparatedWord (Is comma) leading most P) (SeparatedEnd (Is comma) leading trailing least most) 0
+
+abbrev pub ListOfBy : List ℕ → Bool → Bool → ℕ → Option ℕ → (List ℕ → Type 0) → List ℕ → Vec (Bor (List ℕ)) Global → Type 0
+ListOfBy comma leading trailing least most P =
+    Holding (ListFrom (λ k w s. SeparatedWord (Is comma) leading most (λ u. P u × IsSliceOf (TextSlice (λ s. s.now)) u s) k w) (SeparatedEnd (Is comma) leading trailing least most) 0) (λ xs v. v.items ≡ xs)
+
+abbrev pub BracketsBy : List ℕ → List ℕ → (List ℕ → Type 0) → List ℕ → Type 0
+BracketsBy opening closing P = Joined (Is opening) (Joined P (Is closing))
+
+-- the laws above, of a parser that has the members which they speak of
+module _ {opening comma closing digits more : List ℕ} {few least : ℕ} {many most : Option ℕ} {leading trailing : Bool} (eo : opening ≡ codes "[") (ec : comma ≡ codes ",") (el : closing ≡ codes "]")
+    (ed : digits ≡ codes "0123456789") (em : more ≡ codes "0123456789") (ef : few ≡ 0) (en : many ≡ None) (ea : least ≡ 0) (eb : most ≡ None) (eg : leading ≡ false) (et : trailing ≡ true) where
+  pub sound-by : (cs : List ℕ) (v : Vec (Bor (List ℕ)) Global) → BracketsBy opening closing (λ u. ListOfBy comma leading trailing least most (NumberBy digits more few many) u v) cs → IsNumbers cs (numbers_of v)
+  sound-by cs v = rw (eo, ec, el, ed, em, ef, en, ea, eb, eg, et) (numbers-sound cs v)
+
+  pub word-by : (cs : List ℕ) → BracketsBy opening closing (ListBy comma leading trailing least most (NumberBy digits more few many)) cs → HasValue IsNumbers cs (tt {0})
+  word-by cs = rw (eo, ec, el, ed, em, ef, en, ea, eb, eg, et) (numbers-word cs)
+
+  pub complete-by : (cs : List ℕ) (ns : List (List ℕ)) → IsNumbers cs ns → BracketsBy opening closing (ListBy comma leading trailing least most (NumberBy digits more few many)) cs
+  complete-by cs ns i = rw (eo, ec, el, ed, em, ef, en, ea, eb, eg, et) (numbers-complete cs ns i)
+
 -- neither a comma nor a bracket that closes goes on with a number, nor a bracket with a list
-abbrev NumberFollow : List ℕ → Type 0
-NumberFollow = RepeatedFollow (one_ends is_digit) (λ r. ⊤) 0 None
+abbrev NumberFollow : List ℕ → ℕ → Option ℕ → List ℕ → Type 0
+NumberFollow more few many = RepeatedFollow (one_ends (among nat_eq more)) (λ r. ⊤) few many
 
-pub comma_stops : (w rest : List ℕ) → Is (codes ",") w → NumberFollow (w ++ rest)
-comma_stops w rest i = let e : w ≡ codes "," = equals-same (codes ",") w i in rw e (tt, inr tt)
+pub comma_stops : {comma more : List ℕ} (few : ℕ) (many : Option ℕ) → comma ≡ codes "," → more ≡ codes "0123456789" → (w rest : List ℕ) → Is comma w → NumberFollow more few many (w ++ rest)
+comma_stops {comma} few many ec em w rest i = let e : w ≡ codes "," = equals-same comma w i ∙ ec in rw (e, em) (tt, inr tt)
 
-pub closing_stops : (w rest : List ℕ) → Is (codes "]") w → SeparatedFollow (then_ends (one_ends is_digit) (list_ends (repeated_next (one_ends is_digit) 0 None))) (literal_ends nat_eq (codes ",")) NumberFollow (λ r. ⊤) (w ++ rest)
-closing_stops w rest i = let e : w ≡ codes "]" = equals-same (codes "]") w i in rw e ((tt, inr tt), tt, tt, tt)
+pub closing_stops : {comma closing digits more : List ℕ} (few : ℕ) (many : Option ℕ) → comma ≡ codes "," → closing ≡ codes "]" → digits ≡ codes "0123456789" → more ≡ codes "0123456789" → (w rest : List ℕ) → Is closing w
+    → SeparatedFollow (then_ends (one_ends (among nat_eq digits)) (list_ends (repeated_next (one_ends (among nat_eq more)) few many))) (literal_ends nat_eq comma) (NumberFollow more few many) (λ r. ⊤) (w ++ rest)
+closing_stops {closing = closing} few many ec el ed em w rest i = let e : w ≡ codes "]" = equals-same closing w i ∙ el in rw (e, ed, em, ec) ((tt, inr tt), tt, tt, tt)
