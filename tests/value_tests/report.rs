@@ -130,10 +130,10 @@ fn three_that_follow_one_another_are_a_range(rt: HostRuntime) {
             "cba",
             "input:1:1: expected 'c', 'b' or 'a', found '~'\n~\n^\n",
         ),
-        ("0123456789", "input:1:1: expected a digit, found '~'\n~\n^\n"),
+        ("0123456789", "input:1:1: expected digit, found '~'\n~\n^\n"),
         (
             "0123456789abcdef",
-            "input:1:1: expected a digit or 'a' to 'f', found '~'\n~\n^\n",
+            "input:1:1: expected digit or 'a' to 'f', found '~'\n~\n^\n",
         ),
         (
             "01234567",
@@ -167,9 +167,57 @@ fn what_names_no_token_is_in_words(rt: HostRuntime) {
     assert_reports(&rt, &none_of::<_, _, Own>(['\u{7f}']), &rows);
     let rows = [(
         "x",
-        "input:1:1: expected a digit or end of input, found 'x'\nx\n^\n",
+        "input:1:1: expected digit or end of input, found 'x'\nx\n^\n",
     )];
     assert_reports(&rt, &one_of::<_, _, Own>('0'..='9').or_not(), &rows);
+}
+
+/// The ten digits are called as `text::digits` calls them, and in one list once.
+#[test]
+fn what_a_label_says_is_said_once(rt: HostRuntime) {
+    let digits = text::digits::<_, Own>(10);
+    let rows = [("x", "input:1:1: expected digit, found 'x'\nx\n^\n")];
+    assert_reports(&rt, &digits, &rows);
+    assert_reports(&rt, &one_of::<_, _, Own>('0'..='9'), &rows);
+    assert_reports(
+        &rt,
+        &digits.ignored().or(one_of('0'..='9').ignored()),
+        &rows,
+    );
+    let rows = [(
+        "x",
+        "input:1:1: expected '-', digit or '.', found 'x'\nx\n^\n",
+    )];
+    let number = one_of("-0123456789").ignored();
+    assert_reports(
+        &rt,
+        &number.or(digits.ignored()).or(just_char('.').ignored()),
+        &rows,
+    );
+    let rows = [(
+        "x",
+        "input:1:1: expected '0' to '7' or digit, found 'x'\nx\n^\n",
+    )];
+    let octal = one_of("01234567").ignored();
+    assert_reports(&rt, &octal.or(digits.ignored()), &rows);
+}
+
+#[test]
+fn white_space_is_said_once(rt: HostRuntime) {
+    let inline = text::inline_whitespace::<_, Own>();
+    let rows = [(
+        "x",
+        "input:1:1: expected inline whitespace or 'a', found 'x'\nx\n^\n",
+    )];
+    assert_reports(&rt, &inline.ignore_then(just_char('a')), &rows);
+    let rows = [(
+        "x",
+        "input:1:1: expected whitespace or 'a', found 'x'\nx\n^\n",
+    )];
+    let both = inline.ignore_then(text::whitespace());
+    assert_reports(&rt, &both.ignore_then(just_char('a')), &rows);
+    let rows = [("x", "input:1:1: expected 'a', found 'x'\nx\n^\n")];
+    assert_reports(&rt, &just_char('a').padded(), &rows);
 }
 
 #[test]

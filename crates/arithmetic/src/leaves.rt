@@ -1,4 +1,7 @@
 //! The leaves, each with the blanks around it.
+ghost use Rattle.std.specs.Prelude.{◌≡◌, ◌<◌, ◌^◌, IfErr, OkIff, length, pos};
+ghost use Rattle.std.specs.Str.Parse.{AllDigits, digits_value};
+
 use crate::Wrong;
 use chumsky::PResult;
 use chumsky::combinator::{Part, run_part};
@@ -25,8 +28,11 @@ impl<'src> Part<'src, &'src str, Worked, RichText> for Number {
     }
 }
 
-/// The number that digits make.
-fn read(digits: Spanned<&str, SimpleSpan>) -> Worked {
+/// The number that digits make, where an `i64` holds it.
+fn read(digits: Spanned<&str, SimpleSpan>) -> Worked
+    ensures number { AllDigits 10 digits.entry.inner.now → OkIff result ((0 < length digits.entry.inner.now) × (digits_value 10 digits.entry.inner.now < 2 ^ 63)) (pos (digits_value 10 digits.entry.inner.now)) }
+    ensures at_the_digits { IfErr result (λ wrong. wrong.span ≡ digits.entry.span) }
+{
     match digits.inner.parse::<i64>() {
         Ok(number) => Ok(number),
         Err(_) => Err(Wrong {

@@ -3,9 +3,13 @@
 //! are read.
 #![tactic(auto)]
 
-ghost use Rattle.std.specs.Prelude.{◌≡◌, ◌+ℤ◌, ◌-ℤ◌, ◌*ℤ◌, neg_ℤ, int_div, int_rem, FitsSigned, [], IfErr, IfOk, IsTrue, OkIff, is_some};
-ghost use Rattle.std.specs.Int.{CanDivide, w64};
+ghost use Rattle.std.specs.Prelude.{◌≡◌, ℤ, [], IfErr, IfOk, IsTrue, MatchResult, OkIff, is_some};
 ghost use Rattle.std.specs.Result.{result_ok};
+ghost use Rattle.chumsky_input.specs.Rich.{rich_span};
+ghost use Rattle.arithmetic.specs.Steps.{signed, CanSign, made_by, CanMake, from_left, CanAll, StopsAt};
+ghost use Rattle.arithmetic.specs.Worth.{paired, AreSteps, HasWorth, worth, LacksWorthAt};
+ghost use Rattle.arithmetic.specs.declared.Value.{out-Value};
+ghost use Rattle.arithmetic.specs.declared.Value.TheVariants as node;
 
 mod leaves;
 mod operators;
@@ -73,7 +77,9 @@ impl<'src> Part<'src, &'src str, Value, RichText> for Leaf {
 impl MayStay for Leaf {}
 
 /// A number, or where its digits stand.
-fn number_of(worked: Worked) -> Value {
+fn number_of(worked: Worked) -> Value
+    ensures { MatchResult worked (λ number. result ≡ node.Number number) (λ wrong. result ≡ node.TooLarge wrong) }
+{
     match worked {
         Ok(number) => Value::Number(number),
         Err(wrong) => Value::TooLarge(wrong),
@@ -81,7 +87,9 @@ fn number_of(worked: Worked) -> Value {
 }
 
 /// A sign, and where it stands.
-fn sign_of(marked: Spanned<char, SimpleSpan>) -> Value {
+fn sign_of(marked: Spanned<char, SimpleSpan>) -> Value
+    ensures { result ≡ node.Sign marked.inner marked.span }
+{
     let sign = marked.inner;
     Value::Sign(sign, marked.span)
 }
@@ -113,7 +121,11 @@ impl SimpleValues<SimpleSpan, Rich<char>> for Arithmetic {
         Ok(Value::Number(0))
     }
 
-    fn pair(&self, _alloc: Global, first: Value, second: Value) -> Result<Value, AllocError> {
+    /// A step of a sign and a number, a chain of a number and steps; of a bracket and what is after it the latter, and what
+    /// is before a bracket.
+    fn pair(&self, _alloc: Global, first: Value, second: Value) -> Result<Value, AllocError>
+        ensures { IfOk result (λ made. made ≡ paired first (out-Value first) (out-Value second)) }
+    {
         match (first, second) {
             (Value::Sign(sign, span), Value::Number(number)) => {
                 Ok(Value::Step(Step { sign, span, number }))
@@ -123,7 +135,9 @@ impl SimpleValues<SimpleSpan, Rich<char>> for Arithmetic {
         }
     }
 
-    fn list(&self, _alloc: Global, steps: Vec<Value>) -> Result<Value, AllocError> {
+    fn list(&self, _alloc: Global, steps: Vec<Value>) -> Result<Value, AllocError>
+        ensures { IfOk result (λ made. AreSteps steps.items (out-Value made)) }
+    {
         Ok(Value::Steps(steps))
     }
 
@@ -134,7 +148,10 @@ impl SimpleValues<SimpleSpan, Rich<char>> for Arithmetic {
         _mapper: usize,
         value: Value,
         _span: SimpleSpan,
-    ) -> Result<Result<Value, Rich<char>>, AllocError> {
+    ) -> Result<Result<Value, Rich<char>>, AllocError>
+        ensures worth { IfOk result (λ made. OkIff made (HasWorth (out-Value value)) (worth value (out-Value value))) }
+        ensures place { IfOk result (λ made. IfErr made (λ error. LacksWorthAt (out-Value value) (rich_span error))) }
+    {
         let worked_out = match value {
             Value::TooLarge(wrong) => Err(wrong),
             Value::Step(step) => prefixed(step),
@@ -157,7 +174,7 @@ pub(crate) struct Wrong {
 
 /// A number after a minus (45), or between brackets.
 pub(crate) fn prefixed(step: Step) -> Result<i64, Wrong>
-    ensures minus { step.sign ≡ 45 → OkIff result (FitsSigned w64 (neg_ℤ step.number)) (neg_ℤ step.number) }
+    ensures number { OkIff result (CanSign step.sign step.number) (signed step.sign step.number) }
     ensures at_its_sign { IfErr result (λ wrong. wrong.span ≡ step.span) }
 {
     match step.sign {
@@ -168,11 +185,7 @@ pub(crate) fn prefixed(step: Step) -> Result<i64, Wrong>
 
 /// What a sign makes of the numbers before and after it: `+` (43), `-` (45), `*` (42), `/` (47) and `%` (37).
 pub(crate) fn applied(total: i64, step: Step) -> Result<i64, Wrong>
-    ensures plus { step.sign ≡ 43 → OkIff result (FitsSigned w64 (total +ℤ step.number)) (total +ℤ step.number) }
-    ensures minus { step.sign ≡ 45 → OkIff result (FitsSigned w64 (total -ℤ step.number)) (total -ℤ step.number) }
-    ensures times { step.sign ≡ 42 → OkIff result (FitsSigned w64 (total *ℤ step.number)) (total *ℤ step.number) }
-    ensures over { step.sign ≡ 47 → OkIff result (CanDivide w64 total step.number) (int_div total step.number) }
-    ensures rest { step.sign ≡ 37 → OkIff result (CanDivide w64 total step.number) (int_rem total step.number) }
+    ensures number { OkIff result (CanMake step.sign total step.number) (made_by step.sign total step.number) }
     ensures at_its_sign { IfErr result (λ wrong. wrong.span ≡ step.span) }
 {
     let number = step.number;
@@ -204,10 +217,13 @@ fn after_sign(step: Step, number: Option<i64>) -> Result<i64, Wrong>
 }
 
 /// What steps make of a number, from the left.
-fn total(first: i64, steps: &[Value]) -> Result<i64, Wrong> {
+fn total(first: i64, steps: &[Value]) -> Result<i64, Wrong>
+    ensures number { OkIff result (CanAll first steps.now) (from_left first steps.now) }
+    ensures at_its_sign { IfErr result (λ wrong. StopsAt first steps.now wrong.span) }
+{
     let mut total = first;
-    for step in steps {
-        if let Value::Step(step) = step {
+    for value in steps {
+        if let Value::Step(step) = value {
             total = applied(total, *step)?;
         }
     }
@@ -269,7 +285,9 @@ fn numbered_leaves() -> [OfPart<Leaf>; 6] {
 const DEPTH: usize = 1_000_000;
 
 /// What the whole comes to.
-fn whole(value: Value) -> i64 {
+fn whole(value: Value) -> i64
+    ensures { (number : ℤ) → value ≡ node.Number number → result ≡ number }
+{
     match value {
         Value::Number(number) => number,
         _other => 0,

@@ -1,5 +1,7 @@
 //! Sums by operators with their powers. What stands in brackets is a sum again, by a function that calls itself.
-ghost use Rattle.std.specs.Prelude.{◌≡◌, [], IfOk, IsTrue, is_some};
+ghost use Rattle.std.specs.Prelude.{◌≡◌, [], Ok, Err, IfErr, IfOk, IsErrAnd, IsTrue, MatchResult, OkIff, is_some};
+ghost use Rattle.chumsky_input.specs.Rich.{rich_span};
+ghost use Rattle.arithmetic.specs.Steps.{signed, CanSign, made_by, CanMake};
 
 use crate::leaves::{Number, Sign, Worked};
 use crate::{Step, applied, prefixed};
@@ -14,7 +16,11 @@ use chumsky::{PResult, Stop};
 use std::alloc::Global;
 
 /// A sign with a number after it.
-fn step(sign: Spanned<char, SimpleSpan>, number: i64) -> Step {
+fn step(sign: Spanned<char, SimpleSpan>, number: i64) -> Step
+    ensures sign { result.sign ≡ sign.inner }
+    ensures span { result.span ≡ sign.span }
+    ensures number { result.number ≡ number }
+{
     Step {
         sign: sign.inner,
         span: sign.span,
@@ -23,17 +29,28 @@ fn step(sign: Spanned<char, SimpleSpan>, number: i64) -> Step {
 }
 
 /// What a minus makes of the number after it.
-fn negative(minus: Spanned<char, SimpleSpan>, operand: Worked) -> Worked {
+fn negative(minus: Spanned<char, SimpleSpan>, operand: Worked) -> Worked
+    ensures number { IfOk operand (λ n. OkIff result (CanSign minus.inner n) (signed minus.inner n)) }
+    ensures at_its_sign { IfOk operand (λ n. IfErr result (λ wrong. wrong.span ≡ minus.span)) }
+    ensures as_before { IfErr operand (λ wrong. result ≡ Err wrong) }
+{
     prefixed(step(minus, operand?))
 }
 
 /// What a sign makes of the numbers before and after it.
-fn worked_out(before: Worked, sign: Spanned<char, SimpleSpan>, after: Worked) -> Worked {
+fn worked_out(before: Worked, sign: Spanned<char, SimpleSpan>, after: Worked) -> Worked
+    ensures number { IfOk before (λ a. IfOk after (λ b. OkIff result (CanMake sign.inner a b) (made_by sign.inner a b))) }
+    ensures at_its_sign { IfOk before (λ a. IfOk after (λ b. IfErr result (λ wrong. wrong.span ≡ sign.span))) }
+    ensures first { IfErr before (λ wrong. result ≡ Err wrong) }
+    ensures second { IfOk before (λ a. IfErr after (λ wrong. result ≡ Err wrong)) }
+{
     applied(before?, step(sign, after?))
 }
 
 /// A number, or the error of what can't be worked out.
-fn told(alloc: Global, worked: Worked) -> Result<i64, Rich<char>> {
+fn told(alloc: Global, worked: Worked) -> Result<i64, Rich<char>>
+    ensures { MatchResult worked (λ number. result ≡ Ok number) (λ wrong. IsErrAnd result (λ error. rich_span error ≡ wrong.span)) }
+{
     match worked {
         Ok(number) => Ok(number),
         Err(wrong) => match String::from_str(alloc, wrong.message) {

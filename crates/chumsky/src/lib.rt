@@ -343,6 +343,11 @@ pub mod context_laws {
     };
 }
 
+/// When parsers that decide by the word are ready and steady, as in `laws`.
+pub mod word_laws {
+    pub use chumsky_shield::steady::{pick_by_is_steady, test_by_is_steady};
+}
+
 /// Laws of parsers that recover, as those of `laws`: what each answer of one is, and when it is ready and steady.
 pub mod recovery_laws {
     pub use chumsky_recovery::laws::{
@@ -423,9 +428,8 @@ pub mod laws {
     };
     pub use chumsky_shield::steady::{
         and_is_is_steady, filter_is_steady, filter_map_is_steady, map_err_is_steady,
-        map_err_with_is_steady, map_err_with_state_is_steady, not_is_steady, pick_by_is_steady,
-        test_by_is_steady, try_map_is_steady, try_map_with_is_steady, unwrapped_is_steady,
-        validate_is_steady,
+        map_err_with_is_steady, map_err_with_state_is_steady, not_is_steady, try_map_is_steady,
+        try_map_with_is_steady, unwrapped_is_steady, validate_is_steady,
     };
 }
 

@@ -8,7 +8,7 @@ use Rattle.chumsky_input.specs.Rich.{rich_span}
 use Rattle.chumsky_input.specs.declared.rich.Rich.{Rich}
 use Rattle.chumsky_input.specs.declared.span.SimpleSpan.{SimpleSpan}
 use Rattle.chumsky_report.specs.Line.{characters, line_number, column_number, text_end}
-use Rattle.chumsky_report.specs.Message.{character_text, character_range, byte_text, byte_range, message_text}
+use Rattle.chumsky_report.specs.Message.{character_text, character_word, byte_text, no_word, message_text}
 use Rattle.chumsky_report.specs.Window.{shown_ahead, line_text, below_line}
 
 -- where a span is shown: from the start of a character on; and one at the end of the text behind the last line that has something
@@ -48,7 +48,7 @@ text_at name text message span = Some (place_text name text span.start) ++? (Som
 
 -- a report, where its error's span is shown
 abbrev pub report_text : List ℕ → List ℕ → Rich ℕ → Option (List ℕ)
-report_text name text e = text_at name text (Some (message_text (λ c. c) character_text character_range e)) (shown_span text (rich_span e))
+report_text name text e = text_at name text (Some (message_text (λ c. c) character_text character_word e)) (shown_span text (rich_span e))
 
 -- that of an error whose tokens print as `shown` says: its message is what it prints by itself
 abbrev pub token_report_text : {T : Type 0} → (T → Option (List ℕ)) → List ℕ → List ℕ → Rich T → Option (List ℕ)
@@ -57,4 +57,4 @@ token_report_text shown name text e = text_at name text (rich_text shown e) (sho
 -- the name, the offset in both notations, and the message
 abbrev pub byte_report_text : List ℕ → Rich ℕ → List ℕ
 byte_report_text name e = name ++ (codes ":" ++ (decimal (rich_span e).start ++ (codes " (0x" ++ (digits 16 false (rich_span e).start
-    ++ (codes "): " ++ message_text (λ b. b) byte_text byte_range e)))))
+    ++ (codes "): " ++ message_text (λ b. b) byte_text no_word e)))))

@@ -1,8 +1,8 @@
 //! What an error says.
-ghost use Rattle.std.specs.Prelude.{◌≡◌, ◌<◌, ◌≤◌, ◌∷◌, [], List, Option, Some, None, length, take, ◌^◌, ℕ};
+ghost use Rattle.std.specs.Prelude.{◌≡◌, ◌<◌, ◌≤◌, ◌∷◌, [], List, Option, Some, None, false, length, take, ◌^◌, ℕ};
 ghost use Rattle.std.specs.Option.{option_copied};
 ghost use Rattle.std.specs.Fmt.{WritesOnOk};
-ghost use Rattle.chumsky_report.specs.Message.{character_text, character_range, byte_text, byte_range, pattern_text, follows, following, item_length, run_text, item_text, listed, items, found_text, message_text};
+ghost use Rattle.chumsky_report.specs.Message.{character_text, character_word, byte_text, no_word, pattern_text, follows, following, item_length, run_word, run_text, item_text, is_label, wider_word, has_label, is_labelled, listed, items, found_text, message_text};
 
 use chumsky_input::rich::{Rich, RichPattern};
 use std::fmt;
@@ -14,8 +14,8 @@ pub trait Symbol: Copy {
 
     ghost text: { Self → List ℕ };
 
-    /// What all tokens from one to another are called.
-    ghost range: { Self → Self → List ℕ };
+    /// The word for all tokens from one to another, where there is one.
+    ghost word: { Self → Self → Option (List ℕ) };
 
     /// The number of the token among those of its kind.
     fn number(self) -> u32
@@ -25,9 +25,9 @@ pub trait Symbol: Copy {
     fn write<W: fmt::Write>(self, f: &mut Formatter<W>) -> fmt::Result
         ensures { WritesOnOk W.write_str_gives f.old result (text self) f.new };
 
-    /// Writes what all tokens from this one to the last are called.
-    fn write_range<W: fmt::Write>(self, last: Self, f: &mut Formatter<W>) -> fmt::Result
-        ensures { WritesOnOk W.write_str_gives f.old result (range self last) f.new };
+    /// The word for all tokens from this one to the last, where there is one.
+    fn word(self, last: Self) -> Option<&'static str>
+        ensures { option_copied result ≡ word self last };
 }
 
 /// A character in quotes, as a program writes it.
@@ -55,7 +55,7 @@ impl Symbol for char {
 
     ghost text = { character_text };
 
-    ghost range = { character_range };
+    ghost word = { character_word };
 
     fn number(self) -> u32 {
         u32::from(self)
@@ -65,10 +65,10 @@ impl Symbol for char {
         write!(f, "{}", Quoted(self))
     }
 
-    fn write_range<W: fmt::Write>(self, last: Self, f: &mut Formatter<W>) -> fmt::Result {
+    fn word(self, last: Self) -> Option<&'static str> {
         match (self, last) {
-            ('0', '9') => write!(f, "a digit"),
-            _ => write!(f, "{} to {}", Quoted(self), Quoted(last)),
+            ('0', '9') => Some("digit"),
+            _ => None,
         }
     }
 }
@@ -78,7 +78,7 @@ impl Symbol for u8 {
 
     ghost text = { byte_text };
 
-    ghost range = { byte_range };
+    ghost word = { no_word };
 
     fn number(self) -> u32 {
         u32::from(self)
@@ -88,8 +88,8 @@ impl Symbol for u8 {
         write!(f, "0x{self:02x}")
     }
 
-    fn write_range<W: fmt::Write>(self, last: Self, f: &mut Formatter<W>) -> fmt::Result {
-        write!(f, "0x{self:02x} to 0x{last:02x}")
+    fn word(self, _last: Self) -> Option<&'static str> {
+        None
     }
 }
 
@@ -98,7 +98,7 @@ impl Symbol for u8 {
 struct Pattern<'a, T>(&'a RichPattern<T>);
 
 impl<T: Symbol> Display for Pattern<'_, T> {
-    ghost output = { λ p. Some (pattern_text T.number T.text T.range p.0.now) };
+    ghost output = { λ p. Some (pattern_text T.number T.text T.word p.0.now) };
 
     fn fmt<W: fmt::Write>(&self, f: &mut Formatter<W>) -> fmt::Result {
         match self.0 {
@@ -113,7 +113,7 @@ impl<T: Symbol> Display for Pattern<'_, T> {
 
 /// Whether both are tokens, and the second is the next after the first.
 fn follows<T: Symbol>(one: &RichPattern<T>, two: &RichPattern<T>) -> bool
-    ensures { result ≡ follows T.number T.text T.range one.now two.now }
+    ensures { result ≡ follows T.number T.text T.word one.now two.now }
 {
     match (one, two) {
         (RichPattern::Token(one), RichPattern::Token(two)) => two.number() == one.number() + 1,
@@ -123,7 +123,7 @@ fn follows<T: Symbol>(one: &RichPattern<T>, two: &RichPattern<T>) -> bool
 
 /// How many patterns belong to the first item: three or more tokens that follow one another are one item.
 fn item_length<T: Symbol>(patterns: &[RichPattern<T>]) -> usize
-    ensures value { result ≡ item_length T.number T.text T.range patterns.now }
+    ensures value { result ≡ item_length T.number T.text T.word patterns.now }
     ensures bound { result ≤ length patterns.now }
     ensures some { 0 < length patterns.now → 0 < result }
 {
@@ -136,7 +136,7 @@ fn item_length<T: Symbol>(patterns: &[RichPattern<T>]) -> usize
 
 /// How many patterns follow, each on the one before it.
 fn following<T: Symbol>(first: &RichPattern<T>, others: &[RichPattern<T>]) -> usize
-    ensures value { result ≡ following T.number T.text T.range first.now others.now }
+    ensures value { result ≡ following T.number T.text T.word first.now others.now }
     ensures bound { result ≤ length others.now }
 {
     let mut last = first;
@@ -151,17 +151,95 @@ fn following<T: Symbol>(first: &RichPattern<T>, others: &[RichPattern<T>]) -> us
     count
 }
 
+/// The word for all tokens from one to another, where there is one.
+fn run_word<T: Symbol>(first: &RichPattern<T>, last: &RichPattern<T>) -> Option<&'static str>
+    ensures { option_copied result ≡ run_word T.number T.text T.word first.now last.now }
+{
+    match (first, last) {
+        (RichPattern::Token(first), RichPattern::Token(last)) => first.word(*last),
+        _ => None,
+    }
+}
+
+/// Whether a pattern is a label that says a word.
+fn is_label<T: Symbol>(pattern: &RichPattern<T>, word: &str) -> bool
+    ensures { result ≡ is_label T.number T.text T.word word.now pattern.now }
+{
+    match pattern {
+        RichPattern::Label(text) => text.as_str() == word,
+        _ => false,
+    }
+}
+
+/// The word for what a label names and more, where there is one: white space within a line is white space.
+fn wider_word<T: Symbol>(pattern: &RichPattern<T>) -> Option<&'static str>
+    ensures { option_copied result ≡ wider_word T.number T.text T.word pattern.now }
+{
+    if is_label(pattern, "inline whitespace") {
+        Some("whitespace")
+    } else {
+        None
+    }
+}
+
+/// Whether one of the patterns is a label that says all that an item says.
+fn is_labelled<T: Symbol>(patterns: &[RichPattern<T>], item: &[RichPattern<T>]) -> bool
+    ensures { result ≡ is_labelled T.number T.text T.word patterns.now item.now }
+{
+    let word = match item {
+        [] => None,
+        [only] => wider_word(only),
+        [first, .., last] => run_word(first, last),
+    };
+    match word {
+        Some(word) => has_label(patterns, word),
+        None => false,
+    }
+}
+
+/// Whether one of the patterns is a label that says a word.
+fn has_label<T: Symbol>(patterns: &[RichPattern<T>], word: &str) -> bool
+    ensures { result ≡ has_label T.number T.text T.word patterns.now (Some word.now) }
+{
+    for pattern in patterns {
+        if is_label(pattern, word) {
+            return true;
+        }
+    }
+    false
+}
+
+/// The rest of the patterns without the items at its front that a label says.
+fn skip_labelled<'a, T: Symbol>(
+    patterns: &[RichPattern<T>],
+    rest: &'a [RichPattern<T>],
+) -> &'a [RichPattern<T>]
+    ensures items { items T.number T.text T.word patterns.now 0 result.now ≡ items T.number T.text T.word patterns.now 0 rest.now }
+    ensures first { is_labelled T.number T.text T.word patterns.now (take (item_length T.number T.text T.word result.now) result.now) ≡ false }
+    ensures bound { length result.now ≤ length rest.now }
+{
+    let mut rest = rest;
+    while !rest.is_empty() {
+        let (item, later) = rest.split_at(item_length(rest));
+        if !is_labelled(patterns, item) {
+            return rest;
+        }
+        rest = later;
+    }
+    rest
+}
+
 /// The first and the last pattern of a run.
 #[derive_where(Clone, Copy)]
 struct Run<'a, T>(&'a RichPattern<T>, &'a RichPattern<T>);
 
 impl<T: Symbol> Display for Run<'_, T> {
-    ghost output = { λ p. Some (run_text T.number T.text T.range p.0.now p.1.now) };
+    ghost output = { λ p. Some (run_text T.number T.text T.word p.0.now p.1.now) };
 
     fn fmt<W: fmt::Write>(&self, f: &mut Formatter<W>) -> fmt::Result {
-        match (self.0, self.1) {
-            (RichPattern::Token(first), RichPattern::Token(last)) => first.write_range(*last, f),
-            _ => write!(f, "{} to {}", Pattern(self.0), Pattern(self.1)),
+        match run_word(self.0, self.1) {
+            Some(word) => write!(f, "{word}"),
+            None => write!(f, "{} to {}", Pattern(self.0), Pattern(self.1)),
         }
     }
 }
@@ -171,7 +249,7 @@ impl<T: Symbol> Display for Run<'_, T> {
 struct Item<'a, T>(&'a [RichPattern<T>]);
 
 impl<T: Symbol> Display for Item<'_, T> {
-    ghost output = { λ p. Some (item_text T.number T.text T.range p.0.now) };
+    ghost output = { λ p. Some (item_text T.number T.text T.word p.0.now) };
 
     fn fmt<W: fmt::Write>(&self, f: &mut Formatter<W>) -> fmt::Result {
         match self.0 {
@@ -187,16 +265,19 @@ impl<T: Symbol> Display for Item<'_, T> {
 struct Patterns<'a, T>(&'a [RichPattern<T>]);
 
 impl<T: Symbol> Display for Patterns<'_, T> {
-    ghost output = { λ p. Some (listed (items T.number T.text T.range 0 p.0.now)) };
+    ghost output = { λ p. Some (listed (items T.number T.text T.word p.0.now 0 p.0.now)) };
 
     fn fmt<W: fmt::Write>(&self, f: &mut Formatter<W>) -> fmt::Result {
-        if self.0.is_empty() {
+        let all = skip_labelled(self.0, self.0);
+        if all.is_empty() {
             return write!(f, "something else");
         }
-        let (item, mut rest) = self.0.split_at(item_length(self.0));
+        let (item, later) = all.split_at(item_length(all));
         write!(f, "{}", Item(item))?;
+        let mut rest = skip_labelled(self.0, later);
         while !rest.is_empty() {
             let (item, later) = rest.split_at(item_length(rest));
+            let later = skip_labelled(self.0, later);
             let separator = if later.is_empty() { " or " } else { ", " };
             write!(f, "{separator}{}", Item(item))?;
             rest = later;
@@ -210,7 +291,7 @@ impl<T: Symbol> Display for Patterns<'_, T> {
 struct Found<'a, T>(Option<&'a T>);
 
 impl<T: Symbol> Display for Found<'_, T> {
-    ghost output = { λ s. Some (found_text T.number T.text T.range (option_copied s.0)) };
+    ghost output = { λ s. Some (found_text T.number T.text T.word (option_copied s.0)) };
 
     fn fmt<W: fmt::Write>(&self, f: &mut Formatter<W>) -> fmt::Result {
         match self.0 {
@@ -225,7 +306,7 @@ impl<T: Symbol> Display for Found<'_, T> {
 pub struct Message<'a, T>(pub &'a Rich<T>);
 
 impl<T: Symbol> Display for Message<'_, T> {
-    ghost output = { λ e. Some (message_text T.number T.text T.range e.0.now) };
+    ghost output = { λ e. Some (message_text T.number T.text T.word e.0.now) };
 
     fn fmt<W: fmt::Write>(&self, f: &mut Formatter<W>) -> fmt::Result {
         match self.0.reason() {

@@ -17,7 +17,7 @@ use std::fmt::{Display, Formatter};
 /// An error of a text, in three lines with no end at the last:
 ///
 /// ```text
-/// settings.conf:2:7: expected a digit or end of input, found 'x'
+/// settings.conf:2:7: expected digit or end of input, found 'x'
 /// port=8x
 ///       ^
 /// ```
@@ -27,7 +27,8 @@ use std::fmt::{Display, Formatter};
 /// character of the span on that line, and one where there is none. Below a tab stands a tab, so that carets align; a
 /// character that is wider than others shifts them. Where the span has characters of later lines too, the carets go to the
 /// end of the line, and `to line 4` follows them. Three or more characters that were expected and follow one another print
-/// as a range, `'a' to 'f'`; the ten digits print as `a digit`.
+/// as a range, `'a' to 'f'`; the ten digits print as `digit`, as `text::digits` calls them. What a label says stands once: the
+/// ten digits are left out beside the label `digit`, and the label `inline whitespace` beside `whitespace`.
 ///
 /// Of a line of more than 160 characters, so many round the place are shown, with `…` where others are left out. Control
 /// characters of the line show as signs, as `␛`. At the end of a text the report points behind the last line that has
