@@ -20,11 +20,11 @@ pub fn run_list<'src>(
     ensures refused { IfErr result (λ stop. stop ≡ Memory) }
 {
     let digits = one_of("0123456789").repeated();
-    let number = one_of::<_, _, RichText>("0123456789").then(digits).to_slice();
+    let number = one_of::<_, _, RichText>("0123456789")
+        .then(digits)
+        .to_slice();
     let list = number.separated_by(just(',')).allow_trailing();
-    let parser = list
-        .collect::<Vec<_>>()
-        .delimited_by(just('['), just(']'));
+    let parser = list.collect::<Vec<_>>().delimited_by(just('['), just(']'));
     match command {
         Command::Parse => Ok(Answer::Parsed(parser.parse(alloc, text)?)),
         Command::Check => Ok(Answer::Checked(parser.check(alloc, text)?)),
