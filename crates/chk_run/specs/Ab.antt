@@ -1,6 +1,7 @@
 -- What the grammar `ab` reads.
 use Rattle.std.specs.Prelude.{◌≡◌, ℕ, List, [], ◌∷◌, ◌⊎◌}
 use Rattle.chumsky.specs.Accepted.{IsExactly}
+use Rattle.chk_run.specs.Checked.{HasValue}
 use Rattle.chk_run.specs.declared.grammar.Answer.{Answer}
 use Rattle.chk_run.specs.declared.grammar.Answer.TheVariants.{Parsed, Checked}
 use Rattle.chk_run.specs.declared.grammar.Command.{Command}
@@ -10,13 +11,9 @@ use Rattle.chk_run.specs.declared.grammar.Command.TheVariants.{Parse, Check}
 abbrev pub IsAb : List ℕ → ℕ × ℕ → Type 0
 IsAb cs p = (cs ≡ p.0 ∷ p.1 ∷ []) × (((p.0 ≡ 97) × (p.1 ≡ 98)) ⊎ (p.0 ≡ 98))
 
--- some two such characters
-abbrev pub IsSomeAb : {X : Type 0} → List ℕ → X → Type 0
-IsSomeAb cs x = (p : ℕ × ℕ) × IsAb cs p
-
 -- the answer of a text: it is accepted just where it is of two such characters
 abbrev pub AnswersAb : Command → List ℕ → Answer (ℕ × ℕ) → Type 0
 AnswersAb Parse cs (Parsed parsed) = IsExactly IsAb cs parsed.output
-AnswersAb Check cs (Checked parsed) = IsExactly IsSomeAb cs parsed.output
+AnswersAb Check cs (Checked parsed) = IsExactly (HasValue IsAb) cs parsed.output
 AnswersAb Parse cs (Checked parsed) = ⊥
 AnswersAb Check cs (Parsed parsed) = ⊥

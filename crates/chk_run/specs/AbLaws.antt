@@ -1,16 +1,13 @@
 -- The parser of `ab` accepts just its texts.
--- Main laws: ab-sound, ab-word, ab-complete, exactly-checked. Read first: Ab.antt.
-use Rattle.std.proofs.Common.{◌≡◌, ℕ, true, nat_eq, Option, Some, None, List, [], ◌∷◌, ◌++◌, ◌⊎◌, inl, inr, refl, subst, ◌∙◌}
-use Rattle.std.specs.Prelude.{⊤, Result, Ok}
-use Rattle.chumsky_input.specs.declared.stop.Stop.{Stop}
-use Rattle.chumsky_parser.specs.Ending.{Ending, At}
-use Rattle.chumsky_parser.specs.Language.{Language}
+-- Main laws: ab-sound, ab-word, ab-complete. Read first: Ab.antt.
+use Rattle.std.proofs.Common.{◌≡◌, ℕ, true, nat_eq, List, [], ◌∷◌, ◌++◌, ◌⊎◌, inl, inr, refl, ◌∙◌}
+use Rattle.std.specs.Prelude.{⊤}
+use Rattle.chumsky_parser.specs.Ending.{At}
 use Rattle.chumsky_parser.specs.Words.{Joined, IsOne, then_ends, either_ends}
 use Rattle.chumsky_primitive.specs.Literals.{equals-same}
 use Rattle.chumsky_primitive.specs.PrimitiveLanguage.{Equals, literal_ends, one_ends}
-use Rattle.chumsky_parser.specs.declared.result.ParseResult.{ParseResult}
-use Rattle.chumsky.specs.Accepted.{FallsShort, AnswersText, IsAnswerOf, IsOutputOf, IsExactly}
-use Rattle.chk_run.specs.Ab.{IsAb, IsSomeAb}
+use Rattle.chk_run.specs.Ab.{IsAb}
+use Rattle.chk_run.specs.Checked.{HasValue}
 
 module _ (a b d : List ℕ) (ea : a ≡ 97 ∷ []) (eb : b ≡ 98 ∷ []) (ed : d ≡ 98 ∷ []) where
   -- a word of the parser is of two characters of `ab`, which are its value
@@ -30,7 +27,7 @@ module _ (a b d : List ℕ) (ea : a ≡ 97 ∷ []) (eb : b ≡ 98 ∷ []) (ed : 
       (rw (j.all, first, second, x, y) refl, inr x)
 
   -- so it is where no value is asked for
-  pub ab-word : (cs : List ℕ) → (Joined (Equals nat_eq a) (Equals nat_eq b) cs ⊎ Joined (Equals nat_eq d) (IsOne (λ t. true) (λ t. ⊤)) cs) → IsSomeAb cs (tt {0})
+  pub ab-word : (cs : List ℕ) → (Joined (Equals nat_eq a) (Equals nat_eq b) cs ⊎ Joined (Equals nat_eq d) (IsOne (λ t. true) (λ t. ⊤)) cs) → HasValue IsAb cs (tt {0})
   ab-word cs (inl j) =
       let first : j.first ≡ 97 ∷ [] = equals-same a j.first j.is_first ∙ ea in
       let second : j.second ≡ 98 ∷ [] = equals-same b j.second j.is_second ∙ eb in
@@ -44,16 +41,3 @@ module _ (a b d : List ℕ) (ea : a ≡ 97 ∷ []) (eb : b ≡ 98 ∷ []) (ed : 
   pub ab-complete : (cs : List ℕ) (p : ℕ × ℕ) → IsAb cs p → either_ends (then_ends (literal_ends nat_eq a) (literal_ends nat_eq b)) (then_ends (literal_ends nat_eq d) (one_ends (λ t. true))) cs ≡ At []
   ab-complete cs p (e, inl s) = rw (e, s.0, s.1, ea, eb) refl
   ab-complete cs p (e, inr s) = rw (e, s, ea, ed) refl
-
-never_short : (x : Ending (List ℕ)) → x ≡ At [] → FallsShort x → ⊥
-never_short x e f = let g : FallsShort {Tok = ℕ} (At []) = subst FallsShort e f in g
-
-checked_output : (l : Language ℕ (ℕ × ℕ)) (cs : List ℕ) → (l.word cs → IsSomeAb cs (tt {0})) → ((p : ℕ × ℕ) → IsAb cs p → l.ends cs ≡ At [])
-    → (o : Option (Unit {0})) → IsOutputOf {W = Unit {0}} (λ w. None) l cs o → IsExactly IsSomeAb cs o
-checked_output l cs sound complete (Some u) i = sound i.1
-checked_output l cs sound complete None i = λ v p. never_short (l.ends cs) (complete p.0 p.1) i
-
--- a `check` is exact where its words are of such a text, and each such text is taken whole
-pub exactly-checked : {Er : Type 0} {l : Language ℕ (ℕ × ℕ)} {cs : List ℕ} {spare : Type 0} {result : Result (ParseResult (Unit {0}) Er) Stop} → AnswersText {W = Unit {0}} (λ w. None) l cs spare result
-    → (l.word cs → IsSomeAb cs (tt {0})) → ((p : ℕ × ℕ) → IsAb cs p → l.ends cs ≡ At []) → (parsed : ParseResult (Unit {0}) Er) → result ≡ Ok parsed → IsExactly IsSomeAb cs parsed.output
-exactly-checked {l = l} {cs = cs} a sound complete parsed is = checked_output l cs sound complete parsed.output (subst (IsAnswerOf (λ w. None) l cs) is a.output)

@@ -2,6 +2,9 @@
 -- Main words: Answers, FailsFor. Read first: Request.antt, Ab.antt, Lines.antt.
 use Rattle.std.specs.Prelude.{◌≡◌, ℕ, List, [], ◌∷◌, ◌++◌, ◌⊎◌, Option, IfSome, codes, ⊤}
 use Rattle.std.specs.Option.{option_map}
+use Rattle.std.specs.Borrow.{Bor}
+use Rattle.std.specs.declared.alloc.Global.{Global}
+use Rattle.std.specs.declared.vec.Vec.{Vec}
 use Rattle.std.specs.Str.{chars, IsUtf8}
 use Rattle.std.specs.Io.KnownBytes.{Appends}
 use Rattle.chumsky_input.specs.declared.rich.Rich.{Rich}
@@ -16,16 +19,19 @@ use Rattle.chk_run.specs.declared.run.Failure.TheVariants as failure
 use Rattle.chk_run.specs.declared.show.Refusal.{Refusal}
 use Rattle.chk_run.specs.declared.show.Refusal.TheVariants as reason
 use Rattle.chk_run.specs.Request.{request_text}
-use Rattle.chk_run.specs.Ab.{IsAb, IsSomeAb}
+use Rattle.chk_run.specs.Ab.{IsAb}
+use Rattle.chk_run.specs.Checked.{HasValue}
+use Rattle.chk_run.specs.Numbers.{IsNumbers, numbers_of}
 use Rattle.chk_run.specs.Lines.{Tells, pair_text, count_text}
-use Rattle.chk_run.specs.Show.{refusal_text}
+use Rattle.chk_run.specs.Show.{items_text, refusal_text}
 
--- the line of a text that is accepted: of `ab` there is one just where the text is two characters of `ab`
+-- the line of a text that is accepted: of `ab` there is one just where the text is two characters of `ab`, and of `list` just where
+-- it is of numbers in brackets
 abbrev pub IsLineOf : Command → Grammar → List ℕ → Option (List ℕ) → Type 0
 IsLineOf Parse grammar.Ab cs line = (output : Option (ℕ × ℕ)) × IsExactly IsAb cs output × (line ≡ option_map pair_text output)
-IsLineOf Check grammar.Ab cs line = (output : Option (Unit {0})) × IsExactly IsSomeAb cs output × (line ≡ option_map (λ _. codes "ok") output)
-IsLineOf Parse grammar.List cs line = IfSome line (λ l. (text : List ℕ) × (l ≡ codes "ok" ++ text))
-IsLineOf Check grammar.List cs line = IfSome line (λ l. l ≡ codes "ok")
+IsLineOf Check grammar.Ab cs line = (output : Option (Unit {0})) × IsExactly (HasValue IsAb) cs output × (line ≡ option_map (λ _. codes "ok") output)
+IsLineOf Parse grammar.List cs line = (output : Option (Vec (Bor (List ℕ)) Global)) × IsExactly IsNumbers cs (option_map numbers_of output) × (line ≡ option_map (λ v. items_text v.items) output)
+IsLineOf Check grammar.List cs line = (output : Option (Unit {0})) × IsExactly (HasValue IsNumbers) cs output × (line ≡ option_map (λ _. codes "ok") output)
 IsLineOf Parse grammar.Loops cs line = IfSome line (λ l. (count : ℕ) × (l ≡ count_text count))
 IsLineOf Check grammar.Loops cs line = IfSome line (λ l. l ≡ codes "ok")
 IsLineOf Parse grammar.Settings cs line = IfSome line (λ l. (text : List ℕ) × (l ≡ codes "ok" ++ text))
@@ -38,10 +44,10 @@ pub record TellsOf (command : Command) (which : Grammar) (cs : List ℕ) (old ne
   pub told : Tells old new errors line status
   pub is : IsLineOf command which cs line
 
--- a run of `ab` is refused for memory alone
+-- runs of `ab` and of `list` are refused for memory alone
 abbrev pub MayRefuse : Grammar → Refusal → Type 0
 MayRefuse grammar.Ab refusal = refusal ≡ reason.Run Why.Memory
-MayRefuse grammar.List refusal = ⊤
+MayRefuse grammar.List refusal = refusal ≡ reason.Run Why.Memory
 MayRefuse grammar.Loops refusal = ⊤
 MayRefuse grammar.Settings refusal = ⊤
 

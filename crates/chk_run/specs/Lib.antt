@@ -3,6 +3,9 @@ pub mod Texts
 pub mod Lines
 pub mod Settings
 pub mod Request
+pub mod Checked
 pub mod Ab
 pub mod AbLaws
+pub mod Numbers
+pub mod NumbersLaws
 pub mod Answers

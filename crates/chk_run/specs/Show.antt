@@ -1,5 +1,6 @@
 -- How errors print.
 use Rattle.std.specs.Prelude.{ℕ, ◌-◌, ◌^◌, Bool, true, false, ◌&&◌, if◌then◌else◌, nat_le, List, [], ◌∷◌, ◌++◌, flat_map, Option, Some, None, codes, decimal, String, string_bytes}
+use Rattle.std.specs.Borrow.{Bor}
 use Rattle.std.specs.Char.{encode_utf8}
 use Rattle.std.specs.Fmt.{digits, format_spec, padded_integral}
 use Rattle.chumsky_input.specs.Rich.{rich_span, rich_found, rich_patterns, rich_message}
@@ -72,5 +73,5 @@ abbrev pub error_text : Rich ℕ → List ℕ
 error_text e = codes "error " ++ (decimal (rich_span e).start ++ (codes ".." ++ (decimal (rich_span e).end ++ (codes " " ++ said_text (rich_message e) (rich_patterns e) (rich_found e)))))
 
 -- the line of a list: that it is right, and each item after a space
-abbrev pub items_text : {Al : Type 0} → List (String Al) → List ℕ
-items_text items = codes "ok" ++ flat_map (λ item. codes " " ++ string_bytes item) items
+abbrev pub items_text : List (Bor (List ℕ)) → List ℕ
+items_text items = codes "ok" ++ flat_map (λ item. codes " " ++ item.now) items

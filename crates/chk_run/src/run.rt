@@ -259,7 +259,7 @@ fn print_pair<W: Write>(
 /// Prints the items of an answer, or its errors.
 fn print_items<W: Write>(
     out: &mut W,
-    answer: &ParseResult<Vec<String>, Rich<char>>,
+    answer: &ParseResult<Vec<&str>, Rich<char>>,
 ) -> Result<u8, Failure>
     ensures status { IfOk result (λ status. (status ≡ ACCEPTED) ⊎ (status ≡ REJECTED)) }
     ensures told { IfOk result (λ status. Tells (W.contents out.old) (W.contents out.new) answer.now.errors.items (option_map (λ items. items_text items.items) answer.now.output) status) }

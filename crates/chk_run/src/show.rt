@@ -108,9 +108,9 @@ impl Display for ErrorLine<'_> {
 
 /// That a list is right, and then each of its items after a space.
 #[derive(Clone, Copy)]
-pub struct Items<'a>(pub &'a [String]);
+pub struct Items<'a, 'src>(pub &'a [&'src str]);
 
-impl Display for Items<'_> {
+impl Display for Items<'_, '_> {
     ghost output = { λ s. Some (items_text s.0.now) };
 
     fn fmt<W: fmt::Write>(&self, f: &mut fmt::Formatter<W>) -> fmt::Result {

@@ -2,7 +2,8 @@ use Rattle.std.proofs.Common.{◌≡◌, ◌∙◌, ◌∷◌, [], refl}
 use Rattle.std.specs.Str.{chars}
 use Rattle.chumsky.specs.AcceptedLaws.{exactly-by_ends}
 use Rattle.chk_run.specs.Ab.{IsAb, AnswersAb}
-use Rattle.chk_run.specs.AbLaws.{ab-sound, ab-word, ab-complete, exactly-checked}
+use Rattle.chk_run.specs.AbLaws.{ab-sound, ab-word, ab-complete}
+use Rattle.chk_run.specs.Checked.{exactly-checked}
 use Rattle.chk_run.proofs.ab.run_ab.Goals as goal
 
 pub returns-in_ok-parse-in-Parse-clause-answered : goal.returns-in_ok-parse-in-Parse-clause-answered
@@ -32,4 +33,4 @@ returns-in_ok-check-in-Check-clause-answered c =
     let ea : r.first.first.seq ∷ [] ≡ 97 ∷ [] = rw a refl in
     let eb : r.first.second.seq ∷ [] ≡ 98 ∷ [] = rw b refl in
     let ed : r.second.first.seq ∷ [] ≡ 98 ∷ [] = rw d refl in
-    rw (c.in-Check.is) (exactly-checked (c.check.ensures.3.reads refl) (ab-word _ _ _ ea eb ed cs) (ab-complete _ _ _ ea eb ed cs) _ c.in_ok-check-in-Check.was)
+    rw (c.in-Check.is) (exactly-checked (c.check.ensures.3.reads refl) IsAb (ab-complete _ _ _ ea eb ed cs) (λ u w. ab-word _ _ _ ea eb ed cs w) _ c.in_ok-check-in-Check.was)
