@@ -1,20 +1,20 @@
--- JSON, but for its numbers, which are those below 2^32: what a value says, and how it is written, after RFC 8259.
--- Main words: Form, form_of, IsJson, HoldsJson. Strings: JsonStrings.antt. Laws: JsonOnce.antt.
+-- JSON: what a value says, and how it is written, after RFC 8259.
+-- Main words: Form, form_of, IsJson, HoldsJson. Strings: JsonStrings.antt. Numbers: JsonNumbers.antt. Laws: JsonLaws.antt, JsonOnce.antt.
 use Rattle.std.specs.Prelude.{◌≡◌, ℕ, ◌||◌, ◌==◌, true, false, Bool, List, [], ◌∷◌, ◌++◌, codes, String, string_bytes}
 use Rattle.std.specs.Str.{chars}
 use Rattle.std.specs.declared.alloc.Global.{Global}
 use Rattle.chumsky_parser.specs.Words.{AllPass}
-use Rattle.exact.specs.declared.json_value.JsonValue.{JsonValue, fold-JsonValue}
-use Rattle.exact.specs.declared.json_value.JsonValue.TheOpen.{JsonValue-F}
+use Rattle.exact.specs.declared.json_value.Json.{Json, fold-Json}
+use Rattle.exact.specs.declared.json_value.Json.TheOpen.{Json-F}
 use Rattle.exact.specs.JsonStrings.{IsString}
-use Rattle.exact.specs.Number.{IsNumber}
+use Rattle.exact.specs.JsonNumbers.{IsNumberText}
 
 mutual
-  -- what a value says, wherever it lies in memory: a string is its characters
+  -- what a value says, wherever it lies in memory: a string is its characters, and a number those that it is written with
   pub data Form : Type 0 where
     null : Form
     truth : Bool → Form
-    number : ℕ → Form
+    number : List ℕ → Form
     string : List ℕ → Form
     array : Forms → Form
     object : Members → Form
@@ -38,17 +38,17 @@ members_of [] = no_members
 members_of (m ∷ ms) = member (chars (string_bytes m.0)) m.1 (members_of ms)
 
 -- one level, in which each value inside is already seen as what it says
-abbrev pub form_step : JsonValue-F Form → Form
-form_step JsonValue-F.Null = null
-form_step (JsonValue-F.Bool b) = truth b
-form_step (JsonValue-F.Number n) = number n
-form_step (JsonValue-F.String s) = string (chars (string_bytes s))
-form_step (JsonValue-F.Array v) = array (forms_of v.items)
-form_step (JsonValue-F.Object v) = object (members_of v.items)
+abbrev pub form_step : Json-F Form → Form
+form_step Json-F.Null = null
+form_step (Json-F.Bool b) = truth b
+form_step (Json-F.Number s) = number (chars (string_bytes s))
+form_step (Json-F.String s) = string (chars (string_bytes s))
+form_step (Json-F.Array v) = array (forms_of v.items)
+form_step (Json-F.Object v) = object (members_of v.items)
 
 -- what a value says
-abbrev pub form_of : JsonValue → Form
-form_of = fold-JsonValue Form form_step
+abbrev pub form_of : Json → Form
+form_of = fold-Json Form form_step
 
 -- a space, a tab, a line feed or a return
 abbrev pub is_blank : ℕ → Bool
@@ -63,7 +63,7 @@ mutual
     is_null : IsValue (codes "null") null
     is_true : IsValue (codes "true") (truth true)
     is_false : IsValue (codes "false") (truth false)
-    is_number : {w : List ℕ} (n : ℕ) → IsNumber w n → IsValue w (number n)
+    is_number : {w : List ℕ} → IsNumberText w → IsValue w (number w)
     is_string : {w cs : List ℕ} → IsString w cs → IsValue w (string cs)
     is_array : {w : List ℕ} {fs : Forms} (b : List ℕ) → AreElements w fs → AreBlanks b → IsValue (codes "[" ++ (w ++ (b ++ codes "]"))) (array fs)
     is_object : {w : List ℕ} {ms : Members} (b : List ℕ) → AreMembers w ms → AreBlanks b → IsValue (codes "{" ++ (w ++ (b ++ codes "}"))) (object ms)
@@ -97,5 +97,5 @@ pub record IsJson (text : List ℕ) (said : Form) : Type 0 where
   pub blank : AreBlanks after
 
 -- the text is the value
-abbrev pub HoldsJson : List ℕ → JsonValue → Type 0
+abbrev pub HoldsJson : List ℕ → Json → Type 0
 HoldsJson text value = IsJson text (form_of value)

@@ -1,13 +1,14 @@
-//! Values of JSON, with strings and objects.
+//! Values of JSON.
 
-/// A value of JSON whose numbers are below 2^32.
+/// A value of JSON.
 #[derive(Debug, Drop, PartialEq)]
-pub enum JsonValue {
+pub enum Json {
     Null,
     Bool(bool),
-    Number(u32),
+    /// A number as it is written, as `-1.5e3`.
+    Number(String),
     String(String),
-    Array(Vec<JsonValue>),
+    Array(Vec<Json>),
     /// Members in their order; a name may be there twice.
-    Object(Vec<(String, JsonValue)>),
+    Object(Vec<(String, Json)>),
 }
