@@ -19,12 +19,12 @@ fn write_value(alloc: Global, value: &Json, out: &mut String) -> Result<(), Allo
         Json::Bool(true) => out.push_str("yes"),
         Json::Bool(false) => out.push_str("no"),
         Json::Number(number) => out.push_str(number.as_str()),
-        Json::Text(text) => {
+        Json::String(text) => {
             out.push('"')?;
             out.push_str(text.as_str())?;
             out.push('"')
         }
-        Json::List(values) => {
+        Json::Array(values) => {
             out.push_str("(list")?;
             write_all(alloc, values.as_slice(), out)?;
             out.push(')')

@@ -2,7 +2,6 @@
 ghost use Rattle.std.specs.Prelude.{[], ◌∷◌, ◌||◌, ◌==◌, ⊤, codes};
 ghost use Rattle.chumsky_input.specs.Wanted.{Label};
 
-use crate::tree::Json;
 use chumsky::PResult;
 use chumsky::combinator::{Part, part_of, run_part};
 use chumsky::extra::RichText;
@@ -11,6 +10,7 @@ use chumsky::prelude::*;
 use chumsky::primitive::Select;
 use chumsky::text::Kind;
 use chumsky::util::Plain;
+use exact::json_value::Json;
 use std::char;
 
 /// Spaces, tabs and ends of lines.
@@ -151,7 +151,7 @@ impl<'src> IsParser<&'src str, Json, RichText> for Scalar {}
 impl<'src> Part<'src, &'src str, Json, RichText> for Scalar {
     fn run(&self, wanted: bool, inp: &mut TextRef<'src, '_, RichText>) -> PResult<Option<Json>> {
         let scalar = choice((
-            part_of(Quoted).map(Json::Text).labelled("a string"),
+            part_of(Quoted).map(Json::String).labelled("a string"),
             part_of(Number).map(Json::Number).labelled("a number"),
             just("null").map(|_| Json::Null),
             just("true").map(|_| Json::Bool(true)),

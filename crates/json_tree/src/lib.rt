@@ -1,4 +1,4 @@
-//! JSON to a tree, by functions that call themselves, and the tree as text again.
+//! JSON to a tree, with errors for people, and the tree as text again.
 #![tactic(auto)]
 
 ghost use Rattle.std.specs.Prelude.{◌≡◌, [], IfOk, IsTrue, is_some};
@@ -7,13 +7,15 @@ pub mod leaves;
 pub mod tree;
 
 use crate::leaves::{Mark, Name, Scalar};
-pub use crate::tree::{Json, JsonText};
+pub use crate::tree::JsonText;
 use chumsky::combinator::{Part, part_of, run_part};
 use chumsky::extra::{ParserExtra, RichText};
 use chumsky::input::{InputRef, TextRef};
 use chumsky::prelude::*;
 use chumsky::recursive::{RunsUnder, Unsaid};
 use chumsky::{PResult, Stop};
+use exact::json::parse_json;
+pub use exact::json_value::Json;
 use std::alloc::Global;
 
 /// A list, of the parser of its items. Like `run_object`, it stands apart from the functions that call each other, since in these
@@ -36,7 +38,7 @@ where
         .separated_by(part_of(Mark(',')))
         .collect::<Vec<_>>()
         .delimited_by(part_of(Mark('[')), part_of(Mark(']')));
-    run_part(&items.map(Json::List), wanted, inp)
+    run_part(&items.map(Json::Array), wanted, inp)
 }
 
 /// An object, of the parser of its values.
@@ -114,24 +116,55 @@ fn calls(levels: usize) -> usize {
 
 /// Reads a value. One that is nested more than a hundred and fifty deep is refused with `Stop::TooDeep`.
 pub fn read_json(alloc: Global, text: &str) -> Result<ParseResult<Json, Rich<char>>, Stop>
-    ensures { IfOk result (λ parsed. parsed.errors.items ≡ [] → IsTrue (is_some parsed.output)) }
+    ensures exact { ExactlyUnless HoldsJson (chars text.now) (150 ≤ length (chars text.now)) result }
+    ensures told { IfOk result (λ parsed. IsTrue (is_some parsed.output) ⇔ (parsed.errors.items ≡ [])) }
 {
     read_json_within(alloc, text, LEVELS)
 }
 
 /// Reads a value. One with more than so many lists and objects within one another is refused with `Stop::TooDeep`. Each takes some
 /// 1,250 bytes of stack: a thousand fit where there are 2 MB.
+///
+/// A reader that keeps no errors tells whether the text is JSON, and which value it is. Only of a text that is none is it read
+/// once more, by a reader that does, for what to say of it.
 pub fn read_json_within(
     alloc: Global,
     text: &str,
     levels: usize,
 ) -> Result<ParseResult<Json, Rich<char>>, Stop>
-    ensures { IfOk result (λ parsed. parsed.errors.items ≡ [] → IsTrue (is_some parsed.output)) }
+    ensures exact { ExactlyUnless HoldsJson (chars text.now) (levels ≤ length (chars text.now)) result }
 {
-    recursive::<_, _, _, RichText>(value, calls(levels)).parse(alloc, text)
+    let parsed = parse_json(alloc, text, levels.saturating_add(1))?;
+    match parsed.into_output() {
+        Some(json) => Ok(ParseResult {
+            output: Some(json),
+            errors: Vec::new(alloc),
+        }),
+        None => Ok(ParseResult {
+            output: None,
+            errors: errors_of(alloc, text, levels)?,
+        }),
+    }
 }
 
-/// The errors of a text, without its value, as `read_json` has them.
+/// What is wrong with a text: one error at least.
+fn errors_of(alloc: Global, text: &str, levels: usize) -> Result<Vec<Rich<char>>, AllocError>
+    ensures { IfOk result (λ errors. errors.items ≡ [] → ⊥) }
+{
+    let checked = recursive::<_, _, _, RichText>(value, calls(levels)).check(alloc, text);
+    let mut errors = match checked {
+        Ok(parsed) => parsed.into_errors(),
+        Err(Stop::Memory) => return Err(AllocError),
+        Err(_) => Vec::new(alloc),
+    };
+    if errors.is_empty() {
+        let whole = SimpleSpan::from(0..text.len());
+        errors.push(Rich::custom_in(alloc, whole, "this is not JSON")?)?;
+    }
+    Ok(errors)
+}
+
+/// The errors of a text, without its value.
 pub fn check_json(alloc: Global, text: &str) -> Result<ParseResult<(), Rich<char>>, Stop>
     ensures { IfOk result (λ parsed. parsed.errors.items ≡ [] → IsTrue (is_some parsed.output)) }
 {
