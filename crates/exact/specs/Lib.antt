@@ -8,6 +8,7 @@ pub mod ExpressionsLaws
 pub mod Listed
 pub mod Json
 pub mod JsonForms
+pub mod JsonLawful
 pub mod JsonLaws
 pub mod JsonOnce
 pub mod JsonPicks
