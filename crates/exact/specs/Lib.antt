@@ -6,9 +6,10 @@ pub mod DateLaws
 pub mod Expressions
 pub mod ExpressionsLaws
 pub mod Listed
-pub mod Json
 pub mod JsonForms
+pub mod JsonGrammar
 pub mod JsonLaws
+pub mod JsonNumbers
 pub mod JsonOnce
 pub mod JsonPicks
 pub mod JsonPicksLaws
