@@ -1,5 +1,5 @@
 -- The grammar of JSON has just the words that are intended, over languages of numbers and of strings that have theirs.
--- Main words: IsNumberLanguage, IsStringLanguage. Main laws: kept, values-intended, json-sound, json-complete. Read first: JsonGrammar.antt.
+-- Main words: IsNumberLanguage, IsStringLanguage. Main laws: kept, json-sound, json-complete. Read first: JsonGrammar.antt.
 use Rattle.std.proofs.Common.{◌≡◌, ℕ, suc, ◌||◌, ◌&&◌, ◌<◌, Bool, true, false, nat_eq, Option, Some, None, List, [], ◌∷◌, ◌++◌, drop, length, map, append_assoc, refl, sym, ◌∙◌, ap, subst, arith, rules, inl, inr}
 use Rattle.std.specs.Prelude.{codes, String, string_bytes, ◌⊎◌}
 use Rattle.std.specs.Str.{chars}
@@ -18,12 +18,13 @@ use Rattle.chumsky_items.specs.ListLanguage.{Holding}
 use Rattle.chumsky_items.specs.ListWords.{SeparatedWord, SeparatedEnd}
 use Rattle.chumsky_text.specs.Leading.{leading}
 use Rattle.chumsky_text.specs.TextLanguageLaws.{leading_stops}
-use Rattle.chumsky_descent.specs.CallLanguage.{call_language, IsIntended, call-is_intended}
+use Rattle.chumsky_descent.specs.CallLanguage.{IsIntended}
 use Rattle.exact.specs.declared.json_value.Json.{Json, the_lemmas}
 use Rattle.exact.specs.declared.json_value.Json as json
 use Rattle.exact.specs.Listed.{listed}
 use Rattle.exact.specs.JsonStrings.{IsString, quoted}
 use Rattle.exact.specs.JsonNumbers.{IsNumberText, begins_number, number_goes_on}
+use Rattle.exact.specs.JsonNumbersOnce.{both_false, number-begins}
 use Rattle.exact.specs.JsonForms.{Form, null, truth, number, string, array, object, Forms, no_forms, form, Members, no_members, member, forms_of, members_of, form_of, is_blank, AreBlanks}
 use Rattle.exact.specs.JsonForms.{IsValue, is_null, is_true, is_false, is_number, is_string, is_array, is_object, IsElement, is_element, AreElements, no_element, one_element, more_elements, IsMember, is_member, AreMembers, no_member, one_member, more_members, IsJson}
 use Rattle.exact.specs.JsonGrammar.{blanks, just, mark, scalar_language, listed_language, member_language, bare_language, value_language, begins_scalar, begins_value, past_blanks, IsText, values}
@@ -70,7 +71,6 @@ pub record IsNumberLanguage (l : Language ℕ (String Global)) : Type 0 where
   pub follows : (rest : List ℕ) → StopsAt number_goes_on rest → l.follow rest
   pub unambiguous : l.unambiguous
   pub fails : (ts : List ℕ) → StopsAt begins_number ts → DoesNotEnd (l.ends ts)
-  pub begins : (w : List ℕ) → IsNumberText w → Begins begins_number w
 
 -- the language of strings has those of JSON, and anything may follow one
 pub record IsStringLanguage (l : Language ℕ (String Global)) : Type 0 where
@@ -84,11 +84,7 @@ pub record IsStringLanguage (l : Language ℕ (String Global)) : Type 0 where
   pub unambiguous : l.unambiguous
   pub fails : (ts : List ℕ) → StopsAt (nat_eq 34) ts → DoesNotEnd (l.ends ts)
 
--- of two tests: neither, both, and the first
-both_false : (a b : Bool) → (a || b) ≡ false → (a ≡ false) × (b ≡ false)
-both_false true b e = absurd (cc e)
-both_false false b e = (refl, e)
-
+-- of two tests both, and the first
 both_true : (a b : Bool) → a ≡ true → b ≡ true → (a && b) ≡ true
 both_true a b e f = rw (e, f) refl
 
@@ -101,12 +97,12 @@ neither_ends (At r) y h k = absurd h
 neither_ends Nowhere y h k = k
 neither_ends Refused y h k = tt
 
-none_then : (next : List ℕ → Ending (List ℕ)) (x : Ending (List ℕ)) → DoesNotEnd x → DoesNotEnd (and_then next x)
+pub none_then : (next : List ℕ → Ending (List ℕ)) (x : Ending (List ℕ)) → DoesNotEnd x → DoesNotEnd (and_then next x)
 none_then next (At r) h = absurd h
 none_then next Nowhere h = tt
 none_then next Refused h = tt
 
-literal_fails : (m : ℕ) (ms cs : List ℕ) (c : ℕ) → nat_eq m c ≡ false → DoesNotEnd (literal_ends nat_eq (m ∷ ms) (c ∷ cs))
+pub literal_fails : (m : ℕ) (ms cs : List ℕ) (c : ℕ) → nat_eq m c ≡ false → DoesNotEnd (literal_ends nat_eq (m ∷ ms) (c ∷ cs))
 literal_fails m ms cs c e = rw e tt
 
 -- of tokens that it is known not to be refused on
@@ -319,11 +315,9 @@ module _ (N S : Language ℕ (String Global)) (n : IsNumberLanguage N) (s : IsSt
   value-begins is_null = refl
   value-begins is_true = refl
   value-begins is_false = refl
-  value-begins (is_number {w} h) = number_begins w (n.begins w h)
-    where
-      number_begins : (w : List ℕ) → Begins begins_number w → Begins begins_value w
-      number_begins [] b = absurd b
-      number_begins (c ∷ cs) b = first_true (begins_scalar c) _ (first_true (begins_number c) _ b)
+  value-begins (is_number {w} h) =
+      let b = number-begins h in
+      subst (Begins begins_value) (sym b.2) (first_true (begins_scalar b.0) _ (first_true (begins_number b.0) _ b.3))
   value-begins (is_string h) = string-begins h
   value-begins (is_array b a k) = refl
   value-begins (is_object b a k) = refl
@@ -608,7 +602,7 @@ module _ (N S : Language ℕ (String Global)) (n : IsNumberLanguage N) (s : IsSt
     bare-moves = both_true scalar.moves true scalar-moves refl
 
     -- the body of the function keeps what is intended
-    kept : IsIntended values (value_language N S call) (suc depth)
+    pub kept : IsIntended values (value_language N S call) (suc depth)
     kept = record {
       said = bare-said;
       moves = λ e. bare-moves;
@@ -623,10 +617,6 @@ module _ (N S : Language ℕ (String Global)) (n : IsNumberLanguage N) (s : IsSt
       where
         each : (w : List ℕ) (f : Form) → IsElement w f → (value_language N S call).word w
         each _ f (is_element {w} b k v) = record { first = b; second = w; all = refl; is_first = k; is_second = bare-each w f v }
-
-  -- so the function has the language that is intended
-  pub values-intended : (depth : ℕ) → IsIntended values (call_language values (value_language N S) depth) depth
-  values-intended = call-is_intended values (value_language N S) kept
 
 -- what may stand after a value: blanks, and the end
 abbrev pub IsRest : List ℕ → Type 0

@@ -8,11 +8,16 @@ pub mod ExpressionsLaws
 pub mod Listed
 pub mod JsonForms
 pub mod JsonGrammar
+pub mod JsonLawful
 pub mod JsonLaws
 pub mod JsonNumbers
+pub mod JsonNumbersLanguage
+pub mod JsonNumbersLaws
+pub mod JsonNumbersOnce
 pub mod JsonOnce
 pub mod JsonPicks
 pub mod JsonPicksLaws
+pub mod JsonReaderLaws
 pub mod JsonStrings
 pub mod JsonStringsLaws
 pub mod JsonWritten
@@ -23,6 +28,7 @@ pub mod Nested
 pub mod NestedLaws
 pub mod Number
 pub mod NumberLaws
+pub mod Owned
 pub mod Pairs
 pub mod PairsLaws
 pub mod Trees
