@@ -27,7 +27,7 @@ use Rattle.exact.specs.JsonNumbers.{IsNumberText, begins_number, number_goes_on}
 use Rattle.exact.specs.JsonNumbersOnce.{both_false, number-begins}
 use Rattle.exact.specs.JsonForms.{Form, null, truth, number, string, array, object, Forms, no_forms, form, Members, no_members, member, forms_of, members_of, form_of, is_blank, AreBlanks}
 use Rattle.exact.specs.JsonForms.{IsValue, is_null, is_true, is_false, is_number, is_string, is_array, is_object, IsElement, is_element, AreElements, no_element, one_element, more_elements, IsMember, is_member, AreMembers, no_member, one_member, more_members, IsJson}
-use Rattle.exact.specs.JsonGrammar.{blanks, just, mark, scalar_language, listed_language, member_language, bare_language, value_language, begins_scalar, begins_value, past_blanks, IsText, values}
+use Rattle.exact.specs.JsonGrammar.{mark, scalar_language, listed_language, member_language, bare_language, value_language, begins_scalar, begins_value, past_blanks, IsText, values}
 
 abbrev Is : List ℕ → List ℕ → Type 0
 Is = Equals nat_eq
