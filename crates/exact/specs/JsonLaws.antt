@@ -7,7 +7,7 @@ use Rattle.std.specs.declared.alloc.Global.{Global}
 use Rattle.std.specs.declared.vec.Vec.{Vec}
 use Rattle.std.proofs.lemmas.Bool.Decides.{nat_tests}
 use Rattle.std.proofs.lemmas.List.{append-nil}
-use Rattle.chumsky_parser.specs.Ending.{Ending, At, Nowhere, Refused, DoesNotEnd, and_then, or_else}
+use Rattle.chumsky_parser.specs.Ending.{Ending, Ender, At, Nowhere, Refused, DoesNotEnd, and_then, or_else}
 use Rattle.chumsky_parser.specs.FurtherLaws.{both-below, behind-below}
 use Rattle.chumsky_parser.specs.ItemsLanguage.{IsListFrom, ListFrom}
 use Rattle.chumsky_parser.specs.Language.{Language, IsBelow, sooner, later}
@@ -101,6 +101,10 @@ pub none_then : (next : List ℕ → Ending (List ℕ)) (x : Ending (List ℕ)) 
 none_then next (At r) h = absurd h
 none_then next Nowhere h = tt
 none_then next Refused h = tt
+
+-- on the same text
+fails_on : (f : Ender ℕ) (v w rest : List ℕ) → w ≡ v → DoesNotEnd (f (v ++ rest)) → DoesNotEnd (f (w ++ rest))
+fails_on f v w rest e h = subst (λ z. DoesNotEnd (f (z ++ rest))) (sym e) h
 
 pub literal_fails : (m : ℕ) (ms cs : List ℕ) (c : ℕ) → nat_eq m c ≡ false → DoesNotEnd (literal_ends nat_eq (m ∷ ms) (c ∷ cs))
 literal_fails m ms cs c e = rw e tt
@@ -367,19 +371,10 @@ module _ (N S : Language ℕ (String Global)) (n : IsNumberLanguage N) (s : IsSt
       let words : DoesNotEnd (or_else a (or_else b d)) = neither_ends a (or_else b d) (literal_fails 110 (codes "ull") cs c r.0) (neither_ends b d (literal_fails 116 (codes "rue") cs c u.0) (literal_fails 102 (codes "alse") cs c u.1)) in
       neither_ends (N.ends ts) (or_else (S.ends ts) (or_else a (or_else b d))) (n.fails ts p.0) (neither_ends (S.ends ts) (or_else a (or_else b d)) (s.fails ts q.0) words)
 
-  -- neither a string nor a word is a number, and no word a string
-  number_fails : (m : ℕ) (ms w rest : List ℕ) → begins_number m ≡ false → w ≡ m ∷ ms → DoesNotEnd (N.ends (w ++ rest))
-  number_fails m ms w rest b e = subst (λ z. DoesNotEnd (N.ends (z ++ rest))) (sym e) (n.fails (m ∷ (ms ++ rest)) b)
+  string_no_number : (w rest cs : List ℕ) → IsString w cs → DoesNotEnd (N.ends (w ++ rest))
+  string_no_number w rest cs (quoted a) = n.fails _ refl
 
-  string_fails : (m : ℕ) (ms w rest : List ℕ) → nat_eq 34 m ≡ false → w ≡ m ∷ ms → DoesNotEnd (S.ends (w ++ rest))
-  string_fails m ms w rest b e = subst (λ z. DoesNotEnd (S.ends (z ++ rest))) (sym e) (s.fails (m ∷ (ms ++ rest)) b)
-
-  text_fails : (w rest cs : List ℕ) → IsString w cs → DoesNotEnd (N.ends (w ++ rest))
-  text_fails w rest cs (quoted a) = n.fails _ refl
-
-  literal_no : (m : ℕ) (ms cs w rest : List ℕ) (c : ℕ) → nat_eq m c ≡ false → w ≡ c ∷ cs → DoesNotEnd (literal_ends nat_eq (m ∷ ms) (w ++ rest))
-  literal_no m ms cs w rest c b e = subst (λ z. DoesNotEnd (literal_ends nat_eq (m ∷ ms) (z ++ rest))) (sym e) (literal_fails m ms (cs ++ rest) c b)
-
+  -- neither a string nor a word is a number, no word is a string, and none another
   scalar-unambiguous : scalar.unambiguous
   scalar-unambiguous = (
     n.unambiguous,
@@ -387,22 +382,22 @@ module _ (N S : Language ℕ (String Global)) (n : IsNumberLanguage N) (s : IsSt
       s.unambiguous,
       (
         tt,
-        (tt, tt, λ w rest j f. literal_no 116 (codes "rue") (codes "alse") w rest 102 refl (equals-same (codes "false") w j)),
+        (tt, tt, λ w rest j f. fails_on (literal_ends nat_eq (codes "true")) (codes "false") w rest (equals-same (codes "false") w j) tt),
         λ w rest j f. elim j [
-          | inl k ↦ literal_no 110 (codes "ull") (codes "rue") w rest 116 refl (equals-same (codes "true") w k)
-          | inr k ↦ literal_no 110 (codes "ull") (codes "alse") w rest 102 refl (equals-same (codes "false") w k)
+          | inl k ↦ fails_on (literal_ends nat_eq (codes "null")) (codes "true") w rest (equals-same (codes "true") w k) tt
+          | inr k ↦ fails_on (literal_ends nat_eq (codes "null")) (codes "false") w rest (equals-same (codes "false") w k) tt
         ],
       ),
       λ w rest j f. elim j [
-        | inl k ↦ string_fails 110 (codes "ull") w rest refl (equals-same (codes "null") w k)
-        | inr x ↦ elim x [ inl k ↦ string_fails 116 (codes "rue") w rest refl (equals-same (codes "true") w k) | inr k ↦ string_fails 102 (codes "alse") w rest refl (equals-same (codes "false") w k) ]
+        | inl k ↦ fails_on S.ends (codes "null") w rest (equals-same (codes "null") w k) (s.fails _ refl)
+        | inr y ↦ elim y [ inl k ↦ fails_on S.ends (codes "true") w rest (equals-same (codes "true") w k) (s.fails _ refl) | inr k ↦ fails_on S.ends (codes "false") w rest (equals-same (codes "false") w k) (s.fails _ refl) ]
       ],
     ),
     λ w rest j f. elim j [
-      | inl k ↦ (let t = s.some w k in text_fails w rest t.0 t.1)
+      | inl k ↦ (let t = s.some w k in string_no_number w rest t.0 t.1)
       | inr x ↦ elim x [
-        | inl k ↦ number_fails 110 (codes "ull") w rest refl (equals-same (codes "null") w k)
-        | inr y ↦ elim y [ inl k ↦ number_fails 116 (codes "rue") w rest refl (equals-same (codes "true") w k) | inr k ↦ number_fails 102 (codes "alse") w rest refl (equals-same (codes "false") w k) ]
+        | inl k ↦ fails_on N.ends (codes "null") w rest (equals-same (codes "null") w k) (n.fails _ refl)
+        | inr y ↦ elim y [ inl k ↦ fails_on N.ends (codes "true") w rest (equals-same (codes "true") w k) (n.fails _ refl) | inr k ↦ fails_on N.ends (codes "false") w rest (equals-same (codes "false") w k) (n.fails _ refl) ]
       ]
     ],
   )
@@ -578,21 +573,15 @@ module _ (N S : Language ℕ (String Global)) (n : IsNumberLanguage N) (s : IsSt
         both-below scalar.refused_from (sooner arrays.refused_from objects.refused_from) k (subst (λ z. IsBelow z k) (sym scalar-sure) tt)
         (both-below arrays.refused_from objects.refused_from k (list-refused 91 93 call depth element-is k l) (list-refused 123 125 item depth member-is k l))
 
-    list_no : {V : Type 0} (o q m : ℕ) (l : Language ℕ V) (ms w rest : List ℕ) → nat_eq o m ≡ false → w ≡ m ∷ ms → DoesNotEnd ((listed_language o q l).ends (w ++ rest))
-    list_no o q m l ms w rest b e = subst (λ z. DoesNotEnd ((listed_language o q l).ends (z ++ rest))) (sym e) (none_then _ (literal_ends nat_eq (o ∷ []) (m ∷ (ms ++ rest))) (literal_fails o [] (ms ++ rest) m b))
-
-    scalar_no : (m : ℕ) (ms w rest : List ℕ) → begins_scalar m ≡ false → w ≡ m ∷ ms → DoesNotEnd (scalar.ends (w ++ rest))
-    scalar_no m ms w rest b e = subst (λ z. DoesNotEnd (scalar.ends (z ++ rest))) (sym e) (scalar-fails (m ∷ (ms ++ rest)) b)
-
     bare-unambiguous : bare.unambiguous
     bare-unambiguous = (
       scalar-unambiguous,
       (
         list-unambiguous 91 93 call depth element-is refl refl refl,
         list-unambiguous 123 125 item depth member-is refl refl refl,
-        λ w rest j f. list_no 91 93 123 call j.second w rest refl (opened 123 w j),
+        λ w rest j f. fails_on arrays.ends (123 ∷ j.second) w rest (opened 123 w j) tt,
       ),
-      λ w rest j f. elim j [ inl k ↦ scalar_no 91 k.second w rest refl (opened 91 w k) | inr k ↦ scalar_no 123 k.second w rest refl (opened 123 w k) ],
+      λ w rest j f. elim j [ inl k ↦ fails_on scalar.ends (91 ∷ k.second) w rest (opened 91 w k) (scalar-fails _ refl) | inr k ↦ fails_on scalar.ends (123 ∷ k.second) w rest (opened 123 w k) (scalar-fails _ refl) ],
     )
 
     bare-said : bare.said ≡ true

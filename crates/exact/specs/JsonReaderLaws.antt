@@ -1,6 +1,6 @@
 -- The function that reads values of JSON accepts just these.
 -- Main word: grammar. Main laws: number-is, string-is, values-intended. Read first: JsonLaws.antt, and CallLanguage.antt of chumsky_descent.
-use Rattle.std.proofs.Common.{◌≡◌, ℕ, suc, nat_eq, List, [], ◌∷◌, refl}
+use Rattle.std.proofs.Common.{ℕ, suc, nat_eq, List, [], ◌∷◌, refl}
 use Rattle.chumsky_parser.specs.Ending.{DoesNotEnd}
 use Rattle.chumsky_parser.specs.Language.{Language}
 use Rattle.chumsky_parser.specs.Words.{StopsAt}
