@@ -9,6 +9,10 @@ pub mod Listed
 pub mod Json
 pub mod JsonForms
 pub mod JsonLaws
+pub mod JsonNumbers
+pub mod JsonNumbersLanguage
+pub mod JsonNumbersLaws
+pub mod JsonNumbersOnce
 pub mod JsonOnce
 pub mod JsonPicks
 pub mod JsonPicksLaws
@@ -16,12 +20,14 @@ pub mod JsonStrings
 pub mod JsonStringsLaws
 pub mod JsonWritten
 pub mod JsonWrittenLaws
+pub mod Lawfully
 pub mod Level
 pub mod LevelLaws
 pub mod Nested
 pub mod NestedLaws
 pub mod Number
 pub mod NumberLaws
+pub mod Owned
 pub mod Pairs
 pub mod PairsLaws
 pub mod Trees
