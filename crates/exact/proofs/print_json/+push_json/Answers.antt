@@ -30,8 +30,8 @@ returns-in-Number t c =
 pub returns-in-String : goal.returns-in-String
 returns-in-String t c =
     let f = form_of c.args.value.now in
-    let g = string (chars c.as_str-2.result.now) in
-    let e : f ≡ g = ap form_of c.in-String.is ∙ form-string c.in-String.string ∙ ap (λ z. string (chars z)) (sym c.as_str-2.ensures.value) in
+    let g = string (chars c.as_str-in-String.result.now) in
+    let e : f ≡ g = ap form_of c.in-String.is ∙ form-string c.in-String.string ∙ ap (λ z. string (chars z)) (sym c.as_str-in-String.ensures.value) in
     written_as c.push_string.result (chars (string_bytes c.push_string.new.text)) (chars (string_bytes c.args.text.now)) g f e c.push_string.ensures
 
 pub loop-index-preserved : goal.loop-index-preserved
