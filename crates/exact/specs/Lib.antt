@@ -22,6 +22,7 @@ pub mod JsonStrings
 pub mod JsonStringsLaws
 pub mod JsonWritten
 pub mod JsonWrittenLaws
+pub mod Lawfully
 pub mod Level
 pub mod LevelLaws
 pub mod Nested
