@@ -124,8 +124,13 @@ minus-once minus no_minus i (c ∷ cs) x y a b h = let k : 45 ≡ c = cc h in le
 parted : (m i f e x : List ℕ) → (m ++ (i ++ (f ++ e))) ++ x ≡ m ++ (i ++ (f ++ (e ++ x)))
 parted m i f e x = append_assoc m (i ++ (f ++ e)) x ∙ ap (λ z. m ++ z) (append_assoc i (f ++ e) x ∙ ap (λ z. i ++ z) (append_assoc f e x))
 
+-- what follows the same is the same
+rest-same : (w x y : List ℕ) → w ++ x ≡ w ++ y → x ≡ y
+rest-same [] x y e = e
+rest-same (c ∷ cs) x y e = rest-same cs x y (ap (drop 1) e)
+
 -- two numbers that begin one text are one, where neither goes on
-pub number-split : {w v : List ℕ} → IsNumberText w → IsNumberText v → (x y : List ℕ) → StopsAt number_goes_on x → StopsAt number_goes_on y → w ++ x ≡ v ++ y → w ≡ v
+pub number-split : {w v : List ℕ} → IsNumberText w → IsNumberText v → (x y : List ℕ) → StopsAt number_goes_on x → StopsAt number_goes_on y → w ++ x ≡ v ++ y → (w ≡ v) × (x ≡ y)
 number-split (is_number_text {m} {f} {e} i a b c d) (is_number_text {m = n} {f = g} {e = h} j p q r s) x y k l t =
     let u : m ++ (i ++ (f ++ (e ++ x))) ≡ n ++ (j ++ (g ++ (h ++ y))) = sym (parted m i f e x) ∙ t ∙ parted n j g h y in
     let one = minus-once a p i j (f ++ (e ++ x)) (g ++ (h ++ y)) b q u in
@@ -134,10 +139,11 @@ number-split (is_number_text {m} {f} {e} i a b c d) (is_number_text {m = n} {f =
     let two = front digit i j (f ++ (e ++ x)) (g ++ (h ++ y)) (int-digits i b) (int-digits j q) (fraction-stops c (e ++ x) after.0) (fraction-stops r (h ++ y) there.0) one.1 in
     let three = fraction-once c r (e ++ x) (h ++ y) after there two.1 in
     let z : e ≡ h = exponent-once d s x y k l three.1 in
+    let last : e ++ x ≡ e ++ y = three.1 ∙ ap (λ u. u ++ y) (sym z) in
     let o : m ≡ n = one.0 in
     let v : i ≡ j = two.0 in
     let w : f ≡ g = three.0 in
-    cc (o, v, w, z)
+    (cc (o, v, w, z), rest-same e x y last)
 
 -- a number begins with a digit or a minus
 pub number-begins : {w : List ℕ} → IsNumberText w → (c : ℕ) × (cs : List ℕ) × (w ≡ c ∷ cs) × (begins_number c ≡ true)
