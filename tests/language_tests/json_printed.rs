@@ -1,17 +1,20 @@
 //! JSON that `print_json` writes, held against what the toolchain's `serde_json` writes.
-use exact::json_value::JsonValue;
+use exact::json_value::Json;
 use exact::print_json::print_json;
 use serde_json::Value;
 use std::alloc::{AllocError, Global};
 use std::test::Fail;
 
-/// Texts that are JSON, whose names are in order, with numbers that a `u32` holds.
-const TAKEN: [&str; 44] = [
+/// Texts that are JSON, whose names are in order.
+const TAKEN: [&str; 47] = [
     "null",
     "true",
     "false",
     "0",
     "4294967295",
+    "18446744073709551615",
+    "[-1, -0.5, 2.5e-3]",
+    "-123456789",
     "\"\"",
     "\"asd \"",
     "[]",
@@ -53,29 +56,26 @@ const TAKEN: [&str; 44] = [
     "{\"a\":{\"b\":{\"c\":[true,[false,[null]]]}}}",
 ];
 
-/// A value of `serde_json`, of whose numbers a `u32` holds each, as ours.
-fn ours(alloc: Global, theirs: &Value) -> Result<JsonValue, AllocError> {
+/// A value of `serde_json` as ours.
+fn ours(alloc: Global, theirs: &Value) -> Result<Json, AllocError> {
     match theirs {
-        Value::Null => Ok(JsonValue::Null),
-        Value::Bool(truth) => Ok(JsonValue::Bool(*truth)),
-        Value::Number(_) => {
-            let text = theirs.to_string(alloc)?;
-            Ok(JsonValue::Number(text.as_str().parse::<u32>().unwrap_or(0)))
-        }
-        Value::String(text) => Ok(JsonValue::String(text.clone()?)),
+        Value::Null => Ok(Json::Null),
+        Value::Bool(truth) => Ok(Json::Bool(*truth)),
+        Value::Number(_) => Ok(Json::Number(theirs.to_string(alloc)?)),
+        Value::String(text) => Ok(Json::String(text.clone()?)),
         Value::Array(values) => {
             let mut elements = Vec::new(alloc);
             for value in values.iter() {
                 elements.push(ours(alloc, value)?)?;
             }
-            Ok(JsonValue::Array(elements))
+            Ok(Json::Array(elements))
         }
         Value::Object(map) => {
             let mut members = Vec::new(alloc);
             for (name, value) in map.iter() {
                 members.push((name.clone()?, ours(alloc, value)?))?;
             }
-            Ok(JsonValue::Object(members))
+            Ok(Json::Object(members))
         }
     }
 }
@@ -105,7 +105,7 @@ fn each_character_is_printed_as_serde_json_prints_it(rt: HostRuntime) -> Result<
         if let Some(character) = std::char::from_u32(number) {
             let text = format!(in alloc; "a{character}b")?;
             let wanted = Value::String(text.clone()?).to_string(alloc)?;
-            let printed = print_json(alloc, &JsonValue::String(text))?;
+            let printed = print_json(alloc, &Json::String(text))?;
             assert_eq!(rt; printed.as_str(), wanted.as_str(), "of U+{number:04x}");
         }
     }
@@ -116,10 +116,20 @@ fn each_character_is_printed_as_serde_json_prints_it(rt: HostRuntime) -> Result<
 fn members_are_printed_in_their_order_and_all_of_one_name(rt: HostRuntime) -> Result<(), Fail> {
     let alloc = rt.alloc();
     let mut members = Vec::new(alloc);
-    members.push((owned(alloc, "b")?, JsonValue::Number(1)))?;
-    members.push((owned(alloc, "a")?, JsonValue::Null))?;
-    members.push((owned(alloc, "b")?, JsonValue::Array(Vec::new(alloc))))?;
-    let printed = print_json(alloc, &JsonValue::Object(members))?;
+    members.push((owned(alloc, "b")?, Json::Number(owned(alloc, "1")?)))?;
+    members.push((owned(alloc, "a")?, Json::Null))?;
+    members.push((owned(alloc, "b")?, Json::Array(Vec::new(alloc))))?;
+    let printed = print_json(alloc, &Json::Object(members))?;
     assert_eq!(rt; printed.as_str(), "{\"b\":1,\"a\":null,\"b\":[]}");
+    Ok(())
+}
+
+#[test]
+fn a_number_is_printed_as_it_stands(rt: HostRuntime) -> Result<(), Fail> {
+    let alloc = rt.alloc();
+    for text in ["0", "-0", "-12.50E+03", "123456789012345678901234567890", "0.1e00000000000000000000000001"] {
+        let printed = print_json(alloc, &Json::Number(owned(alloc, text)?))?;
+        assert_eq!(rt; printed.as_str(), text);
+    }
     Ok(())
 }

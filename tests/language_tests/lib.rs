@@ -9,6 +9,8 @@ mod exact_json;
 #[cfg(test)]
 mod exact_expressions;
 #[cfg(test)]
+mod exact_numbers;
+#[cfg(test)]
 mod exact_strings;
 #[cfg(test)]
 mod expressions;

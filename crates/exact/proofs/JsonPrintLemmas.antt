@@ -1,18 +1,17 @@
 -- What is written at the end of a text by the printer of JSON.
 -- Main laws: pushed-scalar, control_printed, element_printed, member_printed, list_printed.
 use Rattle.std.proofs.Common.{◌≡◌, ℕ, zero, suc, ◌+◌, ◌<◌, ◌^◌, List, [], ◌∷◌, ◌++◌, length, get_or, map, append_assoc, drop, refl, sym, ◌∙◌, ap, subst, rules, arith}
-use Rattle.std.specs.Prelude.{Result, Ok, Err, OnOk, String, codes, decimal, encode_utf8, string_bytes}
+use Rattle.std.specs.Prelude.{Result, Ok, Err, OnOk, String, codes, encode_utf8, string_bytes}
 use Rattle.std.specs.Char.{IsScalar}
 use Rattle.std.specs.Str.{chars, IsUtf8}
 use Rattle.std.specs.declared.alloc.Global.{Global}
 use Rattle.std.specs.declared.vec.Vec.{Vec}
 use Rattle.std.proofs.lemmas.List.{append-nil, drop_more}
-use Rattle.std.proofs.lemmas.Fmt.{IsAscii-decimal}
 use Rattle.std.proofs.lemmas.Str.{IsUtf8-encode, chars-nil, chars-IsAscii, chars_past_char}
-use Rattle.exact.specs.declared.json_value.JsonValue.{JsonValue, the_lemmas}
-use Rattle.exact.specs.declared.json_value.JsonValue as value
+use Rattle.exact.specs.declared.json_value.Json.{Json, the_lemmas}
+use Rattle.exact.specs.declared.json_value.Json as value
 use Rattle.exact.specs.JsonForms.{Form, Members, null, truth, number, string, array, object, forms_of, members_of, form_of}
-use Rattle.exact.specs.JsonWritten.{comma_before, written, elements_written, members_written, string_text, NumbersFit, ElementsFit, MembersFit}
+use Rattle.exact.specs.JsonWritten.{comma_before, written, elements_written, members_written, string_text}
 use Rattle.exact.proofs.PrintLemmas.{pushed-text}
 
 -- what a value says, level by level
@@ -22,25 +21,22 @@ form-null = search (rules, the_lemmas)
 pub form-bool : (b : _) → form_of (value.Bool b) ≡ truth b
 form-bool b = search (rules, the_lemmas)
 
-pub form-number : (n : ℕ) → form_of (value.Number n) ≡ number n
-form-number n = search (rules, the_lemmas)
+pub form-number : (s : String Global) → form_of (value.Number s) ≡ number (chars (string_bytes s))
+form-number s = search (rules, the_lemmas)
 
 pub form-string : (s : String Global) → form_of (value.String s) ≡ string (chars (string_bytes s))
 form-string s = search (rules, the_lemmas)
 
-pub form-array : (v : Vec JsonValue Global) → form_of (value.Array v) ≡ array (forms_of (map form_of v.items))
+pub form-array : (v : Vec Json Global) → form_of (value.Array v) ≡ array (forms_of (map form_of v.items))
 form-array v = search (rules, the_lemmas)
 
-pub form-object : (v : Vec (String Global × JsonValue) Global) → form_of (value.Object v) ≡ object (members_of (map (λ m. (m.0, form_of m.1)) v.items))
+pub form-object : (v : Vec (String Global × Json) Global) → form_of (value.Object v) ≡ object (members_of (map (λ m. (m.0, form_of m.1)) v.items))
 form-object v = search (rules, the_lemmas)
 
 pub pushed-scalar : (c : ℕ) (t u : List ℕ) → IsScalar c → IsUtf8 t → u ≡ t ++ encode_utf8 c → chars u ≡ chars t ++ (c ∷ [])
 pushed-scalar c t u s h e =
     let a : chars (encode_utf8 c) ≡ c ∷ chars [] = chars_past_char (encode_utf8 c) [] c (IsUtf8-encode c s) (sym (append-nil (encode_utf8 c))) in
     pushed-text t u (encode_utf8 c) h e ∙ ap (λ z. chars t ++ z) (a ∙ ap (λ z. c ∷ z) chars-nil)
-
-pub pushed-decimal : (n : ℕ) (t u : List ℕ) → n < 2 ^ 64 → IsUtf8 t → u ≡ t ++ decimal n → chars u ≡ chars t ++ decimal n
-pushed-decimal n t u l h e = pushed-text t u (decimal n) h e ∙ ap (λ z. chars t ++ z) (chars-IsAscii (decimal n) (IsAscii-decimal n l))
 
 -- a control character was printed by its number
 zeros-chars : chars (92 ∷ 117 ∷ 48 ∷ 48 ∷ []) ≡ 92 ∷ 117 ∷ 48 ∷ 48 ∷ []
@@ -57,22 +53,22 @@ control_printed old t u new a b x y p q r f g =
     ∙ ap (λ z. old ++ (92 ∷ 117 ∷ 48 ∷ 48 ∷ z ∷ b ∷ [])) f ∙ ap (λ z. old ++ (92 ∷ 117 ∷ 48 ∷ 48 ∷ x ∷ z ∷ [])) g
 
 -- what remains to be written of a list from an index on
-abbrev pub elements_left : ℕ → List JsonValue → List ℕ
+abbrev pub elements_left : ℕ → List Json → List ℕ
 elements_left zero es = drop 1 (elements_written (forms_of (map form_of es)))
 elements_left (suc i) es = elements_written (forms_of (map form_of es))
 
-abbrev pub forms_in : List (String Global × JsonValue) → Members
+abbrev pub forms_in : List (String Global × Json) → Members
 forms_in ms = members_of (map (λ m. (m.0, form_of m.1)) ms)
 
-abbrev pub members_left : ℕ → List (String Global × JsonValue) → List ℕ
+abbrev pub members_left : ℕ → List (String Global × Json) → List ℕ
 members_left zero ms = drop 1 (members_written (forms_in ms))
 members_left (suc i) ms = members_written (forms_in ms)
 
-elements_left-first : (i : ℕ) (e : JsonValue) (es : List JsonValue) → elements_left i (e ∷ es) ≡ comma_before i ++ (written (form_of e) ++ elements_left (suc i) es)
+elements_left-first : (i : ℕ) (e : Json) (es : List Json) → elements_left i (e ∷ es) ≡ comma_before i ++ (written (form_of e) ++ elements_left (suc i) es)
 elements_left-first zero e es = refl
 elements_left-first (suc i) e es = refl
 
-members_left-first : (i : ℕ) (m : String Global × JsonValue) (ms : List (String Global × JsonValue)) → members_left i (m ∷ ms) ≡ comma_before i ++ (((string_text (chars (string_bytes m.0)) ++ codes ":") ++ written (form_of m.1)) ++ members_left (suc i) ms)
+members_left-first : (i : ℕ) (m : String Global × Json) (ms : List (String Global × Json)) → members_left i (m ∷ ms) ≡ comma_before i ++ (((string_text (chars (string_bytes m.0)) ++ codes ":") ++ written (form_of m.1)) ++ members_left (suc i) ms)
 members_left-first zero m ms = refl
 members_left-first (suc i) m ms = refl
 
@@ -91,7 +87,7 @@ printed c w r t u all l e h p =
     let b : (t ++ c) ++ (w ++ r) ≡ t ++ (c ++ (w ++ r)) = append_assoc t c (w ++ r) in
     ap (λ z. z ++ r) p ∙ a ∙ b ∙ ap (λ z. t ++ z) (sym e) ∙ h
 
-pub element_printed : (i j : ℕ) (xs : List JsonValue) (e : JsonValue) (t u v all : List ℕ) → i < length xs → j ≡ i + 1 → e ≡ get_or xs i e → t ++ elements_left i (drop i xs) ≡ all → u ≡ t ++ comma_before i → v ≡ u ++ written (form_of e) → v ++ elements_left j (drop j xs) ≡ all
+pub element_printed : (i j : ℕ) (xs : List Json) (e : Json) (t u v all : List ℕ) → i < length xs → j ≡ i + 1 → e ≡ get_or xs i e → t ++ elements_left i (drop i xs) ≡ all → u ≡ t ++ comma_before i → v ≡ u ++ written (form_of e) → v ++ elements_left j (drop j xs) ≡ all
 element_printed i j xs e t u v all l s g h p q =
     let d : drop i xs ≡ e ∷ drop (i + 1) xs = drop_more xs i e l ∙ ap (λ z. z ∷ drop (i + 1) xs) (sym g) in
     let n : elements_left i (drop i xs) ≡ comma_before i ++ (written (form_of e) ++ elements_left (suc i) (drop (i + 1) xs)) = ap (elements_left i) d ∙ elements_left-first i e (drop (i + 1) xs) in
@@ -99,7 +95,7 @@ element_printed i j xs e t u v all l s g h p q =
     let m : elements_left (suc i) (drop (i + 1) xs) ≡ elements_left j (drop j xs) = ap (λ z. elements_left z (drop (i + 1) xs)) k ∙ ap (λ z. elements_left j (drop z xs)) (sym s) in
     ap (λ z. v ++ z) (sym m) ∙ printed (comma_before i) (written (form_of e)) (elements_left (suc i) (drop (i + 1) xs)) t v all (elements_left i (drop i xs)) n h (q ∙ ap (λ z. z ++ written (form_of e)) p)
 
-pub member_printed : (i j : ℕ) (xs : List (String Global × JsonValue)) (m : String Global × JsonValue) (t u v all : List ℕ) → i < length xs → j ≡ i + 1 → m ≡ get_or xs i m → t ++ members_left i (drop i xs) ≡ all → u ≡ (t ++ comma_before i) ++ (string_text (chars (string_bytes m.0)) ++ codes ":") → v ≡ u ++ written (form_of m.1) → v ++ members_left j (drop j xs) ≡ all
+pub member_printed : (i j : ℕ) (xs : List (String Global × Json)) (m : String Global × Json) (t u v all : List ℕ) → i < length xs → j ≡ i + 1 → m ≡ get_or xs i m → t ++ members_left i (drop i xs) ≡ all → u ≡ (t ++ comma_before i) ++ (string_text (chars (string_bytes m.0)) ++ codes ":") → v ≡ u ++ written (form_of m.1) → v ++ members_left j (drop j xs) ≡ all
 member_printed i j xs m t u v all l s g h p q =
     let name : List ℕ = string_text (chars (string_bytes m.0)) ++ codes ":" in
     let value : List ℕ = written (form_of m.1) in
@@ -118,19 +114,6 @@ list_printed b c left all old t l new p h n q =
     let a : ((old ++ (b ∷ [])) ++ all) ++ (c ∷ []) ≡ (old ++ (b ∷ [])) ++ (all ++ (c ∷ [])) = append_assoc (old ++ (b ∷ [])) all (c ∷ []) in
     let d : (old ++ (b ∷ [])) ++ (all ++ (c ∷ [])) ≡ old ++ (b ∷ (all ++ (c ∷ []))) = append_assoc old (b ∷ []) (all ++ (c ∷ [])) in
     q ∙ ap (λ z. z ++ (c ∷ [])) m ∙ a ∙ d
-
--- the numbers of those that are left fit, so those of all do, where they did so far
-pub element_fits : (i j : ℕ) (xs : List JsonValue) (e : JsonValue) → i < length xs → j ≡ i + 1 → e ≡ get_or xs i e → NumbersFit (form_of e) → (ElementsFit (forms_of (map form_of (drop i xs))) → ElementsFit (forms_of (map form_of xs))) → ElementsFit (forms_of (map form_of (drop j xs))) → ElementsFit (forms_of (map form_of xs))
-element_fits i j xs e l s g n h f =
-    let d : drop i xs ≡ e ∷ drop (i + 1) xs = drop_more xs i e l ∙ ap (λ z. z ∷ drop (i + 1) xs) (sym g) in
-    let k : ElementsFit (forms_of (map form_of (drop (i + 1) xs))) = subst (λ z. ElementsFit (forms_of (map form_of (drop z xs)))) s f in
-    h (subst (λ z. ElementsFit (forms_of (map form_of z))) (sym d) (n, k))
-
-pub member_fits : (i j : ℕ) (xs : List (String Global × JsonValue)) (m : String Global × JsonValue) → i < length xs → j ≡ i + 1 → m ≡ get_or xs i m → NumbersFit (form_of m.1) → (MembersFit (forms_in (drop i xs)) → MembersFit (forms_in xs)) → MembersFit (forms_in (drop j xs)) → MembersFit (forms_in xs)
-member_fits i j xs m l s g n h f =
-    let d : drop i xs ≡ m ∷ drop (i + 1) xs = drop_more xs i m l ∙ ap (λ z. z ∷ drop (i + 1) xs) (sym g) in
-    let k : MembersFit (forms_in (drop (i + 1) xs)) = subst (λ z. MembersFit (forms_in (drop z xs))) s f in
-    h (subst (λ z. MembersFit (forms_in z)) (sym d) (n, k))
 
 -- what the words are in characters
 null-chars : chars (codes "null") ≡ codes "null"
@@ -158,7 +141,3 @@ pushed-false t u h e = pushed-text t u (codes "false") h e ∙ ap (λ z. chars t
 pub written_as : {E : Type 0} (r : Result (Unit {0}) E) (new old : List ℕ) (f g : Form) → g ≡ f → OnOk r (new ≡ old ++ written f) → OnOk r (new ≡ old ++ written g)
 written_as (Ok u) new old f g e h = h ∙ ap (λ z. old ++ written z) (sym e)
 written_as (Err x) new old f g e h = tt
-
-pub fits_as : {E : Type 0} (r : Result (Unit {0}) E) (f g : Form) → g ≡ f → NumbersFit f → OnOk r (NumbersFit g)
-fits_as (Ok u) f g e h = subst NumbersFit (sym e) h
-fits_as (Err x) f g e h = tt

@@ -1,7 +1,9 @@
 -- How JSON writes numbers, after RFC 8259.
--- Main word: IsNumberText. Laws: JsonNumbersLaws.antt.
-use Rattle.std.specs.Prelude.{◌≡◌, ℕ, ◌||◌, ◌==◌, true, Bool, List, [], ◌∷◌, ◌++◌, codes}
+-- Main words: IsNumberText, HoldsNumber. Laws: JsonNumbersOnce.antt, JsonNumbersLaws.antt.
+use Rattle.std.specs.Prelude.{◌≡◌, ℕ, ◌||◌, ◌==◌, true, Bool, List, [], ◌∷◌, ◌++◌, codes, String, string_bytes}
 use Rattle.std.specs.Char.{is_digit}
+use Rattle.std.specs.Str.{chars}
+use Rattle.std.specs.declared.alloc.Global.{Global}
 use Rattle.chumsky_parser.specs.Words.{AllPass}
 use Rattle.chumsky_text.specs.Decimals.{IsInt}
 
@@ -32,7 +34,15 @@ pub data IsExponent : List ℕ → Type 0 where
 
 -- a number: a minus, digits with no zero before another, a fraction and an exponent
 pub data IsNumberText : List ℕ → Type 0 where
-  is_number_text : {m i f e : List ℕ} → IsMinus m → IsInt i → IsFraction f → IsExponent e → IsNumberText (m ++ (i ++ (f ++ e)))
+  is_number_text : {m f e : List ℕ} (i : List ℕ) → IsMinus m → IsInt i → IsFraction f → IsExponent e → IsNumberText (m ++ (i ++ (f ++ e)))
+
+-- the text is a number, and the value is that text
+abbrev pub HoldsNumber : List ℕ → String Global → Type 0
+HoldsNumber text value = IsNumberText text × (chars (string_bytes value) ≡ text)
+
+-- what a number begins with: a digit, or a minus (45)
+abbrev pub begins_number : ℕ → Bool
+begins_number c = is_digit c 10 || (c == 45)
 
 -- what a number may go on with: a digit, a point (46), `e` or `E`
 abbrev pub number_goes_on : ℕ → Bool

@@ -1,33 +1,19 @@
 -- A text is one value at most, and no two values are written alike.
 -- Main laws: json-once, written-once. Read first: JsonForms.antt, JsonWritten.antt.
-use Rattle.std.proofs.Common.{◌≡◌, ℕ, ◌<◌, Bool, true, false, cond, nat_eq, Some, None, List, [], ◌∷◌, ◌++◌, append_assoc, refl, sym, ◌∙◌, ap, subst, arith, inl, inr}
+use Rattle.std.proofs.Common.{◌≡◌, ℕ, ◌<◌, ◌||◌, Bool, true, false, cond, nat_eq, Some, None, List, [], ◌∷◌, ◌++◌, append_assoc, refl, sym, ◌∙◌, ap, subst, arith, inl, inr}
 use Rattle.std.specs.Prelude.{codes, drop, ◌==◌, ◌⊎◌}
 use Rattle.std.specs.Char.{digit_value, is_digit}
 use Rattle.std.specs.Char.Utf16.{lone_unit_char, is_high_surrogate, surrogate_pair_char}
-use Rattle.std.specs.Str.Parse.{AllDigits, digits_value}
-use Rattle.std.proofs.lemmas.Bool.{lt-ltb, eqb-false, ne_eqb}
+use Rattle.std.proofs.lemmas.Bool.{lt-ltb, ltb-true, eqb-true, eqb-false, ne_eqb}
 use Rattle.std.proofs.lemmas.Bool.Decides.{nat_tests}
 use Rattle.std.proofs.lemmas.Str.Parse.{digit_from_value}
 use Rattle.chumsky_parser.specs.Words.{AllPass, StopsAt}
-use Rattle.exact.specs.Number.{IsNumber}
+use Rattle.exact.specs.JsonNumbers.{IsNumberText, begins_number, number_goes_on}
+use Rattle.exact.specs.JsonNumbersOnce.{front, number-begins, number-split}
 use Rattle.exact.specs.JsonStrings.{is_plain, escaped, unit_of, IsPiece, plain, by_letter, by_unit, by_pair, ArePieces, no_piece, more_pieces, IsString, quoted}
 use Rattle.exact.specs.JsonForms.{Form, null, truth, number, string, array, object, Forms, no_forms, form, Members, is_blank, AreBlanks, IsValue, is_null, is_true, is_false, is_number, is_string, is_array, is_object, IsElement, is_element, AreElements, no_element, one_element, more_elements, IsMember, is_member, AreMembers, no_member, one_member, more_members, IsJson}
-use Rattle.exact.specs.JsonWritten.{written, NumbersFit}
+use Rattle.exact.specs.JsonWritten.{written, AreNumbers}
 use Rattle.exact.specs.JsonWrittenLaws.{written-is}
-
--- what passes up to where none does is one alone
-front : (test : ℕ → Bool) (w v x y : List ℕ) → AllPass test w → AllPass test v → StopsAt test x → StopsAt test y → w ++ x ≡ v ++ y → (w ≡ v) × (x ≡ y)
-front test [] [] x y p q s t e = (refl, e)
-front test [] (d ∷ v) [] y p q s t e = absurd (cc e)
-front test [] (d ∷ v) (c ∷ x) y p q s t e = let h : c ≡ d = cc e in let b : test c ≡ true = ap test h ∙ q.0 in let z : true ≡ false = sym b ∙ s in absurd (cc z)
-front test (c ∷ w) [] x [] p q s t e = absurd (cc e)
-front test (c ∷ w) [] x (d ∷ y) p q s t e = let h : c ≡ d = cc e in let b : test d ≡ true = ap test (sym h) ∙ p.0 in let z : true ≡ false = sym b ∙ t in absurd (cc z)
-front test (c ∷ w) (d ∷ v) x y p q s t e =
-    let h : c ≡ d = cc e in
-    let k : w ++ x ≡ v ++ y = cc e in
-    let r = front test w v x y p.1 q.1 s t k in
-    let a : w ≡ v = r.0 in
-    (cc (h, a), r.1)
 
 -- two lists that begin otherwise
 apart : (c d : ℕ) (x y : List ℕ) → nat_eq c d ≡ false → c ∷ x ≡ d ∷ y → ⊥
@@ -40,8 +26,8 @@ head (c ∷ cs) = c
 abbrev second : List ℕ → ℕ
 second cs = head (drop 1 cs)
 
-abbrev NoDigit : List ℕ → Type 0
-NoDigit = StopsAt (λ c. is_digit c 10)
+abbrev NoMore : List ℕ → Type 0
+NoMore = StopsAt number_goes_on
 
 abbrev NoBlank : List ℕ → Type 0
 NoBlank = StopsAt is_blank
@@ -49,12 +35,12 @@ NoBlank = StopsAt is_blank
 blank-is : (c : ℕ) → is_blank c ≡ true → (c ≡ 32) ⊎ ((c ≡ 9) ⊎ ((c ≡ 10) ⊎ (c ≡ 13)))
 blank-is c e = grind (arith, nat_tests)
 
-blank-no_digit : (c : ℕ) → is_blank c ≡ true → is_digit c 10 ≡ false
-blank-no_digit c e = elim (blank-is c e) [ inl a ↦ rw a refl | inr x ↦ elim x [ inl a ↦ rw a refl | inr y ↦ elim y [ inl a ↦ rw a refl | inr a ↦ rw a refl ] ] ]
+blank-no_more : (c : ℕ) → is_blank c ≡ true → number_goes_on c ≡ false
+blank-no_more c e = elim (blank-is c e) [ inl a ↦ rw a refl | inr x ↦ elim x [ inl a ↦ rw a refl | inr y ↦ elim y [ inl a ↦ rw a refl | inr a ↦ rw a refl ] ] ]
 
-blanks-stop : (b rest : List ℕ) → AreBlanks b → NoDigit rest → NoDigit (b ++ rest)
+blanks-stop : (b rest : List ℕ) → AreBlanks b → NoMore rest → NoMore (b ++ rest)
 blanks-stop [] rest k s = s
-blanks-stop (c ∷ cs) rest k s = blank-no_digit c k.0
+blanks-stop (c ∷ cs) rest k s = blank-no_more c k.0
 
 -- the part after blanks
 past : (a b x y : List ℕ) → AreBlanks a → AreBlanks b → NoBlank x → NoBlank y → a ++ x ≡ b ++ y → x ≡ y
@@ -169,22 +155,9 @@ string-no_blank (quoted p) x = refl
 no_string-here : {w cs : List ℕ} → IsString w cs → (x y : List ℕ) → 125 ∷ x ≡ w ++ y → ⊥
 no_string-here (quoted {w} p) x y e = apart 125 34 x ((w ++ (34 ∷ [])) ++ y) refl e
 
--- the digits of a number
-digit-passes : (c : ℕ) → digit_value c < 10 → is_digit c 10 ≡ true
-digit-passes c l = lt-ltb (digit_value c) 10 l
-
-digits-pass : (w : List ℕ) → AllDigits 10 w → AllPass (λ c. is_digit c 10) w
-digits-pass [] h = tt
-digits-pass (c ∷ cs) h = (digit-passes c h.0, digits-pass cs h.1)
-
-number-once : (w v : List ℕ) (n m : ℕ) (x y : List ℕ) → IsNumber w n → IsNumber v m → NoDigit x → NoDigit y → w ++ x ≡ v ++ y → (n ≡ m) × (x ≡ y)
-number-once w v n m x y i j s t e =
-    let r = front (λ c. is_digit c 10) w v x y (digits-pass w i.digits.0.1) (digits-pass v j.digits.0.1) s t e in
-    (i.value ∙ ap (digits_value 10) r.0 ∙ sym j.value, r.1)
-
 -- the kind of value that a character begins, and 7 of those that begin none
 abbrev kind_begun : ℕ → ℕ
-kind_begun c = cond (c == 110) 0 (cond (c == 116) 1 (cond (c == 102) 2 (cond (is_digit c 10) 3 (cond (c == 34) 4 (cond (c == 91) 5 (cond (c == 123) 6 7))))))
+kind_begun c = cond (c == 110) 0 (cond (c == 116) 1 (cond (c == 102) 2 (cond (begins_number c) 3 (cond (c == 34) 4 (cond (c == 91) 5 (cond (c == 123) 6 7))))))
 
 abbrev begun : List ℕ → ℕ
 begun [] = 7
@@ -194,7 +167,7 @@ abbrev kind_of : Form → ℕ
 kind_of null = 0
 kind_of (truth true) = 1
 kind_of (truth false) = 2
-kind_of (number n) = 3
+kind_of (number cs) = 3
 kind_of (string cs) = 4
 kind_of (array fs) = 5
 kind_of (object ms) = 6
@@ -212,15 +185,21 @@ digit-begins c l =
     let back : nat_eq c 13 ≡ false = ne_eqb c 13 (λ e. omega (arith, e, r.0)) in
     (rw (n, t, f, d) refl, rw (space, tab, feed, back) refl)
 
-number-begins : (w x : List ℕ) (n : ℕ) → IsNumber w n → (begun (w ++ x) ≡ 3) × NoBlank (w ++ x)
-number-begins [] x n i = let l = i.digits.0.0 in absurd (omega (arith, l))
-number-begins (c ∷ w) x n i = digit-begins c i.digits.0.1.0
+number-kind : (c : ℕ) → begins_number c ≡ true → (kind_begun c ≡ 3) × (is_blank c ≡ false)
+number-kind c e = by_digit (is_digit c 10) refl e
+  where
+    by_digit : (b : Bool) → is_digit c 10 ≡ b → (b || (c == 45)) ≡ true → (kind_begun c ≡ 3) × (is_blank c ≡ false)
+    by_digit true d e = digit-begins c (ltb-true (digit_value c) 10 d)
+    by_digit false d e = let h : c ≡ 45 = eqb-true c 45 e in rw h (refl, refl)
+
+number-starts : {w : List ℕ} → IsNumberText w → (x : List ℕ) → (begun (w ++ x) ≡ 3) × NoBlank (w ++ x)
+number-starts i x = let b = number-begins i in let e = b.2 in subst (λ z. (begun (z ++ x) ≡ 3) × NoBlank (z ++ x)) (sym e) (number-kind b.0 b.3)
 
 begins : {w : List ℕ} {f : Form} → IsValue w f → (x : List ℕ) → (begun (w ++ x) ≡ kind_of f) × NoBlank (w ++ x)
 begins is_null x = (refl, refl)
 begins is_true x = (refl, refl)
 begins is_false x = (refl, refl)
-begins (is_number {w} n i) x = number-begins w x n i
+begins (is_number i) x = number-starts i x
 begins (is_string (quoted p)) x = (refl, refl)
 begins (is_array b a k) x = (refl, refl)
 begins (is_object b a k) x = (refl, refl)
@@ -233,7 +212,7 @@ kind-below : (f : Form) → kind_of f < 7
 kind-below null = omega arith
 kind-below (truth true) = omega arith
 kind-below (truth false) = omega arith
-kind-below (number n) = omega arith
+kind-below (number cs) = omega arith
 kind-below (string cs) = omega arith
 kind-below (array fs) = omega arith
 kind-below (object ms) = omega arith
@@ -275,11 +254,11 @@ no_member-here (is_member {v} {w} a d k p l i) b x y m e =
     no_string-here p x rest q
 
 mutual
-  value-once : {w v : List ℕ} {f g : Form} → IsValue w f → IsValue v g → (x y : List ℕ) → NoDigit x → NoDigit y → w ++ x ≡ v ++ y → (f ≡ g) × (x ≡ y)
+  value-once : {w v : List ℕ} {f g : Form} → IsValue w f → IsValue v g → (x y : List ℕ) → NoMore x → NoMore y → w ++ x ≡ v ++ y → (f ≡ g) × (x ≡ y)
   value-once is_null is_null x y s t e = (refl, ap (drop 4) e)
   value-once is_true is_true x y s t e = (refl, ap (drop 4) e)
   value-once is_false is_false x y s t e = (refl, ap (drop 5) e)
-  value-once (is_number {w} n i) (is_number {w = v} m j) x y s t e = let r = number-once w v n m x y i j s t e in (ap number r.0, r.1)
+  value-once (is_number i) (is_number j) x y s t e = let r = number-split i j x y s t e in (ap number r.0, r.1)
   value-once (is_string p) (is_string q) x y s t e = let r = string-once p q x y e in (ap string r.0, r.1)
   value-once (is_array {w} b a k) (is_array {w = v} d c l) x y s t e =
       let p : 91 ∷ (w ++ (b ++ (93 ∷ x))) ≡ 91 ∷ (v ++ (d ++ (93 ∷ y))) = ap (λ z. 91 ∷ z) (sym (closed w b x 93)) ∙ e ∙ ap (λ z. 91 ∷ z) (closed v d y 93) in
@@ -291,7 +270,7 @@ mutual
       (ap object r.0, r.1)
   value-once i j x y s t e = absurd (omega (arith, same-kind i j x y e))
 
-  element-once : {w v : List ℕ} {f g : Form} → IsElement w f → IsElement v g → (x y : List ℕ) → NoDigit x → NoDigit y → w ++ x ≡ v ++ y → (f ≡ g) × (x ≡ y)
+  element-once : {w v : List ℕ} {f g : Form} → IsElement w f → IsElement v g → (x y : List ℕ) → NoMore x → NoMore y → w ++ x ≡ v ++ y → (f ≡ g) × (x ≡ y)
   element-once (is_element {w} b k i) (is_element {w = v} d l j) x y s t e =
       let p : b ++ (w ++ x) ≡ d ++ (v ++ y) = sym (append_assoc b w x) ∙ e ∙ append_assoc d v y in
       value-once i j x y s t (past b d (w ++ x) (v ++ y) k l (begins i x).1 (begins j y).1 p)
@@ -322,7 +301,7 @@ mutual
       let u = elements-once p q b d x y k l (mark-once a c 44 44 left right n m refl refl r.1).1 in
       (cc (r.0, u.0), u.1)
 
-  member-once : {w v cs ds : List ℕ} {f g : Form} → IsMember w cs f → IsMember v ds g → (x y : List ℕ) → NoDigit x → NoDigit y → w ++ x ≡ v ++ y → (cs ≡ ds) × (f ≡ g) × (x ≡ y)
+  member-once : {w v cs ds : List ℕ} {f g : Form} → IsMember w cs f → IsMember v ds g → (x y : List ℕ) → NoMore x → NoMore y → w ++ x ≡ v ++ y → (cs ≡ ds) × (f ≡ g) × (x ≡ y)
   member-once (is_member {v = s} {w} a b k p l i) (is_member {v = t} {w = v} c d m q n j) x y stops ends e =
       let left : List ℕ = b ++ (58 ∷ (w ++ x)) in
       let right : List ℕ = d ++ (58 ∷ (v ++ y)) in
@@ -358,9 +337,9 @@ mutual
       let u = members-once p q b d x y k l (mark-once a c 44 44 left right n m refl refl r.2).1 in
       (cc (r.0, r.1, u.0), u.1)
 
-none_after : (b : List ℕ) → AreBlanks b → NoDigit b
+none_after : (b : List ℕ) → AreBlanks b → NoMore b
 none_after [] k = tt
-none_after (c ∷ b) k = blank-no_digit c k.0
+none_after (c ∷ b) k = blank-no_more c k.0
 
 -- a text is one value at most
 pub json-once : (text : List ℕ) (f g : Form) → IsJson text f → IsJson text g → f ≡ g
@@ -369,5 +348,5 @@ json-once text f g i j =
     (element-once i.is j.is i.after j.after (none_after i.after i.blank) (none_after j.after j.blank) e).0
 
 -- no two values are written alike
-pub written-once : (f g : Form) → NumbersFit f → NumbersFit g → written f ≡ written g → f ≡ g
+pub written-once : (f g : Form) → AreNumbers f → AreNumbers g → written f ≡ written g → f ≡ g
 written-once f g h k e = json-once (written g) f g (subst (λ z. IsJson z f) e (written-is f h)) (written-is g k)

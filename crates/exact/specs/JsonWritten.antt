@@ -1,8 +1,9 @@
 -- How JSON is written without blanks, where a string has escapes only for what needs one.
--- Main words: written, NumbersFit. Laws: JsonWrittenLaws.antt. Read first: JsonForms.antt.
-use Rattle.std.specs.Prelude.{ℕ, zero, suc, ◌/◌, ◌%◌, ◌<◌, ◌^◌, ◌==◌, ◌||◌, nat_lt, cond, true, false, Option, Some, None, List, [], ◌∷◌, ◌++◌, drop, flat_map, codes, decimal, ⊤}
+-- Main words: written, AreNumbers. Laws: JsonWrittenLaws.antt. Read first: JsonForms.antt.
+use Rattle.std.specs.Prelude.{ℕ, zero, suc, ◌/◌, ◌%◌, ◌==◌, ◌||◌, nat_lt, cond, true, false, Option, Some, None, List, [], ◌∷◌, ◌++◌, drop, flat_map, codes, ⊤}
 use Rattle.std.specs.Char.{digit_char}
 use Rattle.exact.specs.JsonForms.{Form, null, truth, number, string, array, object, Forms, no_forms, form, Members, no_members, member}
+use Rattle.exact.specs.JsonNumbers.{IsNumberText}
 
 -- the letter of a character's short escape: a quote and a backslash have themselves
 abbrev pub letter_of : ℕ → Option ℕ
@@ -22,12 +23,12 @@ abbrev pub string_text : List ℕ → List ℕ
 string_text cs = 34 ∷ (flat_map character_text cs ++ 34 ∷ [])
 
 abbrev mutual
-  -- how a value is written
+  -- how a value is written: a number as it stands
   pub written : Form → List ℕ
   written null = codes "null"
   written (truth true) = codes "true"
   written (truth false) = codes "false"
-  written (number n) = decimal n
+  written (number cs) = cs
   written (string cs) = string_text cs
   written (array fs) = codes "[" ++ (drop 1 (elements_written fs) ++ codes "]")
   written (object ms) = codes "{" ++ (drop 1 (members_written ms) ++ codes "}")
@@ -47,19 +48,19 @@ comma_before zero = []
 comma_before (suc i) = codes ","
 
 abbrev mutual
-  -- a `u32` holds each number in it
-  pub NumbersFit : Form → Type 0
-  NumbersFit null = ⊤
-  NumbersFit (truth b) = ⊤
-  NumbersFit (number n) = n < 2 ^ 32
-  NumbersFit (string cs) = ⊤
-  NumbersFit (array fs) = ElementsFit fs
-  NumbersFit (object ms) = MembersFit ms
+  -- each number in it is one of JSON
+  pub AreNumbers : Form → Type 0
+  AreNumbers null = ⊤
+  AreNumbers (truth b) = ⊤
+  AreNumbers (number cs) = IsNumberText cs
+  AreNumbers (string cs) = ⊤
+  AreNumbers (array fs) = AreNumbersEach fs
+  AreNumbers (object ms) = AreNumbersIn ms
 
-  pub ElementsFit : Forms → Type 0
-  ElementsFit no_forms = ⊤
-  ElementsFit (form f fs) = NumbersFit f × ElementsFit fs
+  pub AreNumbersEach : Forms → Type 0
+  AreNumbersEach no_forms = ⊤
+  AreNumbersEach (form f fs) = AreNumbers f × AreNumbersEach fs
 
-  pub MembersFit : Members → Type 0
-  MembersFit no_members = ⊤
-  MembersFit (member cs f ms) = NumbersFit f × MembersFit ms
+  pub AreNumbersIn : Members → Type 0
+  AreNumbersIn no_members = ⊤
+  AreNumbersIn (member cs f ms) = AreNumbers f × AreNumbersIn ms

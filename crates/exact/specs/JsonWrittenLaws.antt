@@ -1,17 +1,15 @@
 -- What is written is JSON of the value that it was written from.
--- Main law: written-is. Read first: JsonWritten.antt.
+-- Main laws: written-is, json-numbers. Read first: JsonWritten.antt.
 use Rattle.std.proofs.Common.{◌≡◌, ℕ, zero, suc, ◌+◌, ◌*◌, ◌/◌, ◌%◌, ◌<◌, ◌^◌, ◌&&◌, Bool, true, false, cond, nat_eq, nat_lt, nat_le, Option, Some, None, List, [], ◌∷◌, ◌++◌, length, refl, sym, ◌∙◌, ap, subst, arith, inl, inr}
-use Rattle.std.specs.Prelude.{◌⊎◌, codes, decimal, drop, flat_map, slice_index}
+use Rattle.std.specs.Prelude.{◌⊎◌, codes, drop, flat_map}
 use Rattle.std.specs.Char.{digit_value, digit_char}
 use Rattle.std.specs.Char.Utf16.{lone_unit_char}
 use Rattle.std.proofs.lemmas.Bool.{lt-ltb, lt-leb, ltb-true, ltb-false, le-leb, eqb-true}
 use Rattle.std.proofs.lemmas.List.{append-nil}
 use Rattle.std.proofs.lemmas.Str.{digit_value-digit_char}
-use Rattle.std.proofs.lemmas.Fmt.{decimal_is_IsNumeral, decimal_digit, first_decimal}
-use Rattle.exact.specs.Number.{IsNumber}
 use Rattle.exact.specs.JsonStrings.{escaped, unit_of, IsPiece, plain, by_letter, by_unit, ArePieces, no_piece, more_pieces, IsString, quoted}
 use Rattle.exact.specs.JsonForms.{Form, null, truth, number, string, array, object, Forms, no_forms, form, Members, no_members, member, IsValue, is_null, is_true, is_false, is_number, is_string, is_array, is_object, IsElement, is_element, AreElements, no_element, one_element, more_elements, IsMember, is_member, AreMembers, no_member, one_member, more_members, IsJson}
-use Rattle.exact.specs.JsonWritten.{letter_of, text_by, character_text, string_text, written, elements_written, members_written, NumbersFit, ElementsFit, MembersFit}
+use Rattle.exact.specs.JsonWritten.{letter_of, text_by, character_text, string_text, written, elements_written, members_written, AreNumbers, AreNumbersEach, AreNumbersIn}
 
 -- a character that is this one, or isn't
 tested : (c n : ℕ) → (c ≡ n) ⊎ (nat_eq c n ≡ false)
@@ -84,43 +82,62 @@ pieces (c ∷ cs) = more_pieces (piece c) (pieces cs)
 string-is : (cs : List ℕ) → IsString (string_text cs) cs
 string-is cs = quoted (pieces cs)
 
--- a number below 2^32 is written in decimal digits, with no zero before another
-no_zero : (n : ℕ) → n < 2 ^ 64 → slice_index (decimal n) 0 ≡ 48 → length (decimal n) ≡ 1
-no_zero zero l e = ap length (decimal_digit 0 (omega arith))
-no_zero (suc n) l e = absurd (omega (arith, first_decimal (suc n) (omega arith) l, e))
-
-number-is : (n : ℕ) → n < 2 ^ 32 → IsNumber (decimal n) n
-number-is n l =
-    let m : n < 2 ^ 64 = omega (arith, l) in
-    let d = decimal_is_IsNumeral n m in
-    record { digits = (d.0, no_zero n m); value = sym d.1; fits = l }
-
 mutual
-  value-is : (f : Form) → NumbersFit f → IsValue (written f) f
+  value-is : (f : Form) → AreNumbers f → IsValue (written f) f
   value-is null h = is_null
   value-is (truth true) h = is_true
   value-is (truth false) h = is_false
-  value-is (number n) h = is_number n (number-is n h)
+  value-is (number cs) h = is_number h
   value-is (string cs) h = is_string (string-is cs)
   value-is (array fs) h = is_array [] (elements-are fs h) tt
   value-is (object ms) h = is_object [] (members-are ms h) tt
 
-  elements-are : (fs : Forms) → ElementsFit fs → AreElements (drop 1 (elements_written fs)) fs
+  elements-are : (fs : Forms) → AreNumbersEach fs → AreElements (drop 1 (elements_written fs)) fs
   elements-are no_forms h = no_element
   elements-are (form f fs) h = more-elements fs h.1 (written f) f (is_element [] tt (value-is f h.0))
 
-  more-elements : (fs : Forms) → ElementsFit fs → (w : List ℕ) (f : Form) → IsElement w f → AreElements (w ++ elements_written fs) (form f fs)
+  more-elements : (fs : Forms) → AreNumbersEach fs → (w : List ℕ) (f : Form) → IsElement w f → AreElements (w ++ elements_written fs) (form f fs)
   more-elements no_forms h w f i = subst (λ z. AreElements z (form f no_forms)) (sym (append-nil w)) (one_element i)
   more-elements (form g gs) h w f i = more_elements [] i tt (more-elements gs h.1 (written g) g (is_element [] tt (value-is g h.0)))
 
-  members-are : (ms : Members) → MembersFit ms → AreMembers (drop 1 (members_written ms)) ms
+  members-are : (ms : Members) → AreNumbersIn ms → AreMembers (drop 1 (members_written ms)) ms
   members-are no_members h = no_member
   members-are (member cs f ms) h = more-members ms h.1 ((string_text cs ++ codes ":") ++ written f) cs f (is_member [] [] tt (string-is cs) tt (is_element [] tt (value-is f h.0)))
 
-  more-members : (ms : Members) → MembersFit ms → (w cs : List ℕ) (f : Form) → IsMember w cs f → AreMembers (w ++ members_written ms) (member cs f ms)
+  more-members : (ms : Members) → AreNumbersIn ms → (w cs : List ℕ) (f : Form) → IsMember w cs f → AreMembers (w ++ members_written ms) (member cs f ms)
   more-members no_members h w cs f i = subst (λ z. AreMembers z (member cs f no_members)) (sym (append-nil w)) (one_member i)
   more-members (member ds g ms) h w cs f i = more_members [] i tt (more-members ms h.1 ((string_text ds ++ codes ":") ++ written g) ds g (is_member [] [] tt (string-is ds) tt (is_element [] tt (value-is g h.0))))
 
 -- what is written is the value
-pub written-is : (f : Form) → NumbersFit f → IsJson (written f) f
+pub written-is : (f : Form) → AreNumbers f → IsJson (written f) f
 written-is f h = record { element = written f; after = []; all = sym (append-nil (written f)); is = is_element [] tt (value-is f h); blank = tt }
+
+-- the numbers in what a text says are numbers
+mutual
+  value-numbers : {w : List ℕ} {f : Form} → IsValue w f → AreNumbers f
+  value-numbers is_null = tt
+  value-numbers is_true = tt
+  value-numbers is_false = tt
+  value-numbers (is_number i) = i
+  value-numbers (is_string i) = tt
+  value-numbers (is_array b a k) = elements-numbers a
+  value-numbers (is_object b a k) = members-numbers a
+
+  element-numbers : {w : List ℕ} {f : Form} → IsElement w f → AreNumbers f
+  element-numbers (is_element b k i) = value-numbers i
+
+  elements-numbers : {w : List ℕ} {fs : Forms} → AreElements w fs → AreNumbersEach fs
+  elements-numbers no_element = tt
+  elements-numbers (one_element i) = (element-numbers i, tt)
+  elements-numbers (more_elements b i k a) = (element-numbers i, elements-numbers a)
+
+  member-numbers : {w cs : List ℕ} {f : Form} → IsMember w cs f → AreNumbers f
+  member-numbers (is_member a b k p l i) = element-numbers i
+
+  members-numbers : {w : List ℕ} {ms : Members} → AreMembers w ms → AreNumbersIn ms
+  members-numbers no_member = tt
+  members-numbers (one_member i) = (member-numbers i, tt)
+  members-numbers (more_members b i k a) = (member-numbers i, members-numbers a)
+
+pub json-numbers : {text : List ℕ} {f : Form} → IsJson text f → AreNumbers f
+json-numbers i = element-numbers i.is

@@ -1,12 +1,12 @@
 //! JSON as text again.
-ghost use Rattle.std.specs.Prelude.{◌≡◌, ◌/◌, ◌%◌, ◌^◌, ◌<◌, ◌++◌, [], ◌∷◌, IfOk, OnOk, codes, decimal, string_bytes};
+ghost use Rattle.std.specs.Prelude.{◌≡◌, ℕ, ◌/◌, ◌%◌, ◌<◌, ◌++◌, List, [], ◌∷◌, IfOk, OnOk, codes, string_bytes};
 ghost use Rattle.std.specs.Char.{digit_char};
 ghost use Rattle.std.specs.Str.{chars};
-ghost use Rattle.exact.specs.declared.json_value.JsonValue.{JsonValue};
+ghost use Rattle.exact.specs.declared.json_value.Json.{Json};
 ghost use Rattle.exact.specs.JsonForms.{HoldsJson, form_of, truth};
-ghost use Rattle.exact.specs.JsonWritten.{NumbersFit, character_text, comma_before, letter_of, string_text, written};
+ghost use Rattle.exact.specs.JsonWritten.{AreNumbers, character_text, comma_before, letter_of, string_text, written};
 
-use crate::json_value::JsonValue;
+use crate::json_value::Json;
 use std::alloc::{AllocError, Global};
 use std::char;
 
@@ -90,12 +90,11 @@ fn push_string(text: &mut String, string: &str) -> Result<(), AllocError>
     Ok(())
 }
 
-/// Writes a number.
-fn push_number(text: &mut String, number: u32) -> Result<(), AllocError>
-    ensures writes { OnOk result (chars (string_bytes text.new) ≡ chars (string_bytes text.old) ++ decimal number) }
-    ensures fits { number < 2 ^ 32 }
+/// Writes a number as it stands.
+fn push_number(text: &mut String, number: &str) -> Result<(), AllocError>
+    ensures { OnOk result (chars (string_bytes text.new) ≡ chars (string_bytes text.old) ++ chars number.now) }
 {
-    write!(text, "{number}")?;
+    text.push_str(number)?;
     Ok(())
 }
 
@@ -139,16 +138,15 @@ fn push_name(text: &mut String, index: usize, name: &str) -> Result<(), AllocErr
 }
 
 /// Writes a value at the end of a text.
-fn push_json(text: &mut String, value: &JsonValue) -> Result<(), AllocError>
-    ensures writes { OnOk result (chars (string_bytes text.new) ≡ chars (string_bytes text.old) ++ written (form_of value.now)) }
-    ensures fits { OnOk result (NumbersFit (form_of value.now)) }
+fn push_json(text: &mut String, value: &Json) -> Result<(), AllocError>
+    ensures { OnOk result (chars (string_bytes text.new) ≡ chars (string_bytes text.old) ++ written (form_of value.now)) }
 {
     match value {
-        JsonValue::Null => push_null(text),
-        JsonValue::Bool(holds) => push_truth(text, *holds),
-        JsonValue::Number(number) => push_number(text, *number),
-        JsonValue::String(string) => push_string(text, string.as_str()),
-        JsonValue::Array(elements) => {
+        Json::Null => push_null(text),
+        Json::Bool(holds) => push_truth(text, *holds),
+        Json::Number(number) => push_number(text, number.as_str()),
+        Json::String(string) => push_string(text, string.as_str()),
+        Json::Array(elements) => {
             push_plain(text, '[')?;
             for (index, element) in elements.iter().enumerate() {
                 push_comma(text, index)?;
@@ -157,7 +155,7 @@ fn push_json(text: &mut String, value: &JsonValue) -> Result<(), AllocError>
             push_plain(text, ']')?;
             Ok(())
         }
-        JsonValue::Object(members) => {
+        Json::Object(members) => {
             push_plain(text, '{')?;
             for (place, member) in members.iter().enumerate() {
                 push_name(text, place, member.0.as_str())?;
@@ -170,12 +168,14 @@ fn push_json(text: &mut String, value: &JsonValue) -> Result<(), AllocError>
 }
 
 /// A value as text without blanks, as `{"a":[1,"\n"]}`. A string has escapes only for quotes, backslashes and control characters, the
-/// short ones where there are such. The text is JSON of the value, and of no other: so what reads JSON exactly gives it back. The only
-/// error is want of memory.
-pub fn print_json(alloc: Global, value: &JsonValue) -> Result<String, AllocError>
+/// short ones where there are such, and a number stands as it is. Where the numbers in it are numbers of JSON, the text is JSON of the
+/// value, and of no other: so what reads JSON exactly gives it back. They are so in each value that was read. The only error is want of
+/// memory.
+pub fn print_json(alloc: Global, value: &Json) -> Result<String, AllocError>
     ensures text { IfOk result (λ text. chars (string_bytes text) ≡ written (form_of value.now)) }
-    ensures holds { IfOk result (λ text. HoldsJson (chars (string_bytes text)) value.now) }
-    ensures once { IfOk result (λ text. (other : JsonValue) → HoldsJson (chars (string_bytes text)) other → form_of other ≡ form_of value.now) }
+    ensures holds { AreNumbers (form_of value.now) → IfOk result (λ text. HoldsJson (chars (string_bytes text)) value.now) }
+    ensures once { AreNumbers (form_of value.now) → IfOk result (λ text. (other : Json) → HoldsJson (chars (string_bytes text)) other → form_of other ≡ form_of value.now) }
+    ensures again { (source : List ℕ) → HoldsJson source value.now → IfOk result (λ text. HoldsJson (chars (string_bytes text)) value.now) }
 {
     let mut text = String::new(alloc);
     push_json(&mut text, value)?;

@@ -1,10 +1,7 @@
-use Rattle.std.proofs.Common.{string_bytes, arith}
+use Rattle.std.proofs.Common.{string_bytes}
 use Rattle.std.proofs.lemmas.Str.{IsUtf8-string_bytes}
-use Rattle.exact.proofs.JsonPrintLemmas.{pushed-decimal}
+use Rattle.exact.proofs.PrintLemmas.{pushed-text}
 use Rattle.exact.proofs.print_json.push_number.Goals as goal
 
 pub returns : goal.returns
-returns c = record {
-  writes = pushed-decimal c.args.number (string_bytes c.args.text.now) (string_bytes c.write.new.self) (omega arith) (IsUtf8-string_bytes c.args.text.now) c.in_ok-write.ensures.bytes;
-  fits = omega arith;
-}
+returns c = pushed-text (string_bytes c.args.text.now) (string_bytes c.push_str.new.self) c.args.number.now (IsUtf8-string_bytes c.args.text.now) c.in_ok-push_str.ensures.bytes
