@@ -89,8 +89,8 @@ fn is_same(alloc: Global, ours: &Json, theirs: &Value) -> bool {
             Ok(number) => number == *theirs,
             Err(_) => false,
         },
-        (Json::Text(one), Value::String(other)) => one.as_str() == other.as_str(),
-        (Json::List(items), Value::Array(others)) => {
+        (Json::String(one), Value::String(other)) => one.as_str() == other.as_str(),
+        (Json::Array(items), Value::Array(others)) => {
             for (item, other) in items.iter().zip(others.iter()) {
                 if !is_same(alloc, item, other) {
                     return false;

@@ -16,7 +16,7 @@ use chumsky::recursive::{RunsUnder, Unsaid};
 use chumsky::{PResult, Stop};
 use exact::json::parse_json;
 pub use exact::json_value::Json;
-use std::alloc::Global;
+use std::alloc::{AllocError, Global};
 
 /// A list, of the parser of its items. Like `run_object`, it stands apart from the functions that call each other, since in these
 /// each call is dear to check, and it is generic in the input and the extra, as a function that takes a parser over a text has to be.
