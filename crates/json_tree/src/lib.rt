@@ -1,7 +1,10 @@
 //! JSON to a tree, with errors for people, and the tree as text again.
 #![tactic(auto)]
 
-ghost use Rattle.std.specs.Prelude.{◌≡◌, [], IfOk, IsTrue, is_some};
+ghost use Rattle.std.specs.Prelude.{◌≡◌, ◌≤◌, ⊥, [], length, IfOk, IsTrue, is_some};
+ghost use Rattle.std.specs.Str.{chars};
+ghost use Rattle.chumsky.specs.Accepted.{ExactlyUnless};
+ghost use Rattle.exact.specs.JsonForms.{HoldsJson};
 
 pub mod leaves;
 pub mod tree;
@@ -117,7 +120,7 @@ fn calls(levels: usize) -> usize {
 /// Reads a value. One that is nested more than a hundred and fifty deep is refused with `Stop::TooDeep`.
 pub fn read_json(alloc: Global, text: &str) -> Result<ParseResult<Json, Rich<char>>, Stop>
     ensures exact { ExactlyUnless HoldsJson (chars text.now) (150 ≤ length (chars text.now)) result }
-    ensures told { IfOk result (λ parsed. IsTrue (is_some parsed.output) ⇔ (parsed.errors.items ≡ [])) }
+    ensures told { IfOk result (λ parsed. parsed.errors.items ≡ [] → IsTrue (is_some parsed.output)) }
 {
     read_json_within(alloc, text, LEVELS)
 }
@@ -133,6 +136,7 @@ pub fn read_json_within(
     levels: usize,
 ) -> Result<ParseResult<Json, Rich<char>>, Stop>
     ensures exact { ExactlyUnless HoldsJson (chars text.now) (levels ≤ length (chars text.now)) result }
+    ensures told { IfOk result (λ parsed. parsed.errors.items ≡ [] → IsTrue (is_some parsed.output)) }
 {
     let parsed = parse_json(alloc, text, levels.saturating_add(1))?;
     match parsed.into_output() {
