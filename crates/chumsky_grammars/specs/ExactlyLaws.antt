@@ -16,16 +16,16 @@ use Rattle.chumsky_grammars.specs.FoundedLaws.{rule-said, rule-below}
 use Rattle.chumsky_grammars.specs.Leaves.{AreLeaves}
 use Rattle.chumsky_grammars.specs.RuleLanguage.{Makes, rule_language}
 
-module _ {Tok V Er : Type 0} (P : List Tok → V → Type 0) {ts : List Tok} where
-  for_memory : (result : Result (ParseResult V Er) Stop) → ExactlyUnless P ts ⊥ result → Exactly P ts result
-  for_memory (Ok parsed) i = i
-  for_memory (Err s) (inl e) = e
-  for_memory (Err s) (inr e) = absurd e
+for_memory : {Tok V Er : Type 0} (P : List Tok → V → Type 0) (ts : List Tok) (result : Result (ParseResult V Er) Stop) → ExactlyUnless P ts ⊥ result → Exactly P ts result
+for_memory P ts (Ok parsed) i = i
+for_memory P ts (Err s) (inl e) = e
+for_memory P ts (Err s) (inr e) = absurd e
 
+module _ {Tok V Er : Type 0} (P : List Tok → V → Type 0) {ts : List Tok} where
   -- where a word stands only for values that are so, and a text with such a value is taken whole; of a text that isn't refused
   pub exactly-decided : {l : Language Tok V} {spare : Type 0} {result : Result (ParseResult V Er) Stop} → AnswersText Some l ts spare result → IsBelow l.refused_from (length ts)
       → ((v : V) → l.stands_for ts v → P ts v) → ((v : V) → P ts v → l.ends ts ≡ At []) → Exactly P ts result
-  exactly-decided {result = result} a below sound complete = for_memory result (unless-by_ends P a (a.decided below) (λ v e w x s. sound v s) complete)
+  exactly-decided {result = result} a below sound complete = for_memory P ts result (unless-by_ends P a (a.decided below) (λ v e w x s. sound v s) complete)
 
   module _ (c : Claims) (makes : Makes V) (leaf : ℕ → Language Tok V) (leaves : AreLeaves c leaf) (rules : List Expression) (founded : all_founded c 0 rules ≡ true) (all : c.count ≡ length rules) (limit start : ℕ) where
     -- the same of founded rules, under enough calls: more than rules times tokens, and the rank of the start

@@ -2,14 +2,10 @@
 -- Main words: leaves_of, AreLeaves. Laws: leaves-accept, leaves-are. Read first: RuleLanguage.antt, Founded.antt.
 use Rattle.std.proofs.Common.{◌≡◌, ℕ, zero, suc, true, false, Option, Some, None, List, [], ◌∷◌, map, slice_get, refl}
 use Rattle.std.specs.Prelude.{⊤}
-use Rattle.chumsky_input.specs.declared.error.Error as error_trait
-use Rattle.chumsky_input.specs.declared.inspector.Inspector as inspector_trait
-use Rattle.chumsky_input.specs.declared.input.Input as input_trait
 use Rattle.chumsky_input.specs.Outcome.{Meaning}
 use Rattle.chumsky_parser.specs.Language.{Language, Accepts}
 use Rattle.chumsky_parser.specs.LanguageLaws.{fewer-accepts}
-use Rattle.chumsky_choice.specs.Among.{FirstAmong}
-use Rattle.chumsky_choice.specs.ChoiceLanguages.{no_language, among-accepts}
+use Rattle.chumsky_choice.specs.ChoiceLanguages.{no_language}
 use Rattle.chumsky_recursive.specs.InPlace.{InPlace}
 use Rattle.chumsky_recursive.specs.Leaves.{listed_leaf}
 use Rattle.chumsky_grammars.specs.Founded.{Claims}
@@ -50,10 +46,24 @@ module _ {Tok V : Type 0} (c : Claims) where
   pub leaves-are : (ls : List (Language Tok V)) → AllMove ls → AreLeaves c (leaves_of ls)
   leaves-are ls h = record { said = all_said ls h; moves = λ n s. all_move ls h n; decided = all_decided ls h }
 
-module _ {I Tok Sp Cu Er St Mk Cx V : Type 0} (source : input_trait.Ghosts I Cu Tok Sp) (errors : error_trait.Ghosts Er I Tok Sp) (states : inspector_trait.Ghosts St I Mk Tok Sp) {P : Type 0}
-    (meaning : P → Meaning Tok Cx states.Seen errors.Seen V) (language : P → Language Tok V) (h : (p : P) → Accepts (meaning p) (language p) (errors.takes_no_memory × states.takes_no_memory)) where
+module _ {P Tok Cx St Er V spare : Type 0} (meaning : P → Meaning Tok Cx St Er V) (language : P → Language Tok V) (h : (p : P) → Accepts (meaning p) (language p) spare) where
+  -- past the list nothing is done
+  none_accepts : Accepts (InPlace (listed_leaf meaning None)) no_language spare
+  none_accepts = record {
+    described = λ s. record {
+      reads = record { here = λ b w o m. absurd m.meant };
+      only = record { taken = λ ts rest e. absurd (cc e) };
+      given = record { given = λ ts rest v e i. absurd i };
+      each = λ u. record { each = λ w rest i j. absurd i };
+      decided = λ ts i e. cc e;
+      further = λ m ts rest e. absurd (cc e);
+    };
+    moving = λ e b o m y. absurd m.meant;
+    sparing = λ q t b o m. absurd m.meant;
+  }
+
   -- the leaf of a number in a list
-  pub leaves-accept : (ps : List P) (n : ℕ) → Accepts (InPlace (listed_leaf meaning (slice_get ps n))) (leaves_of (map language ps) n) (errors.takes_no_memory × states.takes_no_memory)
-  leaves-accept [] n = fewer-accepts (InPlace (listed_leaf meaning None)) (FirstAmong source errors states []) (λ b o m. absurd m.meant) no_language (among-accepts source errors states meaning language h [])
+  pub leaves-accept : (ps : List P) (n : ℕ) → Accepts (InPlace (listed_leaf meaning (slice_get ps n))) (leaves_of (map language ps) n) spare
+  leaves-accept [] n = none_accepts
   leaves-accept (p ∷ ps) zero = fewer-accepts (InPlace (meaning p)) (meaning p) (λ b o m. m.meant) (language p) (h p)
   leaves-accept (p ∷ ps) (suc n) = leaves-accept ps n

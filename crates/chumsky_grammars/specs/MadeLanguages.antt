@@ -18,9 +18,9 @@ use Rattle.chumsky_recursive.specs.Means.{Made, OrNoMemory, waited_if}
 use Rattle.chumsky_recursive.specs.MeansLaws.{made-ends}
 use Rattle.chumsky_grammars.specs.RuleLanguage.{in_memory, made_language}
 
-module _ {Tok Cx St Er V : Type 0} (m : Meaning Tok Cx St Er V) {F : Language Tok V} {spare other : Type 0} where
+module _ {Tok Cx St Er V : Type 0} (m : Meaning Tok Cx St Er V) where
   -- it accepts the same, where each run may take memory
-  pub in_memory-accepts : Accepts m F spare → Accepts m (in_memory F) other
+  pub in_memory-accepts : {F : Language Tok V} {spare other : Type 0} → Accepts m F spare → Accepts m (in_memory F) other
   in_memory-accepts h = record {
     described = λ s. let d = h.described s in record { reads = d.reads; only = d.only; given = d.given; each = d.each; decided = d.decided; further = d.further };
     moving = h.moving;
@@ -34,8 +34,8 @@ module _ {Tok Cx St Er V : Type 0} (m : Meaning Tok Cx St Er V) {F : Language To
   waited_moves may_lack h b o n y = elim n.cases [ inl r ↦ absurd (subst IsYes r.1 y) | inr x ↦ h b o x y ]
 
   -- a part that may be waited for, of which each run may take memory
-  pub waited-accepts : (may_lack : Bool → Type 0) (waits : Bool) → (F.takes_no_memory → ⊥) → Accepts m F spare → Accepts (waited_if may_lack waits m) F spare
-  waited-accepts may_lack true never h = record {
+  pub waited-accepts : {F : Language Tok V} {spare : Type 0} (may_lack : Bool → Type 0) (waits : Bool) → (F.takes_no_memory → ⊥) → Accepts m F spare → Accepts (waited_if may_lack waits m) F spare
+  waited-accepts {F} may_lack true never h = record {
     described = λ s.
         let d = h.described s in
         record {

@@ -1,6 +1,6 @@
 -- Each call of a rule accepts its language.
 -- Main word: makes_of. Main law: call-accepts. Read first: Compiled.antt, RuleLanguage.antt, Means.antt of chumsky_recursive.
-use Rattle.std.proofs.Common.{◌≡◌, ℕ, zero, suc, Bool, Option, Some, None, List, [], ◌∷◌, map, slice_get, refl}
+use Rattle.std.proofs.Common.{◌≡◌, ℕ, zero, suc, Bool, false, Option, Some, None, List, [], ◌∷◌, map, slice_get, refl, arith, inr}
 use Rattle.std.proofs.lemmas.Option.{slice_get-map}
 use Rattle.std.specs.Prelude.{option_map}
 use Rattle.chumsky_input.specs.declared.error.Error as error_trait
@@ -88,22 +88,23 @@ module _ {Tok Cx St Er V : Type 0} where
     sparing = λ q t. absurd t;
   }
 
-module _ {I Tok Sp Cu Er St Mk Cx V : Type 0} (source : input_trait.Ghosts I Cu Tok Sp) (errors : error_trait.Ghosts Er I Tok Sp) (states : inspector_trait.Ghosts St I Mk Tok Sp) where
-  abbrev Spare : Type 0
-  Spare = errors.takes_no_memory × states.takes_no_memory
+-- errors and states take no memory
+abbrev Spare : {I Tok Sp Er St Mk : Type 0} → error_trait.Ghosts Er I Tok Sp → inspector_trait.Ghosts St I Mk Tok Sp → Type 0
+Spare errors states = errors.takes_no_memory × states.takes_no_memory
 
-  module _ (a : Acts Tok Cx states.Seen errors.Seen V) (leaf : ℕ → Language Tok V) (ends : ActsEnd a) (leaves : (n : ℕ) → Accepts (a.leaf n) (leaf n) Spare) where
-    module _ (call : ℕ → Meaning Tok Cx states.Seen errors.Seen V) (called : ℕ → Language Tok V) (call_ends : (r : ℕ) → EndsAfterStart (call r)) (calls : (r : ℕ) → Accepts (call r) (called r) Spare)
+module _ {I Tok Sp Cu Er St Mk Cx V : Type 0} (source : input_trait.Ghosts I Cu Tok Sp) (errors : error_trait.Ghosts Er I Tok Sp) (states : inspector_trait.Ghosts St I Mk Tok Sp) where
+  module _ (a : Acts Tok Cx states.Seen errors.Seen V) (leaf : ℕ → Language Tok V) (ends : ActsEnd a) (leaves : (n : ℕ) → Accepts (a.leaf n) (leaf n) (Spare errors states)) where
+    module _ (call : ℕ → Meaning Tok Cx states.Seen errors.Seen V) (called : ℕ → Language Tok V) (call_ends : (r : ℕ) → EndsAfterStart (call r)) (calls : (r : ℕ) → Accepts (call r) (called r) (Spare errors states))
         (in_calls : CallsTakeMemory called) where
       abbrev of : Expression → Language Tok V
       of = expression_language (makes_of a) leaf called
 
       abbrev IsOf : Expression → Meaning Tok Cx states.Seen errors.Seen V → Type 0
-      IsOf e m = Accepts m (of e) Spare
+      IsOf e m = Accepts m (of e) (Spare errors states)
 
       module _ (sub : ℕ → Expression) (part last : ℕ → Meaning Tok Cx states.Seen errors.Seen V) (part_ends : (n : ℕ) → EndsAfterStart (part n)) (last_ends : (n : ℕ) → EndsAfterStart (last n))
           (parts : (n : ℕ) → IsOf (sub n) (part n)) (lasts : (n : ℕ) → IsOf (sub n) (last n)) where
-        in_order : (n : ℕ) (ns : List ℕ) → AcceptInOrder states.mark states.back {safe = states.takes_no_memory} {spare = Spare} (λ q. q.1) (part n) (map part ns) (of (choice_of (map sub (n ∷ ns))))
+        in_order : (n : ℕ) (ns : List ℕ) → AcceptInOrder states.mark states.back {safe = states.takes_no_memory} {spare = Spare errors states} (λ q. q.1) (part n) (map part ns) (of (choice_of (map sub (n ∷ ns))))
         in_order n [] = last-accepts states.mark states.back (λ q. q.1) (part n) (parts n)
         in_order n (m ∷ ns) = next-accepts states.mark states.back (λ q. q.1) (part n) (parts n) (part m) (map part ns) (in_order m ns)
 
@@ -143,7 +144,7 @@ module _ {I Tok Sp Cu Er St Mk Cx V : Type 0} (source : input_trait.Ghosts I Cu 
         node_accepts zero n = of_unsaid
         node_accepts (suc bound) n = known_accepts (node_expression nodes bound) (node_means source errors states a call nodes bound) (node-ends source errors states a ends call call_ends nodes bound) (node_accepts bound) (slice_get nodes n)
 
-        body_accepts : (body : Option (Option ℕ)) → Accepts (body_means source errors states a call nodes body) (body_language (makes_of a) leaf called (option_map (body_expression nodes) body)) Spare
+        body_accepts : (body : Option (Option ℕ)) → Accepts (body_means source errors states a call nodes body) (body_language (makes_of a) leaf called (option_map (body_expression nodes) body)) (Spare errors states)
         body_accepts None = of_unsaid
         body_accepts (Some None) = of_unsaid
         body_accepts (Some (Some n)) = node_accepts (suc n) n
@@ -153,7 +154,7 @@ module _ {I Tok Sp Cu Er St Mk Cx V : Type 0} (source : input_trait.Ghosts I Cu 
       called_rule = rule_language (makes_of a) leaf (expressions_of g)
 
       -- a call of a rule, under whatever limit
-      pub call-accepts : (more r : ℕ) → Accepts (call_means source errors states a g more r) (called_rule more r) Spare
+      pub call-accepts : (more r : ℕ) → Accepts (call_means source errors states a g more r) (called_rule more r) (Spare errors states)
       unfolding call_means
       call-accepts zero r = too_deep-accepts
       call-accepts (suc more) r =

@@ -7,18 +7,11 @@ use chumsky_input::input_ref::InputRef;
 use chumsky_input::stop::PResult;
 use chumsky_parser::parser::Parser;
 
-/// A grammar over leaves that stand in a list, and the language of its start rule. It does what the grammar does; beside that,
-/// `parse` and `check` say of a text what the language says, where the rules are founded and the leaves have a language.
+/// A grammar over leaves that stand in a list, with the language of its start rule: `ExactGrammar { grammar }.parse(alloc, input)`.
+/// It does what the grammar does; and `parse` and `check` say of a text what the language says.
 #[derive_where(Clone, Copy)]
 pub struct ExactGrammar<'r, 'a, P, W> {
     pub grammar: Grammar<'r, Leaves<'a, P, W>>,
-}
-
-/// The grammar, with its language.
-pub fn exact<'r, 'a, P, W>(grammar: Grammar<'r, Leaves<'a, P, W>>) -> ExactGrammar<'r, 'a, P, W>
-    ensures { result.grammar ≡ grammar }
-{
-    ExactGrammar { grammar }
 }
 
 impl<
@@ -68,7 +61,7 @@ impl<
 
     ghost agrees = { λ p s. call-agrees _ _ _ _ (W.same p.grammar.actions.now.values) (record { leaf = λ n. in_place-agrees _ (W.same p.grammar.actions.now.values) (s.answers n); pairs = s.makes.paired; options = s.makes.chosen; units = λ u v x y e. s.makes.made x y; maps = s.makes.mapped; lists = s.makes.listed; tries = λ f. by_try-alike _ _ (W.same p.grammar.actions.now.values) (W.try_gives p.grammar.actions.now.values f) (s.makes.tried f) }) p.grammar.rules.rules.now p.grammar.limit p.grammar.rules.start };
 
-    ghost accepts = { λ p. call-accepts I.Input E.Error.Error E.State.Inspector (acts_of ⟦<Leaves<'a, P, W> as Actions<'src, I, E>>⟧ p.grammar.actions.now I.Input E.Error.Error E.State.Inspector) (leaves_of (map P.language p.grammar.actions.now.leaves.now)) (record { leaf = λ n. in_place-ends _ (listed_leaf-ends _ P.ends_after_start (slice_get p.grammar.actions.now.leaves.now n)) }) (leaves-accept I.Input E.Error.Error E.State.Inspector (λ q. P.meaning q E.Error.Error E.State.Inspector) P.language P.accepts p.grammar.actions.now.leaves.now) p.grammar.rules.rules.now p.grammar.limit p.grammar.rules.start };
+    ghost accepts = { λ p. call-accepts _ _ _ _ (leaves_of (map P.language p.grammar.actions.now.leaves.now)) (record { leaf = λ n. in_place-ends _ (listed_leaf-ends _ P.ends_after_start (slice_get p.grammar.actions.now.leaves.now n)) }) (leaves-accept _ P.language P.accepts p.grammar.actions.now.leaves.now) p.grammar.rules.rules.now p.grammar.limit p.grammar.rules.start };
 
     #[inline(always)]
     fn go_emit(&self, inp: &mut InputRef<'src, '_, I, E>) -> PResult<W::Value> {

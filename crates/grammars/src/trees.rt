@@ -11,7 +11,7 @@ use chumsky::combinator::Mapper;
 use chumsky::extra::EmptyText;
 use chumsky::prelude::*;
 use chumsky::recursive::{BuildError, Leaves, Node, SepCfg, Values};
-use chumsky_grammars::exact::exact;
+use chumsky_grammars::exact::ExactGrammar;
 use std::alloc::{AllocError, Global};
 
 /// A digit, or a list of trees.
@@ -158,7 +158,7 @@ pub fn parse_tree(alloc: Global, text: &str) -> Result<ParseResult<Tree, EmptyEr
         values: Trees,
     };
     match close::<&str, EmptyText, _>(&rules, tree, &actions, limit) {
-        Ok(grammar) => exact(grammar).parse(alloc, text),
+        Ok(grammar) => ExactGrammar { grammar }.parse(alloc, text),
         Err(_) => unreachable!(),
     }
 }
