@@ -23,6 +23,8 @@ mod json_printed;
 #[cfg(test)]
 mod printed;
 #[cfg(test)]
+mod rules_answers;
+#[cfg(test)]
 mod s_expression;
 #[cfg(test)]
 mod s_expression_answers;

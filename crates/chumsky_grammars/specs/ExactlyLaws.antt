@@ -1,0 +1,40 @@
+-- What a caller makes of the answer of founded rules: that it is exactly as a relation of texts and values of his own.
+-- Main laws: exactly-by_rules, one-rule. Read first: Accepted.antt of chumsky, FoundedLaws.antt, Leaves.antt.
+use Rattle.std.proofs.Common.{◌≡◌, ℕ, ◌+◌, ◌*◌, ◌<◌, true, Some, List, [], ◌∷◌, length, ap, inl, inr}
+use Rattle.std.specs.Prelude.{Result, Ok, Err}
+use Rattle.chumsky_input.specs.declared.stop.Stop.{Stop}
+use Rattle.chumsky_parser.specs.Ending.{At}
+use Rattle.chumsky_parser.specs.Language.{Language, IsBelow}
+use Rattle.chumsky_parser.specs.declared.result.ParseResult.{ParseResult}
+use Rattle.chumsky.specs.Accepted.{AnswersText, Exactly, ExactlyUnless}
+use Rattle.chumsky.specs.AcceptedLaws.{unless-by_ends}
+use Rattle.chumsky_rules.specs.Tables.{Tables}
+use Rattle.chumsky_grammars.specs.Compiled.{IsOneRule, expressions_of}
+use Rattle.chumsky_grammars.specs.Expression.{Expression}
+use Rattle.chumsky_grammars.specs.Founded.{Claims, all_founded}
+use Rattle.chumsky_grammars.specs.FoundedLaws.{rule-said, rule-below}
+use Rattle.chumsky_grammars.specs.Leaves.{AreLeaves}
+use Rattle.chumsky_grammars.specs.RuleLanguage.{Makes, rule_language}
+
+for_memory : {Tok V Er : Type 0} (P : List Tok → V → Type 0) (ts : List Tok) (result : Result (ParseResult V Er) Stop) → ExactlyUnless P ts ⊥ result → Exactly P ts result
+for_memory P ts (Ok parsed) i = i
+for_memory P ts (Err s) (inl e) = e
+for_memory P ts (Err s) (inr e) = absurd e
+
+module _ {Tok V Er : Type 0} (P : List Tok → V → Type 0) {ts : List Tok} where
+  -- where a word stands only for values that are so, and a text with such a value is taken whole; of a text that isn't refused
+  pub exactly-decided : {l : Language Tok V} {spare : Type 0} {result : Result (ParseResult V Er) Stop} → AnswersText Some l ts spare result → IsBelow l.refused_from (length ts)
+      → ((v : V) → l.stands_for ts v → P ts v) → ((v : V) → P ts v → l.ends ts ≡ At []) → Exactly P ts result
+  exactly-decided {result = result} a below sound complete = for_memory P ts result (unless-by_ends P a (a.decided below) (λ v e w x s. sound v s) complete)
+
+  module _ (c : Claims) (makes : Makes V) (leaf : ℕ → Language Tok V) (leaves : AreLeaves c leaf) (rules : List Expression) (founded : all_founded c 0 rules ≡ true) (all : c.count ≡ length rules) (limit start : ℕ) where
+    -- the same of founded rules, under enough calls: more than rules times tokens, and the rank of the start
+    pub exactly-by_rules : {spare : Type 0} {result : Result (ParseResult V Er) Stop} → start < c.count → c.count * length ts + c.rank start < limit
+        → ((v : V) → (rule_language makes leaf rules limit start).stands_for ts v → P ts v) → ((v : V) → P ts v → (rule_language makes leaf rules limit start).ends ts ≡ At [])
+        → ((rule_language makes leaf rules limit start).said ≡ true → AnswersText Some (rule_language makes leaf rules limit start) ts spare result) → Exactly P ts result
+    exactly-by_rules one enough sound complete reads =
+        exactly-decided (reads (rule-said c makes leaf leaves.said leaves.moves leaves.decided rules founded all limit start one)) (rule-below c makes leaf leaves.said leaves.moves leaves.decided rules founded all limit start (length ts) one enough) sound complete
+
+-- the one rule of these tables has that body
+pub one-rule : {leaves : ℕ} {e : Expression} (g : Tables) → IsOneRule leaves e g → expressions_of g ≡ e ∷ []
+one-rule g r = rw r.bodies (ap (λ x. x ∷ []) r.is_body.expression)

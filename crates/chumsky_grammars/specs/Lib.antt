@@ -1,0 +1,11 @@
+pub mod Expression
+pub mod Compiled
+pub mod RuleLanguage
+pub mod MadeLanguages
+pub mod RulesAccept
+pub mod Founded
+pub mod FoundedLaws
+pub mod Leaves
+pub mod ExactlyLaws
+pub mod ValueMakes
+pub mod SeparatedLaws

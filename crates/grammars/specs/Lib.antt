@@ -1,0 +1,4 @@
+pub mod Brackets
+pub mod BracketsLaws
+pub mod Trees
+pub mod TreesLaws

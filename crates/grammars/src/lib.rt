@@ -1,0 +1,5 @@
+//! Grammars by rules whose contracts say exactly which texts they accept.
+#![tactic(auto)]
+
+pub mod brackets;
+pub mod trees;
