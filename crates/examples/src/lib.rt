@@ -8,6 +8,7 @@ pub mod digits;
 pub mod header;
 pub mod ini;
 pub mod log_lines;
+pub mod prefixed;
 pub mod query;
 pub mod request;
 pub mod setting;
