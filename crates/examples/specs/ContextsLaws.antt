@@ -1,13 +1,13 @@
 -- The laws of a part under a context that an earlier part gave.
 -- Main laws: then_under-accepts, ignore_under-accepts. Read first: Contexts.antt.
 use Rattle.std.proofs.Common.{◌≡◌, ℕ, ◌≤◌, ◌<◌, Bool, true, false, Option, Some, None, List, ◌++◌, length, drop, refl, sym, ◌∙◌, ap, subst, arith, append_assoc}
-use Rattle.chumsky_input.specs.Outcome.{Meaning, Beginning, Outcome, EndsAfterStart}
+use Rattle.chumsky_input.specs.Outcome.{Meaning, Beginning, EndsAfterStart}
 use Rattle.chumsky_parser.specs.Chained.{Chained, Given, Asked, both}
 use Rattle.chumsky_parser.specs.Ending.{Ending, At, Nowhere, Refused, Ender, and_then, Ends, EndsOrRefused, Within, IfValue, Answers, Here, Reads}
 use Rattle.chumsky_parser.specs.EndingLaws.{and_then_some, ends_there, answers_weaker, chained-here, given-here, asked-here}
 use Rattle.chumsky_parser.specs.FurtherLaws.{sooner-below}
 use Rattle.chumsky_parser.specs.Language.{Language, Begins, TakesOnly, GivesOnly, TakesEach, EndsFurther, NeverRefusedBelow, IsBelow, Described, Accepts, sooner, later}
-use Rattle.chumsky_parser.specs.Laws.{chained-ends, given-ends, asked-ends}
+use Rattle.chumsky_parser.specs.Laws.{chained-ends, given-ends}
 use Rattle.chumsky_parser.specs.Memory.{NeverOutOfMemory}
 use Rattle.chumsky_parser.specs.MemoryLaws.{chained-spares, given-spares, asked-spares}
 use Rattle.chumsky_parser.specs.Progress.{Moves}

@@ -13,3 +13,4 @@ pub mod Query
 pub mod QueryLabels
 pub mod QueryHead
 pub mod QueryLaws
+pub mod Reported

@@ -1,6 +1,6 @@
 -- The head of a query is known by its bytes.
 -- Main words: head_of, HeadOf. Main laws: number-sound, number-complete, head-sound, head-complete, head-by_word. Read first: Query.antt.
-use Rattle.std.proofs.Common.{◌≡◌, ℕ, ◌+◌, ◌*◌, ◌/◌, ◌%◌, ◌<◌, true, Option, Some, List, [], ◌∷◌, ◌++◌, drop, refl, ◌∙◌, ap, arith, append_assoc}
+use Rattle.std.proofs.Common.{◌≡◌, ℕ, ◌+◌, ◌*◌, ◌/◌, ◌%◌, ◌<◌, true, Option, Some, List, [], ◌∷◌, ◌++◌, drop, refl, arith}
 use Rattle.std.proofs.lemmas.Nat.{div-add-mod'}
 use Rattle.std.specs.Prelude.{⊤}
 use Rattle.chumsky_parser.specs.Words.{Joined, IsOne}

@@ -1,6 +1,6 @@
 -- How many bytes a label has, as its first byte says.
 -- Main words: length_of, length_in. Laws: length-is, length-fits, length-by_word.
-use Rattle.std.proofs.Common.{◌≡◌, ℕ, ◌<◌, nat_lt, Bool, true, false, cond, ◌&&◌, Option, Some, None, List, [], ◌∷◌, refl, sym, ◌∙◌, arith}
+use Rattle.std.proofs.Common.{◌≡◌, ℕ, ◌<◌, nat_lt, Bool, true, false, cond, ◌&&◌, Option, Some, None, List, [], ◌∷◌, refl, arith}
 use Rattle.std.proofs.lemmas.Bool.Decides.{nat_tests}
 use Rattle.chumsky_parser.specs.ProgressLaws.{both-true}
 use Rattle.chumsky_parser.specs.Words.{IsOne}

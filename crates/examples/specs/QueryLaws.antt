@@ -18,7 +18,7 @@ use Rattle.examples.specs.declared.query.Head.{Head}
 use Rattle.examples.specs.declared.query.Question.{Question}
 use Rattle.examples.specs.declared.query.Query.{Query}
 use Rattle.examples.specs.Contexts.{under_ends, bound_ends, BoundWord}
-use Rattle.examples.specs.Query.{number_bytes, head_bytes, label_bytes, question_bytes, query_bytes, IsLabel, IsQuestion, IsQuery}
+use Rattle.examples.specs.Query.{number_bytes, head_bytes, label_bytes, question_bytes, IsLabel, IsQuestion, IsQuery}
 use Rattle.examples.specs.QueryHead.{head_of, Byte, ByteOf, NumberWord, NumberOf, HeadWord, HeadOf, number-sound, number-complete, head-sound, head-complete, head-is}
 use Rattle.examples.specs.QueryLabels.{length_in, length-is, length-fits}
 use Rattle.examples.specs.SoManyWords.{so_many-written, written-so_many, tokens-so_many, so_many-tokens}

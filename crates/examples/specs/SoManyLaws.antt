@@ -1,12 +1,12 @@
 -- The laws of a list that the context configures: of just so many items as the context says.
 -- Main laws: so_many-ends, so_many-accept. Read first: Contexts.antt, ConfiguredItems.antt of chumsky_context.
-use Rattle.std.proofs.Common.{◌≡◌, ℕ, suc, ◌+◌, ◌^◌, ◌<◌, Bool, true, Option, Some, None, List, length, drop, refl, sym, ◌∙◌, subst}
+use Rattle.std.proofs.Common.{◌≡◌, ℕ, suc, Bool, Option, Some, None, List, drop, refl, sym, ◌∙◌, subst}
 use Rattle.chumsky_input.specs.Outcome.{Meaning, Beginning, Outcome, EndsAfterStart, Verdict, Yes, No, Halt, Clash}
 use Rattle.chumsky_parser.specs.Chained.{Chained, Given, Follows}
 use Rattle.chumsky_parser.specs.Ending.{Ending, At, Nowhere, Refused, and_then, Within, IfValue, Answers, Here, Reads}
 use Rattle.chumsky_parser.specs.EndingLaws.{and_then_some, chained-here, given-here}
 use Rattle.chumsky_parser.specs.Items.{Next, More, End, AfterStep}
-use Rattle.chumsky_parser.specs.ItemsLanguage.{Stepped, One, Over, place, IsStepped, ItemsLanguage, StepReads, AcceptsItems}
+use Rattle.chumsky_parser.specs.ItemsLanguage.{Stepped, One, Over, place, IsStepped, ItemsLanguage, AcceptsItems}
 use Rattle.chumsky_parser.specs.Language.{Language, Accepts}
 use Rattle.chumsky_parser.specs.LanguageLaws.{fewer-accepts}
 use Rattle.chumsky_parser.specs.Laws.{given-ends}
@@ -18,7 +18,6 @@ use Rattle.chumsky_items.specs.ListLanguage.{collected_language, collects-accept
 use Rattle.chumsky_items.specs.Repeating.{Repeats}
 use Rattle.chumsky_items.specs.RepeatingLaws.{repeats-end}
 use Rattle.chumsky_items.specs.RepeatedLanguage.{repeated_language, repeated-accepts}
-use Rattle.chumsky_context.specs.Carried.{Carried}
 use Rattle.chumsky_context.specs.Configured.{set_or, or_set}
 use Rattle.chumsky_context.specs.ConfiguredItems.{Beside, BeginsBeside, GivesBeside}
 use Rattle.chumsky_context.specs.ConfiguredItemsLaws.{beside-end}

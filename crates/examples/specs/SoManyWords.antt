@@ -1,6 +1,6 @@
 -- Lists of just so many items, as they are written.
 -- Main laws: so_many-written, written-so_many, tokens-so_many, so_many-tokens. Read first: Rendered.antt of chumsky_exact, ListWords.antt of chumsky_items.
-use Rattle.std.proofs.Common.{◌≡◌, ℕ, suc, ◌+◌, ◌≤◌, ◌<◌, true, Some, List, [], ◌∷◌, ◌++◌, length, refl, ◌∙◌, ap, subst, arith, inl, inr}
+use Rattle.std.proofs.Common.{◌≡◌, ℕ, suc, ◌+◌, ◌≤◌, ◌<◌, true, Some, List, [], ◌∷◌, length, refl, ◌∙◌, ap, subst, arith, inl, inr}
 use Rattle.std.specs.Prelude.{⊤, map}
 use Rattle.chumsky_parser.specs.ItemsLanguage.{ListFrom, IsListFrom}
 use Rattle.chumsky_parser.specs.Words.{IsOne}

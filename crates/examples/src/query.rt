@@ -1,5 +1,5 @@
 //! A query to the domain name system (DNS), in bytes.
-ghost use Rattle.std.specs.Prelude.{◌≡◌, None, ◌+◌, ◌*◌, ◌<◌};
+ghost use Rattle.std.specs.Prelude.{◌≡◌, None, ◌+◌, ◌*◌, ◌<◌, [], IfOk, IsTrue, is_some};
 ghost use Rattle.chumsky.specs.Accepted.{Exactly};
 ghost use Rattle.examples.specs.Query.{IsQuery};
 
@@ -236,7 +236,8 @@ impl Mapper<(Head, Vec<Question>), Query> for ToQuery {
 
 /// A query, whole: a head, and as many questions as it says. Of any other bytes there is no output.
 pub fn parse_query(alloc: Global, bytes: &[u8]) -> Result<ParseResult<Query, Rich<u8>>, Stop>
-    ensures { Exactly IsQuery bytes.now result }
+    ensures exact { Exactly IsQuery bytes.now result }
+    ensures errors { IfOk result (λ parsed. parsed.errors.items ≡ [] → IsTrue (is_some parsed.output)) }
 {
     let query = Headed {
         head: query_head(),
