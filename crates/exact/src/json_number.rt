@@ -16,6 +16,7 @@ use chumsky::text::{Digits, Int, Word};
 use chumsky::{IsParser, PResult, Stop};
 use chumsky_parser::parser::Parser;
 use std::alloc::Global;
+use std::marker::PhantomData;
 
 /// The parser of one character.
 pub type This<'src> = Just<char, &'src str, EmptyText>;
@@ -52,6 +53,7 @@ pub type WholeParser<'src> = IgnoreThen<
 /// The parser of a number.
 pub type NumberParser<'src> = Owned<
     ToSlice<ThenIgnore<WholeParser<'src>, OrNot<MoreParser<'src>>, Option<&'src str>>, &'src str>,
+    &'src str,
 >;
 
 /// The parser of a point and digits.
@@ -94,6 +96,7 @@ fn number_parser<'src>() -> NumberParser<'src>
     let number = whole.then_ignore(more.or_not());
     Owned {
         parser: number.to_slice(),
+        of: PhantomData,
     }
 }
 
