@@ -1,4 +1,7 @@
-//! JSON, held against the toolchain's `serde_json`: which texts are JSON, and what they are.
+//! JSON, held against the toolchain's `serde_json`: which texts are JSON, and what they are. So are a proved grammar of JSON, and the
+//! function whose contract says exactly which texts it accepts.
+use exact::json::parse_json;
+use exact::json_value::Json as ExactJson;
 use json_tree::{Json, JsonText, read_json};
 use serde_json::Value;
 use std::alloc::{AllocError, AllocGlobal, Global};
@@ -102,6 +105,57 @@ fn is_same(alloc: Global, ours: &Json, theirs: &Value) -> bool {
     }
 }
 
+/// The same of what `parse_json` reads. An object of it may have a name twice, of which `serde_json` keeps the last value.
+fn is_read(alloc: Global, ours: &ExactJson, theirs: &Value) -> bool {
+    match (ours, theirs) {
+        (ExactJson::Null, Value::Null) => true,
+        (ExactJson::Bool(one), Value::Bool(other)) => *one == *other,
+        (ExactJson::Number(text), Value::Number(_)) => {
+            match Value::from_str(alloc, text.as_str()) {
+                Ok(number) => number == *theirs,
+                Err(_) => false,
+            }
+        }
+        (ExactJson::String(one), Value::String(other)) => one.as_str() == other.as_str(),
+        (ExactJson::Array(items), Value::Array(others)) => {
+            for (item, other) in items.iter().zip(others.iter()) {
+                if !is_read(alloc, item, other) {
+                    return false;
+                }
+            }
+            items.len() == others.len()
+        }
+        (ExactJson::Object(members), Value::Object(map)) => {
+            for (at, member) in members.iter().enumerate() {
+                let (name, value) = member;
+                let mut is_last = true;
+                for later in members.iter().skip(at.saturating_add(1)) {
+                    if later.0.as_str() == name.as_str() {
+                        is_last = false;
+                    }
+                }
+                match map.get(name.as_str()) {
+                    Some(other) if !is_last || is_read(alloc, value, other) => {}
+                    _ => return false,
+                }
+            }
+            members.len() >= map.len()
+        }
+        _ => false,
+    }
+}
+
+/// Asserts the same of `parse_json`: that it reads a text where `serde_json` takes it, as that value.
+fn assert_read<R: Abort + AllocGlobal>(rt: &R, text: &str, theirs: Option<&Value>) {
+    let limit = text.len().saturating_add(1);
+    let parsed = parse_json(rt.alloc(), text, limit).expect(rt, "refused");
+    match (parsed.output(), theirs) {
+        (Some(json), Some(theirs)) => assert!(rt; is_read(rt.alloc(), json, theirs), "of {text}"),
+        (None, None) => {}
+        _ => assert!(rt; false, "of {text}"),
+    }
+}
+
 /// Asserts that a text is JSON where `serde_json` takes it, and that it is the same value, also when it is written and read again.
 /// A number that an `f64` doesn't hold is an error of `serde_json` alone, so of a text with one nothing is asserted. Says whether
 /// both take the text.
@@ -114,10 +168,14 @@ fn assert_same<R: Abort + AllocGlobal>(rt: &R, text: &str) -> bool {
             let is_out_of_range = error.as_str().starts_with("number out of range");
             let is_none = !parsed.has_output() && parsed.has_errors();
             assert!(rt; is_none || is_out_of_range, "of {text}: {error}");
+            if !is_out_of_range {
+                assert_read(rt, text, None);
+            }
             return false;
         }
     };
     assert!(rt; parsed.has_output() && !parsed.has_errors(), "of {text}");
+    assert_read(rt, text, Some(&theirs));
     if let Some(json) = parsed.output() {
         assert!(rt; is_same(rt.alloc(), json, &theirs), "of {text}");
         for indented in [false, true] {

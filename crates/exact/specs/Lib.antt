@@ -6,8 +6,9 @@ pub mod DateLaws
 pub mod Expressions
 pub mod ExpressionsLaws
 pub mod Listed
-pub mod Json
 pub mod JsonForms
+pub mod JsonGrammar
+pub mod JsonLawful
 pub mod JsonLaws
 pub mod JsonNumbers
 pub mod JsonNumbersLanguage
@@ -16,6 +17,7 @@ pub mod JsonNumbersOnce
 pub mod JsonOnce
 pub mod JsonPicks
 pub mod JsonPicksLaws
+pub mod JsonReaderLaws
 pub mod JsonStrings
 pub mod JsonStringsLaws
 pub mod JsonWritten

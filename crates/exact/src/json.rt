@@ -1,11 +1,16 @@
 //! JSON, by a function that calls itself.
-ghost use Rattle.std.specs.Prelude.{◌≡◌, ◌≤◌, [], ◌∷◌, true, false, None, length};
+ghost use Rattle.std.specs.Prelude.{◌≡◌, ◌≤◌, [], ◌∷◌, true, false, None, length, IfOk, is_some};
 ghost use Rattle.std.specs.Str.{chars};
+ghost use Rattle.chumsky_input.specs.Run.{Runs};
+ghost use Rattle.chumsky_combinator.specs.Part.{Onward};
 ghost use Rattle.chumsky.specs.Accepted.{ExactlyUnless};
-ghost use Rattle.exact.specs.Json.{IsJson};
+ghost use Rattle.exact.specs.JsonForms.{HoldsJson};
 
+use crate::json_number::Number;
+use crate::json_string::{Piece, StringOf};
+use crate::json_value::Json;
 use chumsky::combinator::{
-    Collect, DelimitedBy, IgnoreThen, Map, Mapper, Or, PickBy, SeparatedBy, Then, run_part,
+    Collect, DelimitedBy, IgnoreThen, Map, Mapper, Or, SeparatedBy, Then, ThenIgnore, run_part,
 };
 use chumsky::error::Error;
 use chumsky::extra::EmptyText;
@@ -14,21 +19,12 @@ use chumsky::inspector::Inspector;
 use chumsky::prelude::*;
 use chumsky::primitive::{End, Just};
 use chumsky::recursive::{Body, Called, Recursion, RunsUnder, recursive_as};
-use chumsky::text::{DecimalOf, Int, Kind, Run, Word, run_of};
+use chumsky::text::{Kind, Run, run_of};
 use chumsky::util::Plain;
 use chumsky::{PResult, Stop};
 use chumsky_parser::parser::Parser;
 use std::alloc::Global;
 use std::marker::PhantomData;
-
-/// A value of JSON.
-#[derive(Debug, Drop, PartialEq)]
-pub enum Json {
-    Null,
-    Bool(bool),
-    Number(u32),
-    Array(Vec<Json>),
-}
 
 /// Spaces, tabs and ends of lines.
 #[derive(Clone, Copy, Drop)]
@@ -36,7 +32,7 @@ pub struct Blank;
 
 impl Kind<char> for Blank {
     ghost use Rattle.std.specs.Prelude.{[], ⊤};
-    ghost use Rattle.exact.specs.Json.{is_blank};
+    ghost use Rattle.exact.specs.JsonForms.{is_blank};
 
     ghost fits = { λ _. ⊤ };
 
@@ -58,7 +54,7 @@ impl Kind<char> for Blank {
 pub struct ToNull;
 
 impl Mapper<[char; 4], Json> for ToNull {
-    ghost use Rattle.exact.specs.declared.json.Json.{Null};
+    ghost use Rattle.exact.specs.declared.json_value.Json.{Null};
 
     ghost gives = { λ _ _ json. json ≡ Null };
 
@@ -74,7 +70,7 @@ pub struct ToBool {
 }
 
 impl<const N: usize> Mapper<[char; N], Json> for ToBool {
-    ghost use Rattle.exact.specs.declared.json.Json.{Bool};
+    ghost use Rattle.exact.specs.declared.json_value.Json.{Bool};
 
     ghost gives = { λ mapper _ json. json ≡ Bool mapper.value };
 
@@ -83,17 +79,31 @@ impl<const N: usize> Mapper<[char; N], Json> for ToBool {
     }
 }
 
-/// Makes a value of a number.
+/// Makes a value of a number, as it is written.
 #[derive(Clone, Copy, Drop)]
 pub struct ToNumber;
 
-impl Mapper<u32, Json> for ToNumber {
-    ghost use Rattle.exact.specs.declared.json.Json.{Number};
+impl Mapper<String, Json> for ToNumber {
+    ghost use Rattle.exact.specs.declared.json_value.Json.{Number};
 
-    ghost gives = { λ _ number json. json ≡ Number number };
+    ghost gives = { λ _ text json. json ≡ Number text };
 
-    fn apply(&self, number: u32) -> Json {
-        Json::Number(number)
+    fn apply(&self, text: String) -> Json {
+        Json::Number(text)
+    }
+}
+
+/// Makes a value of a string.
+#[derive(Clone, Copy, Drop)]
+pub struct ToString;
+
+impl Mapper<String, Json> for ToString {
+    ghost use Rattle.exact.specs.declared.json_value.Json as json;
+
+    ghost gives = { λ _ text value. value ≡ json.String text };
+
+    fn apply(&self, text: String) -> Json {
+        Json::String(text)
     }
 }
 
@@ -102,12 +112,26 @@ impl Mapper<u32, Json> for ToNumber {
 pub struct ToArray;
 
 impl Mapper<Vec<Json>, Json> for ToArray {
-    ghost use Rattle.exact.specs.declared.json.Json.{Array};
+    ghost use Rattle.exact.specs.declared.json_value.Json.{Array};
 
     ghost gives = { λ _ values json. json ≡ Array values };
 
     fn apply(&self, values: Vec<Json>) -> Json {
         Json::Array(values)
+    }
+}
+
+/// Makes a value of a list of members.
+#[derive(Clone, Copy, Drop)]
+pub struct ToObject;
+
+impl Mapper<Vec<(String, Json)>, Json> for ToObject {
+    ghost use Rattle.exact.specs.declared.json_value.Json.{Object};
+
+    ghost gives = { λ _ members json. json ≡ Object members };
+
+    fn apply(&self, members: Vec<(String, Json)>) -> Json {
+        Json::Object(members)
     }
 }
 
@@ -117,14 +141,6 @@ pub type Blanks<'src> = Run<Blank, &'src str, EmptyText>;
 /// The parser of a character after blanks.
 pub type Mark<'src> = IgnoreThen<Blanks<'src>, Just<char, &'src str, EmptyText>, &'src str>;
 
-/// The parser of a number.
-pub type NumberParser<'src> = Map<
-    PickBy<Word<Int, &'src str, EmptyText>, &'src str, DecimalOf<u32>, u32>,
-    u32,
-    ToNumber,
-    Json,
->;
-
 /// The parser of a word of `N` characters.
 pub type WordParser<'src, F, const N: usize> = Map<
     Just<[char; N], &'src str, EmptyText>,
@@ -133,68 +149,94 @@ pub type WordParser<'src, F, const N: usize> = Map<
     Json,
 >;
 
-/// The parser of a value that has no others in it.
-pub type ScalarParser<'src> = Or<
-    NumberParser<'src>,
-    Or<WordParser<'src, ToNull, 4>, Or<WordParser<'src, ToBool, 4>, WordParser<'src, ToBool, 5>>>,
+/// The parser of a word, be it `null`, `true` or `false`.
+pub type WordsParser<'src> = Or<
+    WordParser<'src, ToNull, 4>,
+    Or<WordParser<'src, ToBool, 4>, WordParser<'src, ToBool, 5>>,
 >;
 
-/// A value that has no others in it: a parser with a name, as the two below, so that the function that calls itself has one type
-/// of them in it.
-#[derive(Clone, Copy, Drop)]
-pub struct Scalar;
+/// The parser of a value that has no others in it, where `N` takes numbers and `S` strings.
+pub type ScalarParser<'src, N, S> = Or<
+    Map<N, String, ToNumber, Json>,
+    Or<Map<S, String, ToString, Json>, WordsParser<'src>>,
+>;
 
-impl<'src> Parser<'src, &'src str, Json, EmptyText> for Scalar {
-    ghost use Rattle.chumsky_primitive.specs.JustLaws.{just-ends};
-    ghost use Rattle.chumsky_primitive.specs.PrimitiveLanguageLaws.{just-accepts};
-    ghost use Rattle.chumsky_combinator.specs.MappedLaws.{mapped-ends};
-    ghost use Rattle.chumsky_combinator.specs.MappedLanguage.{map-accepts};
+/// A value that has no others in it: a parser with a name, as those below, so that the function that calls itself has few types
+/// in it. Each is of any parsers in the place of its parts, and its laws are of theirs.
+#[derive(Drop)]
+pub struct ScalarOf<N, S> {
+    pub number: N,
+    pub string: S,
+}
+
+impl<
+    'src,
+    N: Parser<'src, &'src str, String, EmptyText>,
+    S: Parser<'src, &'src str, String, EmptyText>,
+> Parser<'src, &'src str, Json, EmptyText> for ScalarOf<N, S> {
+    ghost use Rattle.std.specs.Prelude.{[], ◌∷◌, true, false, ⊤};
     ghost use Rattle.chumsky_parser.specs.ChoiceLaws.{or_else-ends};
     ghost use Rattle.chumsky_parser.specs.ChoiceLanguage.{or-accepts};
-    ghost use Rattle.chumsky_shield.specs.VettedLaws.{vetted-ends};
-    ghost use Rattle.chumsky_shield.specs.PickedLaws.{picked-accepts};
-    ghost use Rattle.chumsky_text.specs.Decimals.{slice-bytes, unsigned-by_word};
-    ghost use Rattle.chumsky_text.specs.TextRunLaws.{word-ends};
-    ghost use Rattle.chumsky_text.specs.TextLanguageLaws.{word-accepts};
-    ghost use Rattle.std.specs.Prelude.{[], ◌∷◌, true, false, ⊤, nat_eq, codes};
+    ghost use Rattle.chumsky_combinator.specs.MappedLaws.{mapped-ends};
+    ghost use Rattle.chumsky_combinator.specs.MappedLanguage.{map-accepts};
+    ghost use Rattle.exact.specs.JsonLawful.{words-lawful};
 
-    ghost ready = { λ p. ⊤ };
+    ghost ready = { λ p. N.ready p.number × S.ready p.string };
 
-    ghost meaning = { λ p. ⟦<ScalarParser<'src> as Parser<'src, &'src str, Json, EmptyText>>⟧.meaning (record { first = record { parser = record { picked = record { parser = record { kind = record { radix = 10 }; of = record {} }; picker = record { of = record {} }; of = record {} } }; mapper = record {}; of = record {} }; second = record { first = record { parser = record { seq = 110 ∷ 117 ∷ 108 ∷ 108 ∷ []; of = record {} }; mapper = record {}; of = record {} }; second = record { first = record { parser = record { seq = 116 ∷ 114 ∷ 117 ∷ 101 ∷ []; of = record {} }; mapper = record { value = true }; of = record {} }; second = record { parser = record { seq = 102 ∷ 97 ∷ 108 ∷ 115 ∷ 101 ∷ []; of = record {} }; mapper = record { value = false }; of = record {} } } } }) };
+    ghost meaning = { λ p. ⟦<ScalarParser<'src, N, S> as Parser<'src, &'src str, Json, EmptyText>>⟧.meaning (record {
+        first = record { parser = p.number; mapper = record {}; of = record {} };
+        second = record {
+            first = record { parser = p.string; mapper = record {}; of = record {} };
+            second = record {
+                first = record { parser = record { seq = 110 ∷ 117 ∷ 108 ∷ 108 ∷ []; of = record {} }; mapper = record {}; of = record {} };
+                second = record {
+                    first = record { parser = record { seq = 116 ∷ 114 ∷ 117 ∷ 101 ∷ []; of = record {} }; mapper = record { value = true }; of = record {} };
+                    second = record { parser = record { seq = 102 ∷ 97 ∷ 108 ∷ 115 ∷ 101 ∷ []; of = record {} }; mapper = record { value = false }; of = record {} };
+                };
+            };
+        };
+    }) };
 
     ghost steady = { λ _. ⊥ };
 
     ghost same = { λ _ _ _. ⊤ };
 
-    ghost language = { λ p. ⟦<ScalarParser<'src> as Parser<'src, &'src str, Json, EmptyText>>⟧.language (record { first = record { parser = record { picked = record { parser = record { kind = record { radix = 10 }; of = record {} }; picker = record { of = record {} }; of = record {} } }; mapper = record {}; of = record {} }; second = record { first = record { parser = record { seq = 110 ∷ 117 ∷ 108 ∷ 108 ∷ []; of = record {} }; mapper = record {}; of = record {} }; second = record { first = record { parser = record { seq = 116 ∷ 114 ∷ 117 ∷ 101 ∷ []; of = record {} }; mapper = record { value = true }; of = record {} }; second = record { parser = record { seq = 102 ∷ 97 ∷ 108 ∷ 115 ∷ 101 ∷ []; of = record {} }; mapper = record { value = false }; of = record {} } } } }) };
+    ghost language = { λ p. ⟦<ScalarParser<'src, N, S> as Parser<'src, &'src str, Json, EmptyText>>⟧.language (record {
+        first = record { parser = p.number; mapper = record {}; of = record {} };
+        second = record {
+            first = record { parser = p.string; mapper = record {}; of = record {} };
+            second = record {
+                first = record { parser = record { seq = 110 ∷ 117 ∷ 108 ∷ 108 ∷ []; of = record {} }; mapper = record {}; of = record {} };
+                second = record {
+                    first = record { parser = record { seq = 116 ∷ 114 ∷ 117 ∷ 101 ∷ []; of = record {} }; mapper = record { value = true }; of = record {} };
+                    second = record { parser = record { seq = 102 ∷ 97 ∷ 108 ∷ 115 ∷ 101 ∷ []; of = record {} }; mapper = record { value = false }; of = record {} };
+                };
+            };
+        };
+    }) };
 
-    ghost ends_after_start = { λ p. or_else-ends _ _ _ _ _ (mapped-ends _ _ (vetted-ends _ _ _ _ (word-ends ⟦<&'src str as Input<'src>>⟧ _ ⟦<EmptyErr as Error<&'src str>>⟧ ⟦<() as Inspector<&'src str>>⟧ _ _ _ _))) (or_else-ends _ _ _ _ _ (mapped-ends _ _ (just-ends ⟦<&'src str as Input<'src>>⟧ nat_eq ⟦<EmptyErr as Error<&'src str>>⟧ ⟦<() as Inspector<&'src str>>⟧ _ _ (codes "null"))) (or_else-ends _ _ _ _ _ (mapped-ends _ _ (just-ends ⟦<&'src str as Input<'src>>⟧ nat_eq ⟦<EmptyErr as Error<&'src str>>⟧ ⟦<() as Inspector<&'src str>>⟧ _ _ (codes "true"))) (mapped-ends _ _ (just-ends ⟦<&'src str as Input<'src>>⟧ nat_eq ⟦<EmptyErr as Error<&'src str>>⟧ ⟦<() as Inspector<&'src str>>⟧ _ _ (codes "false"))))) };
+    ghost ends_after_start = { λ p. or_else-ends _ _ _ _ _ (mapped-ends _ _ (N.ends_after_start p.number)) (or_else-ends _ _ _ _ _ (mapped-ends _ _ (S.ends_after_start p.string)) words-lawful.ends) };
 
     ghost agrees = { λ _ never. absurd never };
 
-    ghost accepts = { λ p. or-accepts _ _ (λ q. q.1) _ _ (map-accepts _ _ (picked-accepts ⟦<&'src str as Input<'src>>⟧ ⟦<EmptyErr as Error<&'src str>>⟧ _ _ _ (λ w v x s g. unsigned-by_word 32 w v.now x (slice-bytes (λ t. t.now) w v s.1) g) (word-accepts ⟦<&'src str as Input<'src>>⟧ _ ⟦<EmptyErr as Error<&'src str>>⟧ ⟦<() as Inspector<&'src str>>⟧ _ _ _ _))) (or-accepts _ _ (λ q. q.1) _ _ (map-accepts _ _ (just-accepts ⟦<&'src str as Input<'src>>⟧ nat_eq ⟦<EmptyErr as Error<&'src str>>⟧ ⟦<() as Inspector<&'src str>>⟧ _ _ (codes "null"))) (or-accepts _ _ (λ q. q.1) _ _ (map-accepts _ _ (just-accepts ⟦<&'src str as Input<'src>>⟧ nat_eq ⟦<EmptyErr as Error<&'src str>>⟧ ⟦<() as Inspector<&'src str>>⟧ _ _ (codes "true"))) (map-accepts _ _ (just-accepts ⟦<&'src str as Input<'src>>⟧ nat_eq ⟦<EmptyErr as Error<&'src str>>⟧ ⟦<() as Inspector<&'src str>>⟧ _ _ (codes "false"))))) };
+    ghost accepts = { λ p. or-accepts _ _ (λ q. q.1) _ _ (map-accepts _ _ (N.accepts p.number)) (or-accepts _ _ (λ q. q.1) _ _ (map-accepts _ _ (S.accepts p.string)) words-lawful.accepts) };
 
     fn go_emit(&self, inp: &mut TextRef<'src, '_, EmptyText>) -> PResult<Json> {
-        scalar_parser().go_emit(inp)
+        scalar_of(&self.number, &self.string).go_emit(inp)
     }
 
     fn go_check(&self, inp: &mut TextRef<'src, '_, EmptyText>) -> PResult<()> {
-        scalar_parser().go_check(inp)
+        scalar_of(&self.number, &self.string).go_check(inp)
     }
 }
 
-/// The parser of an array of what `P` takes.
-pub type ArrayParser<'src, P> = Map<
-    DelimitedBy<
-        Collect<SeparatedBy<P, Mark<'src>, Json, char, &'src str, EmptyText>, Json, Vec<Json>>,
-        Just<char, &'src str, EmptyText>,
-        Mark<'src>,
-        char,
-        char,
-    >,
-    Vec<Json>,
-    ToArray,
-    Json,
+/// The parser of what `P` takes, in brackets, with a comma between each two.
+pub type ListParser<'src, P, V> = DelimitedBy<
+    Collect<SeparatedBy<P, Mark<'src>, V, char, &'src str, EmptyText>, V, Vec<V>>,
+    Just<char, &'src str, EmptyText>,
+    Mark<'src>,
+    char,
+    char,
 >;
 
 /// An array of what a parser takes.
@@ -203,117 +245,330 @@ pub struct ArrayOf<P> {
     pub value: P,
 }
 
-impl<'src, P: Parser<'src, &'src str, Json, EmptyText>> Parser<'src, &'src str, Json, EmptyText>
-    for ArrayOf<P> {
-    ghost use Rattle.chumsky_primitive.specs.JustLaws.{just-ends};
-    ghost use Rattle.chumsky_primitive.specs.PrimitiveLanguageLaws.{just-accepts};
-    ghost use Rattle.chumsky_combinator.specs.MappedLaws.{mapped-ends};
-    ghost use Rattle.chumsky_combinator.specs.MappedLanguage.{map-accepts};
-    ghost use Rattle.chumsky_parser.specs.IgnoringLaws.{ignoring_first-ends, between-ends};
-    ghost use Rattle.chumsky_parser.specs.SequenceLanguage.{ignore_then-accepts, between-accepts};
+impl<'src, P: Parser<'src, &'src str, Json, EmptyText>> Parser<
+    'src,
+    &'src str,
+    Vec<Json>,
+    EmptyText,
+> for ArrayOf<P> {
+    ghost use Rattle.std.specs.Prelude.{false, None, ⊤};
+    ghost use Rattle.chumsky_parser.specs.IgnoringLaws.{between-ends};
+    ghost use Rattle.chumsky_parser.specs.SequenceLanguage.{between-accepts};
     ghost use Rattle.chumsky_items.specs.ConsumersLaws.{collects-ends};
     ghost use Rattle.chumsky_items.specs.ListLanguage.{collects-accepts};
     ghost use Rattle.chumsky_items.specs.SeparatingLaws.{separates-end};
     ghost use Rattle.chumsky_items.specs.SeparatedLanguage.{separated-accepts};
-    ghost use Rattle.chumsky_text.specs.TextRunLaws.{run-ends};
-    ghost use Rattle.chumsky_text.specs.TextLanguageLaws.{run-accepts};
-    ghost use Rattle.std.specs.Prelude.{[], ◌∷◌, false, None, ⊤, nat_eq, codes};
+    ghost use Rattle.exact.specs.JsonLawful.{letter-lawful, mark-lawful};
 
     ghost ready = { λ p. P.ready p.value };
 
-    ghost meaning = { λ p. ⟦<ArrayParser<'src, P> as Parser<'src, &'src str, Json, EmptyText>>⟧.meaning (record { parser = record { parser = record { parser = record { parser = p.value; separator = record { first = record { kind = record {}; of = record {} }; second = record { seq = 44; of = record {} }; of = record {} }; at_least = 0; at_most = None; allow_leading = false; allow_trailing = false; of = record {} }; of = record {} }; opening = record { seq = 91; of = record {} }; closing = record { first = record { kind = record {}; of = record {} }; second = record { seq = 93; of = record {} }; of = record {} }; of = record {} }; mapper = record {}; of = record {} }) };
+    ghost meaning = { λ p. ⟦<ListParser<'src, P, Json> as Parser<'src, &'src str, Vec<Json>, EmptyText>>⟧.meaning (record {
+        parser = record {
+            parser = record {
+                parser = p.value;
+                separator = record { first = record { kind = record {}; of = record {} }; second = record { seq = 44; of = record {} }; of = record {} };
+                at_least = 0;
+                at_most = None;
+                allow_leading = false;
+                allow_trailing = false;
+                of = record {};
+            };
+            of = record {};
+        };
+        opening = record { seq = 91; of = record {} };
+        closing = record { first = record { kind = record {}; of = record {} }; second = record { seq = 93; of = record {} }; of = record {} };
+        of = record {};
+    }) };
 
     ghost steady = { λ _. ⊥ };
 
     ghost same = { λ _ _ _. ⊤ };
 
-    ghost language = { λ p. ⟦<ArrayParser<'src, P> as Parser<'src, &'src str, Json, EmptyText>>⟧.language (record { parser = record { parser = record { parser = record { parser = p.value; separator = record { first = record { kind = record {}; of = record {} }; second = record { seq = 44; of = record {} }; of = record {} }; at_least = 0; at_most = None; allow_leading = false; allow_trailing = false; of = record {} }; of = record {} }; opening = record { seq = 91; of = record {} }; closing = record { first = record { kind = record {}; of = record {} }; second = record { seq = 93; of = record {} }; of = record {} }; of = record {} }; mapper = record {}; of = record {} }) };
+    ghost language = { λ p. ⟦<ListParser<'src, P, Json> as Parser<'src, &'src str, Vec<Json>, EmptyText>>⟧.language (record {
+        parser = record {
+            parser = record {
+                parser = p.value;
+                separator = record { first = record { kind = record {}; of = record {} }; second = record { seq = 44; of = record {} }; of = record {} };
+                at_least = 0;
+                at_most = None;
+                allow_leading = false;
+                allow_trailing = false;
+                of = record {};
+            };
+            of = record {};
+        };
+        opening = record { seq = 91; of = record {} };
+        closing = record { first = record { kind = record {}; of = record {} }; second = record { seq = 93; of = record {} }; of = record {} };
+        of = record {};
+    }) };
 
-    ghost ends_after_start = { λ p. mapped-ends _ _ (between-ends _ _ _ (just-ends ⟦<&'src str as Input<'src>>⟧ nat_eq ⟦<EmptyErr as Error<&'src str>>⟧ ⟦<() as Inspector<&'src str>>⟧ _ _ (codes "[")) (collects-ends _ _ _ _ (separates-end _ _ _ _ _ _ (ignoring_first-ends _ _ (run-ends ⟦<&'src str as Input<'src>>⟧ _ ⟦<EmptyErr as Error<&'src str>>⟧ ⟦<() as Inspector<&'src str>>⟧ _ _) (just-ends ⟦<&'src str as Input<'src>>⟧ nat_eq ⟦<EmptyErr as Error<&'src str>>⟧ ⟦<() as Inspector<&'src str>>⟧ _ _ (codes ","))) (P.ends_after_start p.value))) (ignoring_first-ends _ _ (run-ends ⟦<&'src str as Input<'src>>⟧ _ ⟦<EmptyErr as Error<&'src str>>⟧ ⟦<() as Inspector<&'src str>>⟧ _ _) (just-ends ⟦<&'src str as Input<'src>>⟧ nat_eq ⟦<EmptyErr as Error<&'src str>>⟧ ⟦<() as Inspector<&'src str>>⟧ _ _ (codes "]")))) };
+    ghost ends_after_start = { λ p. between-ends _ _ _ (letter-lawful 91).ends
+        (collects-ends _ _ _ _ (separates-end _ _ _ _ _ _ (mark-lawful 44).ends (P.ends_after_start p.value)))
+        (mark-lawful 93).ends };
 
     ghost agrees = { λ _ never. absurd never };
 
-    ghost accepts = { λ p. map-accepts _ _ (between-accepts _ _ _ (just-ends ⟦<&'src str as Input<'src>>⟧ nat_eq ⟦<EmptyErr as Error<&'src str>>⟧ ⟦<() as Inspector<&'src str>>⟧ _ _ (codes "[")) (collects-ends _ _ _ _ (separates-end _ _ _ _ _ _ (ignoring_first-ends _ _ (run-ends ⟦<&'src str as Input<'src>>⟧ _ ⟦<EmptyErr as Error<&'src str>>⟧ ⟦<() as Inspector<&'src str>>⟧ _ _) (just-ends ⟦<&'src str as Input<'src>>⟧ nat_eq ⟦<EmptyErr as Error<&'src str>>⟧ ⟦<() as Inspector<&'src str>>⟧ _ _ (codes ","))) (P.ends_after_start p.value))) (ignoring_first-ends _ _ (run-ends ⟦<&'src str as Input<'src>>⟧ _ ⟦<EmptyErr as Error<&'src str>>⟧ ⟦<() as Inspector<&'src str>>⟧ _ _) (just-ends ⟦<&'src str as Input<'src>>⟧ nat_eq ⟦<EmptyErr as Error<&'src str>>⟧ ⟦<() as Inspector<&'src str>>⟧ _ _ (codes "]"))) (just-accepts ⟦<&'src str as Input<'src>>⟧ nat_eq ⟦<EmptyErr as Error<&'src str>>⟧ ⟦<() as Inspector<&'src str>>⟧ _ _ (codes "[")) (collects-accepts _ _ _ _ _ (separated-accepts _ _ _ _ _ _ _ _ (ignore_then-accepts _ _ (run-ends ⟦<&'src str as Input<'src>>⟧ _ ⟦<EmptyErr as Error<&'src str>>⟧ ⟦<() as Inspector<&'src str>>⟧ _ _) (just-ends ⟦<&'src str as Input<'src>>⟧ nat_eq ⟦<EmptyErr as Error<&'src str>>⟧ ⟦<() as Inspector<&'src str>>⟧ _ _ (codes ",")) (run-accepts ⟦<&'src str as Input<'src>>⟧ _ ⟦<EmptyErr as Error<&'src str>>⟧ ⟦<() as Inspector<&'src str>>⟧ _ _) (just-accepts ⟦<&'src str as Input<'src>>⟧ nat_eq ⟦<EmptyErr as Error<&'src str>>⟧ ⟦<() as Inspector<&'src str>>⟧ _ _ (codes ","))) (P.accepts p.value))) (ignore_then-accepts _ _ (run-ends ⟦<&'src str as Input<'src>>⟧ _ ⟦<EmptyErr as Error<&'src str>>⟧ ⟦<() as Inspector<&'src str>>⟧ _ _) (just-ends ⟦<&'src str as Input<'src>>⟧ nat_eq ⟦<EmptyErr as Error<&'src str>>⟧ ⟦<() as Inspector<&'src str>>⟧ _ _ (codes "]")) (run-accepts ⟦<&'src str as Input<'src>>⟧ _ ⟦<EmptyErr as Error<&'src str>>⟧ ⟦<() as Inspector<&'src str>>⟧ _ _) (just-accepts ⟦<&'src str as Input<'src>>⟧ nat_eq ⟦<EmptyErr as Error<&'src str>>⟧ ⟦<() as Inspector<&'src str>>⟧ _ _ (codes "]")))) };
+    ghost accepts = { λ p. between-accepts _ _ _ (letter-lawful 91).ends
+        (collects-ends _ _ _ _ (separates-end _ _ _ _ _ _ (mark-lawful 44).ends (P.ends_after_start p.value)))
+        (mark-lawful 93).ends
+        (letter-lawful 91).accepts
+        (collects-accepts _ _ _ _ _ (separated-accepts _ _ _ _ _ _ _ _ (mark-lawful 44).accepts (P.accepts p.value)))
+        (mark-lawful 93).accepts };
 
-    fn go_emit(&self, inp: &mut TextRef<'src, '_, EmptyText>) -> PResult<Json> {
-        array_of(&self.value).go_emit(inp)
+    fn go_emit(&self, inp: &mut TextRef<'src, '_, EmptyText>) -> PResult<Vec<Json>> {
+        list_of(&self.value, '[', ']').go_emit(inp)
     }
 
     fn go_check(&self, inp: &mut TextRef<'src, '_, EmptyText>) -> PResult<()> {
-        array_of(&self.value).go_check(inp)
+        list_of(&self.value, '[', ']').go_check(inp)
     }
 }
 
-/// The parser of a value after blanks, where `P` takes the values in it.
-pub type ValueParser<'src, P> = IgnoreThen<Blanks<'src>, Or<Scalar, ArrayOf<P>>, &'src str>;
-
-/// A value after blanks, where a parser takes the values in it.
+/// An object of members that a parser takes.
 #[derive(Drop)]
-pub struct ValueOf<P> {
-    pub inner: P,
+pub struct ObjectOf<P> {
+    pub member: P,
 }
 
-impl<'src, P: Parser<'src, &'src str, Json, EmptyText>> Parser<'src, &'src str, Json, EmptyText>
-    for ValueOf<P> {
-    ghost use Rattle.chumsky_primitive.specs.JustLaws.{just-ends};
-    ghost use Rattle.chumsky_primitive.specs.PrimitiveLanguageLaws.{just-accepts};
-    ghost use Rattle.chumsky_combinator.specs.MappedLaws.{mapped-ends};
-    ghost use Rattle.chumsky_combinator.specs.MappedLanguage.{map-accepts};
-    ghost use Rattle.chumsky_parser.specs.ChoiceLaws.{or_else-ends};
-    ghost use Rattle.chumsky_parser.specs.ChoiceLanguage.{or-accepts};
-    ghost use Rattle.chumsky_shield.specs.VettedLaws.{vetted-ends};
-    ghost use Rattle.chumsky_shield.specs.PickedLaws.{picked-accepts};
-    ghost use Rattle.chumsky_text.specs.Decimals.{slice-bytes, unsigned-by_word};
-    ghost use Rattle.chumsky_parser.specs.IgnoringLaws.{ignoring_first-ends, between-ends};
-    ghost use Rattle.chumsky_parser.specs.SequenceLanguage.{ignore_then-accepts, between-accepts};
+impl<'src, P: Parser<'src, &'src str, (String, Json), EmptyText>> Parser<
+    'src,
+    &'src str,
+    Vec<(String, Json)>,
+    EmptyText,
+> for ObjectOf<P> {
+    ghost use Rattle.std.specs.Prelude.{false, None, ⊤};
+    ghost use Rattle.chumsky_parser.specs.IgnoringLaws.{between-ends};
+    ghost use Rattle.chumsky_parser.specs.SequenceLanguage.{between-accepts};
     ghost use Rattle.chumsky_items.specs.ConsumersLaws.{collects-ends};
     ghost use Rattle.chumsky_items.specs.ListLanguage.{collects-accepts};
     ghost use Rattle.chumsky_items.specs.SeparatingLaws.{separates-end};
     ghost use Rattle.chumsky_items.specs.SeparatedLanguage.{separated-accepts};
-    ghost use Rattle.chumsky_text.specs.TextRunLaws.{word-ends, run-ends};
-    ghost use Rattle.chumsky_text.specs.TextLanguageLaws.{word-accepts, run-accepts};
-    ghost use Rattle.std.specs.Prelude.{⊤, nat_eq, codes};
+    ghost use Rattle.exact.specs.JsonLawful.{letter-lawful, mark-lawful};
 
-    ghost ready = { λ p. P.ready p.inner };
+    ghost ready = { λ p. P.ready p.member };
 
-    ghost meaning = { λ p. ⟦<ValueParser<'src, P> as Parser<'src, &'src str, Json, EmptyText>>⟧.meaning (record { first = record { kind = record {}; of = record {} }; second = record { first = record {}; second = record { value = p.inner } }; of = record {} }) };
+    ghost meaning = { λ p. ⟦<ListParser<'src, P, (String, Json)> as Parser<'src, &'src str, Vec<(String, Json)>, EmptyText>>⟧.meaning (record {
+        parser = record {
+            parser = record {
+                parser = p.member;
+                separator = record { first = record { kind = record {}; of = record {} }; second = record { seq = 44; of = record {} }; of = record {} };
+                at_least = 0;
+                at_most = None;
+                allow_leading = false;
+                allow_trailing = false;
+                of = record {};
+            };
+            of = record {};
+        };
+        opening = record { seq = 123; of = record {} };
+        closing = record { first = record { kind = record {}; of = record {} }; second = record { seq = 125; of = record {} }; of = record {} };
+        of = record {};
+    }) };
 
     ghost steady = { λ _. ⊥ };
 
     ghost same = { λ _ _ _. ⊤ };
 
-    ghost language = { λ p. ⟦<ValueParser<'src, P> as Parser<'src, &'src str, Json, EmptyText>>⟧.language (record { first = record { kind = record {}; of = record {} }; second = record { first = record {}; second = record { value = p.inner } }; of = record {} }) };
+    ghost language = { λ p. ⟦<ListParser<'src, P, (String, Json)> as Parser<'src, &'src str, Vec<(String, Json)>, EmptyText>>⟧.language (record {
+        parser = record {
+            parser = record {
+                parser = p.member;
+                separator = record { first = record { kind = record {}; of = record {} }; second = record { seq = 44; of = record {} }; of = record {} };
+                at_least = 0;
+                at_most = None;
+                allow_leading = false;
+                allow_trailing = false;
+                of = record {};
+            };
+            of = record {};
+        };
+        opening = record { seq = 123; of = record {} };
+        closing = record { first = record { kind = record {}; of = record {} }; second = record { seq = 125; of = record {} }; of = record {} };
+        of = record {};
+    }) };
 
-    ghost ends_after_start = { λ p. ignoring_first-ends _ _ (run-ends ⟦<&'src str as Input<'src>>⟧ _ ⟦<EmptyErr as Error<&'src str>>⟧ ⟦<() as Inspector<&'src str>>⟧ _ _) (or_else-ends _ _ _ _ _ (or_else-ends _ _ _ _ _ (mapped-ends _ _ (vetted-ends _ _ _ _ (word-ends ⟦<&'src str as Input<'src>>⟧ _ ⟦<EmptyErr as Error<&'src str>>⟧ ⟦<() as Inspector<&'src str>>⟧ _ _ _ _))) (or_else-ends _ _ _ _ _ (mapped-ends _ _ (just-ends ⟦<&'src str as Input<'src>>⟧ nat_eq ⟦<EmptyErr as Error<&'src str>>⟧ ⟦<() as Inspector<&'src str>>⟧ _ _ (codes "null"))) (or_else-ends _ _ _ _ _ (mapped-ends _ _ (just-ends ⟦<&'src str as Input<'src>>⟧ nat_eq ⟦<EmptyErr as Error<&'src str>>⟧ ⟦<() as Inspector<&'src str>>⟧ _ _ (codes "true"))) (mapped-ends _ _ (just-ends ⟦<&'src str as Input<'src>>⟧ nat_eq ⟦<EmptyErr as Error<&'src str>>⟧ ⟦<() as Inspector<&'src str>>⟧ _ _ (codes "false")))))) (mapped-ends _ _ (between-ends _ _ _ (just-ends ⟦<&'src str as Input<'src>>⟧ nat_eq ⟦<EmptyErr as Error<&'src str>>⟧ ⟦<() as Inspector<&'src str>>⟧ _ _ (codes "[")) (collects-ends _ _ _ _ (separates-end _ _ _ _ _ _ (ignoring_first-ends _ _ (run-ends ⟦<&'src str as Input<'src>>⟧ _ ⟦<EmptyErr as Error<&'src str>>⟧ ⟦<() as Inspector<&'src str>>⟧ _ _) (just-ends ⟦<&'src str as Input<'src>>⟧ nat_eq ⟦<EmptyErr as Error<&'src str>>⟧ ⟦<() as Inspector<&'src str>>⟧ _ _ (codes ","))) (P.ends_after_start p.inner))) (ignoring_first-ends _ _ (run-ends ⟦<&'src str as Input<'src>>⟧ _ ⟦<EmptyErr as Error<&'src str>>⟧ ⟦<() as Inspector<&'src str>>⟧ _ _) (just-ends ⟦<&'src str as Input<'src>>⟧ nat_eq ⟦<EmptyErr as Error<&'src str>>⟧ ⟦<() as Inspector<&'src str>>⟧ _ _ (codes "]")))))) };
+    ghost ends_after_start = { λ p. between-ends _ _ _ (letter-lawful 123).ends
+        (collects-ends _ _ _ _ (separates-end _ _ _ _ _ _ (mark-lawful 44).ends (P.ends_after_start p.member)))
+        (mark-lawful 125).ends };
 
     ghost agrees = { λ _ never. absurd never };
 
-    ghost accepts = { λ p. ignore_then-accepts _ _ (run-ends ⟦<&'src str as Input<'src>>⟧ _ ⟦<EmptyErr as Error<&'src str>>⟧ ⟦<() as Inspector<&'src str>>⟧ _ _) (or_else-ends _ _ _ _ _ (or_else-ends _ _ _ _ _ (mapped-ends _ _ (vetted-ends _ _ _ _ (word-ends ⟦<&'src str as Input<'src>>⟧ _ ⟦<EmptyErr as Error<&'src str>>⟧ ⟦<() as Inspector<&'src str>>⟧ _ _ _ _))) (or_else-ends _ _ _ _ _ (mapped-ends _ _ (just-ends ⟦<&'src str as Input<'src>>⟧ nat_eq ⟦<EmptyErr as Error<&'src str>>⟧ ⟦<() as Inspector<&'src str>>⟧ _ _ (codes "null"))) (or_else-ends _ _ _ _ _ (mapped-ends _ _ (just-ends ⟦<&'src str as Input<'src>>⟧ nat_eq ⟦<EmptyErr as Error<&'src str>>⟧ ⟦<() as Inspector<&'src str>>⟧ _ _ (codes "true"))) (mapped-ends _ _ (just-ends ⟦<&'src str as Input<'src>>⟧ nat_eq ⟦<EmptyErr as Error<&'src str>>⟧ ⟦<() as Inspector<&'src str>>⟧ _ _ (codes "false")))))) (mapped-ends _ _ (between-ends _ _ _ (just-ends ⟦<&'src str as Input<'src>>⟧ nat_eq ⟦<EmptyErr as Error<&'src str>>⟧ ⟦<() as Inspector<&'src str>>⟧ _ _ (codes "[")) (collects-ends _ _ _ _ (separates-end _ _ _ _ _ _ (ignoring_first-ends _ _ (run-ends ⟦<&'src str as Input<'src>>⟧ _ ⟦<EmptyErr as Error<&'src str>>⟧ ⟦<() as Inspector<&'src str>>⟧ _ _) (just-ends ⟦<&'src str as Input<'src>>⟧ nat_eq ⟦<EmptyErr as Error<&'src str>>⟧ ⟦<() as Inspector<&'src str>>⟧ _ _ (codes ","))) (P.ends_after_start p.inner))) (ignoring_first-ends _ _ (run-ends ⟦<&'src str as Input<'src>>⟧ _ ⟦<EmptyErr as Error<&'src str>>⟧ ⟦<() as Inspector<&'src str>>⟧ _ _) (just-ends ⟦<&'src str as Input<'src>>⟧ nat_eq ⟦<EmptyErr as Error<&'src str>>⟧ ⟦<() as Inspector<&'src str>>⟧ _ _ (codes "]")))))) (run-accepts ⟦<&'src str as Input<'src>>⟧ _ ⟦<EmptyErr as Error<&'src str>>⟧ ⟦<() as Inspector<&'src str>>⟧ _ _) (or-accepts _ _ (λ q. q.1) _ _ (or-accepts _ _ (λ q. q.1) _ _ (map-accepts _ _ (picked-accepts ⟦<&'src str as Input<'src>>⟧ ⟦<EmptyErr as Error<&'src str>>⟧ _ _ _ (λ w v x s g. unsigned-by_word 32 w v.now x (slice-bytes (λ t. t.now) w v s.1) g) (word-accepts ⟦<&'src str as Input<'src>>⟧ _ ⟦<EmptyErr as Error<&'src str>>⟧ ⟦<() as Inspector<&'src str>>⟧ _ _ _ _))) (or-accepts _ _ (λ q. q.1) _ _ (map-accepts _ _ (just-accepts ⟦<&'src str as Input<'src>>⟧ nat_eq ⟦<EmptyErr as Error<&'src str>>⟧ ⟦<() as Inspector<&'src str>>⟧ _ _ (codes "null"))) (or-accepts _ _ (λ q. q.1) _ _ (map-accepts _ _ (just-accepts ⟦<&'src str as Input<'src>>⟧ nat_eq ⟦<EmptyErr as Error<&'src str>>⟧ ⟦<() as Inspector<&'src str>>⟧ _ _ (codes "true"))) (map-accepts _ _ (just-accepts ⟦<&'src str as Input<'src>>⟧ nat_eq ⟦<EmptyErr as Error<&'src str>>⟧ ⟦<() as Inspector<&'src str>>⟧ _ _ (codes "false")))))) (map-accepts _ _ (between-accepts _ _ _ (just-ends ⟦<&'src str as Input<'src>>⟧ nat_eq ⟦<EmptyErr as Error<&'src str>>⟧ ⟦<() as Inspector<&'src str>>⟧ _ _ (codes "[")) (collects-ends _ _ _ _ (separates-end _ _ _ _ _ _ (ignoring_first-ends _ _ (run-ends ⟦<&'src str as Input<'src>>⟧ _ ⟦<EmptyErr as Error<&'src str>>⟧ ⟦<() as Inspector<&'src str>>⟧ _ _) (just-ends ⟦<&'src str as Input<'src>>⟧ nat_eq ⟦<EmptyErr as Error<&'src str>>⟧ ⟦<() as Inspector<&'src str>>⟧ _ _ (codes ","))) (P.ends_after_start p.inner))) (ignoring_first-ends _ _ (run-ends ⟦<&'src str as Input<'src>>⟧ _ ⟦<EmptyErr as Error<&'src str>>⟧ ⟦<() as Inspector<&'src str>>⟧ _ _) (just-ends ⟦<&'src str as Input<'src>>⟧ nat_eq ⟦<EmptyErr as Error<&'src str>>⟧ ⟦<() as Inspector<&'src str>>⟧ _ _ (codes "]"))) (just-accepts ⟦<&'src str as Input<'src>>⟧ nat_eq ⟦<EmptyErr as Error<&'src str>>⟧ ⟦<() as Inspector<&'src str>>⟧ _ _ (codes "[")) (collects-accepts _ _ _ _ _ (separated-accepts _ _ _ _ _ _ _ _ (ignore_then-accepts _ _ (run-ends ⟦<&'src str as Input<'src>>⟧ _ ⟦<EmptyErr as Error<&'src str>>⟧ ⟦<() as Inspector<&'src str>>⟧ _ _) (just-ends ⟦<&'src str as Input<'src>>⟧ nat_eq ⟦<EmptyErr as Error<&'src str>>⟧ ⟦<() as Inspector<&'src str>>⟧ _ _ (codes ",")) (run-accepts ⟦<&'src str as Input<'src>>⟧ _ ⟦<EmptyErr as Error<&'src str>>⟧ ⟦<() as Inspector<&'src str>>⟧ _ _) (just-accepts ⟦<&'src str as Input<'src>>⟧ nat_eq ⟦<EmptyErr as Error<&'src str>>⟧ ⟦<() as Inspector<&'src str>>⟧ _ _ (codes ","))) (P.accepts p.inner))) (ignore_then-accepts _ _ (run-ends ⟦<&'src str as Input<'src>>⟧ _ ⟦<EmptyErr as Error<&'src str>>⟧ ⟦<() as Inspector<&'src str>>⟧ _ _) (just-ends ⟦<&'src str as Input<'src>>⟧ nat_eq ⟦<EmptyErr as Error<&'src str>>⟧ ⟦<() as Inspector<&'src str>>⟧ _ _ (codes "]")) (run-accepts ⟦<&'src str as Input<'src>>⟧ _ ⟦<EmptyErr as Error<&'src str>>⟧ ⟦<() as Inspector<&'src str>>⟧ _ _) (just-accepts ⟦<&'src str as Input<'src>>⟧ nat_eq ⟦<EmptyErr as Error<&'src str>>⟧ ⟦<() as Inspector<&'src str>>⟧ _ _ (codes "]")))))) };
+    ghost accepts = { λ p. between-accepts _ _ _ (letter-lawful 123).ends
+        (collects-ends _ _ _ _ (separates-end _ _ _ _ _ _ (mark-lawful 44).ends (P.ends_after_start p.member)))
+        (mark-lawful 125).ends
+        (letter-lawful 123).accepts
+        (collects-accepts _ _ _ _ _ (separated-accepts _ _ _ _ _ _ _ _ (mark-lawful 44).accepts (P.accepts p.member)))
+        (mark-lawful 125).accepts };
 
-    fn go_emit(&self, inp: &mut TextRef<'src, '_, EmptyText>) -> PResult<Json> {
-        let value = IgnoreThen {
-            first: blanks(),
-            second: Or {
-                first: Scalar,
-                second: ArrayOf { value: &self.inner },
-            },
-            of: PhantomData,
-        };
-        value.go_emit(inp)
+    fn go_emit(&self, inp: &mut TextRef<'src, '_, EmptyText>) -> PResult<Vec<(String, Json)>> {
+        list_of(&self.member, '{', '}').go_emit(inp)
     }
 
     fn go_check(&self, inp: &mut TextRef<'src, '_, EmptyText>) -> PResult<()> {
-        let value = IgnoreThen {
-            first: blanks(),
-            second: Or {
-                first: Scalar,
-                second: ArrayOf { value: &self.inner },
-            },
-            of: PhantomData,
-        };
-        value.go_check(inp)
+        list_of(&self.member, '{', '}').go_check(inp)
     }
 }
+
+/// The parser of a member, where `S` takes its name and `P` its value.
+pub type MemberParser<'src, S, P> = Then<
+    ThenIgnore<IgnoreThen<Blanks<'src>, S, &'src str>, Mark<'src>, char>,
+    P,
+    String,
+    Json,
+>;
+
+/// A member: a name, a colon and a value.
+#[derive(Drop)]
+pub struct MemberOf<S, P> {
+    pub name: S,
+    pub value: P,
+}
+
+impl<
+    'src,
+    S: Parser<'src, &'src str, String, EmptyText>,
+    P: Parser<'src, &'src str, Json, EmptyText>,
+> Parser<'src, &'src str, (String, Json), EmptyText> for MemberOf<S, P> {
+    ghost use Rattle.std.specs.Prelude.{⊤};
+    ghost use Rattle.chumsky_parser.specs.IgnoringLaws.{ignoring_first-ends, ignoring_second-ends};
+    ghost use Rattle.chumsky_parser.specs.Laws.{sequence-ends};
+    ghost use Rattle.chumsky_parser.specs.SequenceLanguage.{then-accepts, ignore_then-accepts, then_ignore-accepts};
+    ghost use Rattle.exact.specs.JsonLawful.{blanks-lawful, mark-lawful};
+
+    ghost ready = { λ p. S.ready p.name × P.ready p.value };
+
+    ghost meaning = { λ p. ⟦<MemberParser<'src, S, P> as Parser<'src, &'src str, (String, Json), EmptyText>>⟧.meaning (record {
+        first = record {
+            first = record { first = record { kind = record {}; of = record {} }; second = p.name; of = record {} };
+            second = record { first = record { kind = record {}; of = record {} }; second = record { seq = 58; of = record {} }; of = record {} };
+            of = record {};
+        };
+        second = p.value;
+        of = record {};
+    }) };
+
+    ghost steady = { λ _. ⊥ };
+
+    ghost same = { λ _ _ _. ⊤ };
+
+    ghost language = { λ p. ⟦<MemberParser<'src, S, P> as Parser<'src, &'src str, (String, Json), EmptyText>>⟧.language (record {
+        first = record {
+            first = record { first = record { kind = record {}; of = record {} }; second = p.name; of = record {} };
+            second = record { first = record { kind = record {}; of = record {} }; second = record { seq = 58; of = record {} }; of = record {} };
+            of = record {};
+        };
+        second = p.value;
+        of = record {};
+    }) };
+
+    ghost ends_after_start = { λ p. sequence-ends _ _
+        (ignoring_second-ends _ _ (ignoring_first-ends _ _ blanks-lawful.ends (S.ends_after_start p.name)) (mark-lawful 58).ends)
+        (P.ends_after_start p.value) };
+
+    ghost agrees = { λ _ never. absurd never };
+
+    ghost accepts = { λ p. then-accepts _ _
+        (ignoring_second-ends _ _ (ignoring_first-ends _ _ blanks-lawful.ends (S.ends_after_start p.name)) (mark-lawful 58).ends)
+        (P.ends_after_start p.value)
+        (then_ignore-accepts _ _
+        (ignoring_first-ends _ _ blanks-lawful.ends (S.ends_after_start p.name)) (mark-lawful 58).ends
+        (ignore_then-accepts _ _ blanks-lawful.ends (S.ends_after_start p.name) blanks-lawful.accepts (S.accepts p.name)) (mark-lawful 58).accepts)
+        (P.accepts p.value) };
+
+    fn go_emit(&self, inp: &mut TextRef<'src, '_, EmptyText>) -> PResult<(String, Json)> {
+        member_of(&self.name, &self.value).go_emit(inp)
+    }
+
+    fn go_check(&self, inp: &mut TextRef<'src, '_, EmptyText>) -> PResult<()> {
+        member_of(&self.name, &self.value).go_check(inp)
+    }
+}
+
+/// The parser of a value after blanks, where `S` takes those that have no others in them, `A` arrays and `O` objects.
+pub type ValueParser<'src, S, A, O> = IgnoreThen<
+    Blanks<'src>,
+    Or<S, Or<Map<A, Vec<Json>, ToArray, Json>, Map<O, Vec<(String, Json)>, ToObject, Json>>>,
+    &'src str,
+>;
+
+/// A value after blanks.
+#[derive(Drop)]
+pub struct ValueOf<S, A, O> {
+    pub scalar: S,
+    pub array: A,
+    pub object: O,
+}
+
+impl<
+    'src,
+    S: Parser<'src, &'src str, Json, EmptyText>,
+    A: Parser<'src, &'src str, Vec<Json>, EmptyText>,
+    O: Parser<'src, &'src str, Vec<(String, Json)>, EmptyText>,
+> Parser<'src, &'src str, Json, EmptyText> for ValueOf<S, A, O> {
+    ghost use Rattle.std.specs.Prelude.{⊤};
+    ghost use Rattle.chumsky_parser.specs.ChoiceLaws.{or_else-ends};
+    ghost use Rattle.chumsky_parser.specs.ChoiceLanguage.{or-accepts};
+    ghost use Rattle.chumsky_parser.specs.IgnoringLaws.{ignoring_first-ends};
+    ghost use Rattle.chumsky_parser.specs.SequenceLanguage.{ignore_then-accepts};
+    ghost use Rattle.chumsky_combinator.specs.MappedLaws.{mapped-ends};
+    ghost use Rattle.chumsky_combinator.specs.MappedLanguage.{map-accepts};
+    ghost use Rattle.exact.specs.JsonLawful.{blanks-lawful};
+
+    ghost ready = { λ p. S.ready p.scalar × (A.ready p.array × O.ready p.object) };
+
+    ghost meaning = { λ p. ⟦<ValueParser<'src, S, A, O> as Parser<'src, &'src str, Json, EmptyText>>⟧.meaning (record {
+        first = record { kind = record {}; of = record {} };
+        second = record {
+            first = p.scalar;
+            second = record {
+                first = record { parser = p.array; mapper = record {}; of = record {} };
+                second = record { parser = p.object; mapper = record {}; of = record {} };
+            };
+        };
+        of = record {};
+    }) };
+
+    ghost steady = { λ _. ⊥ };
+
+    ghost same = { λ _ _ _. ⊤ };
+
+    ghost language = { λ p. ⟦<ValueParser<'src, S, A, O> as Parser<'src, &'src str, Json, EmptyText>>⟧.language (record {
+        first = record { kind = record {}; of = record {} };
+        second = record {
+            first = p.scalar;
+            second = record {
+                first = record { parser = p.array; mapper = record {}; of = record {} };
+                second = record { parser = p.object; mapper = record {}; of = record {} };
+            };
+        };
+        of = record {};
+    }) };
+
+    ghost ends_after_start = { λ p. ignoring_first-ends _ _ blanks-lawful.ends
+        (or_else-ends _ _ _ _ _ (S.ends_after_start p.scalar) (or_else-ends _ _ _ _ _ (mapped-ends _ _ (A.ends_after_start p.array)) (mapped-ends _ _ (O.ends_after_start p.object)))) };
+
+    ghost agrees = { λ _ never. absurd never };
+
+    ghost accepts = { λ p. ignore_then-accepts _ _ blanks-lawful.ends
+        (or_else-ends _ _ _ _ _ (S.ends_after_start p.scalar) (or_else-ends _ _ _ _ _ (mapped-ends _ _ (A.ends_after_start p.array)) (mapped-ends _ _ (O.ends_after_start p.object))))
+        blanks-lawful.accepts
+        (or-accepts _ _ (λ q. q.1) _ _ (S.accepts p.scalar) (or-accepts _ _ (λ q. q.1) _ _ (map-accepts _ _ (A.accepts p.array)) (map-accepts _ _ (O.accepts p.object)))) };
+
+    fn go_emit(&self, inp: &mut TextRef<'src, '_, EmptyText>) -> PResult<Json> {
+        value_of(&self.scalar, &self.array, &self.object).go_emit(inp)
+    }
+
+    fn go_check(&self, inp: &mut TextRef<'src, '_, EmptyText>) -> PResult<()> {
+        value_of(&self.scalar, &self.array, &self.object).go_check(inp)
+    }
+}
+
+/// The parser of any value, where `P` takes the values in it.
+pub type AnyValue<P> = ValueOf<
+    ScalarOf<Number, StringOf<Piece>>,
+    ArrayOf<P>,
+    ObjectOf<MemberOf<StringOf<Piece>, P>>,
+>;
 
 /// The parser of what may stand after a value.
 pub type Rest<'src> = Then<Blanks<'src>, End<&'src str, EmptyText>, &'src str, ()>;
@@ -326,22 +581,33 @@ impl<'src, P: Parser<'src, &'src str, Json, EmptyText>> Body<'src, &'src str, Js
     for OfValue {
     ghost use Rattle.chumsky_descent.specs.Body.{told};
 
-    ghost body = { λ call. told ⟦<ValueOf<P> as Parser<'src, &'src str, Json, EmptyText>>⟧ (record { inner = call }) };
+    ghost body = { λ call. told ⟦<AnyValue<P> as Parser<'src, &'src str, Json, EmptyText>>⟧ (record {
+        scalar = record { number = record {}; string = record { piece = record {} } };
+        array = record { value = call };
+        object = record { member = record { name = record { piece = record {} }; value = call } };
+    }) };
 }
 
 impl<'src> Recursion<'src, &'src str, Json, EmptyText> for OfValue {
-    ghost use Rattle.std.specs.Prelude.{codes};
     ghost use Rattle.chumsky_descent.specs.Exactly.{exactly};
-    ghost use Rattle.chumsky_descent.specs.Lawful.{just-lawful, run-lawful, decimal-lawful, map-lawful, separated-lawful, ignore_then-lawful, between-lawful, or-lawful};
+    ghost use Rattle.chumsky_descent.specs.Lawful.{then-lawful, ignore_then-lawful, then_ignore-lawful, between-lawful, or-lawful, map-lawful, repeated-lawful, separated-lawful};
     ghost use Rattle.exact.specs.contracts.json.OfValueBodyRefStrJsonEmptyText.TheImpl.{ghosts, no_dict};
     ghost use denote.Builtin.{unit};
-    ghost use Rattle.exact.specs.Json.{values};
+    ghost use Rattle.exact.specs.JsonGrammar.{values};
+    ghost use Rattle.exact.specs.JsonLawful.{blanks-lawful, letter-lawful, mark-lawful, words-lawful, piece-lawful};
+    ghost use Rattle.exact.specs.Lawfully.{number-lawful};
 
     ghost says = { λ errors states. exactly (λ call. (ghosts unit call no_dict).body tt) errors states values
-        (λ call l h. ignore_then-lawful run-lawful
+        (λ call l h. ignore_then-lawful blanks-lawful
         (or-lawful
-        (or-lawful (map-lawful (decimal-lawful 32)) (or-lawful (map-lawful (just-lawful (codes "null") _ _ _ _ _ _)) (or-lawful (map-lawful (just-lawful (codes "true") _ _ _ _ _ _)) (map-lawful (just-lawful (codes "false") _ _ _ _ _ _)))))
-        (map-lawful (between-lawful (just-lawful (codes "[") _ _ _ _ _ _) (separated-lawful h (ignore_then-lawful run-lawful (just-lawful (codes ",") _ _ _ _ _ _))) (ignore_then-lawful run-lawful (just-lawful (codes "]") _ _ _ _ _ _)))))) };
+        (or-lawful (map-lawful (number-lawful ⟦<&'src str as Input<'src>>⟧ errors states)) (or-lawful (map-lawful (between-lawful (letter-lawful 34) (repeated-lawful piece-lawful) (letter-lawful 34))) words-lawful))
+        (or-lawful
+        (map-lawful (between-lawful (letter-lawful 91) (separated-lawful h (mark-lawful 44)) (mark-lawful 93)))
+        (map-lawful (between-lawful (letter-lawful 123)
+        (separated-lawful
+        (then-lawful (then_ignore-lawful (ignore_then-lawful blanks-lawful (between-lawful (letter-lawful 34) (repeated-lawful piece-lawful) (letter-lawful 34))) (mark-lawful 58)) h)
+        (mark-lawful 44))
+        (mark-lawful 125)))))) };
 }
 
 /// The parser of spaces, tabs and ends of lines, be it none.
@@ -354,15 +620,6 @@ pub fn mark<'src>(character: char) -> Mark<'src>
     ensures { result.second.seq ≡ character }
 {
     blanks().ignore_then(just(character))
-}
-
-/// The parser of a number that a `u32` holds.
-pub fn number<'src>() -> NumberParser<'src>
-    ensures { result.parser.picked.parser.kind.radix ≡ 10 }
-{
-    text::int(10)
-        .pick_by(text::decimal::<u32>())
-        .map_by(ToNumber)
 }
 
 /// The parser of the word `null`.
@@ -389,32 +646,46 @@ pub fn false_word<'src>() -> WordParser<'src, ToBool, 5>
 }
 
 /// The parser of a value that has no others in it.
-pub fn scalar_parser<'src>() -> ScalarParser<'src>
-    ensures radix { result.first.parser.picked.parser.kind.radix ≡ 10 }
-    ensures null { result.second.first.parser.seq ≡ 110 ∷ 117 ∷ 108 ∷ 108 ∷ [] }
-    ensures yes { result.second.second.first.parser.seq ≡ 116 ∷ 114 ∷ 117 ∷ 101 ∷ [] }
-    ensures is_yes { result.second.second.first.mapper.value ≡ true }
-    ensures no { result.second.second.second.parser.seq ≡ 102 ∷ 97 ∷ 108 ∷ 115 ∷ 101 ∷ [] }
-    ensures is_no { result.second.second.second.mapper.value ≡ false }
+fn scalar_of<'src, N, S>(number: N, string: S) -> ScalarParser<'src, N, S>
+    ensures number { result.first.parser ≡ number }
+    ensures string { result.second.first.parser ≡ string }
+    ensures null { result.second.second.first.parser.seq ≡ 110 ∷ 117 ∷ 108 ∷ 108 ∷ [] }
+    ensures yes { result.second.second.second.first.parser.seq ≡ 116 ∷ 114 ∷ 117 ∷ 101 ∷ [] }
+    ensures is_yes { result.second.second.second.first.mapper.value ≡ true }
+    ensures no { result.second.second.second.second.parser.seq ≡ 102 ∷ 97 ∷ 108 ∷ 115 ∷ 101 ∷ [] }
+    ensures is_no { result.second.second.second.second.mapper.value ≡ false }
 {
     let truth = true_word().or(false_word());
-    let word = null_word().or(truth);
-    number().or(word)
+    Or {
+        first: Map {
+            parser: number,
+            mapper: ToNumber,
+            of: PhantomData,
+        },
+        second: Or {
+            first: Map {
+                parser: string,
+                mapper: ToString,
+                of: PhantomData,
+            },
+            second: null_word().or(truth),
+        },
+    }
 }
 
-/// The parser of values in brackets, with a comma between each two.
-pub fn array_of<'src, P>(value: P) -> ArrayParser<'src, P>
-    ensures value { result.parser.parser.parser.parser ≡ value }
-    ensures comma { result.parser.parser.parser.separator.second.seq ≡ 44 }
-    ensures at_least { result.parser.parser.parser.at_least ≡ 0 }
-    ensures at_most { result.parser.parser.parser.at_most ≡ None }
-    ensures leading { result.parser.parser.parser.allow_leading ≡ false }
-    ensures trailing { result.parser.parser.parser.allow_trailing ≡ false }
-    ensures opening { result.parser.opening.seq ≡ 91 }
-    ensures closing { result.parser.closing.second.seq ≡ 93 }
+/// The parser of what a parser takes, in brackets, with a comma between each two.
+fn list_of<'src, P, V>(item: P, opening: char, closing: char) -> ListParser<'src, P, V>
+    ensures item { result.parser.parser.parser ≡ item }
+    ensures comma { result.parser.parser.separator.second.seq ≡ 44 }
+    ensures at_least { result.parser.parser.at_least ≡ 0 }
+    ensures at_most { result.parser.parser.at_most ≡ None }
+    ensures leading { result.parser.parser.allow_leading ≡ false }
+    ensures trailing { result.parser.parser.allow_trailing ≡ false }
+    ensures opening { result.opening.seq ≡ opening }
+    ensures closing { result.closing.second.seq ≡ closing }
 {
-    let values = SeparatedBy {
-        parser: value,
+    let items = SeparatedBy {
+        parser: item,
         separator: mark(','),
         at_least: 0,
         at_most: None,
@@ -422,8 +693,88 @@ pub fn array_of<'src, P>(value: P) -> ArrayParser<'src, P>
         allow_trailing: false,
         of: PhantomData,
     };
-    let values = values.collect::<Vec<Json>>();
-    values.delimited_by(just('['), mark(']')).map_by(ToArray)
+    let items = items.collect::<Vec<V>>();
+    items.delimited_by(just(opening), mark(closing))
+}
+
+/// The parser of a member: a name and a value, with a colon between them.
+fn member_of<'src, S, P>(name: S, value: P) -> MemberParser<'src, S, P>
+    ensures name { result.first.first.second ≡ name }
+    ensures colon { result.first.second.second.seq ≡ 58 }
+    ensures value { result.second ≡ value }
+{
+    let name = IgnoreThen {
+        first: blanks(),
+        second: name,
+        of: PhantomData,
+    };
+    Then {
+        first: ThenIgnore {
+            first: name,
+            second: mark(':'),
+            of: PhantomData,
+        },
+        second: value,
+        of: PhantomData,
+    }
+}
+
+/// The parser of a value after blanks.
+fn value_of<'src, S, A, O>(scalar: S, array: A, object: O) -> ValueParser<'src, S, A, O>
+    ensures scalar { result.second.first ≡ scalar }
+    ensures array { result.second.second.first.parser ≡ array }
+    ensures object { result.second.second.second.parser ≡ object }
+{
+    IgnoreThen {
+        first: blanks(),
+        second: Or {
+            first: scalar,
+            second: Or {
+                first: Map {
+                    parser: array,
+                    mapper: ToArray,
+                    of: PhantomData,
+                },
+                second: Map {
+                    parser: object,
+                    mapper: ToObject,
+                    of: PhantomData,
+                },
+            },
+        },
+        of: PhantomData,
+    }
+}
+
+/// Runs the parser of any value, where `call` takes the values in it.
+fn run_value<'src, P: Parser<'src, &'src str, Json, EmptyText> + Copy + Drop>(
+    call: P,
+    wanted: bool,
+    inp: &mut TextRef<'src, '_, EmptyText>,
+) -> PResult<Option<Json>>
+    requires { P.ready call }
+    ensures ran { Runs ⟦<&'src str as Input<'src>>⟧ ⟦<EmptyErr as Error<&'src str>>⟧ ⟦<() as Inspector<&'src str>>⟧ (Onward (⟦<AnyValue<P> as Parser<'src, &'src str, Json, EmptyText>>⟧.meaning (record {
+        scalar = record { number = record {}; string = record { piece = record {} } };
+        array = record { value = call };
+        object = record { member = record { name = record { piece = record {} }; value = call } };
+    }) ⟦<EmptyErr as Error<&'src str>>⟧ ⟦<() as Inspector<&'src str>>⟧)) wanted inp.old inp.new result }
+    ensures as_wanted { IfOk result (λ value. is_some value ≡ wanted) }
+    ensures lent { inp.new.state.ghost_name ≡ inp.old.state.ghost_name }
+{
+    let value = ValueOf {
+        scalar: ScalarOf {
+            number: Number,
+            string: StringOf { piece: Piece },
+        },
+        array: ArrayOf { value: call },
+        object: ObjectOf {
+            member: MemberOf {
+                name: StringOf { piece: Piece },
+                value: call,
+            },
+        },
+    };
+    run_part(&value, wanted, inp)
 }
 
 /// A value, after blanks.
@@ -434,22 +785,22 @@ fn any_value<'src>(
 ) -> PResult<Option<Json>>
     ensures { ⟦<OfValue as RunsUnder<'src, &'src str, Json, EmptyText>>⟧.runs depth wanted inp.old inp.new result }
 {
-    let inner: Called<_, OfValue, _, _, _> = Called {
+    let call: Called<_, OfValue, _, _, _> = Called {
         function: any_value,
         depth,
         of: PhantomData,
     };
-    run_part(&ValueOf { inner }, wanted, inp)
+    run_value(call, wanted, inp)
 }
 
-/// Reads a value of JSON whose numbers are below 2^32, as ` [1, [null], true]`; of any other text there is no output. A run is
-/// refused for memory, or of a text of `limit` characters or more.
+/// Reads JSON, as ` {"a": [1.5e3, "b", null]}`: a number as it is written, and members in their order, also two of one name. Of any
+/// other text there is no output. A run is refused for memory, or of a text of `limit` characters or more.
 pub fn parse_json(
     alloc: Global,
     text: &str,
     limit: usize,
 ) -> Result<ParseResult<Json, EmptyErr>, Stop>
-    ensures { ExactlyUnless IsJson (chars text.now) (limit ≤ length (chars text.now)) result }
+    ensures { ExactlyUnless HoldsJson (chars text.now) (limit ≤ length (chars text.now)) result }
 {
     let value = recursive_as::<OfValue, _, _, _, EmptyText>(any_value, limit);
     value.then_ignore(blanks().then(end())).parse(alloc, text)

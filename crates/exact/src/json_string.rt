@@ -1,21 +1,22 @@
 //! Strings of JSON: plain characters and escapes between quotes.
-ghost use Rattle.std.specs.Prelude.{◌≡◌, ◌<◌, ◌^◌, [], ◌∷◌, IfSome};
+ghost use Rattle.std.specs.Prelude.{◌≡◌, ◌<◌, ◌^◌, [], ◌∷◌, None, IfSome};
 ghost use Rattle.std.specs.Str.{chars};
 ghost use Rattle.chumsky.specs.Accepted.{Exactly};
 ghost use Rattle.exact.specs.JsonStrings.{unit_of, HoldsString};
 ghost use Rattle.exact.specs.JsonPicks.{digits_of};
 
-use chumsky::combinator::{IgnoreThen, Map, Mapper, Or, PickBy, Picker, Then, WordPicker};
-use chumsky::error::Error;
+use chumsky::combinator::{
+    Collect, DelimitedBy, IgnoreThen, Map, Mapper, Or, PickBy, Picker, Repeated, Then, WordPicker,
+};
 use chumsky::extra::EmptyText;
-use chumsky::input::{Input, TextRef};
-use chumsky::inspector::Inspector;
+use chumsky::input::TextRef;
 use chumsky::prelude::*;
 use chumsky::primitive::{Any, Just};
 use chumsky::{IsParser, PResult, Stop};
 use chumsky_parser::parser::Parser;
 use std::alloc::Global;
 use std::char;
+use std::marker::PhantomData;
 
 /// The parser of any character.
 pub type One<'src> = Any<&'src str, EmptyText>;
@@ -275,34 +276,53 @@ pub struct ByUnit;
 impl<'src> IsParser<&'src str, char, EmptyText> for ByUnit {}
 
 impl<'src> Parser<'src, &'src str, char, EmptyText> for ByUnit {
-    ghost use Rattle.std.specs.Prelude.{[], ◌∷◌, ⊤, nat_eq};
-    ghost use Rattle.chumsky_primitive.specs.Any.{CountsAs};
-    ghost use Rattle.chumsky_primitive.specs.AnyLaws.{any-ends};
-    ghost use Rattle.chumsky_primitive.specs.JustLaws.{just-ends};
-    ghost use Rattle.chumsky_primitive.specs.PrimitiveLanguageLaws.{any-accepts, just-accepts};
-    ghost use Rattle.chumsky_parser.specs.IgnoringLaws.{ignoring_first-ends};
-    ghost use Rattle.chumsky_parser.specs.Laws.{sequence-ends};
-    ghost use Rattle.chumsky_parser.specs.SequenceLanguage.{then-accepts, ignore_then-accepts};
-    ghost use Rattle.chumsky_shield.specs.VettedLaws.{vetted-ends};
-    ghost use Rattle.chumsky_shield.specs.PickedLaws.{picked-accepts};
+    ghost use Rattle.std.specs.Prelude.{[], ◌∷◌, ⊤};
     ghost use Rattle.exact.specs.JsonPicks.{lone_of};
-    ghost use Rattle.exact.specs.JsonPicksLaws.{four-by_word};
+    ghost use Rattle.exact.specs.JsonLawful.{unit-lawful};
 
     ghost ready = { λ _. ⊤ };
 
-    ghost meaning = { λ _. ⟦<UnitParser<'src, Lone, char> as Parser<'src, &'src str, char, EmptyText>>⟧.meaning (record { first = record { seq = 92 ∷ 117 ∷ []; of = record {} }; second = record { picked = record { parser = record { first = record { first = record { first = record { of = record {} }; second = record { of = record {} }; of = record {} }; second = record { of = record {} }; of = record {} }; second = record { of = record {} }; of = record {} }; picker = record {}; of = record {} } }; of = record {} }) };
+    ghost meaning = { λ _. ⟦<UnitParser<'src, Lone, char> as Parser<'src, &'src str, char, EmptyText>>⟧.meaning (record {
+        first = record { seq = 92 ∷ 117 ∷ []; of = record {} };
+        second = record {
+            picked = record {
+                parser = record {
+                    first = record { first = record { first = record { of = record {} }; second = record { of = record {} }; of = record {} }; second = record { of = record {} }; of = record {} };
+                    second = record { of = record {} };
+                    of = record {};
+                };
+                picker = record {};
+                of = record {};
+            };
+        };
+        of = record {};
+    }) };
 
     ghost steady = { λ _. ⊥ };
 
     ghost same = { λ _ _ _. ⊤ };
 
-    ghost language = { λ _. ⟦<UnitParser<'src, Lone, char> as Parser<'src, &'src str, char, EmptyText>>⟧.language (record { first = record { seq = 92 ∷ 117 ∷ []; of = record {} }; second = record { picked = record { parser = record { first = record { first = record { first = record { of = record {} }; second = record { of = record {} }; of = record {} }; second = record { of = record {} }; of = record {} }; second = record { of = record {} }; of = record {} }; picker = record {}; of = record {} } }; of = record {} }) };
+    ghost language = { λ _. ⟦<UnitParser<'src, Lone, char> as Parser<'src, &'src str, char, EmptyText>>⟧.language (record {
+        first = record { seq = 92 ∷ 117 ∷ []; of = record {} };
+        second = record {
+            picked = record {
+                parser = record {
+                    first = record { first = record { first = record { of = record {} }; second = record { of = record {} }; of = record {} }; second = record { of = record {} }; of = record {} };
+                    second = record { of = record {} };
+                    of = record {};
+                };
+                picker = record {};
+                of = record {};
+            };
+        };
+        of = record {};
+    }) };
 
-    ghost ends_after_start = { λ _. ignoring_first-ends _ _ (just-ends ⟦<&'src str as Input<'src>>⟧ nat_eq ⟦<EmptyErr as Error<&'src str>>⟧ ⟦<() as Inspector<&'src str>>⟧ _ _ (92 ∷ 117 ∷ [])) (vetted-ends _ _ _ _ (sequence-ends _ _ (sequence-ends _ _ (sequence-ends _ _ (any-ends ⟦<&'src str as Input<'src>>⟧ (CountsAs (λ c. c)) (λ _. ⊤) ⟦<EmptyErr as Error<&'src str>>⟧ ⟦<() as Inspector<&'src str>>⟧) (any-ends ⟦<&'src str as Input<'src>>⟧ (CountsAs (λ c. c)) (λ _. ⊤) ⟦<EmptyErr as Error<&'src str>>⟧ ⟦<() as Inspector<&'src str>>⟧)) (any-ends ⟦<&'src str as Input<'src>>⟧ (CountsAs (λ c. c)) (λ _. ⊤) ⟦<EmptyErr as Error<&'src str>>⟧ ⟦<() as Inspector<&'src str>>⟧)) (any-ends ⟦<&'src str as Input<'src>>⟧ (CountsAs (λ c. c)) (λ _. ⊤) ⟦<EmptyErr as Error<&'src str>>⟧ ⟦<() as Inspector<&'src str>>⟧))) };
+    ghost ends_after_start = { λ _. (unit-lawful lone_of).ends };
 
     ghost agrees = { λ _ never. absurd never };
 
-    ghost accepts = { λ _. ignore_then-accepts _ _ (just-ends ⟦<&'src str as Input<'src>>⟧ nat_eq ⟦<EmptyErr as Error<&'src str>>⟧ ⟦<() as Inspector<&'src str>>⟧ _ _ (92 ∷ 117 ∷ [])) (vetted-ends _ _ _ _ (sequence-ends _ _ (sequence-ends _ _ (sequence-ends _ _ (any-ends ⟦<&'src str as Input<'src>>⟧ (CountsAs (λ c. c)) (λ _. ⊤) ⟦<EmptyErr as Error<&'src str>>⟧ ⟦<() as Inspector<&'src str>>⟧) (any-ends ⟦<&'src str as Input<'src>>⟧ (CountsAs (λ c. c)) (λ _. ⊤) ⟦<EmptyErr as Error<&'src str>>⟧ ⟦<() as Inspector<&'src str>>⟧)) (any-ends ⟦<&'src str as Input<'src>>⟧ (CountsAs (λ c. c)) (λ _. ⊤) ⟦<EmptyErr as Error<&'src str>>⟧ ⟦<() as Inspector<&'src str>>⟧)) (any-ends ⟦<&'src str as Input<'src>>⟧ (CountsAs (λ c. c)) (λ _. ⊤) ⟦<EmptyErr as Error<&'src str>>⟧ ⟦<() as Inspector<&'src str>>⟧))) (just-accepts ⟦<&'src str as Input<'src>>⟧ nat_eq ⟦<EmptyErr as Error<&'src str>>⟧ ⟦<() as Inspector<&'src str>>⟧ _ _ (92 ∷ 117 ∷ [])) (picked-accepts ⟦<&'src str as Input<'src>>⟧ ⟦<EmptyErr as Error<&'src str>>⟧ _ _ _ (λ w v x s g. four-by_word lone_of w v x s g) (then-accepts _ _ (sequence-ends _ _ (sequence-ends _ _ (any-ends ⟦<&'src str as Input<'src>>⟧ (CountsAs (λ c. c)) (λ _. ⊤) ⟦<EmptyErr as Error<&'src str>>⟧ ⟦<() as Inspector<&'src str>>⟧) (any-ends ⟦<&'src str as Input<'src>>⟧ (CountsAs (λ c. c)) (λ _. ⊤) ⟦<EmptyErr as Error<&'src str>>⟧ ⟦<() as Inspector<&'src str>>⟧)) (any-ends ⟦<&'src str as Input<'src>>⟧ (CountsAs (λ c. c)) (λ _. ⊤) ⟦<EmptyErr as Error<&'src str>>⟧ ⟦<() as Inspector<&'src str>>⟧)) (any-ends ⟦<&'src str as Input<'src>>⟧ (CountsAs (λ c. c)) (λ _. ⊤) ⟦<EmptyErr as Error<&'src str>>⟧ ⟦<() as Inspector<&'src str>>⟧) (then-accepts _ _ (sequence-ends _ _ (any-ends ⟦<&'src str as Input<'src>>⟧ (CountsAs (λ c. c)) (λ _. ⊤) ⟦<EmptyErr as Error<&'src str>>⟧ ⟦<() as Inspector<&'src str>>⟧) (any-ends ⟦<&'src str as Input<'src>>⟧ (CountsAs (λ c. c)) (λ _. ⊤) ⟦<EmptyErr as Error<&'src str>>⟧ ⟦<() as Inspector<&'src str>>⟧)) (any-ends ⟦<&'src str as Input<'src>>⟧ (CountsAs (λ c. c)) (λ _. ⊤) ⟦<EmptyErr as Error<&'src str>>⟧ ⟦<() as Inspector<&'src str>>⟧) (then-accepts _ _ (any-ends ⟦<&'src str as Input<'src>>⟧ (CountsAs (λ c. c)) (λ _. ⊤) ⟦<EmptyErr as Error<&'src str>>⟧ ⟦<() as Inspector<&'src str>>⟧) (any-ends ⟦<&'src str as Input<'src>>⟧ (CountsAs (λ c. c)) (λ _. ⊤) ⟦<EmptyErr as Error<&'src str>>⟧ ⟦<() as Inspector<&'src str>>⟧) (any-accepts ⟦<&'src str as Input<'src>>⟧ (CountsAs (λ c. c)) (λ _. ⊤) ⟦<EmptyErr as Error<&'src str>>⟧ ⟦<() as Inspector<&'src str>>⟧) (any-accepts ⟦<&'src str as Input<'src>>⟧ (CountsAs (λ c. c)) (λ _. ⊤) ⟦<EmptyErr as Error<&'src str>>⟧ ⟦<() as Inspector<&'src str>>⟧)) (any-accepts ⟦<&'src str as Input<'src>>⟧ (CountsAs (λ c. c)) (λ _. ⊤) ⟦<EmptyErr as Error<&'src str>>⟧ ⟦<() as Inspector<&'src str>>⟧)) (any-accepts ⟦<&'src str as Input<'src>>⟧ (CountsAs (λ c. c)) (λ _. ⊤) ⟦<EmptyErr as Error<&'src str>>⟧ ⟦<() as Inspector<&'src str>>⟧))) };
+    ghost accepts = { λ _. (unit-lawful lone_of).accepts };
 
     fn go_emit(&self, inp: &mut TextRef<'src, '_, EmptyText>) -> PResult<char> {
         unit_by(Lone).go_emit(inp)
@@ -320,36 +340,96 @@ pub struct ByPair;
 impl<'src> IsParser<&'src str, char, EmptyText> for ByPair {}
 
 impl<'src> Parser<'src, &'src str, char, EmptyText> for ByPair {
-    ghost use Rattle.std.specs.Prelude.{[], ◌∷◌, ⊤, nat_eq};
-    ghost use Rattle.chumsky_primitive.specs.Any.{CountsAs};
-    ghost use Rattle.chumsky_primitive.specs.AnyLaws.{any-ends};
-    ghost use Rattle.chumsky_primitive.specs.JustLaws.{just-ends};
-    ghost use Rattle.chumsky_primitive.specs.PrimitiveLanguageLaws.{any-accepts, just-accepts};
-    ghost use Rattle.chumsky_combinator.specs.MappedLaws.{mapped-ends};
-    ghost use Rattle.chumsky_combinator.specs.MappedLanguage.{map-accepts};
-    ghost use Rattle.chumsky_parser.specs.IgnoringLaws.{ignoring_first-ends};
-    ghost use Rattle.chumsky_parser.specs.Laws.{sequence-ends};
-    ghost use Rattle.chumsky_parser.specs.SequenceLanguage.{then-accepts, ignore_then-accepts};
-    ghost use Rattle.chumsky_shield.specs.VettedLaws.{vetted-ends};
-    ghost use Rattle.chumsky_shield.specs.PickedLaws.{picked-accepts};
-    ghost use Rattle.exact.specs.JsonPicks.{high_of, low_of};
-    ghost use Rattle.exact.specs.JsonPicksLaws.{four-by_word};
+    ghost use Rattle.std.specs.Prelude.{[], ◌∷◌, ⊤};
+    ghost use Rattle.exact.specs.JsonLawful.{pair-lawful};
 
     ghost ready = { λ _. ⊤ };
 
-    ghost meaning = { λ _. ⟦<PairParser<'src> as Parser<'src, &'src str, char, EmptyText>>⟧.meaning (record { parser = record { first = record { first = record { seq = 92 ∷ 117 ∷ []; of = record {} }; second = record { picked = record { parser = record { first = record { first = record { first = record { of = record {} }; second = record { of = record {} }; of = record {} }; second = record { of = record {} }; of = record {} }; second = record { of = record {} }; of = record {} }; picker = record {}; of = record {} } }; of = record {} }; second = record { first = record { seq = 92 ∷ 117 ∷ []; of = record {} }; second = record { picked = record { parser = record { first = record { first = record { first = record { of = record {} }; second = record { of = record {} }; of = record {} }; second = record { of = record {} }; of = record {} }; second = record { of = record {} }; of = record {} }; picker = record {}; of = record {} } }; of = record {} }; of = record {} }; mapper = record {}; of = record {} }) };
+    ghost meaning = { λ _. ⟦<PairParser<'src> as Parser<'src, &'src str, char, EmptyText>>⟧.meaning (record {
+        parser = record {
+            first = record {
+                first = record { seq = 92 ∷ 117 ∷ []; of = record {} };
+                second = record {
+                    picked = record {
+                        parser = record {
+                            first = record { first = record { first = record { of = record {} }; second = record { of = record {} }; of = record {} }; second = record { of = record {} }; of = record {} };
+                            second = record { of = record {} };
+                            of = record {};
+                        };
+                        picker = record {};
+                        of = record {};
+                    };
+                };
+                of = record {};
+            };
+            second = record {
+                first = record { seq = 92 ∷ 117 ∷ []; of = record {} };
+                second = record {
+                    picked = record {
+                        parser = record {
+                            first = record { first = record { first = record { of = record {} }; second = record { of = record {} }; of = record {} }; second = record { of = record {} }; of = record {} };
+                            second = record { of = record {} };
+                            of = record {};
+                        };
+                        picker = record {};
+                        of = record {};
+                    };
+                };
+                of = record {};
+            };
+            of = record {};
+        };
+        mapper = record {};
+        of = record {};
+    }) };
 
     ghost steady = { λ _. ⊥ };
 
     ghost same = { λ _ _ _. ⊤ };
 
-    ghost language = { λ _. ⟦<PairParser<'src> as Parser<'src, &'src str, char, EmptyText>>⟧.language (record { parser = record { first = record { first = record { seq = 92 ∷ 117 ∷ []; of = record {} }; second = record { picked = record { parser = record { first = record { first = record { first = record { of = record {} }; second = record { of = record {} }; of = record {} }; second = record { of = record {} }; of = record {} }; second = record { of = record {} }; of = record {} }; picker = record {}; of = record {} } }; of = record {} }; second = record { first = record { seq = 92 ∷ 117 ∷ []; of = record {} }; second = record { picked = record { parser = record { first = record { first = record { first = record { of = record {} }; second = record { of = record {} }; of = record {} }; second = record { of = record {} }; of = record {} }; second = record { of = record {} }; of = record {} }; picker = record {}; of = record {} } }; of = record {} }; of = record {} }; mapper = record {}; of = record {} }) };
+    ghost language = { λ _. ⟦<PairParser<'src> as Parser<'src, &'src str, char, EmptyText>>⟧.language (record {
+        parser = record {
+            first = record {
+                first = record { seq = 92 ∷ 117 ∷ []; of = record {} };
+                second = record {
+                    picked = record {
+                        parser = record {
+                            first = record { first = record { first = record { of = record {} }; second = record { of = record {} }; of = record {} }; second = record { of = record {} }; of = record {} };
+                            second = record { of = record {} };
+                            of = record {};
+                        };
+                        picker = record {};
+                        of = record {};
+                    };
+                };
+                of = record {};
+            };
+            second = record {
+                first = record { seq = 92 ∷ 117 ∷ []; of = record {} };
+                second = record {
+                    picked = record {
+                        parser = record {
+                            first = record { first = record { first = record { of = record {} }; second = record { of = record {} }; of = record {} }; second = record { of = record {} }; of = record {} };
+                            second = record { of = record {} };
+                            of = record {};
+                        };
+                        picker = record {};
+                        of = record {};
+                    };
+                };
+                of = record {};
+            };
+            of = record {};
+        };
+        mapper = record {};
+        of = record {};
+    }) };
 
-    ghost ends_after_start = { λ _. mapped-ends _ _ (sequence-ends _ _ (ignoring_first-ends _ _ (just-ends ⟦<&'src str as Input<'src>>⟧ nat_eq ⟦<EmptyErr as Error<&'src str>>⟧ ⟦<() as Inspector<&'src str>>⟧ _ _ (92 ∷ 117 ∷ [])) (vetted-ends _ _ _ _ (sequence-ends _ _ (sequence-ends _ _ (sequence-ends _ _ (any-ends ⟦<&'src str as Input<'src>>⟧ (CountsAs (λ c. c)) (λ _. ⊤) ⟦<EmptyErr as Error<&'src str>>⟧ ⟦<() as Inspector<&'src str>>⟧) (any-ends ⟦<&'src str as Input<'src>>⟧ (CountsAs (λ c. c)) (λ _. ⊤) ⟦<EmptyErr as Error<&'src str>>⟧ ⟦<() as Inspector<&'src str>>⟧)) (any-ends ⟦<&'src str as Input<'src>>⟧ (CountsAs (λ c. c)) (λ _. ⊤) ⟦<EmptyErr as Error<&'src str>>⟧ ⟦<() as Inspector<&'src str>>⟧)) (any-ends ⟦<&'src str as Input<'src>>⟧ (CountsAs (λ c. c)) (λ _. ⊤) ⟦<EmptyErr as Error<&'src str>>⟧ ⟦<() as Inspector<&'src str>>⟧)))) (ignoring_first-ends _ _ (just-ends ⟦<&'src str as Input<'src>>⟧ nat_eq ⟦<EmptyErr as Error<&'src str>>⟧ ⟦<() as Inspector<&'src str>>⟧ _ _ (92 ∷ 117 ∷ [])) (vetted-ends _ _ _ _ (sequence-ends _ _ (sequence-ends _ _ (sequence-ends _ _ (any-ends ⟦<&'src str as Input<'src>>⟧ (CountsAs (λ c. c)) (λ _. ⊤) ⟦<EmptyErr as Error<&'src str>>⟧ ⟦<() as Inspector<&'src str>>⟧) (any-ends ⟦<&'src str as Input<'src>>⟧ (CountsAs (λ c. c)) (λ _. ⊤) ⟦<EmptyErr as Error<&'src str>>⟧ ⟦<() as Inspector<&'src str>>⟧)) (any-ends ⟦<&'src str as Input<'src>>⟧ (CountsAs (λ c. c)) (λ _. ⊤) ⟦<EmptyErr as Error<&'src str>>⟧ ⟦<() as Inspector<&'src str>>⟧)) (any-ends ⟦<&'src str as Input<'src>>⟧ (CountsAs (λ c. c)) (λ _. ⊤) ⟦<EmptyErr as Error<&'src str>>⟧ ⟦<() as Inspector<&'src str>>⟧))))) };
+    ghost ends_after_start = { λ _. (pair-lawful).ends };
 
     ghost agrees = { λ _ never. absurd never };
 
-    ghost accepts = { λ _. map-accepts _ _ (then-accepts _ _ (ignoring_first-ends _ _ (just-ends ⟦<&'src str as Input<'src>>⟧ nat_eq ⟦<EmptyErr as Error<&'src str>>⟧ ⟦<() as Inspector<&'src str>>⟧ _ _ (92 ∷ 117 ∷ [])) (vetted-ends _ _ _ _ (sequence-ends _ _ (sequence-ends _ _ (sequence-ends _ _ (any-ends ⟦<&'src str as Input<'src>>⟧ (CountsAs (λ c. c)) (λ _. ⊤) ⟦<EmptyErr as Error<&'src str>>⟧ ⟦<() as Inspector<&'src str>>⟧) (any-ends ⟦<&'src str as Input<'src>>⟧ (CountsAs (λ c. c)) (λ _. ⊤) ⟦<EmptyErr as Error<&'src str>>⟧ ⟦<() as Inspector<&'src str>>⟧)) (any-ends ⟦<&'src str as Input<'src>>⟧ (CountsAs (λ c. c)) (λ _. ⊤) ⟦<EmptyErr as Error<&'src str>>⟧ ⟦<() as Inspector<&'src str>>⟧)) (any-ends ⟦<&'src str as Input<'src>>⟧ (CountsAs (λ c. c)) (λ _. ⊤) ⟦<EmptyErr as Error<&'src str>>⟧ ⟦<() as Inspector<&'src str>>⟧)))) (ignoring_first-ends _ _ (just-ends ⟦<&'src str as Input<'src>>⟧ nat_eq ⟦<EmptyErr as Error<&'src str>>⟧ ⟦<() as Inspector<&'src str>>⟧ _ _ (92 ∷ 117 ∷ [])) (vetted-ends _ _ _ _ (sequence-ends _ _ (sequence-ends _ _ (sequence-ends _ _ (any-ends ⟦<&'src str as Input<'src>>⟧ (CountsAs (λ c. c)) (λ _. ⊤) ⟦<EmptyErr as Error<&'src str>>⟧ ⟦<() as Inspector<&'src str>>⟧) (any-ends ⟦<&'src str as Input<'src>>⟧ (CountsAs (λ c. c)) (λ _. ⊤) ⟦<EmptyErr as Error<&'src str>>⟧ ⟦<() as Inspector<&'src str>>⟧)) (any-ends ⟦<&'src str as Input<'src>>⟧ (CountsAs (λ c. c)) (λ _. ⊤) ⟦<EmptyErr as Error<&'src str>>⟧ ⟦<() as Inspector<&'src str>>⟧)) (any-ends ⟦<&'src str as Input<'src>>⟧ (CountsAs (λ c. c)) (λ _. ⊤) ⟦<EmptyErr as Error<&'src str>>⟧ ⟦<() as Inspector<&'src str>>⟧)))) (ignore_then-accepts _ _ (just-ends ⟦<&'src str as Input<'src>>⟧ nat_eq ⟦<EmptyErr as Error<&'src str>>⟧ ⟦<() as Inspector<&'src str>>⟧ _ _ (92 ∷ 117 ∷ [])) (vetted-ends _ _ _ _ (sequence-ends _ _ (sequence-ends _ _ (sequence-ends _ _ (any-ends ⟦<&'src str as Input<'src>>⟧ (CountsAs (λ c. c)) (λ _. ⊤) ⟦<EmptyErr as Error<&'src str>>⟧ ⟦<() as Inspector<&'src str>>⟧) (any-ends ⟦<&'src str as Input<'src>>⟧ (CountsAs (λ c. c)) (λ _. ⊤) ⟦<EmptyErr as Error<&'src str>>⟧ ⟦<() as Inspector<&'src str>>⟧)) (any-ends ⟦<&'src str as Input<'src>>⟧ (CountsAs (λ c. c)) (λ _. ⊤) ⟦<EmptyErr as Error<&'src str>>⟧ ⟦<() as Inspector<&'src str>>⟧)) (any-ends ⟦<&'src str as Input<'src>>⟧ (CountsAs (λ c. c)) (λ _. ⊤) ⟦<EmptyErr as Error<&'src str>>⟧ ⟦<() as Inspector<&'src str>>⟧))) (just-accepts ⟦<&'src str as Input<'src>>⟧ nat_eq ⟦<EmptyErr as Error<&'src str>>⟧ ⟦<() as Inspector<&'src str>>⟧ _ _ (92 ∷ 117 ∷ [])) (picked-accepts ⟦<&'src str as Input<'src>>⟧ ⟦<EmptyErr as Error<&'src str>>⟧ _ _ _ (λ w v x s g. four-by_word high_of w v x s g) (then-accepts _ _ (sequence-ends _ _ (sequence-ends _ _ (any-ends ⟦<&'src str as Input<'src>>⟧ (CountsAs (λ c. c)) (λ _. ⊤) ⟦<EmptyErr as Error<&'src str>>⟧ ⟦<() as Inspector<&'src str>>⟧) (any-ends ⟦<&'src str as Input<'src>>⟧ (CountsAs (λ c. c)) (λ _. ⊤) ⟦<EmptyErr as Error<&'src str>>⟧ ⟦<() as Inspector<&'src str>>⟧)) (any-ends ⟦<&'src str as Input<'src>>⟧ (CountsAs (λ c. c)) (λ _. ⊤) ⟦<EmptyErr as Error<&'src str>>⟧ ⟦<() as Inspector<&'src str>>⟧)) (any-ends ⟦<&'src str as Input<'src>>⟧ (CountsAs (λ c. c)) (λ _. ⊤) ⟦<EmptyErr as Error<&'src str>>⟧ ⟦<() as Inspector<&'src str>>⟧) (then-accepts _ _ (sequence-ends _ _ (any-ends ⟦<&'src str as Input<'src>>⟧ (CountsAs (λ c. c)) (λ _. ⊤) ⟦<EmptyErr as Error<&'src str>>⟧ ⟦<() as Inspector<&'src str>>⟧) (any-ends ⟦<&'src str as Input<'src>>⟧ (CountsAs (λ c. c)) (λ _. ⊤) ⟦<EmptyErr as Error<&'src str>>⟧ ⟦<() as Inspector<&'src str>>⟧)) (any-ends ⟦<&'src str as Input<'src>>⟧ (CountsAs (λ c. c)) (λ _. ⊤) ⟦<EmptyErr as Error<&'src str>>⟧ ⟦<() as Inspector<&'src str>>⟧) (then-accepts _ _ (any-ends ⟦<&'src str as Input<'src>>⟧ (CountsAs (λ c. c)) (λ _. ⊤) ⟦<EmptyErr as Error<&'src str>>⟧ ⟦<() as Inspector<&'src str>>⟧) (any-ends ⟦<&'src str as Input<'src>>⟧ (CountsAs (λ c. c)) (λ _. ⊤) ⟦<EmptyErr as Error<&'src str>>⟧ ⟦<() as Inspector<&'src str>>⟧) (any-accepts ⟦<&'src str as Input<'src>>⟧ (CountsAs (λ c. c)) (λ _. ⊤) ⟦<EmptyErr as Error<&'src str>>⟧ ⟦<() as Inspector<&'src str>>⟧) (any-accepts ⟦<&'src str as Input<'src>>⟧ (CountsAs (λ c. c)) (λ _. ⊤) ⟦<EmptyErr as Error<&'src str>>⟧ ⟦<() as Inspector<&'src str>>⟧)) (any-accepts ⟦<&'src str as Input<'src>>⟧ (CountsAs (λ c. c)) (λ _. ⊤) ⟦<EmptyErr as Error<&'src str>>⟧ ⟦<() as Inspector<&'src str>>⟧)) (any-accepts ⟦<&'src str as Input<'src>>⟧ (CountsAs (λ c. c)) (λ _. ⊤) ⟦<EmptyErr as Error<&'src str>>⟧ ⟦<() as Inspector<&'src str>>⟧)))) (ignore_then-accepts _ _ (just-ends ⟦<&'src str as Input<'src>>⟧ nat_eq ⟦<EmptyErr as Error<&'src str>>⟧ ⟦<() as Inspector<&'src str>>⟧ _ _ (92 ∷ 117 ∷ [])) (vetted-ends _ _ _ _ (sequence-ends _ _ (sequence-ends _ _ (sequence-ends _ _ (any-ends ⟦<&'src str as Input<'src>>⟧ (CountsAs (λ c. c)) (λ _. ⊤) ⟦<EmptyErr as Error<&'src str>>⟧ ⟦<() as Inspector<&'src str>>⟧) (any-ends ⟦<&'src str as Input<'src>>⟧ (CountsAs (λ c. c)) (λ _. ⊤) ⟦<EmptyErr as Error<&'src str>>⟧ ⟦<() as Inspector<&'src str>>⟧)) (any-ends ⟦<&'src str as Input<'src>>⟧ (CountsAs (λ c. c)) (λ _. ⊤) ⟦<EmptyErr as Error<&'src str>>⟧ ⟦<() as Inspector<&'src str>>⟧)) (any-ends ⟦<&'src str as Input<'src>>⟧ (CountsAs (λ c. c)) (λ _. ⊤) ⟦<EmptyErr as Error<&'src str>>⟧ ⟦<() as Inspector<&'src str>>⟧))) (just-accepts ⟦<&'src str as Input<'src>>⟧ nat_eq ⟦<EmptyErr as Error<&'src str>>⟧ ⟦<() as Inspector<&'src str>>⟧ _ _ (92 ∷ 117 ∷ [])) (picked-accepts ⟦<&'src str as Input<'src>>⟧ ⟦<EmptyErr as Error<&'src str>>⟧ _ _ _ (λ w v x s g. four-by_word low_of w v x s g) (then-accepts _ _ (sequence-ends _ _ (sequence-ends _ _ (any-ends ⟦<&'src str as Input<'src>>⟧ (CountsAs (λ c. c)) (λ _. ⊤) ⟦<EmptyErr as Error<&'src str>>⟧ ⟦<() as Inspector<&'src str>>⟧) (any-ends ⟦<&'src str as Input<'src>>⟧ (CountsAs (λ c. c)) (λ _. ⊤) ⟦<EmptyErr as Error<&'src str>>⟧ ⟦<() as Inspector<&'src str>>⟧)) (any-ends ⟦<&'src str as Input<'src>>⟧ (CountsAs (λ c. c)) (λ _. ⊤) ⟦<EmptyErr as Error<&'src str>>⟧ ⟦<() as Inspector<&'src str>>⟧)) (any-ends ⟦<&'src str as Input<'src>>⟧ (CountsAs (λ c. c)) (λ _. ⊤) ⟦<EmptyErr as Error<&'src str>>⟧ ⟦<() as Inspector<&'src str>>⟧) (then-accepts _ _ (sequence-ends _ _ (any-ends ⟦<&'src str as Input<'src>>⟧ (CountsAs (λ c. c)) (λ _. ⊤) ⟦<EmptyErr as Error<&'src str>>⟧ ⟦<() as Inspector<&'src str>>⟧) (any-ends ⟦<&'src str as Input<'src>>⟧ (CountsAs (λ c. c)) (λ _. ⊤) ⟦<EmptyErr as Error<&'src str>>⟧ ⟦<() as Inspector<&'src str>>⟧)) (any-ends ⟦<&'src str as Input<'src>>⟧ (CountsAs (λ c. c)) (λ _. ⊤) ⟦<EmptyErr as Error<&'src str>>⟧ ⟦<() as Inspector<&'src str>>⟧) (then-accepts _ _ (any-ends ⟦<&'src str as Input<'src>>⟧ (CountsAs (λ c. c)) (λ _. ⊤) ⟦<EmptyErr as Error<&'src str>>⟧ ⟦<() as Inspector<&'src str>>⟧) (any-ends ⟦<&'src str as Input<'src>>⟧ (CountsAs (λ c. c)) (λ _. ⊤) ⟦<EmptyErr as Error<&'src str>>⟧ ⟦<() as Inspector<&'src str>>⟧) (any-accepts ⟦<&'src str as Input<'src>>⟧ (CountsAs (λ c. c)) (λ _. ⊤) ⟦<EmptyErr as Error<&'src str>>⟧ ⟦<() as Inspector<&'src str>>⟧) (any-accepts ⟦<&'src str as Input<'src>>⟧ (CountsAs (λ c. c)) (λ _. ⊤) ⟦<EmptyErr as Error<&'src str>>⟧ ⟦<() as Inspector<&'src str>>⟧)) (any-accepts ⟦<&'src str as Input<'src>>⟧ (CountsAs (λ c. c)) (λ _. ⊤) ⟦<EmptyErr as Error<&'src str>>⟧ ⟦<() as Inspector<&'src str>>⟧)) (any-accepts ⟦<&'src str as Input<'src>>⟧ (CountsAs (λ c. c)) (λ _. ⊤) ⟦<EmptyErr as Error<&'src str>>⟧ ⟦<() as Inspector<&'src str>>⟧))))) };
+    ghost accepts = { λ _. (pair-lawful).accepts };
 
     fn go_emit(&self, inp: &mut TextRef<'src, '_, EmptyText>) -> PResult<char> {
         pair_parser().go_emit(inp)
@@ -375,39 +455,44 @@ pub struct Piece;
 impl<'src> IsParser<&'src str, char, EmptyText> for Piece {}
 
 impl<'src> Parser<'src, &'src str, char, EmptyText> for Piece {
-    ghost use Rattle.std.specs.Prelude.{[], ◌∷◌, ⊤, nat_eq};
-    ghost use Rattle.chumsky_primitive.specs.Any.{CountsAs};
-    ghost use Rattle.chumsky_primitive.specs.AnyLaws.{any-ends};
-    ghost use Rattle.chumsky_primitive.specs.JustLaws.{just-ends};
-    ghost use Rattle.chumsky_primitive.specs.PrimitiveLanguageLaws.{any-accepts, just-accepts};
-    ghost use Rattle.chumsky_combinator.specs.MappedLaws.{mapped-ends};
-    ghost use Rattle.chumsky_combinator.specs.MappedLanguage.{map-accepts};
-    ghost use Rattle.chumsky_parser.specs.ChoiceLaws.{or_else-ends};
-    ghost use Rattle.chumsky_parser.specs.ChoiceLanguage.{or-accepts};
-    ghost use Rattle.chumsky_parser.specs.IgnoringLaws.{ignoring_first-ends};
-    ghost use Rattle.chumsky_parser.specs.Laws.{sequence-ends};
-    ghost use Rattle.chumsky_parser.specs.SequenceLanguage.{then-accepts, ignore_then-accepts};
-    ghost use Rattle.chumsky_shield.specs.VettedLaws.{vetted-ends};
-    ghost use Rattle.chumsky_shield.specs.PickedLaws.{picked-accepts};
-    ghost use Rattle.exact.specs.JsonStrings.{escaped};
-    ghost use Rattle.exact.specs.JsonPicks.{plain_of, lone_of, high_of, low_of};
-    ghost use Rattle.exact.specs.JsonPicksLaws.{one-by_word, four-by_word};
+    ghost use Rattle.std.specs.Prelude.{[], ◌∷◌, ⊤};
+    ghost use Rattle.exact.specs.JsonLawful.{piece-lawful};
 
     ghost ready = { λ _. ⊤ };
 
-    ghost meaning = { λ _. ⟦<PieceParser<'src> as Parser<'src, &'src str, char, EmptyText>>⟧.meaning (record { first = record { picked = record { parser = record { of = record {} }; picker = record {}; of = record {} } }; second = record { first = record { first = record { seq = 92; of = record {} }; second = record { picked = record { parser = record { of = record {} }; picker = record {}; of = record {} } }; of = record {} }; second = record { first = record {}; second = record {} } } }) };
+    ghost meaning = { λ _. ⟦<PieceParser<'src> as Parser<'src, &'src str, char, EmptyText>>⟧.meaning (record {
+        first = record { picked = record { parser = record { of = record {} }; picker = record {}; of = record {} } };
+        second = record {
+            first = record {
+                first = record { seq = 92; of = record {} };
+                second = record { picked = record { parser = record { of = record {} }; picker = record {}; of = record {} } };
+                of = record {};
+            };
+            second = record { first = record {}; second = record {} };
+        };
+    }) };
 
     ghost steady = { λ _. ⊥ };
 
     ghost same = { λ _ _ _. ⊤ };
 
-    ghost language = { λ _. ⟦<PieceParser<'src> as Parser<'src, &'src str, char, EmptyText>>⟧.language (record { first = record { picked = record { parser = record { of = record {} }; picker = record {}; of = record {} } }; second = record { first = record { first = record { seq = 92; of = record {} }; second = record { picked = record { parser = record { of = record {} }; picker = record {}; of = record {} } }; of = record {} }; second = record { first = record {}; second = record {} } } }) };
+    ghost language = { λ _. ⟦<PieceParser<'src> as Parser<'src, &'src str, char, EmptyText>>⟧.language (record {
+        first = record { picked = record { parser = record { of = record {} }; picker = record {}; of = record {} } };
+        second = record {
+            first = record {
+                first = record { seq = 92; of = record {} };
+                second = record { picked = record { parser = record { of = record {} }; picker = record {}; of = record {} } };
+                of = record {};
+            };
+            second = record { first = record {}; second = record {} };
+        };
+    }) };
 
-    ghost ends_after_start = { λ _. or_else-ends _ _ _ _ _ (vetted-ends _ _ _ _ (any-ends ⟦<&'src str as Input<'src>>⟧ (CountsAs (λ c. c)) (λ _. ⊤) ⟦<EmptyErr as Error<&'src str>>⟧ ⟦<() as Inspector<&'src str>>⟧)) (or_else-ends _ _ _ _ _ (ignoring_first-ends _ _ (just-ends ⟦<&'src str as Input<'src>>⟧ nat_eq ⟦<EmptyErr as Error<&'src str>>⟧ ⟦<() as Inspector<&'src str>>⟧ _ _ (92 ∷ [])) (vetted-ends _ _ _ _ (any-ends ⟦<&'src str as Input<'src>>⟧ (CountsAs (λ c. c)) (λ _. ⊤) ⟦<EmptyErr as Error<&'src str>>⟧ ⟦<() as Inspector<&'src str>>⟧))) (or_else-ends _ _ _ _ _ (ignoring_first-ends _ _ (just-ends ⟦<&'src str as Input<'src>>⟧ nat_eq ⟦<EmptyErr as Error<&'src str>>⟧ ⟦<() as Inspector<&'src str>>⟧ _ _ (92 ∷ 117 ∷ [])) (vetted-ends _ _ _ _ (sequence-ends _ _ (sequence-ends _ _ (sequence-ends _ _ (any-ends ⟦<&'src str as Input<'src>>⟧ (CountsAs (λ c. c)) (λ _. ⊤) ⟦<EmptyErr as Error<&'src str>>⟧ ⟦<() as Inspector<&'src str>>⟧) (any-ends ⟦<&'src str as Input<'src>>⟧ (CountsAs (λ c. c)) (λ _. ⊤) ⟦<EmptyErr as Error<&'src str>>⟧ ⟦<() as Inspector<&'src str>>⟧)) (any-ends ⟦<&'src str as Input<'src>>⟧ (CountsAs (λ c. c)) (λ _. ⊤) ⟦<EmptyErr as Error<&'src str>>⟧ ⟦<() as Inspector<&'src str>>⟧)) (any-ends ⟦<&'src str as Input<'src>>⟧ (CountsAs (λ c. c)) (λ _. ⊤) ⟦<EmptyErr as Error<&'src str>>⟧ ⟦<() as Inspector<&'src str>>⟧)))) (mapped-ends _ _ (sequence-ends _ _ (ignoring_first-ends _ _ (just-ends ⟦<&'src str as Input<'src>>⟧ nat_eq ⟦<EmptyErr as Error<&'src str>>⟧ ⟦<() as Inspector<&'src str>>⟧ _ _ (92 ∷ 117 ∷ [])) (vetted-ends _ _ _ _ (sequence-ends _ _ (sequence-ends _ _ (sequence-ends _ _ (any-ends ⟦<&'src str as Input<'src>>⟧ (CountsAs (λ c. c)) (λ _. ⊤) ⟦<EmptyErr as Error<&'src str>>⟧ ⟦<() as Inspector<&'src str>>⟧) (any-ends ⟦<&'src str as Input<'src>>⟧ (CountsAs (λ c. c)) (λ _. ⊤) ⟦<EmptyErr as Error<&'src str>>⟧ ⟦<() as Inspector<&'src str>>⟧)) (any-ends ⟦<&'src str as Input<'src>>⟧ (CountsAs (λ c. c)) (λ _. ⊤) ⟦<EmptyErr as Error<&'src str>>⟧ ⟦<() as Inspector<&'src str>>⟧)) (any-ends ⟦<&'src str as Input<'src>>⟧ (CountsAs (λ c. c)) (λ _. ⊤) ⟦<EmptyErr as Error<&'src str>>⟧ ⟦<() as Inspector<&'src str>>⟧)))) (ignoring_first-ends _ _ (just-ends ⟦<&'src str as Input<'src>>⟧ nat_eq ⟦<EmptyErr as Error<&'src str>>⟧ ⟦<() as Inspector<&'src str>>⟧ _ _ (92 ∷ 117 ∷ [])) (vetted-ends _ _ _ _ (sequence-ends _ _ (sequence-ends _ _ (sequence-ends _ _ (any-ends ⟦<&'src str as Input<'src>>⟧ (CountsAs (λ c. c)) (λ _. ⊤) ⟦<EmptyErr as Error<&'src str>>⟧ ⟦<() as Inspector<&'src str>>⟧) (any-ends ⟦<&'src str as Input<'src>>⟧ (CountsAs (λ c. c)) (λ _. ⊤) ⟦<EmptyErr as Error<&'src str>>⟧ ⟦<() as Inspector<&'src str>>⟧)) (any-ends ⟦<&'src str as Input<'src>>⟧ (CountsAs (λ c. c)) (λ _. ⊤) ⟦<EmptyErr as Error<&'src str>>⟧ ⟦<() as Inspector<&'src str>>⟧)) (any-ends ⟦<&'src str as Input<'src>>⟧ (CountsAs (λ c. c)) (λ _. ⊤) ⟦<EmptyErr as Error<&'src str>>⟧ ⟦<() as Inspector<&'src str>>⟧)))))))) };
+    ghost ends_after_start = { λ _. (piece-lawful).ends };
 
     ghost agrees = { λ _ never. absurd never };
 
-    ghost accepts = { λ _. or-accepts _ _ (λ q. q.1) _ _ (picked-accepts ⟦<&'src str as Input<'src>>⟧ ⟦<EmptyErr as Error<&'src str>>⟧ _ _ _ (λ w v x s g. one-by_word plain_of w v x s g) (any-accepts ⟦<&'src str as Input<'src>>⟧ (CountsAs (λ c. c)) (λ _. ⊤) ⟦<EmptyErr as Error<&'src str>>⟧ ⟦<() as Inspector<&'src str>>⟧)) (or-accepts _ _ (λ q. q.1) _ _ (ignore_then-accepts _ _ (just-ends ⟦<&'src str as Input<'src>>⟧ nat_eq ⟦<EmptyErr as Error<&'src str>>⟧ ⟦<() as Inspector<&'src str>>⟧ _ _ (92 ∷ [])) (vetted-ends _ _ _ _ (any-ends ⟦<&'src str as Input<'src>>⟧ (CountsAs (λ c. c)) (λ _. ⊤) ⟦<EmptyErr as Error<&'src str>>⟧ ⟦<() as Inspector<&'src str>>⟧)) (just-accepts ⟦<&'src str as Input<'src>>⟧ nat_eq ⟦<EmptyErr as Error<&'src str>>⟧ ⟦<() as Inspector<&'src str>>⟧ _ _ (92 ∷ [])) (picked-accepts ⟦<&'src str as Input<'src>>⟧ ⟦<EmptyErr as Error<&'src str>>⟧ _ _ _ (λ w v x s g. one-by_word escaped w v x s g) (any-accepts ⟦<&'src str as Input<'src>>⟧ (CountsAs (λ c. c)) (λ _. ⊤) ⟦<EmptyErr as Error<&'src str>>⟧ ⟦<() as Inspector<&'src str>>⟧))) (or-accepts _ _ (λ q. q.1) _ _ (ignore_then-accepts _ _ (just-ends ⟦<&'src str as Input<'src>>⟧ nat_eq ⟦<EmptyErr as Error<&'src str>>⟧ ⟦<() as Inspector<&'src str>>⟧ _ _ (92 ∷ 117 ∷ [])) (vetted-ends _ _ _ _ (sequence-ends _ _ (sequence-ends _ _ (sequence-ends _ _ (any-ends ⟦<&'src str as Input<'src>>⟧ (CountsAs (λ c. c)) (λ _. ⊤) ⟦<EmptyErr as Error<&'src str>>⟧ ⟦<() as Inspector<&'src str>>⟧) (any-ends ⟦<&'src str as Input<'src>>⟧ (CountsAs (λ c. c)) (λ _. ⊤) ⟦<EmptyErr as Error<&'src str>>⟧ ⟦<() as Inspector<&'src str>>⟧)) (any-ends ⟦<&'src str as Input<'src>>⟧ (CountsAs (λ c. c)) (λ _. ⊤) ⟦<EmptyErr as Error<&'src str>>⟧ ⟦<() as Inspector<&'src str>>⟧)) (any-ends ⟦<&'src str as Input<'src>>⟧ (CountsAs (λ c. c)) (λ _. ⊤) ⟦<EmptyErr as Error<&'src str>>⟧ ⟦<() as Inspector<&'src str>>⟧))) (just-accepts ⟦<&'src str as Input<'src>>⟧ nat_eq ⟦<EmptyErr as Error<&'src str>>⟧ ⟦<() as Inspector<&'src str>>⟧ _ _ (92 ∷ 117 ∷ [])) (picked-accepts ⟦<&'src str as Input<'src>>⟧ ⟦<EmptyErr as Error<&'src str>>⟧ _ _ _ (λ w v x s g. four-by_word lone_of w v x s g) (then-accepts _ _ (sequence-ends _ _ (sequence-ends _ _ (any-ends ⟦<&'src str as Input<'src>>⟧ (CountsAs (λ c. c)) (λ _. ⊤) ⟦<EmptyErr as Error<&'src str>>⟧ ⟦<() as Inspector<&'src str>>⟧) (any-ends ⟦<&'src str as Input<'src>>⟧ (CountsAs (λ c. c)) (λ _. ⊤) ⟦<EmptyErr as Error<&'src str>>⟧ ⟦<() as Inspector<&'src str>>⟧)) (any-ends ⟦<&'src str as Input<'src>>⟧ (CountsAs (λ c. c)) (λ _. ⊤) ⟦<EmptyErr as Error<&'src str>>⟧ ⟦<() as Inspector<&'src str>>⟧)) (any-ends ⟦<&'src str as Input<'src>>⟧ (CountsAs (λ c. c)) (λ _. ⊤) ⟦<EmptyErr as Error<&'src str>>⟧ ⟦<() as Inspector<&'src str>>⟧) (then-accepts _ _ (sequence-ends _ _ (any-ends ⟦<&'src str as Input<'src>>⟧ (CountsAs (λ c. c)) (λ _. ⊤) ⟦<EmptyErr as Error<&'src str>>⟧ ⟦<() as Inspector<&'src str>>⟧) (any-ends ⟦<&'src str as Input<'src>>⟧ (CountsAs (λ c. c)) (λ _. ⊤) ⟦<EmptyErr as Error<&'src str>>⟧ ⟦<() as Inspector<&'src str>>⟧)) (any-ends ⟦<&'src str as Input<'src>>⟧ (CountsAs (λ c. c)) (λ _. ⊤) ⟦<EmptyErr as Error<&'src str>>⟧ ⟦<() as Inspector<&'src str>>⟧) (then-accepts _ _ (any-ends ⟦<&'src str as Input<'src>>⟧ (CountsAs (λ c. c)) (λ _. ⊤) ⟦<EmptyErr as Error<&'src str>>⟧ ⟦<() as Inspector<&'src str>>⟧) (any-ends ⟦<&'src str as Input<'src>>⟧ (CountsAs (λ c. c)) (λ _. ⊤) ⟦<EmptyErr as Error<&'src str>>⟧ ⟦<() as Inspector<&'src str>>⟧) (any-accepts ⟦<&'src str as Input<'src>>⟧ (CountsAs (λ c. c)) (λ _. ⊤) ⟦<EmptyErr as Error<&'src str>>⟧ ⟦<() as Inspector<&'src str>>⟧) (any-accepts ⟦<&'src str as Input<'src>>⟧ (CountsAs (λ c. c)) (λ _. ⊤) ⟦<EmptyErr as Error<&'src str>>⟧ ⟦<() as Inspector<&'src str>>⟧)) (any-accepts ⟦<&'src str as Input<'src>>⟧ (CountsAs (λ c. c)) (λ _. ⊤) ⟦<EmptyErr as Error<&'src str>>⟧ ⟦<() as Inspector<&'src str>>⟧)) (any-accepts ⟦<&'src str as Input<'src>>⟧ (CountsAs (λ c. c)) (λ _. ⊤) ⟦<EmptyErr as Error<&'src str>>⟧ ⟦<() as Inspector<&'src str>>⟧)))) (map-accepts _ _ (then-accepts _ _ (ignoring_first-ends _ _ (just-ends ⟦<&'src str as Input<'src>>⟧ nat_eq ⟦<EmptyErr as Error<&'src str>>⟧ ⟦<() as Inspector<&'src str>>⟧ _ _ (92 ∷ 117 ∷ [])) (vetted-ends _ _ _ _ (sequence-ends _ _ (sequence-ends _ _ (sequence-ends _ _ (any-ends ⟦<&'src str as Input<'src>>⟧ (CountsAs (λ c. c)) (λ _. ⊤) ⟦<EmptyErr as Error<&'src str>>⟧ ⟦<() as Inspector<&'src str>>⟧) (any-ends ⟦<&'src str as Input<'src>>⟧ (CountsAs (λ c. c)) (λ _. ⊤) ⟦<EmptyErr as Error<&'src str>>⟧ ⟦<() as Inspector<&'src str>>⟧)) (any-ends ⟦<&'src str as Input<'src>>⟧ (CountsAs (λ c. c)) (λ _. ⊤) ⟦<EmptyErr as Error<&'src str>>⟧ ⟦<() as Inspector<&'src str>>⟧)) (any-ends ⟦<&'src str as Input<'src>>⟧ (CountsAs (λ c. c)) (λ _. ⊤) ⟦<EmptyErr as Error<&'src str>>⟧ ⟦<() as Inspector<&'src str>>⟧)))) (ignoring_first-ends _ _ (just-ends ⟦<&'src str as Input<'src>>⟧ nat_eq ⟦<EmptyErr as Error<&'src str>>⟧ ⟦<() as Inspector<&'src str>>⟧ _ _ (92 ∷ 117 ∷ [])) (vetted-ends _ _ _ _ (sequence-ends _ _ (sequence-ends _ _ (sequence-ends _ _ (any-ends ⟦<&'src str as Input<'src>>⟧ (CountsAs (λ c. c)) (λ _. ⊤) ⟦<EmptyErr as Error<&'src str>>⟧ ⟦<() as Inspector<&'src str>>⟧) (any-ends ⟦<&'src str as Input<'src>>⟧ (CountsAs (λ c. c)) (λ _. ⊤) ⟦<EmptyErr as Error<&'src str>>⟧ ⟦<() as Inspector<&'src str>>⟧)) (any-ends ⟦<&'src str as Input<'src>>⟧ (CountsAs (λ c. c)) (λ _. ⊤) ⟦<EmptyErr as Error<&'src str>>⟧ ⟦<() as Inspector<&'src str>>⟧)) (any-ends ⟦<&'src str as Input<'src>>⟧ (CountsAs (λ c. c)) (λ _. ⊤) ⟦<EmptyErr as Error<&'src str>>⟧ ⟦<() as Inspector<&'src str>>⟧)))) (ignore_then-accepts _ _ (just-ends ⟦<&'src str as Input<'src>>⟧ nat_eq ⟦<EmptyErr as Error<&'src str>>⟧ ⟦<() as Inspector<&'src str>>⟧ _ _ (92 ∷ 117 ∷ [])) (vetted-ends _ _ _ _ (sequence-ends _ _ (sequence-ends _ _ (sequence-ends _ _ (any-ends ⟦<&'src str as Input<'src>>⟧ (CountsAs (λ c. c)) (λ _. ⊤) ⟦<EmptyErr as Error<&'src str>>⟧ ⟦<() as Inspector<&'src str>>⟧) (any-ends ⟦<&'src str as Input<'src>>⟧ (CountsAs (λ c. c)) (λ _. ⊤) ⟦<EmptyErr as Error<&'src str>>⟧ ⟦<() as Inspector<&'src str>>⟧)) (any-ends ⟦<&'src str as Input<'src>>⟧ (CountsAs (λ c. c)) (λ _. ⊤) ⟦<EmptyErr as Error<&'src str>>⟧ ⟦<() as Inspector<&'src str>>⟧)) (any-ends ⟦<&'src str as Input<'src>>⟧ (CountsAs (λ c. c)) (λ _. ⊤) ⟦<EmptyErr as Error<&'src str>>⟧ ⟦<() as Inspector<&'src str>>⟧))) (just-accepts ⟦<&'src str as Input<'src>>⟧ nat_eq ⟦<EmptyErr as Error<&'src str>>⟧ ⟦<() as Inspector<&'src str>>⟧ _ _ (92 ∷ 117 ∷ [])) (picked-accepts ⟦<&'src str as Input<'src>>⟧ ⟦<EmptyErr as Error<&'src str>>⟧ _ _ _ (λ w v x s g. four-by_word high_of w v x s g) (then-accepts _ _ (sequence-ends _ _ (sequence-ends _ _ (any-ends ⟦<&'src str as Input<'src>>⟧ (CountsAs (λ c. c)) (λ _. ⊤) ⟦<EmptyErr as Error<&'src str>>⟧ ⟦<() as Inspector<&'src str>>⟧) (any-ends ⟦<&'src str as Input<'src>>⟧ (CountsAs (λ c. c)) (λ _. ⊤) ⟦<EmptyErr as Error<&'src str>>⟧ ⟦<() as Inspector<&'src str>>⟧)) (any-ends ⟦<&'src str as Input<'src>>⟧ (CountsAs (λ c. c)) (λ _. ⊤) ⟦<EmptyErr as Error<&'src str>>⟧ ⟦<() as Inspector<&'src str>>⟧)) (any-ends ⟦<&'src str as Input<'src>>⟧ (CountsAs (λ c. c)) (λ _. ⊤) ⟦<EmptyErr as Error<&'src str>>⟧ ⟦<() as Inspector<&'src str>>⟧) (then-accepts _ _ (sequence-ends _ _ (any-ends ⟦<&'src str as Input<'src>>⟧ (CountsAs (λ c. c)) (λ _. ⊤) ⟦<EmptyErr as Error<&'src str>>⟧ ⟦<() as Inspector<&'src str>>⟧) (any-ends ⟦<&'src str as Input<'src>>⟧ (CountsAs (λ c. c)) (λ _. ⊤) ⟦<EmptyErr as Error<&'src str>>⟧ ⟦<() as Inspector<&'src str>>⟧)) (any-ends ⟦<&'src str as Input<'src>>⟧ (CountsAs (λ c. c)) (λ _. ⊤) ⟦<EmptyErr as Error<&'src str>>⟧ ⟦<() as Inspector<&'src str>>⟧) (then-accepts _ _ (any-ends ⟦<&'src str as Input<'src>>⟧ (CountsAs (λ c. c)) (λ _. ⊤) ⟦<EmptyErr as Error<&'src str>>⟧ ⟦<() as Inspector<&'src str>>⟧) (any-ends ⟦<&'src str as Input<'src>>⟧ (CountsAs (λ c. c)) (λ _. ⊤) ⟦<EmptyErr as Error<&'src str>>⟧ ⟦<() as Inspector<&'src str>>⟧) (any-accepts ⟦<&'src str as Input<'src>>⟧ (CountsAs (λ c. c)) (λ _. ⊤) ⟦<EmptyErr as Error<&'src str>>⟧ ⟦<() as Inspector<&'src str>>⟧) (any-accepts ⟦<&'src str as Input<'src>>⟧ (CountsAs (λ c. c)) (λ _. ⊤) ⟦<EmptyErr as Error<&'src str>>⟧ ⟦<() as Inspector<&'src str>>⟧)) (any-accepts ⟦<&'src str as Input<'src>>⟧ (CountsAs (λ c. c)) (λ _. ⊤) ⟦<EmptyErr as Error<&'src str>>⟧ ⟦<() as Inspector<&'src str>>⟧)) (any-accepts ⟦<&'src str as Input<'src>>⟧ (CountsAs (λ c. c)) (λ _. ⊤) ⟦<EmptyErr as Error<&'src str>>⟧ ⟦<() as Inspector<&'src str>>⟧)))) (ignore_then-accepts _ _ (just-ends ⟦<&'src str as Input<'src>>⟧ nat_eq ⟦<EmptyErr as Error<&'src str>>⟧ ⟦<() as Inspector<&'src str>>⟧ _ _ (92 ∷ 117 ∷ [])) (vetted-ends _ _ _ _ (sequence-ends _ _ (sequence-ends _ _ (sequence-ends _ _ (any-ends ⟦<&'src str as Input<'src>>⟧ (CountsAs (λ c. c)) (λ _. ⊤) ⟦<EmptyErr as Error<&'src str>>⟧ ⟦<() as Inspector<&'src str>>⟧) (any-ends ⟦<&'src str as Input<'src>>⟧ (CountsAs (λ c. c)) (λ _. ⊤) ⟦<EmptyErr as Error<&'src str>>⟧ ⟦<() as Inspector<&'src str>>⟧)) (any-ends ⟦<&'src str as Input<'src>>⟧ (CountsAs (λ c. c)) (λ _. ⊤) ⟦<EmptyErr as Error<&'src str>>⟧ ⟦<() as Inspector<&'src str>>⟧)) (any-ends ⟦<&'src str as Input<'src>>⟧ (CountsAs (λ c. c)) (λ _. ⊤) ⟦<EmptyErr as Error<&'src str>>⟧ ⟦<() as Inspector<&'src str>>⟧))) (just-accepts ⟦<&'src str as Input<'src>>⟧ nat_eq ⟦<EmptyErr as Error<&'src str>>⟧ ⟦<() as Inspector<&'src str>>⟧ _ _ (92 ∷ 117 ∷ [])) (picked-accepts ⟦<&'src str as Input<'src>>⟧ ⟦<EmptyErr as Error<&'src str>>⟧ _ _ _ (λ w v x s g. four-by_word low_of w v x s g) (then-accepts _ _ (sequence-ends _ _ (sequence-ends _ _ (any-ends ⟦<&'src str as Input<'src>>⟧ (CountsAs (λ c. c)) (λ _. ⊤) ⟦<EmptyErr as Error<&'src str>>⟧ ⟦<() as Inspector<&'src str>>⟧) (any-ends ⟦<&'src str as Input<'src>>⟧ (CountsAs (λ c. c)) (λ _. ⊤) ⟦<EmptyErr as Error<&'src str>>⟧ ⟦<() as Inspector<&'src str>>⟧)) (any-ends ⟦<&'src str as Input<'src>>⟧ (CountsAs (λ c. c)) (λ _. ⊤) ⟦<EmptyErr as Error<&'src str>>⟧ ⟦<() as Inspector<&'src str>>⟧)) (any-ends ⟦<&'src str as Input<'src>>⟧ (CountsAs (λ c. c)) (λ _. ⊤) ⟦<EmptyErr as Error<&'src str>>⟧ ⟦<() as Inspector<&'src str>>⟧) (then-accepts _ _ (sequence-ends _ _ (any-ends ⟦<&'src str as Input<'src>>⟧ (CountsAs (λ c. c)) (λ _. ⊤) ⟦<EmptyErr as Error<&'src str>>⟧ ⟦<() as Inspector<&'src str>>⟧) (any-ends ⟦<&'src str as Input<'src>>⟧ (CountsAs (λ c. c)) (λ _. ⊤) ⟦<EmptyErr as Error<&'src str>>⟧ ⟦<() as Inspector<&'src str>>⟧)) (any-ends ⟦<&'src str as Input<'src>>⟧ (CountsAs (λ c. c)) (λ _. ⊤) ⟦<EmptyErr as Error<&'src str>>⟧ ⟦<() as Inspector<&'src str>>⟧) (then-accepts _ _ (any-ends ⟦<&'src str as Input<'src>>⟧ (CountsAs (λ c. c)) (λ _. ⊤) ⟦<EmptyErr as Error<&'src str>>⟧ ⟦<() as Inspector<&'src str>>⟧) (any-ends ⟦<&'src str as Input<'src>>⟧ (CountsAs (λ c. c)) (λ _. ⊤) ⟦<EmptyErr as Error<&'src str>>⟧ ⟦<() as Inspector<&'src str>>⟧) (any-accepts ⟦<&'src str as Input<'src>>⟧ (CountsAs (λ c. c)) (λ _. ⊤) ⟦<EmptyErr as Error<&'src str>>⟧ ⟦<() as Inspector<&'src str>>⟧) (any-accepts ⟦<&'src str as Input<'src>>⟧ (CountsAs (λ c. c)) (λ _. ⊤) ⟦<EmptyErr as Error<&'src str>>⟧ ⟦<() as Inspector<&'src str>>⟧)) (any-accepts ⟦<&'src str as Input<'src>>⟧ (CountsAs (λ c. c)) (λ _. ⊤) ⟦<EmptyErr as Error<&'src str>>⟧ ⟦<() as Inspector<&'src str>>⟧)) (any-accepts ⟦<&'src str as Input<'src>>⟧ (CountsAs (λ c. c)) (λ _. ⊤) ⟦<EmptyErr as Error<&'src str>>⟧ ⟦<() as Inspector<&'src str>>⟧)))))))) };
+    ghost accepts = { λ _. (piece-lawful).accepts };
 
     fn go_emit(&self, inp: &mut TextRef<'src, '_, EmptyText>) -> PResult<char> {
         piece_parser().go_emit(inp)
@@ -418,11 +503,92 @@ impl<'src> Parser<'src, &'src str, char, EmptyText> for Piece {
     }
 }
 
+/// The parser of what a parser of characters takes, again and again, between quotes.
+pub type QuotedParser<'src, C> = DelimitedBy<
+    Collect<Repeated<C, char, &'src str, EmptyText>, char, String>,
+    Text<'src, char>,
+    Text<'src, char>,
+    char,
+    char,
+>;
+
+/// A string, of what a parser of its characters takes.
+#[derive(Drop)]
+pub struct StringOf<C> {
+    pub piece: C,
+}
+
+impl<'src, C> IsParser<&'src str, String, EmptyText> for StringOf<C> {}
+
+impl<'src, C: Parser<'src, &'src str, char, EmptyText>> Parser<'src, &'src str, String, EmptyText>
+    for StringOf<C> {
+    ghost use Rattle.std.specs.Prelude.{None, ⊤};
+    ghost use Rattle.chumsky_parser.specs.IgnoringLaws.{between-ends};
+    ghost use Rattle.chumsky_parser.specs.SequenceLanguage.{between-accepts};
+    ghost use Rattle.chumsky_items.specs.ConsumersLaws.{collects-ends};
+    ghost use Rattle.chumsky_items.specs.ListLanguage.{collects-accepts};
+    ghost use Rattle.chumsky_items.specs.RepeatingLaws.{repeats-end};
+    ghost use Rattle.chumsky_items.specs.RepeatedLanguage.{repeated-accepts};
+    ghost use Rattle.exact.specs.JsonLawful.{letter-lawful};
+
+    ghost ready = { λ p. C.ready p.piece };
+
+    ghost meaning = { λ p. ⟦<QuotedParser<'src, C> as Parser<'src, &'src str, String, EmptyText>>⟧.meaning (record {
+        parser = record { parser = record { parser = p.piece; at_least = 0; at_most = None; of = record {} }; of = record {} };
+        opening = record { seq = 34; of = record {} };
+        closing = record { seq = 34; of = record {} };
+        of = record {};
+    }) };
+
+    ghost steady = { λ _. ⊥ };
+
+    ghost same = { λ _ _ _. ⊤ };
+
+    ghost language = { λ p. ⟦<QuotedParser<'src, C> as Parser<'src, &'src str, String, EmptyText>>⟧.language (record {
+        parser = record { parser = record { parser = p.piece; at_least = 0; at_most = None; of = record {} }; of = record {} };
+        opening = record { seq = 34; of = record {} };
+        closing = record { seq = 34; of = record {} };
+        of = record {};
+    }) };
+
+    ghost ends_after_start = { λ p. between-ends _ _ _ (letter-lawful 34).ends (collects-ends _ _ _ _ (repeats-end _ _ _ _ _ _ _ (C.ends_after_start p.piece))) (letter-lawful 34).ends };
+
+    ghost agrees = { λ _ never. absurd never };
+
+    ghost accepts = { λ p. between-accepts _ _ _ (letter-lawful 34).ends (collects-ends _ _ _ _ (repeats-end _ _ _ _ _ _ _ (C.ends_after_start p.piece))) (letter-lawful 34).ends
+        (letter-lawful 34).accepts (collects-accepts _ _ _ _ _ (repeated-accepts _ _ _ _ _ _ _ _ (C.accepts p.piece))) (letter-lawful 34).accepts };
+
+    fn go_emit(&self, inp: &mut TextRef<'src, '_, EmptyText>) -> PResult<String> {
+        quoted(&self.piece).go_emit(inp)
+    }
+
+    fn go_check(&self, inp: &mut TextRef<'src, '_, EmptyText>) -> PResult<()> {
+        quoted(&self.piece).go_check(inp)
+    }
+}
+
+/// The parser of what a parser of characters takes, again and again, between quotes.
+fn quoted<'src, C>(piece: C) -> QuotedParser<'src, C>
+    ensures piece { result.parser.parser.parser ≡ piece }
+    ensures at_least { result.parser.parser.at_least ≡ 0 }
+    ensures at_most { result.parser.parser.at_most ≡ None }
+    ensures opening { result.opening.seq ≡ 34 }
+    ensures closing { result.closing.seq ≡ 34 }
+{
+    let pieces = Repeated {
+        parser: piece,
+        at_least: 0,
+        at_most: None,
+        of: PhantomData,
+    };
+    let string = pieces.collect::<String>();
+    string.delimited_by(just('"'), just('"'))
+}
+
 /// Reads a string of JSON, as `"a\u0062\n"`, and gives its characters: plain ones, escapes by a letter and by a number, and pairs of
 /// surrogates, of which half is none. Of any other text there is no output.
 pub fn parse_string(alloc: Global, text: &str) -> Result<ParseResult<String, EmptyErr>, Stop>
     ensures { Exactly HoldsString (chars text.now) result }
 {
-    let pieces = Piece.repeated().collect::<String>();
-    pieces.delimited_by(just('"'), just('"')).parse(alloc, text)
+    StringOf { piece: Piece }.parse(alloc, text)
 }
