@@ -1,5 +1,5 @@
 -- What a copy of a part's value leaves.
-use Rattle.std.proofs.Common.{Some, None, Ok, Err, true, false}
+use Rattle.std.proofs.Common.{Some, Ok, Err, true}
 use Rattle.chumsky_input.specs.declared.stop.Fault.TheVariants as fault
 use Rattle.chumsky_input.specs.declared.stop.Stop.TheVariants.{Memory}
 use Rattle.chumsky_input.specs.Held.{Held}

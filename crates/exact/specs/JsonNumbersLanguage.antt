@@ -41,9 +41,11 @@ abbrev pub digit_after : ℕ → ℕ → Bool
 digit_after first c = cond (first == 48) false (is_digit c 10)
 
 module _ {I Sp Cu Er St Mk Cx : Type 0} (source : input_trait.Ghosts I Cu ℕ Sp) (errors : error_trait.Ghosts Er I ℕ Sp) (states : inspector_trait.Ghosts St I Mk ℕ Sp) where
+  -- the part, or nothing
   abbrev pub MaybeSo : {V : Type 0} → Meaning ℕ Cx states.Seen errors.Seen V → Meaning ℕ Cx states.Seen errors.Seen (Option V)
   MaybeSo = OrNone states.mark states.back states.takes_no_memory
 
+  -- one character, one of some, and digits; before a point there is no zero before another digit
   abbrev pub MeansFixed : ℕ → Meaning ℕ Cx states.Seen errors.Seen ℕ
   MeansFixed c = MeansJust source nat_eq errors states (λ d. d ≡ c) ⊤ (c ∷ [])
 
@@ -56,6 +58,7 @@ module _ {I Sp Cu Er St Mk Cx : Type 0} (source : input_trait.Ghosts I Cu ℕ Sp
   abbrev pub MeansInt : Meaning ℕ Cx states.Seen errors.Seen (Bor (List ℕ))
   MeansInt = MeansWord source IsSlice errors states (λ t. is_digit t 10) digit_after (Label (codes "int") ∷ []) (λ t. cond (t == 48) [] (Label (codes "digit") ∷ []))
 
+  -- a point and digits; a letter, a sign or none, and digits
   abbrev pub MeansFraction : Meaning ℕ Cx states.Seen errors.Seen (Bor (List ℕ))
   MeansFraction = IgnoringFirst (MeansFixed 46) MeansDigits
 
@@ -66,6 +69,7 @@ module _ {I Sp Cu Er St Mk Cx : Type 0} (source : input_trait.Ghosts I Cu ℕ Sp
   abbrev pub MeansMore : Meaning ℕ Cx states.Seen errors.Seen (Bor (List ℕ))
   MeansMore = OrElse states.mark states.back states.takes_no_memory (IgnoringSecond MeansFraction (MaybeSo MeansExponent)) MeansExponent
 
+  -- a minus or none, and digits
   abbrev pub MeansWhole : Meaning ℕ Cx states.Seen errors.Seen (Bor (List ℕ))
   MeansWhole = IgnoringFirst (MaybeSo (MeansFixed 45)) MeansInt
 
@@ -73,6 +77,7 @@ module _ {I Sp Cu Er St Mk Cx : Type 0} (source : input_trait.Ghosts I Cu ℕ Sp
   abbrev pub number_meaning : Meaning ℕ Cx states.Seen errors.Seen (String Global)
   number_meaning = Owns IsOwn (Covers IsSlice (IgnoringSecond MeansWhole (MaybeSo MeansMore)))
 
+-- the same of languages
 abbrev pub fixed : ℕ → Language ℕ ℕ
 fixed c = literal_language nat_eq (c ∷ []) (λ d. d ≡ c) ⊤
 

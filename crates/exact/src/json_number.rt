@@ -138,10 +138,7 @@ impl<'src> Parser<'src, &'src str, String, EmptyText> for Number {
 
 /// Reads a number of JSON, as `-12.50e+3`, and gives it as it is written; of any other text there is no output. No zero stands
 /// before another digit, and digits stand before a point, after it, and in an exponent.
-pub fn parse_number_text(
-    alloc: Global,
-    text: &str,
-) -> Result<ParseResult<String, EmptyErr>, Stop>
+pub fn parse_number_text(alloc: Global, text: &str) -> Result<ParseResult<String, EmptyErr>, Stop>
     ensures { Exactly HoldsNumber (chars text.now) result }
 {
     Number.parse(alloc, text)
