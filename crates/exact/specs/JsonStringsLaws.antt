@@ -53,12 +53,9 @@ letter_language = ignore_then_language (fixed (92 ∷ [])) (picked_language (of_
 abbrev pub piece_language : Language ℕ ℕ
 piece_language = or_language plain_language (or_language letter_language (or_language (unit_language lone_of) pair_language))
 
--- what stands between two characters
-abbrev pub between_quotes : ℕ → ℕ → Language ℕ (String Global)
-between_quotes o q = between_language (fixed (o ∷ [])) (collected_language (repeated_language piece_language 0 None) (λ cs s. string_bytes s ≡ encode_utf8_all cs) ⊥) (fixed (q ∷ []))
-
+-- pieces between quotes
 abbrev pub string_language : Language ℕ (String Global)
-string_language = between_quotes 34 34
+string_language = between_language (fixed (34 ∷ [])) (collected_language (repeated_language piece_language 0 None) (λ cs s. string_bytes s ≡ encode_utf8_all cs) ⊥) (fixed (34 ∷ []))
 
 -- what follows a backslash and `u`
 abbrev AfterU : (List ℕ → Type 0) → List ℕ → Type 0
@@ -294,13 +291,3 @@ quote_follows w rest j = subst (λ z. DoesNotEnd (piece_language.ends (z ++ rest
 
 pub string-unambiguous : string_language.unambiguous
 string-unambiguous = (tt, ((piece-unambiguous, λ w rest i f. (tt, (tt, (tt, tt)))), tt, λ w rest j f. ((tt, (tt, (tt, tt))), inr (quote_follows w rest j))), λ w rest j f. tt)
-
--- the same of two characters that are quotes
-pub sound-by : (o q : ℕ) → o ≡ 34 → q ≡ 34 → (w : List ℕ) (s : String Global) → (between_quotes o q).stands_for w s → IsString w (chars (string_bytes s))
-sound-by o q e f = rw (e, f) string-sound
-
-pub complete-by : (o q : ℕ) → o ≡ 34 → q ≡ 34 → (w cs : List ℕ) → IsString w cs → (between_quotes o q).word w
-complete-by o q e f = rw (e, f) (λ w cs i. string-complete i)
-
-pub unambiguous-by : (o q : ℕ) → o ≡ 34 → q ≡ 34 → (between_quotes o q).unambiguous
-unambiguous-by o q e f = rw f string-unambiguous

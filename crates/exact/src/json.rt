@@ -503,13 +503,24 @@ impl<'src, P: Parser<'src, &'src str, Json, EmptyText>> Body<'src, &'src str, Js
 
 impl<'src> Recursion<'src, &'src str, Json, EmptyText> for OfValue {
     ghost use Rattle.chumsky_descent.specs.Exactly.{exactly};
+    ghost use Rattle.chumsky_descent.specs.Lawful.{then-lawful, ignore_then-lawful, then_ignore-lawful, between-lawful, or-lawful, map-lawful, repeated-lawful, separated-lawful};
     ghost use Rattle.exact.specs.contracts.json.OfValueBodyRefStrJsonEmptyText.TheImpl.{ghosts, no_dict};
     ghost use denote.Builtin.{unit};
     ghost use Rattle.exact.specs.JsonGrammar.{values};
-    ghost use Rattle.exact.specs.JsonLawful.{value-lawful, piece-lawful};
+    ghost use Rattle.exact.specs.JsonLawful.{blanks-lawful, letter-lawful, mark-lawful, words-lawful, piece-lawful};
     ghost use Rattle.exact.specs.JsonNumbersLaws.{number-lawful};
 
-    ghost says = { λ errors states. exactly (λ call. (ghosts unit call no_dict).body tt) errors states values (λ call l h. value-lawful number-lawful piece-lawful h) };
+    ghost says = { λ errors states. exactly (λ call. (ghosts unit call no_dict).body tt) errors states values
+        (λ call l h. ignore_then-lawful blanks-lawful
+        (or-lawful
+        (or-lawful (map-lawful number-lawful) (or-lawful (map-lawful (between-lawful (letter-lawful 34) (repeated-lawful piece-lawful) (letter-lawful 34))) words-lawful))
+        (or-lawful
+        (map-lawful (between-lawful (letter-lawful 91) (separated-lawful h (mark-lawful 44)) (mark-lawful 93)))
+        (map-lawful (between-lawful (letter-lawful 123)
+        (separated-lawful
+        (then-lawful (then_ignore-lawful (ignore_then-lawful blanks-lawful (between-lawful (letter-lawful 34) (repeated-lawful piece-lawful) (letter-lawful 34))) (mark-lawful 58)) h)
+        (mark-lawful 44))
+        (mark-lawful 125)))))) };
 }
 
 /// The parser of spaces, tabs and ends of lines, be it none.

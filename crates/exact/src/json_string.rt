@@ -284,7 +284,17 @@ impl<'src> Parser<'src, &'src str, char, EmptyText> for ByUnit {
 
     ghost meaning = { λ _. ⟦<UnitParser<'src, Lone, char> as Parser<'src, &'src str, char, EmptyText>>⟧.meaning (record {
         first = record { seq = 92 ∷ 117 ∷ []; of = record {} };
-        second = record { picked = record { parser = record { first = record { first = record { first = record { of = record {} }; second = record { of = record {} }; of = record {} }; second = record { of = record {} }; of = record {} }; second = record { of = record {} }; of = record {} }; picker = record {}; of = record {} } };
+        second = record {
+            picked = record {
+                parser = record {
+                    first = record { first = record { first = record { of = record {} }; second = record { of = record {} }; of = record {} }; second = record { of = record {} }; of = record {} };
+                    second = record { of = record {} };
+                    of = record {};
+                };
+                picker = record {};
+                of = record {};
+            };
+        };
         of = record {};
     }) };
 
@@ -294,7 +304,17 @@ impl<'src> Parser<'src, &'src str, char, EmptyText> for ByUnit {
 
     ghost language = { λ _. ⟦<UnitParser<'src, Lone, char> as Parser<'src, &'src str, char, EmptyText>>⟧.language (record {
         first = record { seq = 92 ∷ 117 ∷ []; of = record {} };
-        second = record { picked = record { parser = record { first = record { first = record { first = record { of = record {} }; second = record { of = record {} }; of = record {} }; second = record { of = record {} }; of = record {} }; second = record { of = record {} }; of = record {} }; picker = record {}; of = record {} } };
+        second = record {
+            picked = record {
+                parser = record {
+                    first = record { first = record { first = record { of = record {} }; second = record { of = record {} }; of = record {} }; second = record { of = record {} }; of = record {} };
+                    second = record { of = record {} };
+                    of = record {};
+                };
+                picker = record {};
+                of = record {};
+            };
+        };
         of = record {};
     }) };
 
@@ -329,12 +349,32 @@ impl<'src> Parser<'src, &'src str, char, EmptyText> for ByPair {
         parser = record {
             first = record {
                 first = record { seq = 92 ∷ 117 ∷ []; of = record {} };
-                second = record { picked = record { parser = record { first = record { first = record { first = record { of = record {} }; second = record { of = record {} }; of = record {} }; second = record { of = record {} }; of = record {} }; second = record { of = record {} }; of = record {} }; picker = record {}; of = record {} } };
+                second = record {
+                    picked = record {
+                        parser = record {
+                            first = record { first = record { first = record { of = record {} }; second = record { of = record {} }; of = record {} }; second = record { of = record {} }; of = record {} };
+                            second = record { of = record {} };
+                            of = record {};
+                        };
+                        picker = record {};
+                        of = record {};
+                    };
+                };
                 of = record {};
             };
             second = record {
                 first = record { seq = 92 ∷ 117 ∷ []; of = record {} };
-                second = record { picked = record { parser = record { first = record { first = record { first = record { of = record {} }; second = record { of = record {} }; of = record {} }; second = record { of = record {} }; of = record {} }; second = record { of = record {} }; of = record {} }; picker = record {}; of = record {} } };
+                second = record {
+                    picked = record {
+                        parser = record {
+                            first = record { first = record { first = record { of = record {} }; second = record { of = record {} }; of = record {} }; second = record { of = record {} }; of = record {} };
+                            second = record { of = record {} };
+                            of = record {};
+                        };
+                        picker = record {};
+                        of = record {};
+                    };
+                };
                 of = record {};
             };
             of = record {};
@@ -351,12 +391,32 @@ impl<'src> Parser<'src, &'src str, char, EmptyText> for ByPair {
         parser = record {
             first = record {
                 first = record { seq = 92 ∷ 117 ∷ []; of = record {} };
-                second = record { picked = record { parser = record { first = record { first = record { first = record { of = record {} }; second = record { of = record {} }; of = record {} }; second = record { of = record {} }; of = record {} }; second = record { of = record {} }; of = record {} }; picker = record {}; of = record {} } };
+                second = record {
+                    picked = record {
+                        parser = record {
+                            first = record { first = record { first = record { of = record {} }; second = record { of = record {} }; of = record {} }; second = record { of = record {} }; of = record {} };
+                            second = record { of = record {} };
+                            of = record {};
+                        };
+                        picker = record {};
+                        of = record {};
+                    };
+                };
                 of = record {};
             };
             second = record {
                 first = record { seq = 92 ∷ 117 ∷ []; of = record {} };
-                second = record { picked = record { parser = record { first = record { first = record { first = record { of = record {} }; second = record { of = record {} }; of = record {} }; second = record { of = record {} }; of = record {} }; second = record { of = record {} }; of = record {} }; picker = record {}; of = record {} } };
+                second = record {
+                    picked = record {
+                        parser = record {
+                            first = record { first = record { first = record { of = record {} }; second = record { of = record {} }; of = record {} }; second = record { of = record {} }; of = record {} };
+                            second = record { of = record {} };
+                            of = record {};
+                        };
+                        picker = record {};
+                        of = record {};
+                    };
+                };
                 of = record {};
             };
             of = record {};

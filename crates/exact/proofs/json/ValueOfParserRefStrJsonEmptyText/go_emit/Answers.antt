@@ -1,4 +1,6 @@
 use Rattle.exact.proofs.json.ValueOfParserRefStrJsonEmptyText.go_emit.Goals as goal
 
 pub returns : goal.returns
-returns g c = record { ran = c.go_emit.ensures.ran; lent = c.go_emit.ensures.lent }
+returns g c =
+    let v = c.value_of.ensures in
+    record { ran = rw (v.scalar, v.array, v.object) at c.go_emit.ensures.ran; lent = c.go_emit.ensures.lent }

@@ -1,0 +1,6 @@
+use Rattle.exact.proofs.json.MemberOfParserRefStrTuple2StringJsonEmptyText.go_emit.Goals as goal
+
+pub returns : goal.returns
+returns g c =
+    let m = c.member_of.ensures in
+    record { ran = rw (m.name, m.colon, m.value) at c.go_emit.ensures.ran; lent = c.go_emit.ensures.lent }
