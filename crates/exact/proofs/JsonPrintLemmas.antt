@@ -1,13 +1,13 @@
 -- What is written at the end of a text by the printer of JSON.
 -- Main laws: pushed-scalar, control_printed, element_printed, member_printed, list_printed.
-use Rattle.std.proofs.Common.{◌≡◌, ℕ, zero, suc, ◌+◌, ◌<◌, ◌^◌, List, [], ◌∷◌, ◌++◌, length, get_or, map, append_assoc, drop, refl, sym, ◌∙◌, ap, subst, rules, arith}
+use Rattle.std.proofs.Common.{◌≡◌, ℕ, zero, suc, ◌+◌, ◌<◌, List, [], ◌∷◌, ◌++◌, length, get_or, map, append_assoc, drop, refl, sym, ◌∙◌, ap, rules, arith}
 use Rattle.std.specs.Prelude.{Result, Ok, Err, OnOk, String, codes, encode_utf8, string_bytes}
 use Rattle.std.specs.Char.{IsScalar}
 use Rattle.std.specs.Str.{chars, IsUtf8}
 use Rattle.std.specs.declared.alloc.Global.{Global}
 use Rattle.std.specs.declared.vec.Vec.{Vec}
 use Rattle.std.proofs.lemmas.List.{append-nil, drop_more}
-use Rattle.std.proofs.lemmas.Str.{IsUtf8-encode, chars-nil, chars-IsAscii, chars_past_char}
+use Rattle.std.proofs.lemmas.Str.{IsUtf8-encode, chars-nil, chars_past_char}
 use Rattle.exact.specs.declared.json_value.Json.{Json, the_lemmas}
 use Rattle.exact.specs.declared.json_value.Json as value
 use Rattle.exact.specs.JsonForms.{Form, Members, null, truth, number, string, array, object, forms_of, members_of, form_of}

@@ -1,3 +1,4 @@
 pub mod JsonPickLemmas
 pub mod JsonPrintLemmas
+pub mod OwnedLemmas
 pub mod PrintLemmas

@@ -41,35 +41,43 @@ abbrev pub digit_after : ℕ → ℕ → Bool
 digit_after first c = cond (first == 48) false (is_digit c 10)
 
 module _ {I Sp Cu Er St Mk Cx : Type 0} (source : input_trait.Ghosts I Cu ℕ Sp) (errors : error_trait.Ghosts Er I ℕ Sp) (states : inspector_trait.Ghosts St I Mk ℕ Sp) where
-  abbrev MaybeSo : {V : Type 0} → Meaning ℕ Cx states.Seen errors.Seen V → Meaning ℕ Cx states.Seen errors.Seen (Option V)
+  -- the part, or nothing
+  abbrev pub MaybeSo : {V : Type 0} → Meaning ℕ Cx states.Seen errors.Seen V → Meaning ℕ Cx states.Seen errors.Seen (Option V)
   MaybeSo = OrNone states.mark states.back states.takes_no_memory
 
-  abbrev MeansFixed : ℕ → Meaning ℕ Cx states.Seen errors.Seen ℕ
+  -- one character, one of some, and digits; before a point there is no zero before another digit
+  abbrev pub MeansFixed : ℕ → Meaning ℕ Cx states.Seen errors.Seen ℕ
   MeansFixed c = MeansJust source nat_eq errors states (λ d. d ≡ c) ⊤ (c ∷ [])
 
-  abbrev MeansAmong : List ℕ → Meaning ℕ Cx states.Seen errors.Seen ℕ
+  abbrev pub MeansAmong : List ℕ → Meaning ℕ Cx states.Seen errors.Seen ℕ
   MeansAmong = MeansOneOf source (λ c. c) (λ _. ⊤) errors states nat_eq
 
-  abbrev MeansDigits : Meaning ℕ Cx states.Seen errors.Seen (Bor (List ℕ))
+  abbrev pub MeansDigits : Meaning ℕ Cx states.Seen errors.Seen (Bor (List ℕ))
   MeansDigits = MeansWord source IsSlice errors states (λ t. is_digit t 10) (λ t c. is_digit c 10) (Label (codes "digit") ∷ []) (λ t. Label (codes "digit") ∷ [])
 
-  abbrev MeansInt : Meaning ℕ Cx states.Seen errors.Seen (Bor (List ℕ))
+  abbrev pub MeansInt : Meaning ℕ Cx states.Seen errors.Seen (Bor (List ℕ))
   MeansInt = MeansWord source IsSlice errors states (λ t. is_digit t 10) digit_after (Label (codes "int") ∷ []) (λ t. cond (t == 48) [] (Label (codes "digit") ∷ []))
 
-  abbrev MeansFraction : Meaning ℕ Cx states.Seen errors.Seen (Bor (List ℕ))
+  -- a point and digits; a letter, a sign or none, and digits
+  abbrev pub MeansFraction : Meaning ℕ Cx states.Seen errors.Seen (Bor (List ℕ))
   MeansFraction = IgnoringFirst (MeansFixed 46) MeansDigits
 
-  abbrev MeansExponent : Meaning ℕ Cx states.Seen errors.Seen (Bor (List ℕ))
+  abbrev pub MeansExponent : Meaning ℕ Cx states.Seen errors.Seen (Bor (List ℕ))
   MeansExponent = IgnoringFirst (IgnoringFirst (MeansAmong (101 ∷ 69 ∷ [])) (MaybeSo (MeansAmong (43 ∷ 45 ∷ [])))) MeansDigits
 
   -- a fraction and maybe an exponent, or an exponent alone
-  abbrev MeansMore : Meaning ℕ Cx states.Seen errors.Seen (Bor (List ℕ))
+  abbrev pub MeansMore : Meaning ℕ Cx states.Seen errors.Seen (Bor (List ℕ))
   MeansMore = OrElse states.mark states.back states.takes_no_memory (IgnoringSecond MeansFraction (MaybeSo MeansExponent)) MeansExponent
+
+  -- a minus or none, and digits
+  abbrev pub MeansWhole : Meaning ℕ Cx states.Seen errors.Seen (Bor (List ℕ))
+  MeansWhole = IgnoringFirst (MaybeSo (MeansFixed 45)) MeansInt
 
   -- what the parser of numbers may do
   abbrev pub number_meaning : Meaning ℕ Cx states.Seen errors.Seen (String Global)
-  number_meaning = Owns IsOwn (Covers IsSlice (IgnoringSecond (IgnoringFirst (MaybeSo (MeansFixed 45)) MeansInt) (MaybeSo MeansMore)))
+  number_meaning = Owns IsOwn (Covers IsSlice (IgnoringSecond MeansWhole (MaybeSo MeansMore)))
 
+-- the same of languages
 abbrev pub fixed : ℕ → Language ℕ ℕ
 fixed c = literal_language nat_eq (c ∷ []) (λ d. d ≡ c) ⊤
 

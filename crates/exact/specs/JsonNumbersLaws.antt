@@ -9,14 +9,14 @@ use Rattle.std.proofs.lemmas.Bool.{eqb-true}
 use Rattle.std.proofs.lemmas.Bool.Decides.{nat_tests}
 use Rattle.std.proofs.lemmas.Str.{chars_from_encodes, IsUtf8-string_bytes}
 use Rattle.chumsky_parser.specs.Ending.{DoesNotEnd}
-use Rattle.chumsky_parser.specs.Words.{Joined, StopsAt}
+use Rattle.chumsky_parser.specs.Words.{StopsAt}
 use Rattle.chumsky_primitive.specs.Literals.{equals-same, same-equals}
 use Rattle.chumsky_primitive.specs.OneOf.{among}
 use Rattle.chumsky_primitive.specs.PrimitiveLanguage.{one_ends, literal_ends}
 use Rattle.chumsky_combinator.specs.OptionalLanguage.{or_not_language}
 use Rattle.chumsky_text.specs.Decimals.{IsInt, IsDigits, slice-bytes}
 use Rattle.exact.specs.JsonNumbers.{AreDigits, digits, IsMinus, no_minus, minus, IsSign, no_sign, plus_sign, minus_sign, IsFraction, no_fraction, fraction, IsExponent, no_exponent, exponent, IsNumberText, is_number_text, begins_number, number_goes_on}
-use Rattle.exact.specs.JsonNumbersLanguage.{fixed, one_among, digits_language, fraction_language, exponent_language, pointed_language, more_language, whole_language, number_language}
+use Rattle.exact.specs.JsonNumbersLanguage.{fixed, one_among, fraction_language, exponent_language, pointed_language, more_language, whole_language, number_language}
 use Rattle.exact.specs.JsonNumbersOnce.{is_e, is_point, letter_is, letter-other, no_digit, no_more, both_false}
 use Rattle.exact.specs.JsonPicksLaws.{both}
 use Rattle.exact.specs.NumberLaws.{no_digit-stops}

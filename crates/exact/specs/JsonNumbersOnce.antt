@@ -1,6 +1,6 @@
 -- Of one text one number at most is the beginning, where nothing goes on with it.
 -- Main laws: front, number-begins, number-split. Read first: JsonNumbers.antt.
-use Rattle.std.proofs.Common.{◌≡◌, ℕ, Bool, true, false, cond, nat_eq, ◌||◌, List, [], ◌∷◌, ◌++◌, append_assoc, refl, sym, ◌∙◌, ap, subst, arith, inl, inr}
+use Rattle.std.proofs.Common.{◌≡◌, ℕ, Bool, true, false, cond, nat_eq, ◌||◌, List, [], ◌∷◌, ◌++◌, append_assoc, refl, sym, ◌∙◌, ap, arith, inl, inr}
 use Rattle.std.specs.Prelude.{◌⊎◌, drop, ◌==◌}
 use Rattle.std.specs.Char.{is_digit}
 use Rattle.std.proofs.lemmas.Bool.Decides.{nat_tests}

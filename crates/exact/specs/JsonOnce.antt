@@ -7,7 +7,7 @@ use Rattle.std.specs.Char.Utf16.{lone_unit_char, is_high_surrogate, surrogate_pa
 use Rattle.std.proofs.lemmas.Bool.{lt-ltb, ltb-true, eqb-true, eqb-false, ne_eqb}
 use Rattle.std.proofs.lemmas.Bool.Decides.{nat_tests}
 use Rattle.std.proofs.lemmas.Str.Parse.{digit_from_value}
-use Rattle.chumsky_parser.specs.Words.{AllPass, StopsAt}
+use Rattle.chumsky_parser.specs.Words.{StopsAt}
 use Rattle.exact.specs.JsonNumbers.{IsNumberText, begins_number, number_goes_on}
 use Rattle.exact.specs.JsonNumbersOnce.{front, number-begins, number-split}
 use Rattle.exact.specs.JsonStrings.{is_plain, escaped, unit_of, IsPiece, plain, by_letter, by_unit, by_pair, ArePieces, no_piece, more_pieces, IsString, quoted}

@@ -18,7 +18,7 @@ use Rattle.chumsky_context.specs.CoveredLanguage.{covered_language, covers-accep
 use Rattle.chumsky_context.specs.CoveredLaws.{covers-ends, covers-agree}
 use Rattle.chumsky_descent.specs.Lawful.{Lawful, AnyTwo, loosely, just-lawful, word-lawful, ignore_then-lawful, then_ignore-lawful, or_not-lawful, or-lawful}
 use Rattle.exact.specs.Owned.{Owns, owned_language, owns-ends, owns-agrees, owned-accepts}
-use Rattle.exact.specs.JsonNumbersLanguage.{number_meaning, number_language}
+use Rattle.exact.specs.JsonNumbersLanguage.{MeansFixed, MeansAmong, MeansDigits, MeansFraction, MeansExponent, MeansMore, MeansWhole, number_meaning, fixed, one_among, digits_language, fraction_language, exponent_language, more_language, whole_language, number_language}
 
 -- `one_of(members)`
 pub one_of-lawful : {I Tok Sp Cu Er St Mk Cx S : Type 0} (members : List Tok) (source : input_trait.Ghosts I Cu Tok Sp) (seen : Tok → S) (safe : Tok → Type 0) (errors : error_trait.Ghosts Er I Tok Sp) (states : inspector_trait.Ghosts St I Mk Tok Sp) (equal : Tok → Tok → Bool)
@@ -39,13 +39,31 @@ module _ {Tok Cx St Er spare V W : Type 0} {part : Meaning Tok Cx St Er V} {F : 
   owned-lawful {copies} = record { ends = owns-ends copies part p.ends; agrees = owns-agrees copies part p.agrees; accepts = owned-accepts copies part p.accepts }
 
 module _ {I Sp Cu Er St Mk Cx : Type 0} (source : input_trait.Ghosts I Cu ℕ Sp) (errors : error_trait.Ghosts Er I ℕ Sp) (states : inspector_trait.Ghosts St I Mk ℕ Sp) where
+  -- a part of the parser of numbers is lawful
+  abbrev IsLawful : {V : Type 0} → Meaning ℕ Cx states.Seen errors.Seen V → Language ℕ V → Type 0
+  IsLawful = Lawful (errors.takes_no_memory × states.takes_no_memory)
+
+  fixed-lawful : (c : ℕ) → IsLawful (MeansFixed source errors states c) (fixed c)
+  fixed-lawful c = just-lawful (c ∷ []) source nat_eq errors states (λ d. d ≡ c) ⊤
+
+  among-lawful : (cs : List ℕ) → IsLawful (MeansAmong source errors states cs) (one_among cs)
+  among-lawful cs = one_of-lawful cs source (λ c. c) (λ _. ⊤) errors states nat_eq
+
+  digits-lawful : IsLawful (MeansDigits source errors states) digits_language
+  digits-lawful = word-lawful
+
+  fraction-lawful : IsLawful (MeansFraction source errors states) fraction_language
+  fraction-lawful = ignore_then-lawful (fixed-lawful 46) digits-lawful
+
+  exponent-lawful : IsLawful (MeansExponent source errors states) exponent_language
+  exponent-lawful = ignore_then-lawful (ignore_then-lawful (among-lawful (101 ∷ 69 ∷ [])) (or_not-lawful (among-lawful (43 ∷ 45 ∷ [])))) digits-lawful
+
+  more-lawful : IsLawful (MeansMore source errors states) more_language
+  more-lawful = or-lawful (then_ignore-lawful fraction-lawful (or_not-lawful exponent-lawful)) exponent-lawful
+
+  whole-lawful : IsLawful (MeansWhole source errors states) whole_language
+  whole-lawful = ignore_then-lawful (or_not-lawful (fixed-lawful 45)) word-lawful
+
   -- the parser of numbers
-  pub number-lawful : Lawful (errors.takes_no_memory × states.takes_no_memory) (number_meaning {Cx = Cx} source errors states) number_language
-  number-lawful =
-      let letter = one_of-lawful (101 ∷ 69 ∷ []) source (λ c. c) (λ _. ⊤) errors states nat_eq in
-      let sign = one_of-lawful (43 ∷ 45 ∷ []) source (λ c. c) (λ _. ⊤) errors states nat_eq in
-      let exponent = ignore_then-lawful (ignore_then-lawful letter (or_not-lawful sign)) word-lawful in
-      let fraction = ignore_then-lawful (just-lawful (46 ∷ []) source nat_eq errors states (λ d. d ≡ 46) ⊤) word-lawful in
-      let more = or-lawful (then_ignore-lawful fraction (or_not-lawful exponent)) exponent in
-      let whole = ignore_then-lawful (or_not-lawful (just-lawful (45 ∷ []) source nat_eq errors states (λ d. d ≡ 45) ⊤)) word-lawful in
-      owned-lawful (slice-lawful (then_ignore-lawful whole (or_not-lawful more)))
+  pub number-lawful : IsLawful (number_meaning source errors states) number_language
+  number-lawful = owned-lawful (slice-lawful (then_ignore-lawful whole-lawful (or_not-lawful more-lawful)))

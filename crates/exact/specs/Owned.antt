@@ -1,11 +1,11 @@
 -- What a part gives, copied into a value of its own: the part's words, and want of memory for the copy.
 -- Main words: Owns, owned_language. Main laws: owns-ends, owns-agrees, owned-accepts. Read first: Mapped.antt and MappedLanguage.antt of chumsky_combinator, Copied.antt of chumsky_parser.
-use Rattle.std.proofs.Common.{◌≤◌, Option, Some, None, List, drop, subst, inl, inr}
+use Rattle.std.proofs.Common.{Option, Some, None, List, drop, subst, inl, inr}
 use Rattle.std.specs.Prelude.{⊤}
 use Rattle.chumsky_input.specs.Outcome.{Meaning, Beginning, Outcome, IsAnswer, SameValue, EndsAfterStart, Agreeing}
 use Rattle.chumsky_parser.specs.Chained.{Chained, Given}
 use Rattle.chumsky_parser.specs.Copied.{GivesCopy}
-use Rattle.chumsky_parser.specs.Ending.{At, Ender, and_then, Within, IfValue, Answers, Here, Reads}
+use Rattle.chumsky_parser.specs.Ending.{At, Ender, and_then, Within, IfValue, Answers, Reads}
 use Rattle.chumsky_parser.specs.EndingLaws.{chained-here, given-here, copy-by, answers_weaker, and_then_some}
 use Rattle.chumsky_parser.specs.Language.{Language, Accepts}
 use Rattle.chumsky_parser.specs.LanguageLaws.{with_values}

@@ -1,6 +1,8 @@
 //! JSON, by a function that calls itself.
-ghost use Rattle.std.specs.Prelude.{◌≡◌, ◌≤◌, [], ◌∷◌, true, false, None, length};
+ghost use Rattle.std.specs.Prelude.{◌≡◌, ◌≤◌, [], ◌∷◌, true, false, None, length, IfOk, is_some};
 ghost use Rattle.std.specs.Str.{chars};
+ghost use Rattle.chumsky_input.specs.Run.{Runs};
+ghost use Rattle.chumsky_combinator.specs.Part.{Onward};
 ghost use Rattle.chumsky.specs.Accepted.{ExactlyUnless};
 ghost use Rattle.exact.specs.JsonForms.{HoldsJson};
 
@@ -10,8 +12,10 @@ use crate::json_value::Json;
 use chumsky::combinator::{
     Collect, DelimitedBy, IgnoreThen, Map, Mapper, Or, SeparatedBy, Then, ThenIgnore, run_part,
 };
+use chumsky::error::Error;
 use chumsky::extra::EmptyText;
-use chumsky::input::TextRef;
+use chumsky::input::{Input, TextRef};
+use chumsky::inspector::Inspector;
 use chumsky::prelude::*;
 use chumsky::primitive::{End, Just};
 use chumsky::recursive::{Body, Called, Recursion, RunsUnder, recursive_as};
@@ -180,17 +184,17 @@ impl<
     ghost ready = { λ p. N.ready p.number × S.ready p.string };
 
     ghost meaning = { λ p. ⟦<ScalarParser<'src, N, S> as Parser<'src, &'src str, Json, EmptyText>>⟧.meaning (record {
-        first = record { parser = p.number; mapper = record {}; of = record {} };
+      first = record { parser = p.number; mapper = record {}; of = record {} };
+      second = record {
+        first = record { parser = p.string; mapper = record {}; of = record {} };
         second = record {
-            first = record { parser = p.string; mapper = record {}; of = record {} };
-            second = record {
-                first = record { parser = record { seq = 110 ∷ 117 ∷ 108 ∷ 108 ∷ []; of = record {} }; mapper = record {}; of = record {} };
-                second = record {
-                    first = record { parser = record { seq = 116 ∷ 114 ∷ 117 ∷ 101 ∷ []; of = record {} }; mapper = record { value = true }; of = record {} };
-                    second = record { parser = record { seq = 102 ∷ 97 ∷ 108 ∷ 115 ∷ 101 ∷ []; of = record {} }; mapper = record { value = false }; of = record {} };
-                };
-            };
+          first = record { parser = record { seq = 110 ∷ 117 ∷ 108 ∷ 108 ∷ []; of = record {} }; mapper = record {}; of = record {} };
+          second = record {
+            first = record { parser = record { seq = 116 ∷ 114 ∷ 117 ∷ 101 ∷ []; of = record {} }; mapper = record { value = true }; of = record {} };
+            second = record { parser = record { seq = 102 ∷ 97 ∷ 108 ∷ 115 ∷ 101 ∷ []; of = record {} }; mapper = record { value = false }; of = record {} };
+          };
         };
+      };
     }) };
 
     ghost steady = { λ _. ⊥ };
@@ -198,17 +202,17 @@ impl<
     ghost same = { λ _ _ _. ⊤ };
 
     ghost language = { λ p. ⟦<ScalarParser<'src, N, S> as Parser<'src, &'src str, Json, EmptyText>>⟧.language (record {
-        first = record { parser = p.number; mapper = record {}; of = record {} };
+      first = record { parser = p.number; mapper = record {}; of = record {} };
+      second = record {
+        first = record { parser = p.string; mapper = record {}; of = record {} };
         second = record {
-            first = record { parser = p.string; mapper = record {}; of = record {} };
-            second = record {
-                first = record { parser = record { seq = 110 ∷ 117 ∷ 108 ∷ 108 ∷ []; of = record {} }; mapper = record {}; of = record {} };
-                second = record {
-                    first = record { parser = record { seq = 116 ∷ 114 ∷ 117 ∷ 101 ∷ []; of = record {} }; mapper = record { value = true }; of = record {} };
-                    second = record { parser = record { seq = 102 ∷ 97 ∷ 108 ∷ 115 ∷ 101 ∷ []; of = record {} }; mapper = record { value = false }; of = record {} };
-                };
-            };
+          first = record { parser = record { seq = 110 ∷ 117 ∷ 108 ∷ 108 ∷ []; of = record {} }; mapper = record {}; of = record {} };
+          second = record {
+            first = record { parser = record { seq = 116 ∷ 114 ∷ 117 ∷ 101 ∷ []; of = record {} }; mapper = record { value = true }; of = record {} };
+            second = record { parser = record { seq = 102 ∷ 97 ∷ 108 ∷ 115 ∷ 101 ∷ []; of = record {} }; mapper = record { value = false }; of = record {} };
+          };
         };
+      };
     }) };
 
     ghost ends_after_start = { λ p. or_else-ends _ _ _ _ _ (mapped-ends _ _ (N.ends_after_start p.number)) (or_else-ends _ _ _ _ _ (mapped-ends _ _ (S.ends_after_start p.string)) words-lawful.ends) };
@@ -235,20 +239,18 @@ pub type ListParser<'src, P, V> = DelimitedBy<
     char,
 >;
 
-/// What a parser takes, in brackets, with a comma between each two.
+/// An array of what a parser takes.
 #[derive(Drop)]
-pub struct ListOf<P> {
-    pub item: P,
-    pub opening: char,
-    pub closing: char,
+pub struct ArrayOf<P> {
+    pub value: P,
 }
 
-impl<'src, V: Drop, P: Parser<'src, &'src str, V, EmptyText>> Parser<
+impl<'src, P: Parser<'src, &'src str, Json, EmptyText>> Parser<
     'src,
     &'src str,
-    Vec<V>,
+    Vec<Json>,
     EmptyText,
-> for ListOf<P> {
+> for ArrayOf<P> {
     ghost use Rattle.std.specs.Prelude.{false, None, ⊤};
     ghost use Rattle.chumsky_parser.specs.IgnoringLaws.{between-ends};
     ghost use Rattle.chumsky_parser.specs.SequenceLanguage.{between-accepts};
@@ -258,67 +260,152 @@ impl<'src, V: Drop, P: Parser<'src, &'src str, V, EmptyText>> Parser<
     ghost use Rattle.chumsky_items.specs.SeparatedLanguage.{separated-accepts};
     ghost use Rattle.exact.specs.JsonLawful.{letter-lawful, mark-lawful};
 
-    ghost ready = { λ p. P.ready p.item };
+    ghost ready = { λ p. P.ready p.value };
 
-    ghost meaning = { λ p. ⟦<ListParser<'src, P, V> as Parser<'src, &'src str, Vec<V>, EmptyText>>⟧.meaning (record {
+    ghost meaning = { λ p. ⟦<ListParser<'src, P, Json> as Parser<'src, &'src str, Vec<Json>, EmptyText>>⟧.meaning (record {
+      parser = record {
         parser = record {
-            parser = record {
-                parser = p.item;
-                separator = record { first = record { kind = record {}; of = record {} }; second = record { seq = 44; of = record {} }; of = record {} };
-                at_least = 0;
-                at_most = None;
-                allow_leading = false;
-                allow_trailing = false;
-                of = record {};
-            };
-            of = record {};
+          parser = p.value;
+          separator = record { first = record { kind = record {}; of = record {} }; second = record { seq = 44; of = record {} }; of = record {} };
+          at_least = 0;
+          at_most = None;
+          allow_leading = false;
+          allow_trailing = false;
+          of = record {};
         };
-        opening = record { seq = p.opening; of = record {} };
-        closing = record { first = record { kind = record {}; of = record {} }; second = record { seq = p.closing; of = record {} }; of = record {} };
         of = record {};
+      };
+      opening = record { seq = 91; of = record {} };
+      closing = record { first = record { kind = record {}; of = record {} }; second = record { seq = 93; of = record {} }; of = record {} };
+      of = record {};
     }) };
 
     ghost steady = { λ _. ⊥ };
 
     ghost same = { λ _ _ _. ⊤ };
 
-    ghost language = { λ p. ⟦<ListParser<'src, P, V> as Parser<'src, &'src str, Vec<V>, EmptyText>>⟧.language (record {
+    ghost language = { λ p. ⟦<ListParser<'src, P, Json> as Parser<'src, &'src str, Vec<Json>, EmptyText>>⟧.language (record {
+      parser = record {
         parser = record {
-            parser = record {
-                parser = p.item;
-                separator = record { first = record { kind = record {}; of = record {} }; second = record { seq = 44; of = record {} }; of = record {} };
-                at_least = 0;
-                at_most = None;
-                allow_leading = false;
-                allow_trailing = false;
-                of = record {};
-            };
-            of = record {};
+          parser = p.value;
+          separator = record { first = record { kind = record {}; of = record {} }; second = record { seq = 44; of = record {} }; of = record {} };
+          at_least = 0;
+          at_most = None;
+          allow_leading = false;
+          allow_trailing = false;
+          of = record {};
         };
-        opening = record { seq = p.opening; of = record {} };
-        closing = record { first = record { kind = record {}; of = record {} }; second = record { seq = p.closing; of = record {} }; of = record {} };
         of = record {};
+      };
+      opening = record { seq = 91; of = record {} };
+      closing = record { first = record { kind = record {}; of = record {} }; second = record { seq = 93; of = record {} }; of = record {} };
+      of = record {};
     }) };
 
-    ghost ends_after_start = { λ p. between-ends _ _ _ (letter-lawful p.opening).ends
-        (collects-ends _ _ _ _ (separates-end _ _ _ _ _ _ (mark-lawful 44).ends (P.ends_after_start p.item)))
-        (mark-lawful p.closing).ends };
+    ghost ends_after_start = { λ p. between-ends _ _ _ (letter-lawful 91).ends
+        (collects-ends _ _ _ _ (separates-end _ _ _ _ _ _ (mark-lawful 44).ends (P.ends_after_start p.value)))
+        (mark-lawful 93).ends };
 
     ghost agrees = { λ _ never. absurd never };
 
-    ghost accepts = { λ p. between-accepts _ _ _ (letter-lawful p.opening).ends
-        (collects-ends _ _ _ _ (separates-end _ _ _ _ _ _ (mark-lawful 44).ends (P.ends_after_start p.item)))
-        (mark-lawful p.closing).ends
-        (letter-lawful p.opening).accepts
-        (collects-accepts _ _ _ _ _ (separated-accepts _ _ _ _ _ _ _ _ (mark-lawful 44).accepts (P.accepts p.item)))
-        (mark-lawful p.closing).accepts };
+    ghost accepts = { λ p. between-accepts _ _ _ (letter-lawful 91).ends
+        (collects-ends _ _ _ _ (separates-end _ _ _ _ _ _ (mark-lawful 44).ends (P.ends_after_start p.value)))
+        (mark-lawful 93).ends
+        (letter-lawful 91).accepts
+        (collects-accepts _ _ _ _ _ (separated-accepts _ _ _ _ _ _ _ _ (mark-lawful 44).accepts (P.accepts p.value)))
+        (mark-lawful 93).accepts };
 
-    fn go_emit(&self, inp: &mut TextRef<'src, '_, EmptyText>) -> PResult<Vec<V>> {
-        list_of(&self.item, self.opening, self.closing).go_emit(inp)
+    fn go_emit(&self, inp: &mut TextRef<'src, '_, EmptyText>) -> PResult<Vec<Json>> {
+        list_of(&self.value, '[', ']').go_emit(inp)
     }
 
     fn go_check(&self, inp: &mut TextRef<'src, '_, EmptyText>) -> PResult<()> {
-        list_of::<_, V>(&self.item, self.opening, self.closing).go_check(inp)
+        list_of(&self.value, '[', ']').go_check(inp)
+    }
+}
+
+/// An object of members that a parser takes.
+#[derive(Drop)]
+pub struct ObjectOf<P> {
+    pub member: P,
+}
+
+impl<'src, P: Parser<'src, &'src str, (String, Json), EmptyText>> Parser<
+    'src,
+    &'src str,
+    Vec<(String, Json)>,
+    EmptyText,
+> for ObjectOf<P> {
+    ghost use Rattle.std.specs.Prelude.{false, None, ⊤};
+    ghost use Rattle.chumsky_parser.specs.IgnoringLaws.{between-ends};
+    ghost use Rattle.chumsky_parser.specs.SequenceLanguage.{between-accepts};
+    ghost use Rattle.chumsky_items.specs.ConsumersLaws.{collects-ends};
+    ghost use Rattle.chumsky_items.specs.ListLanguage.{collects-accepts};
+    ghost use Rattle.chumsky_items.specs.SeparatingLaws.{separates-end};
+    ghost use Rattle.chumsky_items.specs.SeparatedLanguage.{separated-accepts};
+    ghost use Rattle.exact.specs.JsonLawful.{letter-lawful, mark-lawful};
+
+    ghost ready = { λ p. P.ready p.member };
+
+    ghost meaning = { λ p. ⟦<ListParser<'src, P, (String, Json)> as Parser<'src, &'src str, Vec<(String, Json)>, EmptyText>>⟧.meaning (record {
+      parser = record {
+        parser = record {
+          parser = p.member;
+          separator = record { first = record { kind = record {}; of = record {} }; second = record { seq = 44; of = record {} }; of = record {} };
+          at_least = 0;
+          at_most = None;
+          allow_leading = false;
+          allow_trailing = false;
+          of = record {};
+        };
+        of = record {};
+      };
+      opening = record { seq = 123; of = record {} };
+      closing = record { first = record { kind = record {}; of = record {} }; second = record { seq = 125; of = record {} }; of = record {} };
+      of = record {};
+    }) };
+
+    ghost steady = { λ _. ⊥ };
+
+    ghost same = { λ _ _ _. ⊤ };
+
+    ghost language = { λ p. ⟦<ListParser<'src, P, (String, Json)> as Parser<'src, &'src str, Vec<(String, Json)>, EmptyText>>⟧.language (record {
+      parser = record {
+        parser = record {
+          parser = p.member;
+          separator = record { first = record { kind = record {}; of = record {} }; second = record { seq = 44; of = record {} }; of = record {} };
+          at_least = 0;
+          at_most = None;
+          allow_leading = false;
+          allow_trailing = false;
+          of = record {};
+        };
+        of = record {};
+      };
+      opening = record { seq = 123; of = record {} };
+      closing = record { first = record { kind = record {}; of = record {} }; second = record { seq = 125; of = record {} }; of = record {} };
+      of = record {};
+    }) };
+
+    ghost ends_after_start = { λ p. between-ends _ _ _ (letter-lawful 123).ends
+        (collects-ends _ _ _ _ (separates-end _ _ _ _ _ _ (mark-lawful 44).ends (P.ends_after_start p.member)))
+        (mark-lawful 125).ends };
+
+    ghost agrees = { λ _ never. absurd never };
+
+    ghost accepts = { λ p. between-accepts _ _ _ (letter-lawful 123).ends
+        (collects-ends _ _ _ _ (separates-end _ _ _ _ _ _ (mark-lawful 44).ends (P.ends_after_start p.member)))
+        (mark-lawful 125).ends
+        (letter-lawful 123).accepts
+        (collects-accepts _ _ _ _ _ (separated-accepts _ _ _ _ _ _ _ _ (mark-lawful 44).accepts (P.accepts p.member)))
+        (mark-lawful 125).accepts };
+
+    fn go_emit(&self, inp: &mut TextRef<'src, '_, EmptyText>) -> PResult<Vec<(String, Json)>> {
+        list_of(&self.member, '{', '}').go_emit(inp)
+    }
+
+    fn go_check(&self, inp: &mut TextRef<'src, '_, EmptyText>) -> PResult<()> {
+        list_of(&self.member, '{', '}').go_check(inp)
     }
 }
 
@@ -351,13 +438,13 @@ impl<
     ghost ready = { λ p. S.ready p.name × P.ready p.value };
 
     ghost meaning = { λ p. ⟦<MemberParser<'src, S, P> as Parser<'src, &'src str, (String, Json), EmptyText>>⟧.meaning (record {
-        first = record {
-            first = record { first = record { kind = record {}; of = record {} }; second = p.name; of = record {} };
-            second = record { first = record { kind = record {}; of = record {} }; second = record { seq = 58; of = record {} }; of = record {} };
-            of = record {};
-        };
-        second = p.value;
+      first = record {
+        first = record { first = record { kind = record {}; of = record {} }; second = p.name; of = record {} };
+        second = record { first = record { kind = record {}; of = record {} }; second = record { seq = 58; of = record {} }; of = record {} };
         of = record {};
+      };
+      second = p.value;
+      of = record {};
     }) };
 
     ghost steady = { λ _. ⊥ };
@@ -365,13 +452,13 @@ impl<
     ghost same = { λ _ _ _. ⊤ };
 
     ghost language = { λ p. ⟦<MemberParser<'src, S, P> as Parser<'src, &'src str, (String, Json), EmptyText>>⟧.language (record {
-        first = record {
-            first = record { first = record { kind = record {}; of = record {} }; second = p.name; of = record {} };
-            second = record { first = record { kind = record {}; of = record {} }; second = record { seq = 58; of = record {} }; of = record {} };
-            of = record {};
-        };
-        second = p.value;
+      first = record {
+        first = record { first = record { kind = record {}; of = record {} }; second = p.name; of = record {} };
+        second = record { first = record { kind = record {}; of = record {} }; second = record { seq = 58; of = record {} }; of = record {} };
         of = record {};
+      };
+      second = p.value;
+      of = record {};
     }) };
 
     ghost ends_after_start = { λ p. sequence-ends _ _
@@ -430,15 +517,15 @@ impl<
     ghost ready = { λ p. S.ready p.scalar × (A.ready p.array × O.ready p.object) };
 
     ghost meaning = { λ p. ⟦<ValueParser<'src, S, A, O> as Parser<'src, &'src str, Json, EmptyText>>⟧.meaning (record {
-        first = record { kind = record {}; of = record {} };
+      first = record { kind = record {}; of = record {} };
+      second = record {
+        first = p.scalar;
         second = record {
-            first = p.scalar;
-            second = record {
-                first = record { parser = p.array; mapper = record {}; of = record {} };
-                second = record { parser = p.object; mapper = record {}; of = record {} };
-            };
+          first = record { parser = p.array; mapper = record {}; of = record {} };
+          second = record { parser = p.object; mapper = record {}; of = record {} };
         };
-        of = record {};
+      };
+      of = record {};
     }) };
 
     ghost steady = { λ _. ⊥ };
@@ -446,15 +533,15 @@ impl<
     ghost same = { λ _ _ _. ⊤ };
 
     ghost language = { λ p. ⟦<ValueParser<'src, S, A, O> as Parser<'src, &'src str, Json, EmptyText>>⟧.language (record {
-        first = record { kind = record {}; of = record {} };
+      first = record { kind = record {}; of = record {} };
+      second = record {
+        first = p.scalar;
         second = record {
-            first = p.scalar;
-            second = record {
-                first = record { parser = p.array; mapper = record {}; of = record {} };
-                second = record { parser = p.object; mapper = record {}; of = record {} };
-            };
+          first = record { parser = p.array; mapper = record {}; of = record {} };
+          second = record { parser = p.object; mapper = record {}; of = record {} };
         };
-        of = record {};
+      };
+      of = record {};
     }) };
 
     ghost ends_after_start = { λ p. ignoring_first-ends _ _ blanks-lawful.ends
@@ -479,8 +566,8 @@ impl<
 /// The parser of any value, where `P` takes the values in it.
 pub type AnyValue<P> = ValueOf<
     ScalarOf<Number, StringOf<Piece>>,
-    ListOf<P>,
-    ListOf<MemberOf<StringOf<Piece>, P>>,
+    ArrayOf<P>,
+    ObjectOf<MemberOf<StringOf<Piece>, P>>,
 >;
 
 /// The parser of what may stand after a value.
@@ -495,9 +582,9 @@ impl<'src, P: Parser<'src, &'src str, Json, EmptyText>> Body<'src, &'src str, Js
     ghost use Rattle.chumsky_descent.specs.Body.{told};
 
     ghost body = { λ call. told ⟦<AnyValue<P> as Parser<'src, &'src str, Json, EmptyText>>⟧ (record {
-        scalar = record { number = record {}; string = record { piece = record {} } };
-        array = record { item = call; opening = 91; closing = 93 };
-        object = record { item = record { name = record { piece = record {} }; value = call }; opening = 123; closing = 125 };
+      scalar = record { number = record {}; string = record { piece = record {} } };
+      array = record { value = call };
+      object = record { member = record { name = record { piece = record {} }; value = call } };
     }) };
 }
 
@@ -508,12 +595,12 @@ impl<'src> Recursion<'src, &'src str, Json, EmptyText> for OfValue {
     ghost use denote.Builtin.{unit};
     ghost use Rattle.exact.specs.JsonGrammar.{values};
     ghost use Rattle.exact.specs.JsonLawful.{blanks-lawful, letter-lawful, mark-lawful, words-lawful, piece-lawful};
-    ghost use Rattle.exact.specs.JsonNumbersLaws.{number-lawful};
+    ghost use Rattle.exact.specs.Lawfully.{number-lawful};
 
     ghost says = { λ errors states. exactly (λ call. (ghosts unit call no_dict).body tt) errors states values
         (λ call l h. ignore_then-lawful blanks-lawful
         (or-lawful
-        (or-lawful (map-lawful number-lawful) (or-lawful (map-lawful (between-lawful (letter-lawful 34) (repeated-lawful piece-lawful) (letter-lawful 34))) words-lawful))
+        (or-lawful (map-lawful (number-lawful ⟦<&'src str as Input<'src>>⟧ errors states)) (or-lawful (map-lawful (between-lawful (letter-lawful 34) (repeated-lawful piece-lawful) (letter-lawful 34))) words-lawful))
         (or-lawful
         (map-lawful (between-lawful (letter-lawful 91) (separated-lawful h (mark-lawful 44)) (mark-lawful 93)))
         (map-lawful (between-lawful (letter-lawful 123)
@@ -659,6 +746,37 @@ fn value_of<'src, S, A, O>(scalar: S, array: A, object: O) -> ValueParser<'src, 
     }
 }
 
+/// Runs the parser of any value, where `call` takes the values in it.
+pub fn run_value<'src, P: Parser<'src, &'src str, Json, EmptyText> + Copy + Drop>(
+    call: P,
+    wanted: bool,
+    inp: &mut TextRef<'src, '_, EmptyText>,
+) -> PResult<Option<Json>>
+    requires { P.ready call }
+    ensures ran { Runs ⟦<&'src str as Input<'src>>⟧ ⟦<EmptyErr as Error<&'src str>>⟧ ⟦<() as Inspector<&'src str>>⟧ (Onward (⟦<AnyValue<P> as Parser<'src, &'src str, Json, EmptyText>>⟧.meaning (record {
+      scalar = record { number = record {}; string = record { piece = record {} } };
+      array = record { value = call };
+      object = record { member = record { name = record { piece = record {} }; value = call } };
+    }) ⟦<EmptyErr as Error<&'src str>>⟧ ⟦<() as Inspector<&'src str>>⟧)) wanted inp.old inp.new result }
+    ensures as_wanted { IfOk result (λ value. is_some value ≡ wanted) }
+    ensures lent { inp.new.state.ghost_name ≡ inp.old.state.ghost_name }
+{
+    let value = ValueOf {
+        scalar: ScalarOf {
+            number: Number,
+            string: StringOf { piece: Piece },
+        },
+        array: ArrayOf { value: call },
+        object: ObjectOf {
+            member: MemberOf {
+                name: StringOf { piece: Piece },
+                value: call,
+            },
+        },
+    };
+    run_part(&value, wanted, inp)
+}
+
 /// A value, after blanks.
 fn any_value<'src>(
     inp: &mut TextRef<'src, '_, EmptyText>,
@@ -672,25 +790,7 @@ fn any_value<'src>(
         depth,
         of: PhantomData,
     };
-    let array = ListOf {
-        item: call,
-        opening: '[',
-        closing: ']',
-    };
-    let member = MemberOf {
-        name: StringOf { piece: Piece },
-        value: call,
-    };
-    let object = ListOf {
-        item: member,
-        opening: '{',
-        closing: '}',
-    };
-    let scalar = ScalarOf {
-        number: Number,
-        string: StringOf { piece: Piece },
-    };
-    run_part(&ValueOf { scalar, array, object }, wanted, inp)
+    run_value(call, wanted, inp)
 }
 
 /// Reads JSON, as ` {"a": [1.5e3, "b", null]}`: a number as it is written, and members in their order, also two of one name. Of any

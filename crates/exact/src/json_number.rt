@@ -16,6 +16,7 @@ use chumsky::text::{Digits, Int, Word};
 use chumsky::{IsParser, PResult, Stop};
 use chumsky_parser::parser::Parser;
 use std::alloc::Global;
+use std::marker::PhantomData;
 
 /// The parser of one character.
 pub type This<'src> = Just<char, &'src str, EmptyText>;
@@ -52,6 +53,7 @@ pub type WholeParser<'src> = IgnoreThen<
 /// The parser of a number.
 pub type NumberParser<'src> = Owned<
     ToSlice<ThenIgnore<WholeParser<'src>, OrNot<MoreParser<'src>>, Option<&'src str>>, &'src str>,
+    &'src str,
 >;
 
 /// The parser of a point and digits.
@@ -94,6 +96,7 @@ fn number_parser<'src>() -> NumberParser<'src>
     let number = whole.then_ignore(more.or_not());
     Owned {
         parser: number.to_slice(),
+        of: PhantomData,
     }
 }
 
@@ -135,10 +138,7 @@ impl<'src> Parser<'src, &'src str, String, EmptyText> for Number {
 
 /// Reads a number of JSON, as `-12.50e+3`, and gives it as it is written; of any other text there is no output. No zero stands
 /// before another digit, and digits stand before a point, after it, and in an exponent.
-pub fn parse_number_text(
-    alloc: Global,
-    text: &str,
-) -> Result<ParseResult<String, EmptyErr>, Stop>
+pub fn parse_number_text(alloc: Global, text: &str) -> Result<ParseResult<String, EmptyErr>, Stop>
     ensures { Exactly HoldsNumber (chars text.now) result }
 {
     Number.parse(alloc, text)

@@ -1,4 +1,4 @@
-use Rattle.exact.proofs.json.ListOfParserRefStrVecEmptyText.go_emit.Goals as goal
+use Rattle.exact.proofs.json.ObjectOfParserRefStrVecTuple2StringJsonEmptyText.go_emit.Goals as goal
 
 pub returns : goal.returns
 returns g c =

@@ -1,4 +1,4 @@
-use Rattle.exact.proofs.json.ListOfParserRefStrVecEmptyText.go_check.Goals as goal
+use Rattle.exact.proofs.json.ArrayOfParserRefStrVecJsonEmptyText.go_check.Goals as goal
 
 pub returns : goal.returns
 returns g c =

@@ -1,0 +1,7 @@
+use Rattle.exact.proofs.json.ObjectOfParserRefStrVecTuple2StringJsonEmptyText.go_check.Goals as goal
+
+pub returns : goal.returns
+returns g c =
+    let l = c.list_of.ensures in
+    let r = rw (l.item, l.comma, l.opening, l.closing) at c.go_check.ensures.ran in
+    record { ran = rw (l.at_least, l.at_most, l.leading, l.trailing) at r; lent = c.go_check.ensures.lent }
