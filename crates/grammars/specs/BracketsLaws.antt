@@ -1,15 +1,14 @@
 -- The rule takes just what is balanced.
 -- Main law: brackets-exact. Read first: Brackets.antt, ExactlyLaws.antt of chumsky_grammars.
-use Rattle.std.proofs.Common.{◌≡◌, ℕ, zero, suc, ◌+◌, ◌-◌, ◌*◌, ◌<◌, ◌≤◌, ◌^◌, max, min, nat_eq, true, List, [], ◌∷◌, ◌++◌, Option, Some, None, length, refl, sym, ◌∙◌, ap, subst, arith, append_assoc}
+use Rattle.std.proofs.Common.{◌≡◌, ℕ, zero, suc, ◌+◌, ◌-◌, ◌<◌, ◌≤◌, ◌^◌, max, min, nat_eq, true, false, List, [], ◌∷◌, ◌++◌, Option, Some, None, length, refl, ◌∙◌, ap, arith, append_assoc}
 use Rattle.std.proofs.lemmas.List.{length-append, append-nil}
 use Rattle.std.specs.Prelude.{unwrap_or, Result, ⊤}
 use Rattle.chumsky_input.specs.declared.stop.Stop.{Stop}
 use Rattle.chumsky_parser.specs.Ending.{At, Nowhere}
 use Rattle.chumsky_parser.specs.Language.{Language}
-use Rattle.chumsky_parser.specs.Words.{Joined}
 use Rattle.chumsky_parser.specs.declared.result.ParseResult.{ParseResult}
 use Rattle.chumsky_primitive.specs.Literals.{equals-same}
-use Rattle.chumsky_primitive.specs.PrimitiveLanguage.{Equals, literal_language, literal_ends}
+use Rattle.chumsky_primitive.specs.PrimitiveLanguage.{literal_language, literal_ends}
 use Rattle.chumsky_combinator.specs.MappedLanguage.{to_language}
 use Rattle.chumsky.specs.Accepted.{AnswersText, Exactly}
 use Rattle.chumsky_grammars.specs.ExactlyLaws.{exactly-by_rules}
@@ -38,7 +37,8 @@ levels : {p : List ℕ} {d : ℕ} → IsBalanced p d → d + d ≤ length p
 levels none = omega arith
 levels (pair {inside} {after} a b) = let m = length-append inside (41 ∷ after) in omega (arith, m, levels {p = inside} a, levels {p = after} b)
 
-depth_of : (opens inside closes closed both up after v : ℕ) → inside + inside + 2 < 2 ^ 64 → opens ≡ 0 → closes ≡ 0 → closed ≡ max inside closes → both ≡ max opens closed → up ≡ min (both + 1) (2 ^ 64 - 1) → v ≡ max up after → v ≡ max (suc inside) after
+depth_of : (opens inside closes closed both up after v : ℕ) → inside + inside + 2 < 2 ^ 64 → opens ≡ 0 → closes ≡ 0 → closed ≡ max inside closes → both ≡ max opens closed
+    → up ≡ min (both + 1) (2 ^ 64 - 1) → v ≡ max up after → v ≡ max (suc inside) after
 depth_of opens inside closes closed both up after v few o c d b u w = omega arith
 
 module _ (makes : Makes ℕ) (depths : AreDepths makes) where
@@ -77,7 +77,8 @@ module _ (makes : Makes ℕ) (depths : AreDepths makes) where
       let la = levels {p = h.first} a in
       let v_is : v ≡ max x.0.0 x.0.1 = depths.of_option (Some u) v m ∙ depths.of_pair x.0 u x.2 in
       let d : v ≡ max (suc z.0.0) x.0.1 =
-      depth_of y.1.0.0 z.0.0 z.0.1 y.1.0.1 y.0 x.0.0 x.0.1 v (omega (arith, le, la, few)) k.is_first.1 h.is_second.1 (depths.of_pair z.0 y.1.0.1 z.2) (depths.of_pair y.1.0 y.0 y.1.2) (depths.of_map 0 y.0 x.0.0 y.2) v_is in
+      depth_of y.1.0.0 z.0.0 z.0.1 y.1.0.1 y.0 x.0.0 x.0.1 v (omega (arith, le, la, few)) k.is_first.1 h.is_second.1 (depths.of_pair z.0 y.1.0.1 z.2) (depths.of_pair y.1.0 y.0 y.1.2)
+      (depths.of_map 0 y.0 x.0.0 y.2) v_is in
       rw (all, d) (pair {inside = h.first} {after = j.second} a b)
 
   -- a rule that may stay, and calls itself only after a bracket
@@ -88,5 +89,6 @@ module _ (makes : Makes ℕ) (depths : AreDepths makes) where
   pub brackets-exact : {Er spare : Type 0} (limit : ℕ) (ts : List ℕ) → length ts < 2 ^ 64 → length ts < limit → {result : Result (ParseResult ℕ Er) Stop}
       → ((language limit).said ≡ true → AnswersText Some (language limit) ts spare result) → Exactly IsBalanced ts result
   brackets-exact limit ts few enough =
-      exactly-by_rules IsBalanced claims makes (leaves_of leaves) (leaves-are claims leaves ((refl, refl, refl), (refl, refl, refl), tt)) (brackets ∷ []) refl refl limit 0 (omega arith) (omega arith) (λ v s. sound limit ts v few s)
+      exactly-by_rules IsBalanced claims makes (leaves_of leaves) (leaves-are claims leaves refl) (brackets ∷ []) refl refl limit 0 (omega arith)
+      (omega arith) (λ v s. sound limit ts v few s)
       (λ v d. let c : (language limit).ends (ts ++ []) ≡ At [] = complete {p = ts} d [] refl limit enough in rw append-nil at c)

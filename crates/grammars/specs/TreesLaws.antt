@@ -1,6 +1,6 @@
 -- The rule takes just the texts of trees.
 -- Main law: trees-exact. Read first: Trees.antt, SeparatedLaws.antt and ExactlyLaws.antt of chumsky_grammars.
-use Rattle.std.proofs.Common.{◌≡◌, ℕ, zero, suc, ◌+◌, ◌*◌, ◌<◌, ◌≤◌, ◌^◌, nat_eq, Bool, true, false, List, [], ◌∷◌, ◌++◌, Option, Some, None, length, refl, sym, ◌∙◌, ap, subst, arith, append_assoc, inl, inr}
+use Rattle.std.proofs.Common.{◌≡◌, ℕ, zero, suc, ◌+◌, ◌<◌, ◌≤◌, nat_eq, true, false, List, [], ◌∷◌, ◌++◌, Some, length, refl, sym, ◌∙◌, ap, subst, arith, append_assoc, inl, inr}
 use Rattle.std.proofs.lemmas.Bool.Decides.{nat_tests}
 use Rattle.std.proofs.lemmas.List.{length-append, append-nil}
 use Rattle.std.specs.Prelude.{Result, ⊤, codes}
@@ -79,18 +79,23 @@ module _ (makes : Makes Tree) (made : AreMade makes) where
     complete : {w : List ℕ} {t : Tree} → IsTree w t → (rest : List ℕ) (n : ℕ) → length w < n → item n (w ++ rest) ≡ At rest
     complete {w} i rest zero l = absurd (omega (arith, l))
     complete (digit c d) rest (suc n) l = rw d refl
-    complete (empty ts e) rest (suc n) l = let o : list_ends (plain_next (item n) comma) (93 ∷ rest) ≡ At (93 ∷ rest) = no-more (item n) comma 0 (suc (length rest)) (93 ∷ rest) (fails n rest (omega (arith, l))) refl in rw o refl
+    complete (empty ts e) rest (suc n) l =
+        let o : list_ends (plain_next (item n) comma) (93 ∷ rest) ≡ At (93 ∷ rest) = no-more (item n) comma 0 (suc (length rest)) (93 ∷ rest) (fails n rest (omega (arith, l))) refl in
+        rw o refl
     complete (list {w} ts a) rest (suc n) l =
         let m = length-append w (93 ∷ []) in
-        let o : list_ends (plain_next (item n) comma) (w ++ (93 ∷ rest)) ≡ At (93 ∷ rest) = all_taken {w = w} a rest n (omega (arith, l, m)) 0 (length (w ++ (93 ∷ rest))) (w ++ (93 ∷ rest)) refl (omega arith) in
+        let o : list_ends (plain_next (item n) comma) (w ++ (93 ∷ rest)) ≡ At (93 ∷ rest) = all_taken {w = w} a rest n (omega (arith, l, m)) 0 (length (w ++ (93 ∷ rest))) (w ++ (93 ∷ rest)) refl
+        (omega arith) in
         rw (append_assoc, o) refl
 
     -- and so are trees with a comma between each two, before a bracket that closes
-    all_taken : {w : List ℕ} {ts : List Tree} → AreTexts w ts → (rest : List ℕ) (n : ℕ) → suc (length w) < n → (k room : ℕ) (us : List ℕ) → lead_at comma false k us ≡ At (w ++ (93 ∷ rest)) → length (w ++ (93 ∷ rest)) ≤ room
+    all_taken : {w : List ℕ} {ts : List Tree} → AreTexts w ts → (rest : List ℕ) (n : ℕ) → suc (length w) < n → (k room : ℕ) (us : List ℕ) → lead_at comma false k us ≡ At (w ++ (93 ∷ rest))
+        → length (w ++ (93 ∷ rest)) ≤ room
         → list_until (plain_next (item n) comma) room k us ≡ At (93 ∷ rest)
     all_taken {w} a rest n l k zero us e r = let m = length-append w (93 ∷ rest) in absurd (omega (arith, m, r))
     all_taken (one {w} i) rest n l k (suc room) us e r =
-        one-more (item n) comma k room us (w ++ (93 ∷ rest)) (93 ∷ rest) e (complete {w = w} i (93 ∷ rest) n (omega (arith, l))) ∙ no-more (item n) comma (suc k) room (93 ∷ rest) (fails n rest (omega (arith, l))) refl
+        one-more (item n) comma k room us (w ++ (93 ∷ rest)) (93 ∷ rest) e (complete {w = w} i (93 ∷ rest) n (omega (arith, l))) ∙ no-more (item n) comma (suc k) room (93 ∷ rest)
+        (fails n rest (omega (arith, l))) refl
     all_taken (more {w} {ws} i a) rest n l k (suc room) us e r =
         let m = length-append w (44 ∷ ws) in
         let mr = length-append (w ++ (44 ∷ ws)) (93 ∷ rest) in
@@ -116,7 +121,8 @@ module _ (makes : Makes Tree) (made : AreMade makes) where
       let c : k.second ≡ 93 ∷ [] = one_word 93 k.second k.is_second.0 k.is_second.1 in
       let holds : HoldsItems z.0 y.0.0 = made.of_list z.0 y.0.0 z.2 in
       let ts : Vec Tree Global = holds.0 in
-      let items : Items k.first h.items = listed (IsOne (among nat_eq (44 ∷ [])) (λ c. ⊤)) (language n).stands_for Items refl (λ u t s. one (sound n u t s)) (λ u s us t r rs p q a. by_comma u s us t (r ∷ rs) q (more (sound n u t p) a)) h.items k.first h.is in
+      let items : Items k.first h.items = listed (IsOne (among nat_eq (44 ∷ [])) (λ c. ⊤)) (language n).stands_for Items refl (λ u t s. one (sound n u t s))
+      (λ u s us t r rs p q a. by_comma u s us t (r ∷ rs) q (more (sound n u t p) a)) h.items k.first h.is in
       let held : ts.items ≡ h.items = holds.1 ∙ h.held in
       let all : w ≡ 91 ∷ (k.first ++ (93 ∷ [])) = (let q = rw o at j.all in let s = rw c at k.all in q ∙ ap (λ r. 91 ∷ r) s) in
       let first : x.0.0 ≡ tree.Digit j.is_first.0 = j.is_first.2 in
@@ -135,5 +141,6 @@ module _ (makes : Makes Tree) (made : AreMade makes) where
   pub trees-exact : {Er spare : Type 0} (limit : ℕ) (ts : List ℕ) → length ts < limit → {result : Result (ParseResult Tree Er) Stop}
       → ((language limit).said ≡ true → AnswersText Some (language limit) ts spare result) → Exactly IsTree ts result
   trees-exact limit ts enough =
-      exactly-by_rules IsTree claims makes (leaves_of leaves) (leaves-are claims leaves ((refl, refl, refl), (refl, refl, refl), (refl, refl, refl), (refl, refl, refl), tt)) (tree_expression ∷ []) refl refl limit 0 (omega arith) (omega arith) (sound limit ts)
+      exactly-by_rules IsTree claims makes (leaves_of leaves) (leaves-are claims leaves refl)
+      (tree_expression ∷ []) refl refl limit 0 (omega arith) (omega arith) (sound limit ts)
       (λ v d. let c : (language limit).ends (ts ++ []) ≡ At [] = complete {w = ts} d [] limit enough in rw append-nil at c)
