@@ -7,6 +7,7 @@ use Rattle.grammars.specs.BracketsLaws.{brackets-exact}
 use Rattle.grammars.proofs.brackets.parse_brackets.Goals as goal
 
 pub returns : goal.returns
+unfolding chars
 returns c =
     let few = length-le-encodes (chars c.args.text.now) in
     let all = ap length (encodes-chars c.args.text.now c.utf8.text) in
@@ -17,5 +18,5 @@ returns c =
     let start = c.in-Ok.ensures.rules.1 ∙ c.in_ok-rules.ensures.rules.1 in
     let built = rw (c.exact.ensures, rules_are, start, given.0) at c.parse.ensures.3.reads in
     let reads = rw (c.to.ensures.parser, c.to.ensures.value, c.to-2.ensures.parser, c.to-2.ensures.value, c.just.ensures, c.just-2.ensures) at built in
-    brackets-exact _ (record { of_pair = λ p v m. m; of_map = λ f v w m. m; of_option = λ o v m. m }) c.in-Ok.grammar.limit (chars c.args.text.now) (omega (arith, few, all, short))
+    brackets-exact c.in-Ok.grammar.limit (chars c.args.text.now) (omega (arith, few, all, short))
     (omega (arith, few, all, given.1, some)) reads

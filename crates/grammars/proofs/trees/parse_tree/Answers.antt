@@ -18,4 +18,4 @@ returns c =
     let built = rw (c.exact.ensures, rules_are, start, given.0) at c.parse.ensures.3.reads in
     let parsed = rw (c.map_by.ensures.parser, c.map_by-2.ensures.parser, c.map_by-3.ensures.parser, c.map_by-4.ensures.parser) at built in
     let reads = rw (c.one_of.ensures, c.one_of-2.ensures, c.one_of-3.ensures, c.one_of-4.ensures) at parsed in
-    trees-exact _ (record { of_pair = λ p v m. m; of_list = λ items v m. m }) c.in-Ok.grammar.limit (chars c.args.text.now) (omega (arith, few, all, given.1, some)) reads
+    trees-exact c.in-Ok.grammar.limit (chars c.args.text.now) (omega (arith, few, all, given.1, some)) reads
