@@ -27,13 +27,15 @@ module _ {Tok V Er : Type 0} (P : List Tok → V → Type 0) {ts : List Tok} whe
       → ((v : V) → l.stands_for ts v → P ts v) → ((v : V) → P ts v → l.ends ts ≡ At []) → Exactly P ts result
   exactly-decided {result = result} a below sound complete = for_memory P ts result (unless-by_ends P a (a.decided below) (λ v e w x s. sound v s) complete)
 
-  module _ (c : Claims) (makes : Makes V) (leaf : ℕ → Language Tok V) (leaves : AreLeaves c leaf) (rules : List Expression) (founded : all_founded c 0 rules ≡ true) (all : c.count ≡ length rules) (limit start : ℕ) where
+  module _ (c : Claims) (makes : Makes V) (leaf : ℕ → Language Tok V) (leaves : AreLeaves c leaf) (rules : List Expression) (founded : all_founded c 0 rules ≡ true)
+      (all : c.count ≡ length rules) (limit start : ℕ) where
     -- the same of founded rules, under enough calls: more than rules times tokens, and the rank of the start
     pub exactly-by_rules : {spare : Type 0} {result : Result (ParseResult V Er) Stop} → start < c.count → c.count * length ts + c.rank start < limit
         → ((v : V) → (rule_language makes leaf rules limit start).stands_for ts v → P ts v) → ((v : V) → P ts v → (rule_language makes leaf rules limit start).ends ts ≡ At [])
         → ((rule_language makes leaf rules limit start).said ≡ true → AnswersText Some (rule_language makes leaf rules limit start) ts spare result) → Exactly P ts result
     exactly-by_rules one enough sound complete reads =
-        exactly-decided (reads (rule-said c makes leaf leaves.said leaves.moves leaves.decided rules founded all limit start one)) (rule-below c makes leaf leaves.said leaves.moves leaves.decided rules founded all limit start (length ts) one enough) sound complete
+        exactly-decided (reads (rule-said c makes leaf leaves.said leaves.moves leaves.decided rules founded all limit start one))
+        (rule-below c makes leaf leaves.said leaves.moves leaves.decided rules founded all limit start (length ts) one enough) sound complete
 
 -- the one rule of these tables has that body
 pub one-rule : {leaves : ℕ} {e : Expression} (g : Tables) → IsOneRule leaves e g → expressions_of g ≡ e ∷ []

@@ -1,6 +1,6 @@
 -- Of founded rules each has a language that is said, and no text is refused under enough calls.
 -- Main laws: rule-said, rule-moves, rule-below. Read first: Founded.antt, RuleLanguage.antt.
-use Rattle.std.proofs.Common.{◌≡◌, ℕ, zero, suc, ◌+◌, ◌*◌, ◌≤◌, ◌<◌, Bool, true, false, not, nat_lt, Option, Some, None, List, [], ◌∷◌, length, slice_get, refl, sym, subst, arith, zero-add, ◌⊎◌, inl, inr}
+use Rattle.std.proofs.Common.{◌≡◌, ℕ, zero, suc, ◌+◌, ◌*◌, ◌≤◌, ◌<◌, Bool, true, false, not, nat_lt, Option, Some, None, List, [], ◌∷◌, length, slice_get, refl, subst, arith, zero-add, ◌⊎◌, inl, inr}
 use Rattle.std.specs.Prelude.{◌&&◌, ◌||◌}
 use Rattle.std.proofs.Math.Nat.{mul-le-mul_left}
 use Rattle.std.proofs.lemmas.Bool.Decides.{nat_tests}
@@ -9,7 +9,7 @@ use Rattle.chumsky_parser.specs.Language.{Language, IsBelow, later}
 use Rattle.chumsky_parser.specs.ProgressLaws.{both-true, either-true}
 use Rattle.chumsky_grammars.specs.Expression.{Expression, Leaf, Call, Then, Or, Fail, Map, Optional, Repeated, Separated, Not, And, Ahead, Unsaid}
 use Rattle.chumsky_grammars.specs.Founded.{Claims, may_stay, calls_below, goes_on, is_founded, all_founded}
-use Rattle.chumsky_grammars.specs.RuleLanguage.{Makes, expression_language, body_language, rule_language}
+use Rattle.chumsky_grammars.specs.RuleLanguage.{Makes, expression_language, rule_language}
 
 not_true : (x : Bool) → not x ≡ true → x ≡ false
 not_true true e = absurd (cc e)
@@ -43,7 +43,8 @@ after (Some n) zero true h i = omega arith
 after (Some n) (suc k) true h i = let l : k < n = h k (omega arith) in omega (arith, l)
 after (Some n) k false h i = i refl
 
-module _ {Tok V : Type 0} (c : Claims) (makes : Makes V) (leaf : ℕ → Language Tok V) (leaf_said : (n : ℕ) → (leaf n).said ≡ true) (leaf_moves : (n : ℕ) → c.leaf_stays n ≡ false → (leaf n).moves ≡ true)
+module _ {Tok V : Type 0} (c : Claims) (makes : Makes V) (leaf : ℕ → Language Tok V) (leaf_said : (n : ℕ) → (leaf n).said ≡ true)
+    (leaf_moves : (n : ℕ) → c.leaf_stays n ≡ false → (leaf n).moves ≡ true)
     (leaf_decided : (n : ℕ) → (leaf n).refused_from ≡ None) where
   module _ (call : ℕ → Language Tok V) (call_said : (r : ℕ) → r < c.count → (call r).said ≡ true) (call_moves : (r : ℕ) → r < c.count → c.rule_stays r ≡ false → (call r).moves ≡ true) where
     abbrev of : Expression → Language Tok V
@@ -95,7 +96,8 @@ module _ {Tok V : Type 0} (c : Claims) (makes : Makes V) (leaf : ℕ → Languag
     expression_said Unsaid g = absurd (cc g)
 
     -- calls of the rules refuse no text that is shorter than so many tokens, and those of lower rank none that is as long
-    module _ (most rank : ℕ) (shorter : (r k : ℕ) → r < c.count → k < most → IsBelow (call r).refused_from k) (lower : (r k : ℕ) → r < c.count → k ≤ most → c.rank r < rank → IsBelow (call r).refused_from k) where
+    module _ (most rank : ℕ) (shorter : (r k : ℕ) → r < c.count → k < most → IsBelow (call r).refused_from k)
+        (lower : (r k : ℕ) → r < c.count → k ≤ most → c.rank r < rank → IsBelow (call r).refused_from k) where
       -- fewer tokens are left, or it calls only rules of lower rank where it begins
       abbrev Allowed : Expression → ℕ → Type 0
       Allowed e k = (k < most) ⊎ ((k ≤ most) × (calls_below c rank e ≡ true))
@@ -126,11 +128,13 @@ module _ {Tok V : Type 0} (c : Claims) (makes : Makes V) (leaf : ℕ → Languag
       below (Then e f) g k a =
           let h = both-true (goes_on c e) (goes_on c f) g in
           let q = at_most (Then e f) k a in
-          both-below (of e).refused_from (later (of f).refused_from (of e).moves) k (below e h.0 k (part (Then e f) e k a (λ b. (both-true (calls_below c rank e) (not (may_stay c e) || calls_below c rank f) b).0)))
+          both-below (of e).refused_from (later (of f).refused_from (of e).moves) k
+          (below e h.0 k (part (Then e f) e k a (λ b. (both-true (calls_below c rank e) (not (may_stay c e) || calls_below c rank f) b).0)))
           (after (of f).refused_from k (of e).moves (λ j l. below f h.1 j (inl (omega (arith, l, q)))) (λ m. below f h.1 k (next e f k a h.0 m)))
       below (Or e f) g k a =
           let h = both-true (goes_on c e) (goes_on c f) g in
-          both-below (of e).refused_from (of f).refused_from k (below e h.0 k (part (Or e f) e k a (λ b. (both-true (calls_below c rank e) (calls_below c rank f) b).0))) (below f h.1 k (part (Or e f) f k a (λ b. (both-true (calls_below c rank e) (calls_below c rank f) b).1)))
+          both-below (of e).refused_from (of f).refused_from k (below e h.0 k (part (Or e f) e k a (λ b. (both-true (calls_below c rank e) (calls_below c rank f) b).0)))
+          (below f h.1 k (part (Or e f) f k a (λ b. (both-true (calls_below c rank e) (calls_below c rank f) b).1)))
       below Fail g k a = tt
       below (Map e f) g k a = below e g k (part (Map e f) e k a (λ b. b))
       below (Optional e) g k a = below e g k (part (Optional e) e k a (λ b. b))
@@ -142,7 +146,8 @@ module _ {Tok V : Type 0} (c : Claims) (makes : Makes V) (leaf : ℕ → Languag
       below (Not e) g k a = below e g k (part (Not e) e k a (λ b. b))
       below (And e f) g k a =
           let h = both-true (goes_on c e) (goes_on c f) g in
-          both-below (of e).refused_from (of f).refused_from k (below e h.0 k (part (And e f) e k a (λ b. (both-true (calls_below c rank e) (calls_below c rank f) b).0))) (below f h.1 k (part (And e f) f k a (λ b. (both-true (calls_below c rank e) (calls_below c rank f) b).1)))
+          both-below (of e).refused_from (of f).refused_from k (below e h.0 k (part (And e f) e k a (λ b. (both-true (calls_below c rank e) (calls_below c rank f) b).0)))
+          (below f h.1 k (part (And e f) f k a (λ b. (both-true (calls_below c rank e) (calls_below c rank f) b).1)))
       below (Ahead e) g k a = below e g k (part (Ahead e) e k a (λ b. b))
       below Unsaid g k a = absurd (cc g)
 
@@ -209,7 +214,8 @@ module _ {Tok V : Type 0} (c : Claims) (makes : Makes V) (leaf : ℕ → Languag
         let b = body r l in
         let i = are_said n in
         let same : k ≤ k = omega arith in
-        rw b.is (below (called n) i.said i.moves k (c.rank r) (λ s j m d. rule-below n s j m (fewer n r s k j w d (body s m).ranked)) (λ s j m d e. rule-below n s j m (lower_rank n r s k j w d e)) b.expression b.goes k (inr (same, b.below)))
+        rw b.is (below (called n) i.said i.moves k (c.rank r) (λ s j m d. rule-below n s j m (fewer n r s k j w d (body s m).ranked))
+        (λ s j m d e. rule-below n s j m (lower_rank n r s k j w d e)) b.expression b.goes k (inr (same, b.below)))
       where
         fewer : (n r s k j : ℕ) → c.count * k + c.rank r < suc n → j < k → c.rank s < c.count → c.count * j + c.rank s < n
         fewer n r s k j w d b =

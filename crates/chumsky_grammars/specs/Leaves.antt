@@ -1,10 +1,11 @@
 -- The languages of leaves that stand in a list.
--- Main words: leaves_of, AreLeaves. Laws: leaves-accept, leaves-are. Read first: RuleLanguage.antt, Founded.antt.
-use Rattle.std.proofs.Common.{◌≡◌, ℕ, zero, suc, true, false, Option, Some, None, List, [], ◌∷◌, map, slice_get, refl}
-use Rattle.std.specs.Prelude.{⊤}
+-- Main words: leaves_of, AreLeaves, all_move. Laws: leaves-accept, leaves-are. Read first: RuleLanguage.antt, Founded.antt.
+use Rattle.std.proofs.Common.{◌≡◌, ℕ, zero, suc, Bool, true, false, not, Option, Some, None, List, [], ◌∷◌, map, slice_get, refl}
+use Rattle.std.specs.Prelude.{◌&&◌, is_some}
 use Rattle.chumsky_input.specs.Outcome.{Meaning}
 use Rattle.chumsky_parser.specs.Language.{Language, Accepts}
 use Rattle.chumsky_parser.specs.LanguageLaws.{fewer-accepts}
+use Rattle.chumsky_parser.specs.ProgressLaws.{both-true}
 use Rattle.chumsky_choice.specs.ChoiceLanguages.{no_language}
 use Rattle.chumsky_recursive.specs.InPlace.{InPlace}
 use Rattle.chumsky_recursive.specs.Leaves.{listed_leaf}
@@ -22,29 +23,30 @@ pub record AreLeaves {Tok V : Type 0} (c : Claims) (leaf : ℕ → Language Tok 
   pub moves : (n : ℕ) → c.leaf_stays n ≡ false → (leaf n).moves ≡ true
   pub decided : (n : ℕ) → (leaf n).refused_from ≡ None
 
--- so each of a list, of which none stays
-abbrev pub AllMove : {Tok V : Type 0} → List (Language Tok V) → Type 0
-AllMove [] = ⊤
-AllMove (l ∷ ls) = ((l.said ≡ true) × (l.moves ≡ true) × (l.refused_from ≡ None)) × AllMove ls
+-- a test that each of a list is said, takes a token and refuses no text
+abbrev pub all_move : {Tok V : Type 0} → List (Language Tok V) → Bool
+all_move [] = true
+all_move (l ∷ ls) = ((l.said && l.moves) && not (is_some l.refused_from)) && all_move ls
 
-module _ {Tok V : Type 0} (c : Claims) where
-  all_said : (ls : List (Language Tok V)) → AllMove ls → (n : ℕ) → (leaves_of ls n).said ≡ true
-  all_said [] h n = refl
-  all_said (l ∷ ls) h zero = h.0.0
-  all_said (l ∷ ls) h (suc n) = all_said ls h.1 n
+is_none : (n : Option ℕ) → not (is_some n) ≡ true → n ≡ None
+is_none (Some n) e = absurd (cc e)
+is_none None e = refl
 
-  all_move : (ls : List (Language Tok V)) → AllMove ls → (n : ℕ) → (leaves_of ls n).moves ≡ true
-  all_move [] h n = refl
-  all_move (l ∷ ls) h zero = h.0.1
-  all_move (l ∷ ls) h (suc n) = all_move ls h.1 n
+module _ {Tok V : Type 0} where
+  one_of_all : (l : Language Tok V) (ls : List (Language Tok V)) → all_move (l ∷ ls) ≡ true → ((l.said ≡ true) × (l.moves ≡ true) × (l.refused_from ≡ None)) × (all_move ls ≡ true)
+  one_of_all l ls e =
+      let h = both-true ((l.said && l.moves) && not (is_some l.refused_from)) (all_move ls) e in
+      let k = both-true (l.said && l.moves) (not (is_some l.refused_from)) h.0 in
+      let m = both-true l.said l.moves k.0 in
+      ((m.0, m.1, is_none l.refused_from k.1), h.1)
 
-  all_decided : (ls : List (Language Tok V)) → AllMove ls → (n : ℕ) → (leaves_of ls n).refused_from ≡ None
-  all_decided [] h n = refl
-  all_decided (l ∷ ls) h zero = h.0.2
-  all_decided (l ∷ ls) h (suc n) = all_decided ls h.1 n
+  each_moves : (ls : List (Language Tok V)) → all_move ls ≡ true → (n : ℕ) → ((leaves_of ls n).said ≡ true) × ((leaves_of ls n).moves ≡ true) × ((leaves_of ls n).refused_from ≡ None)
+  each_moves [] e n = (refl, refl, refl)
+  each_moves (l ∷ ls) e zero = (one_of_all l ls e).0
+  each_moves (l ∷ ls) e (suc n) = each_moves ls (one_of_all l ls e).1 n
 
-  pub leaves-are : (ls : List (Language Tok V)) → AllMove ls → AreLeaves c (leaves_of ls)
-  leaves-are ls h = record { said = all_said ls h; moves = λ n s. all_move ls h n; decided = all_decided ls h }
+  pub leaves-are : (c : Claims) (ls : List (Language Tok V)) → all_move ls ≡ true → AreLeaves c (leaves_of ls)
+  leaves-are c ls e = record { said = λ n. (each_moves ls e n).0; moves = λ n s. (each_moves ls e n).1; decided = λ n. (each_moves ls e n).2 }
 
 module _ {P Tok Cx St Er V spare : Type 0} (meaning : P → Meaning Tok Cx St Er V) (language : P → Language Tok V) (h : (p : P) → Accepts (meaning p) (language p) spare) where
   -- past the list nothing is done

@@ -1,7 +1,7 @@
 -- What nodes make of their parts accepts the language that is said: values that are made, and parts that are waited for.
 -- Main laws: in_memory-accepts, made-accepts, pair-accepts, waited-accepts. Read first: RuleLanguage.antt, Means.antt of chumsky_recursive.
 use Rattle.std.proofs.Common.{◌≡◌, Bool, true, false, ◌||◌, Option, Some, None, List, drop, subst, inl, inr}
-use Rattle.chumsky_input.specs.Outcome.{Meaning, Beginning, Outcome, EndsAfterStart}
+use Rattle.chumsky_input.specs.Outcome.{Meaning, Beginning, EndsAfterStart}
 use Rattle.chumsky_parser.specs.Chained.{Chained, both}
 use Rattle.chumsky_parser.specs.Ending.{Ending, At, Ender, and_then, Ends, Within, IfValue, Answers, Here, Reads}
 use Rattle.chumsky_parser.specs.EndingLaws.{chained-here, given-here, and_then_some, ends_there, refuses-by}
@@ -127,7 +127,8 @@ module _ {Tok Cx St Er V W X : Type 0} (first : Meaning Tok Cx St Er V) (second 
         | inr x ↦ chained-second first _ ef (λ v. chained-first second _ (hs x) (λ w. made-ends pairs (both v w)))
       ]
 
-  pub pair-accepts : {F : Language Tok V} {G : Language Tok W} {spare : Type 0} → EndsAfterStart first → EndsAfterStart second → Accepts first F spare → Accepts second G spare → Accepts Paired (made_language (given_by pairs) (then_language F G)) spare
+  pub pair-accepts : {F : Language Tok V} {G : Language Tok W} {spare : Type 0} → EndsAfterStart first → EndsAfterStart second → Accepts first F spare → Accepts second G spare
+      → Accepts Paired (made_language (given_by pairs) (then_language F G)) spare
   pair-accepts {F} {G} ef es h k = record {
     described = λ s.
         let t = both-true F.said G.said s in

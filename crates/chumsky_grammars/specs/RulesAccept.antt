@@ -1,21 +1,19 @@
 -- Each call of a rule accepts its language.
 -- Main word: makes_of. Main law: call-accepts. Read first: Compiled.antt, RuleLanguage.antt, Means.antt of chumsky_recursive.
-use Rattle.std.proofs.Common.{◌≡◌, ℕ, zero, suc, Bool, false, Option, Some, None, List, [], ◌∷◌, map, slice_get, refl, arith, inr}
+use Rattle.std.proofs.Common.{ℕ, zero, suc, Bool, false, Option, Some, None, List, [], ◌∷◌, map, slice_get, refl, arith, inr}
 use Rattle.std.proofs.lemmas.Option.{slice_get-map}
 use Rattle.std.specs.Prelude.{option_map}
 use Rattle.chumsky_input.specs.declared.error.Error as error_trait
 use Rattle.chumsky_input.specs.declared.inspector.Inspector as inspector_trait
 use Rattle.chumsky_input.specs.declared.input.Input as input_trait
 use Rattle.chumsky_input.specs.declared.stop.Stop.TheVariants.{TooDeep}
-use Rattle.chumsky_input.specs.Outcome.{Meaning, Beginning, Outcome, EndsAfterStart}
+use Rattle.chumsky_input.specs.Outcome.{Meaning, EndsAfterStart}
 use Rattle.chumsky_parser.specs.Chained.{Given}
 use Rattle.chumsky_parser.specs.Choice.{FirstOf}
 use Rattle.chumsky_parser.specs.ChoiceLanguage.{AcceptInOrder, last-accepts, next-accepts}
-use Rattle.chumsky_parser.specs.Ending.{Ending, Refused, Answers}
 use Rattle.chumsky_parser.specs.Failure.{Stops}
 use Rattle.chumsky_parser.specs.Language.{Language, Accepts, of_unsaid}
 use Rattle.chumsky_parser.specs.LanguageLaws.{fewer-accepts}
-use Rattle.chumsky_parser.specs.Progress.{IsYes}
 use Rattle.chumsky_combinator.specs.Optional.{OrNone}
 use Rattle.chumsky_combinator.specs.OptionalLanguage.{or_not-accepts}
 use Rattle.chumsky_choice.specs.Among.{FirstAmong}
@@ -34,7 +32,7 @@ use Rattle.chumsky_recursive.specs.Means.{Acts, AreThose, Values, bounds_of, in_
 use Rattle.chumsky_recursive.specs.MeansLaws.{ActsEnd, waited-ends, node-ends, call-ends}
 use Rattle.chumsky_grammars.specs.Expression.{Expression, Leaf, Call, Then, Or, Fail, Map, Optional, Repeated, Separated, Not, And, Ahead, Unsaid, choice_of}
 use Rattle.chumsky_grammars.specs.Compiled.{kind_expression, known_expression, node_expression, body_expression, expressions_of}
-use Rattle.chumsky_grammars.specs.RuleLanguage.{Makes, in_memory, expression_language, body_language, too_deep, rule_language}
+use Rattle.chumsky_grammars.specs.RuleLanguage.{Makes, expression_language, body_language, too_deep, rule_language}
 use Rattle.chumsky_grammars.specs.MadeLanguages.{in_memory-accepts, waited-accepts, made-accepts, pair-accepts}
 
 -- what these actions make of values, where there is memory
@@ -94,7 +92,8 @@ Spare errors states = errors.takes_no_memory × states.takes_no_memory
 
 module _ {I Tok Sp Cu Er St Mk Cx V : Type 0} (source : input_trait.Ghosts I Cu Tok Sp) (errors : error_trait.Ghosts Er I Tok Sp) (states : inspector_trait.Ghosts St I Mk Tok Sp) where
   module _ (a : Acts Tok Cx states.Seen errors.Seen V) (leaf : ℕ → Language Tok V) (ends : ActsEnd a) (leaves : (n : ℕ) → Accepts (a.leaf n) (leaf n) (Spare errors states)) where
-    module _ (call : ℕ → Meaning Tok Cx states.Seen errors.Seen V) (called : ℕ → Language Tok V) (call_ends : (r : ℕ) → EndsAfterStart (call r)) (calls : (r : ℕ) → Accepts (call r) (called r) (Spare errors states))
+    module _ (call : ℕ → Meaning Tok Cx states.Seen errors.Seen V) (called : ℕ → Language Tok V) (call_ends : (r : ℕ) → EndsAfterStart (call r))
+        (calls : (r : ℕ) → Accepts (call r) (called r) (Spare errors states))
         (in_calls : CallsTakeMemory called) where
       abbrev of : Expression → Language Tok V
       of = expression_language (makes_of a) leaf called
@@ -104,14 +103,16 @@ module _ {I Tok Sp Cu Er St Mk Cx V : Type 0} (source : input_trait.Ghosts I Cu 
 
       module _ (sub : ℕ → Expression) (part last : ℕ → Meaning Tok Cx states.Seen errors.Seen V) (part_ends : (n : ℕ) → EndsAfterStart (part n)) (last_ends : (n : ℕ) → EndsAfterStart (last n))
           (parts : (n : ℕ) → IsOf (sub n) (part n)) (lasts : (n : ℕ) → IsOf (sub n) (last n)) where
-        in_order : (n : ℕ) (ns : List ℕ) → AcceptInOrder states.mark states.back {safe = states.takes_no_memory} {spare = Spare errors states} (λ q. q.1) (part n) (map part ns) (of (choice_of (map sub (n ∷ ns))))
+        in_order : (n : ℕ) (ns : List ℕ) → AcceptInOrder states.mark states.back {safe = states.takes_no_memory} {spare = Spare errors states} (λ q. q.1) (part n) (map part ns)
+            (of (choice_of (map sub (n ∷ ns))))
         in_order n [] = last-accepts states.mark states.back (λ q. q.1) (part n) (parts n)
         in_order n (m ∷ ns) = next-accepts states.mark states.back (λ q. q.1) (part n) (parts n) (part m) (map part ns) (in_order m ns)
 
         choice_accepts : (ns : List ℕ) → IsOf (choice_of (map sub ns)) (FirstAmong source errors states (map part ns))
         choice_accepts [] = in_memory-accepts (FirstAmong source errors states []) (among-accepts source errors states part (λ n. of (sub n)) parts [])
         choice_accepts (n ∷ ns) =
-            fewer-accepts (FirstAmong source errors states (map part (n ∷ ns))) (FirstOf states.mark states.back states.takes_no_memory (part n) (map part ns)) (λ b o m. m.cases) (of (choice_of (map sub (n ∷ ns)))) (in_order n ns).first_of
+            fewer-accepts (FirstAmong source errors states (map part (n ∷ ns))) (FirstOf states.mark states.back states.takes_no_memory (part n) (map part ns)) (λ b o m. m.cases)
+            (of (choice_of (map sub (n ∷ ns)))) (in_order n ns).first_of
 
         kind_accepts : (k : NodeKind) → IsOf (kind_expression sub k) (kind_means source errors states a call part last k)
         kind_accepts (kind.Leaf n) = in_memory-accepts (a.leaf n) (leaves n)
@@ -121,10 +122,12 @@ module _ {I Tok Sp Cu Er St Mk Cx V : Type 0} (source : input_trait.Ghosts I Cu 
         kind_accepts (kind.Map n f) = made-accepts (a.maps f) (last n) (lasts n)
         kind_accepts (kind.Repeated n least most) =
             let step = Repeats states.mark states.back states.takes_no_memory (part n) false least most in
-            made-accepts a.lists (Values step) (collects-accepts step (Given (Some 0)) (repeated_language (of (sub n)) least most) AreThose ⊥ (repeated-accepts states.mark states.back states.takes_no_memory (part n) false least most (of (sub n)) (parts n)))
+            made-accepts a.lists (Values step) (collects-accepts step (Given (Some 0)) (repeated_language (of (sub n)) least most) AreThose ⊥
+            (repeated-accepts states.mark states.back states.takes_no_memory (part n) false least most (of (sub n)) (parts n)))
         kind_accepts (kind.SeparatedBy n m config) =
             let step = Separates states.mark states.back states.takes_no_memory (part m) (part n) (bounds_of config) in
-            made-accepts a.lists (Values step) (collects-accepts step (Given (Some 0)) (separated_language (of (sub m)) (of (sub n)) (bounds_of config)) AreThose ⊥ (separated-accepts states.mark states.back states.takes_no_memory (part m) (part n) (bounds_of config) (of (sub m)) (of (sub n)) (parts m) (parts n)))
+            made-accepts a.lists (Values step) (collects-accepts step (Given (Some 0)) (separated_language (of (sub m)) (of (sub n)) (bounds_of config)) AreThose ⊥
+            (separated-accepts states.mark states.back states.takes_no_memory (part m) (part n) (bounds_of config) (of (sub m)) (of (sub n)) (parts m) (parts n)))
         kind_accepts (kind.OrNot n) = made-accepts a.options (OrNone states.mark states.back states.takes_no_memory (part n)) (or_not-accepts states.mark states.back (λ q. q.1) (part n) (parts n))
         kind_accepts (kind.Not n) = made-accepts a.units (MeansNot source errors states (part n)) (not-accepts source errors states (part n) (parts n))
         kind_accepts (kind.AndIs n m) = and_is-accepts states.mark states.back (λ q. q.1) (part n) (part m) (parts n) (parts m)
@@ -132,19 +135,23 @@ module _ {I Tok Sp Cu Er St Mk Cx V : Type 0} (source : input_trait.Ghosts I Cu 
         kind_accepts (kind.TryMap n f) = of_unsaid
 
       module _ (nodes : List NodeKind) where
-        known_accepts : (sub : ℕ → Expression) (part : ℕ → Meaning Tok Cx states.Seen errors.Seen V) → ((n : ℕ) → EndsAfterStart (part n)) → ((n : ℕ) → IsOf (sub n) (part n)) → (k : Option NodeKind) → IsOf (known_expression sub k) (known_means source errors states a nodes call part k)
+        known_accepts : (sub : ℕ → Expression) (part : ℕ → Meaning Tok Cx states.Seen errors.Seen V) → ((n : ℕ) → EndsAfterStart (part n)) → ((n : ℕ) → IsOf (sub n) (part n))
+            → (k : Option NodeKind) → IsOf (known_expression sub k) (known_means source errors states a nodes call part k)
         known_accepts sub part ends parts None = of_unsaid
         known_accepts sub part ends parts (Some k) =
             let waits : ℕ → Bool = waits_for (is_leaf nodes) k in
             kind_accepts sub (waited in_each_run waits part) (waited for_a_value waits part) (waited-ends in_each_run waits part ends) (waited-ends for_a_value waits part ends)
-            (λ n. waited-accepts (part n) in_each_run (waits n) (takes_memory (makes_of a) leaf called in_calls (sub n)) (parts n)) (λ n. waited-accepts (part n) for_a_value (waits n) (takes_memory (makes_of a) leaf called in_calls (sub n)) (parts n)) k
+            (λ n. waited-accepts (part n) in_each_run (waits n) (takes_memory (makes_of a) leaf called in_calls (sub n)) (parts n))
+            (λ n. waited-accepts (part n) for_a_value (waits n) (takes_memory (makes_of a) leaf called in_calls (sub n)) (parts n)) k
 
         node_accepts : (bound n : ℕ) → IsOf (node_expression nodes bound n) (node_means source errors states a call nodes bound n)
         unfolding node_means
         node_accepts zero n = of_unsaid
-        node_accepts (suc bound) n = known_accepts (node_expression nodes bound) (node_means source errors states a call nodes bound) (node-ends source errors states a ends call call_ends nodes bound) (node_accepts bound) (slice_get nodes n)
+        node_accepts (suc bound) n = known_accepts (node_expression nodes bound) (node_means source errors states a call nodes bound)
+            (node-ends source errors states a ends call call_ends nodes bound) (node_accepts bound) (slice_get nodes n)
 
-        body_accepts : (body : Option (Option ℕ)) → Accepts (body_means source errors states a call nodes body) (body_language (makes_of a) leaf called (option_map (body_expression nodes) body)) (Spare errors states)
+        body_accepts : (body : Option (Option ℕ)) → Accepts (body_means source errors states a call nodes body) (body_language (makes_of a) leaf called (option_map (body_expression nodes) body))
+            (Spare errors states)
         body_accepts None = of_unsaid
         body_accepts (Some None) = of_unsaid
         body_accepts (Some (Some n)) = node_accepts (suc n) n
@@ -159,4 +166,5 @@ module _ {I Tok Sp Cu Er St Mk Cx V : Type 0} (source : input_trait.Ghosts I Cu 
       call-accepts zero r = too_deep-accepts
       call-accepts (suc more) r =
           rw (slice_get-map (body_expression g.nodes) g.bodies r)
-          (body_accepts (call_means source errors states a g more) (called_rule more) (call-ends source errors states a ends g more) (call-accepts more) (calls_take (makes_of a) leaf (expressions_of g) more) g.nodes (slice_get g.bodies r))
+          (body_accepts (call_means source errors states a g more) (called_rule more) (call-ends source errors states a ends g more) (call-accepts more)
+          (calls_take (makes_of a) leaf (expressions_of g) more) g.nodes (slice_get g.bodies r))

@@ -1,4 +1,6 @@
 //! A grammar by rules that has a language.
+ghost use Rattle.std.specs.Prelude.{◌≡◌};
+
 use chumsky::IsParser;
 use chumsky::recursive::{Actions, Grammar, Leaves, MayStay, Moving, Values};
 use chumsky_input::extra::ParserExtra;
@@ -7,11 +9,20 @@ use chumsky_input::input_ref::InputRef;
 use chumsky_input::stop::PResult;
 use chumsky_parser::parser::Parser;
 
-/// A grammar over leaves that stand in a list, with the language of its start rule: `ExactGrammar { grammar }.parse(alloc, input)`.
-/// It does what the grammar does; and `parse` and `check` say of a text what the language says.
-#[derive_where(Clone, Copy)]
-pub struct ExactGrammar<'r, 'a, P, W> {
-    pub grammar: Grammar<'r, Leaves<'a, P, W>>,
+/// A grammar with the language of its start rule. It is a parser where its leaves stand in a list, and does what the grammar does;
+/// and `parse` and `check` say of a text what the language says. See `exact`.
+#[derive(Drop)]
+#[derive_where(Clone, Copy; G)]
+pub struct ExactGrammar<G> {
+    pub grammar: G,
+}
+
+/// The grammar, with its language: `exact(grammar).parse(alloc, input)`.
+#[inline]
+pub fn exact<G>(grammar: G) -> ExactGrammar<G>
+    ensures { result.grammar ≡ grammar }
+{
+    ExactGrammar { grammar }
 }
 
 impl<
@@ -22,10 +33,10 @@ impl<
     E: ParserExtra<I>,
     W: Values<I::Span, E::Error>,
     P: Moving<'src, I, W::Value, E>,
-> IsParser<I, W::Value, E> for ExactGrammar<'r, 'a, P, W> {}
+> IsParser<I, W::Value, E> for ExactGrammar<Grammar<'r, Leaves<'a, P, W>>> {}
 
 /// It may be a leaf of another grammar, which takes it for a leaf that may succeed where it begins.
-impl<'r, 'a, P, W> MayStay for ExactGrammar<'r, 'a, P, W> {}
+impl<G> MayStay for ExactGrammar<G> {}
 
 impl<
     'src,
@@ -35,7 +46,7 @@ impl<
     E: ParserExtra<I>,
     W: Values<I::Span, E::Error>,
     P: Moving<'src, I, W::Value, E>,
-> Parser<'src, I, W::Value, E> for ExactGrammar<'r, 'a, P, W> {
+> Parser<'src, I, W::Value, E> for ExactGrammar<Grammar<'r, Leaves<'a, P, W>>> {
     ghost use Rattle.std.specs.Prelude.{map, slice_get};
     ghost use Rattle.chumsky_recursive.specs.Means.{acts_of, call_means};
     ghost use Rattle.chumsky_recursive.specs.MeansLaws.{call-ends, call-agrees, by_try-alike};

@@ -8,6 +8,7 @@ use Rattle.chumsky_rules.specs.declared.kinds.SepCfg.{SepCfg}
 use Rattle.chumsky_grammars.specs.Expression.{Expression, Leaf, Call, Then, Or, Separated}
 use Rattle.grammars.specs.declared.trees.Tree.{Tree}
 use Rattle.grammars.specs.declared.trees.Tree as tree
+use Rattle.grammars.specs.declared.trees.Tree.TheVariants as variant
 
 mutual
   -- a text is a tree: a digit, or brackets with nothing or with trees between them
@@ -23,8 +24,8 @@ mutual
 
 -- a list stands before what follows it, and a bracket does not
 abbrev pub kept : Tree → Tree → Tree
-kept (tree.Digit c) other = other
-kept (tree.List ts) other = tree.List ts
+kept (variant.Digit c) other = other
+kept (variant.List' shape row) other = variant.List' shape row
 
 -- the list of these
 abbrev pub HoldsItems : List Tree → Tree → Type 0

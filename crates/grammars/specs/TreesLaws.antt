@@ -1,6 +1,6 @@
 -- The rule takes just the texts of trees.
 -- Main law: trees-exact. Read first: Trees.antt, SeparatedLaws.antt and ExactlyLaws.antt of chumsky_grammars.
-use Rattle.std.proofs.Common.{◌≡◌, ℕ, zero, suc, ◌+◌, ◌*◌, ◌<◌, ◌≤◌, ◌^◌, nat_eq, Bool, true, false, List, [], ◌∷◌, ◌++◌, Option, Some, None, length, refl, sym, ◌∙◌, ap, subst, arith, append_assoc, inl, inr}
+use Rattle.std.proofs.Common.{◌≡◌, ℕ, zero, suc, ◌+◌, ◌<◌, ◌≤◌, nat_eq, true, false, List, [], ◌∷◌, ◌++◌, Some, length, refl, sym, ◌∙◌, ap, subst, arith, append_assoc, inl, inr}
 use Rattle.std.proofs.lemmas.Bool.Decides.{nat_tests}
 use Rattle.std.proofs.lemmas.List.{length-append, append-nil}
 use Rattle.std.specs.Prelude.{Result, ⊤, codes}
@@ -37,9 +37,8 @@ abbrev pub leaves : List (Language ℕ Tree)
 leaves = symbol (codes "0123456789") ∷ symbol (codes "[") ∷ symbol (codes ",") ∷ symbol (codes "]") ∷ []
 
 -- of two parts a list is kept, and a list holds its items
-pub record AreMade (makes : Makes Tree) : Type 0 where
-  pub of_pair : (p : Tree × Tree) (v : Tree) → makes.pair p v → v ≡ kept p.0 p.1
-  pub of_list : (items : List Tree) (v : Tree) → makes.list items v → HoldsItems items v
+abbrev pub trees : Makes Tree
+trees = record { pair = λ p v. v ≡ kept p.0 p.1; map = λ f v w. ⊤; option = λ o v. ⊤; unit = λ v. ⊤; list = HoldsItems }
 
 -- nothing, or trees with a comma between each two
 abbrev Items : List ℕ → List Tree → Type 0
@@ -58,82 +57,88 @@ only_member c t e = grind (arith, nat_tests)
 one_word : (c : ℕ) (w : List ℕ) (v : ℕ) → IsOne (among nat_eq (c ∷ [])) (λ t. v ≡ t) w → w ≡ c ∷ []
 one_word c w v i = let e : i.token ≡ c = only_member c i.token i.passes in rw e at i.all
 
-module _ (makes : Makes Tree) (made : AreMade makes) where
-  -- the language of the rule
-  abbrev pub language : ℕ → Language ℕ Tree
-  language n = rule_language makes (leaves_of leaves) (tree_expression ∷ []) n 0
+-- the language of the rule
+abbrev pub language : ℕ → Language ℕ Tree
+language n = rule_language trees (leaves_of leaves) (tree_expression ∷ []) n 0
 
-  abbrev item : ℕ → Ender ℕ
-  item n = (language n).ends
+abbrev item : ℕ → Ender ℕ
+item n = (language n).ends
 
-  abbrev comma : Ender ℕ
-  comma = (symbol (codes ",")).ends
+abbrev comma : Ender ℕ
+comma = (symbol (codes ",")).ends
 
-  -- no tree begins with a bracket that closes
-  fails : (n : ℕ) (rest : List ℕ) → 0 < n → item n (93 ∷ rest) ≡ Nowhere
-  fails zero rest l = absurd (omega arith)
-  fails (suc n) rest l = refl
+-- no tree begins with a bracket that closes
+fails : (n : ℕ) (rest : List ℕ) → 0 < n → item n (93 ∷ rest) ≡ Nowhere
+fails zero rest l = absurd (omega arith)
+fails (suc n) rest l = refl
 
-  mutual
-    -- what is a tree is taken
-    complete : {w : List ℕ} {t : Tree} → IsTree w t → (rest : List ℕ) (n : ℕ) → length w < n → item n (w ++ rest) ≡ At rest
-    complete {w} i rest zero l = absurd (omega (arith, l))
-    complete (digit c d) rest (suc n) l = rw d refl
-    complete (empty ts e) rest (suc n) l = let o : list_ends (plain_next (item n) comma) (93 ∷ rest) ≡ At (93 ∷ rest) = no-more (item n) comma 0 (suc (length rest)) (93 ∷ rest) (fails n rest (omega (arith, l))) refl in rw o refl
-    complete (list {w} ts a) rest (suc n) l =
-        let m = length-append w (93 ∷ []) in
-        let o : list_ends (plain_next (item n) comma) (w ++ (93 ∷ rest)) ≡ At (93 ∷ rest) = all_taken {w = w} a rest n (omega (arith, l, m)) 0 (length (w ++ (93 ∷ rest))) (w ++ (93 ∷ rest)) refl (omega arith) in
-        rw (append_assoc, o) refl
+mutual
+  -- what is a tree is taken
+  complete : {w : List ℕ} {t : Tree} → IsTree w t → (rest : List ℕ) (n : ℕ) → length w < n → item n (w ++ rest) ≡ At rest
+  complete {w} i rest zero l = absurd (omega (arith, l))
+  complete (digit c d) rest (suc n) l = rw d refl
+  complete (empty ts e) rest (suc n) l =
+      let o : list_ends (plain_next (item n) comma) (93 ∷ rest) ≡ At (93 ∷ rest) = no-more (item n) comma 0 (suc (length rest)) (93 ∷ rest) (fails n rest (omega (arith, l))) refl in
+      rw o refl
+  complete (list {w} ts a) rest (suc n) l =
+      let m = length-append w (93 ∷ []) in
+      let o : list_ends (plain_next (item n) comma) (w ++ (93 ∷ rest)) ≡ At (93 ∷ rest) = all_taken {w = w} a rest n (omega (arith, l, m)) 0 (length (w ++ (93 ∷ rest))) (w ++ (93 ∷ rest)) refl
+      (omega arith) in
+      rw (append_assoc, o) refl
 
-    -- and so are trees with a comma between each two, before a bracket that closes
-    all_taken : {w : List ℕ} {ts : List Tree} → AreTexts w ts → (rest : List ℕ) (n : ℕ) → suc (length w) < n → (k room : ℕ) (us : List ℕ) → lead_at comma false k us ≡ At (w ++ (93 ∷ rest)) → length (w ++ (93 ∷ rest)) ≤ room
-        → list_until (plain_next (item n) comma) room k us ≡ At (93 ∷ rest)
-    all_taken {w} a rest n l k zero us e r = let m = length-append w (93 ∷ rest) in absurd (omega (arith, m, r))
-    all_taken (one {w} i) rest n l k (suc room) us e r =
-        one-more (item n) comma k room us (w ++ (93 ∷ rest)) (93 ∷ rest) e (complete {w = w} i (93 ∷ rest) n (omega (arith, l))) ∙ no-more (item n) comma (suc k) room (93 ∷ rest) (fails n rest (omega (arith, l))) refl
-    all_taken (more {w} {ws} i a) rest n l k (suc room) us e r =
-        let m = length-append w (44 ∷ ws) in
-        let mr = length-append (w ++ (44 ∷ ws)) (93 ∷ rest) in
-        let ms = length-append ws (93 ∷ rest) in
-        let d : lead_at comma false k us ≡ At (w ++ (44 ∷ (ws ++ (93 ∷ rest)))) = e ∙ ap (λ z. At z) (append_assoc w (44 ∷ ws) (93 ∷ rest)) in
-        one-more (item n) comma k room us (w ++ (44 ∷ (ws ++ (93 ∷ rest)))) (44 ∷ (ws ++ (93 ∷ rest))) d (complete {w = w} i (44 ∷ (ws ++ (93 ∷ rest))) n (omega (arith, l, m)))
-        ∙ all_taken {w = ws} a rest n (omega (arith, l, m)) (suc k) room (44 ∷ (ws ++ (93 ∷ rest))) refl (omega (arith, r, m, mr, ms))
+  -- and so are trees with a comma between each two, before a bracket that closes
+  all_taken : {w : List ℕ} {ts : List Tree} → AreTexts w ts → (rest : List ℕ) (n : ℕ) → suc (length w) < n → (k room : ℕ) (us : List ℕ) → lead_at comma false k us ≡ At (w ++ (93 ∷ rest))
+      → length (w ++ (93 ∷ rest)) ≤ room
+      → list_until (plain_next (item n) comma) room k us ≡ At (93 ∷ rest)
+  all_taken {w} a rest n l k zero us e r = let m = length-append w (93 ∷ rest) in absurd (omega (arith, m, r))
+  all_taken (one {w} i) rest n l k (suc room) us e r =
+      one-more (item n) comma k room us (w ++ (93 ∷ rest)) (93 ∷ rest) e (complete {w = w} i (93 ∷ rest) n (omega (arith, l))) ∙ no-more (item n) comma (suc k) room (93 ∷ rest)
+      (fails n rest (omega (arith, l))) refl
+  all_taken (more {w} {ws} i a) rest n l k (suc room) us e r =
+      let m = length-append w (44 ∷ ws) in
+      let mr = length-append (w ++ (44 ∷ ws)) (93 ∷ rest) in
+      let ms = length-append ws (93 ∷ rest) in
+      let d : lead_at comma false k us ≡ At (w ++ (44 ∷ (ws ++ (93 ∷ rest)))) = e ∙ ap (λ z. At z) (append_assoc w (44 ∷ ws) (93 ∷ rest)) in
+      one-more (item n) comma k room us (w ++ (44 ∷ (ws ++ (93 ∷ rest)))) (44 ∷ (ws ++ (93 ∷ rest))) d (complete {w = w} i (44 ∷ (ws ++ (93 ∷ rest))) n (omega (arith, l, m)))
+      ∙ all_taken {w = ws} a rest n (omega (arith, l, m)) (suc k) room (44 ∷ (ws ++ (93 ∷ rest))) refl (omega (arith, r, m, mr, ms))
 
-  -- and each word is a tree
-  sound : (n : ℕ) (w : List ℕ) (v : Tree) → (language n).stands_for w v → IsTree w v
-  sound zero w v x = absurd x
-  sound (suc n) w v (inl x) =
-      let i = x.1 in
-      let c : v ≡ tree.Digit i.token = x.2 ∙ ap (λ z. tree.Digit z) i.is in
-      rw (i.all, c) (digit i.token i.passes)
-  sound (suc n) w v (inr x) =
-      let j = x.1 in
-      let y = j.is_second in
-      let k = y.1 in
-      let z = k.is_first in
-      let h = z.1 in
-      let o : j.first ≡ 91 ∷ [] = one_word 91 j.first j.is_first.0 j.is_first.1 in
-      let c : k.second ≡ 93 ∷ [] = one_word 93 k.second k.is_second.0 k.is_second.1 in
-      let holds : HoldsItems z.0 y.0.0 = made.of_list z.0 y.0.0 z.2 in
-      let ts : Vec Tree Global = holds.0 in
-      let items : Items k.first h.items = listed (IsOne (among nat_eq (44 ∷ [])) (λ c. ⊤)) (language n).stands_for Items refl (λ u t s. one (sound n u t s)) (λ u s us t r rs p q a. by_comma u s us t (r ∷ rs) q (more (sound n u t p) a)) h.items k.first h.is in
-      let held : ts.items ≡ h.items = holds.1 ∙ h.held in
-      let all : w ≡ 91 ∷ (k.first ++ (93 ∷ [])) = (let q = rw o at j.all in let s = rw c at k.all in q ∙ ap (λ r. 91 ∷ r) s) in
-      let first : x.0.0 ≡ tree.Digit j.is_first.0 = j.is_first.2 in
-      let inner : y.0.0 ≡ tree.List ts = holds.2 in
-      let is : v ≡ tree.List ts = (let p = rw first at (made.of_pair x.0 v x.2) in let q = rw inner at (made.of_pair y.0 x.0.1 y.2) in p ∙ q) in
-      rw (all, is) (in_brackets k.first ts h.items held items)
-    where
-      by_comma : (u s us : List ℕ) (t : Tree) (rs : List Tree) → IsOne (among nat_eq (44 ∷ [])) (λ c. ⊤) s → AreTexts (u ++ (44 ∷ us)) (t ∷ rs) → AreTexts (u ++ (s ++ us)) (t ∷ rs)
-      by_comma u s us t rs i a = let e : i.token ≡ 44 = only_member 44 i.token i.passes in rw (i.all, e) a
+-- and each word is a tree
+sound : (n : ℕ) (w : List ℕ) (v : Tree) → (language n).stands_for w v → IsTree w v
+sound zero w v x = absurd x
+sound (suc n) w v (inl x) =
+    let i = x.1 in
+    let c : v ≡ tree.Digit i.token = x.2 ∙ ap (λ z. tree.Digit z) i.is in
+    rw (i.all, c) (digit i.token i.passes)
+sound (suc n) w v (inr x) =
+    let j = x.1 in
+    let y = j.is_second in
+    let k = y.1 in
+    let z = k.is_first in
+    let h = z.1 in
+    let o : j.first ≡ 91 ∷ [] = one_word 91 j.first j.is_first.0 j.is_first.1 in
+    let c : k.second ≡ 93 ∷ [] = one_word 93 k.second k.is_second.0 k.is_second.1 in
+    let holds : HoldsItems z.0 y.0.0 = z.2 in
+    let ts : Vec Tree Global = holds.0 in
+    let items : Items k.first h.items = listed (IsOne (among nat_eq (44 ∷ [])) (λ c. ⊤)) (language n).stands_for Items refl (λ u t s. one (sound n u t s))
+    (λ u s us t r rs p q a. by_comma u s us t (r ∷ rs) q (more (sound n u t p) a)) h.items k.first h.is in
+    let held : ts.items ≡ h.items = holds.1 ∙ h.held in
+    let all : w ≡ 91 ∷ (k.first ++ (93 ∷ [])) = (let q = rw o at j.all in let s = rw c at k.all in q ∙ ap (λ r. 91 ∷ r) s) in
+    let first : x.0.0 ≡ tree.Digit j.is_first.0 = j.is_first.2 in
+    let inner : y.0.0 ≡ tree.List ts = holds.2 in
+    let is : v ≡ tree.List ts = (let p = rw first at x.2 in let q = rw inner at y.2 in p ∙ q) in
+    rw (all, is) (in_brackets k.first ts h.items held items)
+  where
+    by_comma : (u s us : List ℕ) (t : Tree) (rs : List Tree) → IsOne (among nat_eq (44 ∷ [])) (λ c. ⊤) s → AreTexts (u ++ (44 ∷ us)) (t ∷ rs) → AreTexts (u ++ (s ++ us)) (t ∷ rs)
+    by_comma u s us t rs i a = let e : i.token ≡ 44 = only_member 44 i.token i.passes in rw (i.all, e) a
 
-  -- a rule that takes a token
-  abbrev claims : Claims
-  claims = record { count = 1; leaf_stays = λ n. false; rule_stays = λ r. false; rank = λ r. 0 }
+-- a rule that takes a token
+abbrev claims : Claims
+claims = record { count = 1; leaf_stays = λ n. false; rule_stays = λ r. false; rank = λ r. 0 }
 
-  -- so the answer of `parse` is exact
-  pub trees-exact : {Er spare : Type 0} (limit : ℕ) (ts : List ℕ) → length ts < limit → {result : Result (ParseResult Tree Er) Stop}
-      → ((language limit).said ≡ true → AnswersText Some (language limit) ts spare result) → Exactly IsTree ts result
-  trees-exact limit ts enough =
-      exactly-by_rules IsTree claims makes (leaves_of leaves) (leaves-are claims leaves ((refl, refl, refl), (refl, refl, refl), (refl, refl, refl), (refl, refl, refl), tt)) (tree_expression ∷ []) refl refl limit 0 (omega arith) (omega arith) (sound limit ts)
-      (λ v d. let c : (language limit).ends (ts ++ []) ≡ At [] = complete {w = ts} d [] limit enough in rw append-nil at c)
+-- so the answer of `parse` is exact
+pub trees-exact : {Er spare : Type 0} (limit : ℕ) (ts : List ℕ) → length ts < limit → {result : Result (ParseResult Tree Er) Stop}
+    → ((language limit).said ≡ true → AnswersText Some (language limit) ts spare result) → Exactly IsTree ts result
+trees-exact limit ts enough =
+    exactly-by_rules IsTree claims trees (leaves_of leaves) (leaves-are claims leaves refl)
+    (tree_expression ∷ []) refl refl limit 0 (omega arith) (omega arith) (sound limit ts)
+    (λ v d. let c : (language limit).ends (ts ++ []) ≡ At [] = complete {w = ts} d [] limit enough in rw append-nil at c)

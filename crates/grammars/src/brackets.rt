@@ -10,7 +10,7 @@ use chumsky::Stop;
 use chumsky::extra::EmptyText;
 use chumsky::prelude::*;
 use chumsky::recursive::{BuildError, Leaves, Node, Values};
-use chumsky_grammars::exact::ExactGrammar;
+use chumsky_grammars::exact::exact;
 use std::alloc::{AllocError, Global};
 
 /// The leaves, by number.
@@ -112,13 +112,13 @@ pub fn parse_brackets(alloc: Global, text: &str) -> Result<ParseResult<usize, Em
     let Some(limit) = text.len().checked_add(1) else {
         return Err(Stop::Memory);
     };
-    let leaves = [just::<_, &str, EmptyText>('(').to(0), just(')').to(0)];
+    let leaves = [just::<_, _, EmptyText>('(').to(0), just(')').to(0)];
     let actions = Leaves {
         leaves: &leaves,
         values: Depths,
     };
-    match close::<&str, EmptyText, _>(&rules, all, &actions, limit) {
-        Ok(grammar) => ExactGrammar { grammar }.parse(alloc, text),
+    match close(&rules, all, &actions, limit) {
+        Ok(grammar) => exact(grammar).parse(alloc, text),
         Err(_) => unreachable!(),
     }
 }

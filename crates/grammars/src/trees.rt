@@ -11,7 +11,7 @@ use chumsky::combinator::Mapper;
 use chumsky::extra::EmptyText;
 use chumsky::prelude::*;
 use chumsky::recursive::{BuildError, Leaves, Node, SepCfg, Values};
-use chumsky_grammars::exact::ExactGrammar;
+use chumsky_grammars::exact::exact;
 use std::alloc::{AllocError, Global};
 
 /// A digit, or a list of trees.
@@ -148,7 +148,7 @@ pub fn parse_tree(alloc: Global, text: &str) -> Result<ParseResult<Tree, EmptyEr
         return Err(Stop::Memory);
     };
     let leaves = [
-        one_of::<_, &str, EmptyText>("0123456789").map_by(ToDigit),
+        one_of::<_, _, EmptyText>("0123456789").map_by(ToDigit),
         one_of("[").map_by(ToDigit),
         one_of(",").map_by(ToDigit),
         one_of("]").map_by(ToDigit),
@@ -157,8 +157,8 @@ pub fn parse_tree(alloc: Global, text: &str) -> Result<ParseResult<Tree, EmptyEr
         leaves: &leaves,
         values: Trees,
     };
-    match close::<&str, EmptyText, _>(&rules, tree, &actions, limit) {
-        Ok(grammar) => ExactGrammar { grammar }.parse(alloc, text),
+    match close(&rules, tree, &actions, limit) {
+        Ok(grammar) => exact(grammar).parse(alloc, text),
         Err(_) => unreachable!(),
     }
 }

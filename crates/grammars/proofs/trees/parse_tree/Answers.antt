@@ -1,4 +1,4 @@
-use Rattle.std.proofs.Common.{◌≡◌, ◌∙◌, ℕ, ◌<◌, ◌^◌, length, refl, ap, arith, rules}
+use Rattle.std.proofs.Common.{◌∙◌, length, ap, arith, rules}
 use Rattle.std.specs.Str.{chars}
 use Rattle.std.proofs.lemmas.Str.{encodes-chars, length-le-encodes}
 use Rattle.chumsky_grammars.specs.Compiled.{expressions_of}
@@ -15,7 +15,7 @@ returns c =
     let some = c.in-Some.ensures in
     let rules_are = ap expressions_of c.in-Ok.ensures.rules.0 ∙ one-rule _ c.in_ok-rules.ensures.rules.0 in
     let start = c.in-Ok.ensures.rules.1 ∙ c.in_ok-rules.ensures.rules.1 in
-    let built = rw (rules_are, start, given.0) at c.parse.ensures.3.reads in
+    let built = rw (c.exact.ensures, rules_are, start, given.0) at c.parse.ensures.3.reads in
     let parsed = rw (c.map_by.ensures.parser, c.map_by-2.ensures.parser, c.map_by-3.ensures.parser, c.map_by-4.ensures.parser) at built in
     let reads = rw (c.one_of.ensures, c.one_of-2.ensures, c.one_of-3.ensures, c.one_of-4.ensures) at parsed in
-    trees-exact _ (record { of_pair = λ p v m. m; of_list = λ items v m. m }) c.in-Ok.grammar.limit (chars c.args.text.now) (omega (arith, few, all, given.1, some)) reads
+    trees-exact c.in-Ok.grammar.limit (chars c.args.text.now) (omega (arith, few, all, given.1, some)) reads
