@@ -4,12 +4,15 @@ ghost use Rattle.chumsky.specs.Accepted.{Exactly};
 ghost use Rattle.examples.specs.Query.{IsQuery};
 
 use crate::prefixed::{DecidedByWord, Headed, HowMany, Prefixed};
-use chumsky::Stop;
 use chumsky::combinator::{
     Collect, Map, Mapper, PickBy, Picker, Repeated, Then, ThenIgnore, WordPicker,
 };
+use chumsky::extra::ParserExtra;
+use chumsky::input::{InputRef, Tokens, ValueInput};
 use chumsky::prelude::*;
 use chumsky::primitive::{Any, Group, Just};
+use chumsky::{PResult, Stop};
+use chumsky_parser::parser::Parser;
 use std::alloc::Global;
 
 /// What a query begins with.
@@ -58,17 +61,53 @@ impl Mapper<(u8, u8), u16> for ToNumber {
     }
 }
 
-/// The parser of a number of two bytes.
-pub type NumberParser<'src, C> = Map<
-    Then<Byte<'src, C>, Byte<'src, C>, u8, u8>,
-    (u8, u8),
-    ToNumber,
-    u16,
->;
+/// The parser of two bytes as a number.
+pub type TwoBytes<I, E> = Map<Then<Any<I, E>, Any<I, E>, u8, u8>, (u8, u8), ToNumber, u16>;
 
-/// A number of two bytes.
-pub fn number<'src, C>() -> NumberParser<'src, C> {
+/// Two bytes as a number.
+pub fn two_bytes<I: Tokens<Token = u8>, E>() -> TwoBytes<I, E> {
     any().then(any()).map_by(ToNumber)
+}
+
+/// A number of two bytes, the high one first: a parser with a name, so that what is made of many of them has a small type.
+#[derive(Clone, Copy, Drop)]
+pub struct Number;
+
+impl<I: Tokens<Token = u8>, E> IsParser<I, u16, E> for Number {}
+
+impl<'src, I: Tokens<Token = u8> + ValueInput<'src>, E: ParserExtra<I>> Parser<'src, I, u16, E>
+    for Number {
+    ghost use Rattle.std.specs.Prelude.{⊤};
+    ghost use Rattle.chumsky_parser.specs.Laws.{sequence-ends};
+    ghost use Rattle.chumsky_parser.specs.SequenceLanguage.{then-accepts};
+    ghost use Rattle.chumsky_primitive.specs.AnyLaws.{any-ends};
+    ghost use Rattle.chumsky_primitive.specs.PrimitiveLanguageLaws.{any-accepts};
+    ghost use Rattle.chumsky_combinator.specs.MappedLaws.{mapped-ends};
+    ghost use Rattle.chumsky_combinator.specs.MappedLanguage.{map-accepts};
+
+    ghost ready = { λ _. ⊤ };
+
+    ghost meaning = { λ _. ⟦<TwoBytes<I, E> as Parser<'src, I, u16, E>>⟧.meaning (record { parser = record { first = record { of = record {} }; second = record { of = record {} }; of = record {} }; mapper = record {}; of = record {} }) };
+
+    ghost steady = { λ _. ⊥ };
+
+    ghost same = { λ _ _ _. ⊤ };
+
+    ghost language = { λ _. ⟦<TwoBytes<I, E> as Parser<'src, I, u16, E>>⟧.language (record { parser = record { first = record { of = record {} }; second = record { of = record {} }; of = record {} }; mapper = record {}; of = record {} }) };
+
+    ghost ends_after_start = { λ _. mapped-ends _ _ (sequence-ends _ _ (any-ends _ _ _ _ _) (any-ends _ _ _ _ _)) };
+
+    ghost agrees = { λ _ never. absurd never };
+
+    ghost accepts = { λ _. map-accepts _ _ (then-accepts _ _ (any-ends _ _ _ _ _) (any-ends _ _ _ _ _) (any-accepts _ _ _ _ _) (any-accepts _ _ _ _ _)) };
+
+    fn go_emit(&self, inp: &mut InputRef<'src, '_, I, E>) -> PResult<u16> {
+        two_bytes::<I, E>().go_emit(inp)
+    }
+
+    fn go_check(&self, inp: &mut InputRef<'src, '_, I, E>) -> PResult<()> {
+        two_bytes::<I, E>().go_check(inp)
+    }
 }
 
 /// Makes a head of six numbers.
@@ -92,16 +131,7 @@ impl Mapper<(u16, u16, u16, u16, u16, u16), Head> for ToHead {
 
 /// The parser of a head.
 pub type HeadParser<'src> = Map<
-    Group<
-        (
-            NumberParser<'src, ()>,
-            NumberParser<'src, ()>,
-            NumberParser<'src, ()>,
-            NumberParser<'src, ()>,
-            NumberParser<'src, ()>,
-            NumberParser<'src, ()>,
-        ),
-    >,
+    Group<(Number, Number, Number, Number, Number, Number)>,
     (u16, u16, u16, u16, u16, u16),
     ToHead,
     Head,
@@ -109,7 +139,7 @@ pub type HeadParser<'src> = Map<
 
 /// Six numbers.
 pub fn query_head<'src>() -> HeadParser<'src> {
-    group((number(), number(), number(), number(), number(), number())).map_by(ToHead)
+    group((Number, Number, Number, Number, Number, Number)).map_by(ToHead)
 }
 
 impl<'src> DecidedByWord<'src, &'src [u8], Head, Under<()>> for HeadParser<'src> {
@@ -198,13 +228,7 @@ impl Mapper<(Vec<Vec<u8>>, u16, u16), Question> for ToQuestion {
 
 /// The parser of a question.
 pub type QuestionParser<'src, C> = Map<
-    Group<
-        (
-            LabelsParser<'src, C>,
-            NumberParser<'src, C>,
-            NumberParser<'src, C>,
-        ),
-    >,
+    Group<(LabelsParser<'src, C>, Number, Number)>,
     (Vec<Vec<u8>>, u16, u16),
     ToQuestion,
     Question,
@@ -216,7 +240,7 @@ pub fn one_question<'src, C>() -> QuestionParser<'src, C>
     ensures most { result.parser.parsers.0.first.parser.at_most ≡ None }
     ensures end { result.parser.parsers.0.second.seq ≡ 0 }
 {
-    group((labels(), number(), number())).map_by(ToQuestion)
+    group((labels(), Number, Number)).map_by(ToQuestion)
 }
 
 /// Makes a query of its parts.
