@@ -60,7 +60,7 @@ form-array v = search (rules, the_lemmas)
 pub form-object : (v : Vec (String Global × Json) Global) → form_of (json.Object v) ≡ object (members_of (map (λ m. (m.0, form_of m.1)) v.items))
 form-object v = search (rules, the_lemmas)
 
--- the language of numbers has those of JSON, each alone: what goes on with a number may not follow it
+-- a language of the numbers of JSON: its words are those, each stands for itself, and is taken whole where nothing goes on with it
 pub record IsNumberLanguage (l : Language ℕ (String Global)) : Type 0 where
   pub said : l.said ≡ true
   pub moves : l.moves ≡ true
@@ -72,7 +72,7 @@ pub record IsNumberLanguage (l : Language ℕ (String Global)) : Type 0 where
   pub unambiguous : l.unambiguous
   pub fails : (ts : List ℕ) → StopsAt begins_number ts → DoesNotEnd (l.ends ts)
 
--- the language of strings has those of JSON, and anything may follow one
+-- a language of the strings of JSON: its words are those, each stands for its characters, and anything may follow it
 pub record IsStringLanguage (l : Language ℕ (String Global)) : Type 0 where
   pub said : l.said ≡ true
   pub moves : l.moves ≡ true
@@ -102,14 +102,14 @@ none_then next (At r) h = absurd h
 none_then next Nowhere h = tt
 none_then next Refused h = tt
 
--- on the same text
+-- and on the same text
 fails_on : (f : Ender ℕ) (v w rest : List ℕ) → w ≡ v → DoesNotEnd (f (v ++ rest)) → DoesNotEnd (f (w ++ rest))
 fails_on f v w rest e h = subst (λ z. DoesNotEnd (f (z ++ rest))) (sym e) h
 
 pub literal_fails : (m : ℕ) (ms cs : List ℕ) (c : ℕ) → nat_eq m c ≡ false → DoesNotEnd (literal_ends nat_eq (m ∷ ms) (c ∷ cs))
 literal_fails m ms cs c e = rw e tt
 
--- of tokens that it is known not to be refused on
+-- what is below a number is so after a part that may take no token
 later_first : (a : Option ℕ) (k : ℕ) → IsBelow a k → IsBelow (later a false) k
 later_first None k i = tt
 later_first (Some n) k i = i

@@ -184,17 +184,17 @@ impl<
     ghost ready = { λ p. N.ready p.number × S.ready p.string };
 
     ghost meaning = { λ p. ⟦<ScalarParser<'src, N, S> as Parser<'src, &'src str, Json, EmptyText>>⟧.meaning (record {
-        first = record { parser = p.number; mapper = record {}; of = record {} };
+      first = record { parser = p.number; mapper = record {}; of = record {} };
+      second = record {
+        first = record { parser = p.string; mapper = record {}; of = record {} };
         second = record {
-            first = record { parser = p.string; mapper = record {}; of = record {} };
-            second = record {
-                first = record { parser = record { seq = 110 ∷ 117 ∷ 108 ∷ 108 ∷ []; of = record {} }; mapper = record {}; of = record {} };
-                second = record {
-                    first = record { parser = record { seq = 116 ∷ 114 ∷ 117 ∷ 101 ∷ []; of = record {} }; mapper = record { value = true }; of = record {} };
-                    second = record { parser = record { seq = 102 ∷ 97 ∷ 108 ∷ 115 ∷ 101 ∷ []; of = record {} }; mapper = record { value = false }; of = record {} };
-                };
-            };
+          first = record { parser = record { seq = 110 ∷ 117 ∷ 108 ∷ 108 ∷ []; of = record {} }; mapper = record {}; of = record {} };
+          second = record {
+            first = record { parser = record { seq = 116 ∷ 114 ∷ 117 ∷ 101 ∷ []; of = record {} }; mapper = record { value = true }; of = record {} };
+            second = record { parser = record { seq = 102 ∷ 97 ∷ 108 ∷ 115 ∷ 101 ∷ []; of = record {} }; mapper = record { value = false }; of = record {} };
+          };
         };
+      };
     }) };
 
     ghost steady = { λ _. ⊥ };
@@ -202,17 +202,17 @@ impl<
     ghost same = { λ _ _ _. ⊤ };
 
     ghost language = { λ p. ⟦<ScalarParser<'src, N, S> as Parser<'src, &'src str, Json, EmptyText>>⟧.language (record {
-        first = record { parser = p.number; mapper = record {}; of = record {} };
+      first = record { parser = p.number; mapper = record {}; of = record {} };
+      second = record {
+        first = record { parser = p.string; mapper = record {}; of = record {} };
         second = record {
-            first = record { parser = p.string; mapper = record {}; of = record {} };
-            second = record {
-                first = record { parser = record { seq = 110 ∷ 117 ∷ 108 ∷ 108 ∷ []; of = record {} }; mapper = record {}; of = record {} };
-                second = record {
-                    first = record { parser = record { seq = 116 ∷ 114 ∷ 117 ∷ 101 ∷ []; of = record {} }; mapper = record { value = true }; of = record {} };
-                    second = record { parser = record { seq = 102 ∷ 97 ∷ 108 ∷ 115 ∷ 101 ∷ []; of = record {} }; mapper = record { value = false }; of = record {} };
-                };
-            };
+          first = record { parser = record { seq = 110 ∷ 117 ∷ 108 ∷ 108 ∷ []; of = record {} }; mapper = record {}; of = record {} };
+          second = record {
+            first = record { parser = record { seq = 116 ∷ 114 ∷ 117 ∷ 101 ∷ []; of = record {} }; mapper = record { value = true }; of = record {} };
+            second = record { parser = record { seq = 102 ∷ 97 ∷ 108 ∷ 115 ∷ 101 ∷ []; of = record {} }; mapper = record { value = false }; of = record {} };
+          };
         };
+      };
     }) };
 
     ghost ends_after_start = { λ p. or_else-ends _ _ _ _ _ (mapped-ends _ _ (N.ends_after_start p.number)) (or_else-ends _ _ _ _ _ (mapped-ends _ _ (S.ends_after_start p.string)) words-lawful.ends) };
@@ -263,21 +263,21 @@ impl<'src, P: Parser<'src, &'src str, Json, EmptyText>> Parser<
     ghost ready = { λ p. P.ready p.value };
 
     ghost meaning = { λ p. ⟦<ListParser<'src, P, Json> as Parser<'src, &'src str, Vec<Json>, EmptyText>>⟧.meaning (record {
+      parser = record {
         parser = record {
-            parser = record {
-                parser = p.value;
-                separator = record { first = record { kind = record {}; of = record {} }; second = record { seq = 44; of = record {} }; of = record {} };
-                at_least = 0;
-                at_most = None;
-                allow_leading = false;
-                allow_trailing = false;
-                of = record {};
-            };
-            of = record {};
+          parser = p.value;
+          separator = record { first = record { kind = record {}; of = record {} }; second = record { seq = 44; of = record {} }; of = record {} };
+          at_least = 0;
+          at_most = None;
+          allow_leading = false;
+          allow_trailing = false;
+          of = record {};
         };
-        opening = record { seq = 91; of = record {} };
-        closing = record { first = record { kind = record {}; of = record {} }; second = record { seq = 93; of = record {} }; of = record {} };
         of = record {};
+      };
+      opening = record { seq = 91; of = record {} };
+      closing = record { first = record { kind = record {}; of = record {} }; second = record { seq = 93; of = record {} }; of = record {} };
+      of = record {};
     }) };
 
     ghost steady = { λ _. ⊥ };
@@ -285,21 +285,21 @@ impl<'src, P: Parser<'src, &'src str, Json, EmptyText>> Parser<
     ghost same = { λ _ _ _. ⊤ };
 
     ghost language = { λ p. ⟦<ListParser<'src, P, Json> as Parser<'src, &'src str, Vec<Json>, EmptyText>>⟧.language (record {
+      parser = record {
         parser = record {
-            parser = record {
-                parser = p.value;
-                separator = record { first = record { kind = record {}; of = record {} }; second = record { seq = 44; of = record {} }; of = record {} };
-                at_least = 0;
-                at_most = None;
-                allow_leading = false;
-                allow_trailing = false;
-                of = record {};
-            };
-            of = record {};
+          parser = p.value;
+          separator = record { first = record { kind = record {}; of = record {} }; second = record { seq = 44; of = record {} }; of = record {} };
+          at_least = 0;
+          at_most = None;
+          allow_leading = false;
+          allow_trailing = false;
+          of = record {};
         };
-        opening = record { seq = 91; of = record {} };
-        closing = record { first = record { kind = record {}; of = record {} }; second = record { seq = 93; of = record {} }; of = record {} };
         of = record {};
+      };
+      opening = record { seq = 91; of = record {} };
+      closing = record { first = record { kind = record {}; of = record {} }; second = record { seq = 93; of = record {} }; of = record {} };
+      of = record {};
     }) };
 
     ghost ends_after_start = { λ p. between-ends _ _ _ (letter-lawful 91).ends
@@ -348,21 +348,21 @@ impl<'src, P: Parser<'src, &'src str, (String, Json), EmptyText>> Parser<
     ghost ready = { λ p. P.ready p.member };
 
     ghost meaning = { λ p. ⟦<ListParser<'src, P, (String, Json)> as Parser<'src, &'src str, Vec<(String, Json)>, EmptyText>>⟧.meaning (record {
+      parser = record {
         parser = record {
-            parser = record {
-                parser = p.member;
-                separator = record { first = record { kind = record {}; of = record {} }; second = record { seq = 44; of = record {} }; of = record {} };
-                at_least = 0;
-                at_most = None;
-                allow_leading = false;
-                allow_trailing = false;
-                of = record {};
-            };
-            of = record {};
+          parser = p.member;
+          separator = record { first = record { kind = record {}; of = record {} }; second = record { seq = 44; of = record {} }; of = record {} };
+          at_least = 0;
+          at_most = None;
+          allow_leading = false;
+          allow_trailing = false;
+          of = record {};
         };
-        opening = record { seq = 123; of = record {} };
-        closing = record { first = record { kind = record {}; of = record {} }; second = record { seq = 125; of = record {} }; of = record {} };
         of = record {};
+      };
+      opening = record { seq = 123; of = record {} };
+      closing = record { first = record { kind = record {}; of = record {} }; second = record { seq = 125; of = record {} }; of = record {} };
+      of = record {};
     }) };
 
     ghost steady = { λ _. ⊥ };
@@ -370,21 +370,21 @@ impl<'src, P: Parser<'src, &'src str, (String, Json), EmptyText>> Parser<
     ghost same = { λ _ _ _. ⊤ };
 
     ghost language = { λ p. ⟦<ListParser<'src, P, (String, Json)> as Parser<'src, &'src str, Vec<(String, Json)>, EmptyText>>⟧.language (record {
+      parser = record {
         parser = record {
-            parser = record {
-                parser = p.member;
-                separator = record { first = record { kind = record {}; of = record {} }; second = record { seq = 44; of = record {} }; of = record {} };
-                at_least = 0;
-                at_most = None;
-                allow_leading = false;
-                allow_trailing = false;
-                of = record {};
-            };
-            of = record {};
+          parser = p.member;
+          separator = record { first = record { kind = record {}; of = record {} }; second = record { seq = 44; of = record {} }; of = record {} };
+          at_least = 0;
+          at_most = None;
+          allow_leading = false;
+          allow_trailing = false;
+          of = record {};
         };
-        opening = record { seq = 123; of = record {} };
-        closing = record { first = record { kind = record {}; of = record {} }; second = record { seq = 125; of = record {} }; of = record {} };
         of = record {};
+      };
+      opening = record { seq = 123; of = record {} };
+      closing = record { first = record { kind = record {}; of = record {} }; second = record { seq = 125; of = record {} }; of = record {} };
+      of = record {};
     }) };
 
     ghost ends_after_start = { λ p. between-ends _ _ _ (letter-lawful 123).ends
@@ -438,13 +438,13 @@ impl<
     ghost ready = { λ p. S.ready p.name × P.ready p.value };
 
     ghost meaning = { λ p. ⟦<MemberParser<'src, S, P> as Parser<'src, &'src str, (String, Json), EmptyText>>⟧.meaning (record {
-        first = record {
-            first = record { first = record { kind = record {}; of = record {} }; second = p.name; of = record {} };
-            second = record { first = record { kind = record {}; of = record {} }; second = record { seq = 58; of = record {} }; of = record {} };
-            of = record {};
-        };
-        second = p.value;
+      first = record {
+        first = record { first = record { kind = record {}; of = record {} }; second = p.name; of = record {} };
+        second = record { first = record { kind = record {}; of = record {} }; second = record { seq = 58; of = record {} }; of = record {} };
         of = record {};
+      };
+      second = p.value;
+      of = record {};
     }) };
 
     ghost steady = { λ _. ⊥ };
@@ -452,13 +452,13 @@ impl<
     ghost same = { λ _ _ _. ⊤ };
 
     ghost language = { λ p. ⟦<MemberParser<'src, S, P> as Parser<'src, &'src str, (String, Json), EmptyText>>⟧.language (record {
-        first = record {
-            first = record { first = record { kind = record {}; of = record {} }; second = p.name; of = record {} };
-            second = record { first = record { kind = record {}; of = record {} }; second = record { seq = 58; of = record {} }; of = record {} };
-            of = record {};
-        };
-        second = p.value;
+      first = record {
+        first = record { first = record { kind = record {}; of = record {} }; second = p.name; of = record {} };
+        second = record { first = record { kind = record {}; of = record {} }; second = record { seq = 58; of = record {} }; of = record {} };
         of = record {};
+      };
+      second = p.value;
+      of = record {};
     }) };
 
     ghost ends_after_start = { λ p. sequence-ends _ _
@@ -517,15 +517,9 @@ impl<
     ghost ready = { λ p. S.ready p.scalar × (A.ready p.array × O.ready p.object) };
 
     ghost meaning = { λ p. ⟦<ValueParser<'src, S, A, O> as Parser<'src, &'src str, Json, EmptyText>>⟧.meaning (record {
-        first = record { kind = record {}; of = record {} };
-        second = record {
-            first = p.scalar;
-            second = record {
-                first = record { parser = p.array; mapper = record {}; of = record {} };
-                second = record { parser = p.object; mapper = record {}; of = record {} };
-            };
-        };
-        of = record {};
+      first = record { kind = record {}; of = record {} };
+      second = record { first = p.scalar; second = record { first = record { parser = p.array; mapper = record {}; of = record {} }; second = record { parser = p.object; mapper = record {}; of = record {} } } };
+      of = record {};
     }) };
 
     ghost steady = { λ _. ⊥ };
@@ -533,15 +527,9 @@ impl<
     ghost same = { λ _ _ _. ⊤ };
 
     ghost language = { λ p. ⟦<ValueParser<'src, S, A, O> as Parser<'src, &'src str, Json, EmptyText>>⟧.language (record {
-        first = record { kind = record {}; of = record {} };
-        second = record {
-            first = p.scalar;
-            second = record {
-                first = record { parser = p.array; mapper = record {}; of = record {} };
-                second = record { parser = p.object; mapper = record {}; of = record {} };
-            };
-        };
-        of = record {};
+      first = record { kind = record {}; of = record {} };
+      second = record { first = p.scalar; second = record { first = record { parser = p.array; mapper = record {}; of = record {} }; second = record { parser = p.object; mapper = record {}; of = record {} } } };
+      of = record {};
     }) };
 
     ghost ends_after_start = { λ p. ignoring_first-ends _ _ blanks-lawful.ends
@@ -582,9 +570,9 @@ impl<'src, P: Parser<'src, &'src str, Json, EmptyText>> Body<'src, &'src str, Js
     ghost use Rattle.chumsky_descent.specs.Body.{told};
 
     ghost body = { λ call. told ⟦<AnyValue<P> as Parser<'src, &'src str, Json, EmptyText>>⟧ (record {
-        scalar = record { number = record {}; string = record { piece = record {} } };
-        array = record { value = call };
-        object = record { member = record { name = record { piece = record {} }; value = call } };
+      scalar = record { number = record {}; string = record { piece = record {} } };
+      array = record { value = call };
+      object = record { member = record { name = record { piece = record {} }; value = call } };
     }) };
 }
 
@@ -600,7 +588,8 @@ impl<'src> Recursion<'src, &'src str, Json, EmptyText> for OfValue {
     ghost says = { λ errors states. exactly (λ call. (ghosts unit call no_dict).body tt) errors states values
         (λ call l h. ignore_then-lawful blanks-lawful
         (or-lawful
-        (or-lawful (map-lawful (number-lawful ⟦<&'src str as Input<'src>>⟧ errors states)) (or-lawful (map-lawful (between-lawful (letter-lawful 34) (repeated-lawful piece-lawful) (letter-lawful 34))) words-lawful))
+        (or-lawful (map-lawful (number-lawful ⟦<&'src str as Input<'src>>⟧ errors states))
+        (or-lawful (map-lawful (between-lawful (letter-lawful 34) (repeated-lawful piece-lawful) (letter-lawful 34))) words-lawful))
         (or-lawful
         (map-lawful (between-lawful (letter-lawful 91) (separated-lawful h (mark-lawful 44)) (mark-lawful 93)))
         (map-lawful (between-lawful (letter-lawful 123)
@@ -747,17 +736,18 @@ fn value_of<'src, S, A, O>(scalar: S, array: A, object: O) -> ValueParser<'src, 
 }
 
 /// Runs the parser of any value, where `call` takes the values in it.
-fn run_value<'src, P: Parser<'src, &'src str, Json, EmptyText> + Copy + Drop>(
+pub fn run_value<'src, P: Parser<'src, &'src str, Json, EmptyText> + Copy + Drop>(
     call: P,
     wanted: bool,
     inp: &mut TextRef<'src, '_, EmptyText>,
 ) -> PResult<Option<Json>>
     requires { P.ready call }
-    ensures ran { Runs ⟦<&'src str as Input<'src>>⟧ ⟦<EmptyErr as Error<&'src str>>⟧ ⟦<() as Inspector<&'src str>>⟧ (Onward (⟦<AnyValue<P> as Parser<'src, &'src str, Json, EmptyText>>⟧.meaning (record {
-        scalar = record { number = record {}; string = record { piece = record {} } };
-        array = record { value = call };
-        object = record { member = record { name = record { piece = record {} }; value = call } };
-    }) ⟦<EmptyErr as Error<&'src str>>⟧ ⟦<() as Inspector<&'src str>>⟧)) wanted inp.old inp.new result }
+    ensures ran { Runs ⟦<&'src str as Input<'src>>⟧ ⟦<EmptyErr as Error<&'src str>>⟧ ⟦<() as Inspector<&'src str>>⟧
+        (Onward (⟦<AnyValue<P> as Parser<'src, &'src str, Json, EmptyText>>⟧.meaning (record {
+          scalar = record { number = record {}; string = record { piece = record {} } };
+          array = record { value = call };
+          object = record { member = record { name = record { piece = record {} }; value = call } };
+        }) ⟦<EmptyErr as Error<&'src str>>⟧ ⟦<() as Inspector<&'src str>>⟧)) wanted inp.old inp.new result }
     ensures as_wanted { IfOk result (λ value. is_some value ≡ wanted) }
     ensures lent { inp.new.state.ghost_name ≡ inp.old.state.ghost_name }
 {

@@ -283,19 +283,19 @@ impl<'src> Parser<'src, &'src str, char, EmptyText> for ByUnit {
     ghost ready = { λ _. ⊤ };
 
     ghost meaning = { λ _. ⟦<UnitParser<'src, Lone, char> as Parser<'src, &'src str, char, EmptyText>>⟧.meaning (record {
-        first = record { seq = 92 ∷ 117 ∷ []; of = record {} };
-        second = record {
-            picked = record {
-                parser = record {
-                    first = record { first = record { first = record { of = record {} }; second = record { of = record {} }; of = record {} }; second = record { of = record {} }; of = record {} };
-                    second = record { of = record {} };
-                    of = record {};
-                };
-                picker = record {};
-                of = record {};
-            };
+      first = record { seq = 92 ∷ 117 ∷ []; of = record {} };
+      second = record {
+        picked = record {
+          parser = record {
+            first = record { first = record { first = record { of = record {} }; second = record { of = record {} }; of = record {} }; second = record { of = record {} }; of = record {} };
+            second = record { of = record {} };
+            of = record {};
+          };
+          picker = record {};
+          of = record {};
         };
-        of = record {};
+      };
+      of = record {};
     }) };
 
     ghost steady = { λ _. ⊥ };
@@ -303,19 +303,19 @@ impl<'src> Parser<'src, &'src str, char, EmptyText> for ByUnit {
     ghost same = { λ _ _ _. ⊤ };
 
     ghost language = { λ _. ⟦<UnitParser<'src, Lone, char> as Parser<'src, &'src str, char, EmptyText>>⟧.language (record {
-        first = record { seq = 92 ∷ 117 ∷ []; of = record {} };
-        second = record {
-            picked = record {
-                parser = record {
-                    first = record { first = record { first = record { of = record {} }; second = record { of = record {} }; of = record {} }; second = record { of = record {} }; of = record {} };
-                    second = record { of = record {} };
-                    of = record {};
-                };
-                picker = record {};
-                of = record {};
-            };
+      first = record { seq = 92 ∷ 117 ∷ []; of = record {} };
+      second = record {
+        picked = record {
+          parser = record {
+            first = record { first = record { first = record { of = record {} }; second = record { of = record {} }; of = record {} }; second = record { of = record {} }; of = record {} };
+            second = record { of = record {} };
+            of = record {};
+          };
+          picker = record {};
+          of = record {};
         };
-        of = record {};
+      };
+      of = record {};
     }) };
 
     ghost ends_after_start = { λ _. (unit-lawful lone_of).ends };
@@ -346,41 +346,41 @@ impl<'src> Parser<'src, &'src str, char, EmptyText> for ByPair {
     ghost ready = { λ _. ⊤ };
 
     ghost meaning = { λ _. ⟦<PairParser<'src> as Parser<'src, &'src str, char, EmptyText>>⟧.meaning (record {
-        parser = record {
-            first = record {
-                first = record { seq = 92 ∷ 117 ∷ []; of = record {} };
-                second = record {
-                    picked = record {
-                        parser = record {
-                            first = record { first = record { first = record { of = record {} }; second = record { of = record {} }; of = record {} }; second = record { of = record {} }; of = record {} };
-                            second = record { of = record {} };
-                            of = record {};
-                        };
-                        picker = record {};
-                        of = record {};
-                    };
-                };
+      parser = record {
+        first = record {
+          first = record { seq = 92 ∷ 117 ∷ []; of = record {} };
+          second = record {
+            picked = record {
+              parser = record {
+                first = record { first = record { first = record { of = record {} }; second = record { of = record {} }; of = record {} }; second = record { of = record {} }; of = record {} };
+                second = record { of = record {} };
                 of = record {};
+              };
+              picker = record {};
+              of = record {};
             };
-            second = record {
-                first = record { seq = 92 ∷ 117 ∷ []; of = record {} };
-                second = record {
-                    picked = record {
-                        parser = record {
-                            first = record { first = record { first = record { of = record {} }; second = record { of = record {} }; of = record {} }; second = record { of = record {} }; of = record {} };
-                            second = record { of = record {} };
-                            of = record {};
-                        };
-                        picker = record {};
-                        of = record {};
-                    };
-                };
-                of = record {};
-            };
-            of = record {};
+          };
+          of = record {};
         };
-        mapper = record {};
+        second = record {
+          first = record { seq = 92 ∷ 117 ∷ []; of = record {} };
+          second = record {
+            picked = record {
+              parser = record {
+                first = record { first = record { first = record { of = record {} }; second = record { of = record {} }; of = record {} }; second = record { of = record {} }; of = record {} };
+                second = record { of = record {} };
+                of = record {};
+              };
+              picker = record {};
+              of = record {};
+            };
+          };
+          of = record {};
+        };
         of = record {};
+      };
+      mapper = record {};
+      of = record {};
     }) };
 
     ghost steady = { λ _. ⊥ };
@@ -388,41 +388,41 @@ impl<'src> Parser<'src, &'src str, char, EmptyText> for ByPair {
     ghost same = { λ _ _ _. ⊤ };
 
     ghost language = { λ _. ⟦<PairParser<'src> as Parser<'src, &'src str, char, EmptyText>>⟧.language (record {
-        parser = record {
-            first = record {
-                first = record { seq = 92 ∷ 117 ∷ []; of = record {} };
-                second = record {
-                    picked = record {
-                        parser = record {
-                            first = record { first = record { first = record { of = record {} }; second = record { of = record {} }; of = record {} }; second = record { of = record {} }; of = record {} };
-                            second = record { of = record {} };
-                            of = record {};
-                        };
-                        picker = record {};
-                        of = record {};
-                    };
-                };
+      parser = record {
+        first = record {
+          first = record { seq = 92 ∷ 117 ∷ []; of = record {} };
+          second = record {
+            picked = record {
+              parser = record {
+                first = record { first = record { first = record { of = record {} }; second = record { of = record {} }; of = record {} }; second = record { of = record {} }; of = record {} };
+                second = record { of = record {} };
                 of = record {};
+              };
+              picker = record {};
+              of = record {};
             };
-            second = record {
-                first = record { seq = 92 ∷ 117 ∷ []; of = record {} };
-                second = record {
-                    picked = record {
-                        parser = record {
-                            first = record { first = record { first = record { of = record {} }; second = record { of = record {} }; of = record {} }; second = record { of = record {} }; of = record {} };
-                            second = record { of = record {} };
-                            of = record {};
-                        };
-                        picker = record {};
-                        of = record {};
-                    };
-                };
-                of = record {};
-            };
-            of = record {};
+          };
+          of = record {};
         };
-        mapper = record {};
+        second = record {
+          first = record { seq = 92 ∷ 117 ∷ []; of = record {} };
+          second = record {
+            picked = record {
+              parser = record {
+                first = record { first = record { first = record { of = record {} }; second = record { of = record {} }; of = record {} }; second = record { of = record {} }; of = record {} };
+                second = record { of = record {} };
+                of = record {};
+              };
+              picker = record {};
+              of = record {};
+            };
+          };
+          of = record {};
+        };
         of = record {};
+      };
+      mapper = record {};
+      of = record {};
     }) };
 
     ghost ends_after_start = { λ _. (pair-lawful).ends };
@@ -461,15 +461,15 @@ impl<'src> Parser<'src, &'src str, char, EmptyText> for Piece {
     ghost ready = { λ _. ⊤ };
 
     ghost meaning = { λ _. ⟦<PieceParser<'src> as Parser<'src, &'src str, char, EmptyText>>⟧.meaning (record {
-        first = record { picked = record { parser = record { of = record {} }; picker = record {}; of = record {} } };
-        second = record {
-            first = record {
-                first = record { seq = 92; of = record {} };
-                second = record { picked = record { parser = record { of = record {} }; picker = record {}; of = record {} } };
-                of = record {};
-            };
-            second = record { first = record {}; second = record {} };
+      first = record { picked = record { parser = record { of = record {} }; picker = record {}; of = record {} } };
+      second = record {
+        first = record {
+          first = record { seq = 92; of = record {} };
+          second = record { picked = record { parser = record { of = record {} }; picker = record {}; of = record {} } };
+          of = record {};
         };
+        second = record { first = record {}; second = record {} };
+      };
     }) };
 
     ghost steady = { λ _. ⊥ };
@@ -477,15 +477,15 @@ impl<'src> Parser<'src, &'src str, char, EmptyText> for Piece {
     ghost same = { λ _ _ _. ⊤ };
 
     ghost language = { λ _. ⟦<PieceParser<'src> as Parser<'src, &'src str, char, EmptyText>>⟧.language (record {
-        first = record { picked = record { parser = record { of = record {} }; picker = record {}; of = record {} } };
-        second = record {
-            first = record {
-                first = record { seq = 92; of = record {} };
-                second = record { picked = record { parser = record { of = record {} }; picker = record {}; of = record {} } };
-                of = record {};
-            };
-            second = record { first = record {}; second = record {} };
+      first = record { picked = record { parser = record { of = record {} }; picker = record {}; of = record {} } };
+      second = record {
+        first = record {
+          first = record { seq = 92; of = record {} };
+          second = record { picked = record { parser = record { of = record {} }; picker = record {}; of = record {} } };
+          of = record {};
         };
+        second = record { first = record {}; second = record {} };
+      };
     }) };
 
     ghost ends_after_start = { λ _. (piece-lawful).ends };
@@ -534,10 +534,10 @@ impl<'src, C: Parser<'src, &'src str, char, EmptyText>> Parser<'src, &'src str, 
     ghost ready = { λ p. C.ready p.piece };
 
     ghost meaning = { λ p. ⟦<QuotedParser<'src, C> as Parser<'src, &'src str, String, EmptyText>>⟧.meaning (record {
-        parser = record { parser = record { parser = p.piece; at_least = 0; at_most = None; of = record {} }; of = record {} };
-        opening = record { seq = 34; of = record {} };
-        closing = record { seq = 34; of = record {} };
-        of = record {};
+      parser = record { parser = record { parser = p.piece; at_least = 0; at_most = None; of = record {} }; of = record {} };
+      opening = record { seq = 34; of = record {} };
+      closing = record { seq = 34; of = record {} };
+      of = record {};
     }) };
 
     ghost steady = { λ _. ⊥ };
@@ -545,10 +545,10 @@ impl<'src, C: Parser<'src, &'src str, char, EmptyText>> Parser<'src, &'src str, 
     ghost same = { λ _ _ _. ⊤ };
 
     ghost language = { λ p. ⟦<QuotedParser<'src, C> as Parser<'src, &'src str, String, EmptyText>>⟧.language (record {
-        parser = record { parser = record { parser = p.piece; at_least = 0; at_most = None; of = record {} }; of = record {} };
-        opening = record { seq = 34; of = record {} };
-        closing = record { seq = 34; of = record {} };
-        of = record {};
+      parser = record { parser = record { parser = p.piece; at_least = 0; at_most = None; of = record {} }; of = record {} };
+      opening = record { seq = 34; of = record {} };
+      closing = record { seq = 34; of = record {} };
+      of = record {};
     }) };
 
     ghost ends_after_start = { λ p. between-ends _ _ _ (letter-lawful 34).ends (collects-ends _ _ _ _ (repeats-end _ _ _ _ _ _ _ (C.ends_after_start p.piece))) (letter-lawful 34).ends };
