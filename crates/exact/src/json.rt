@@ -518,13 +518,7 @@ impl<
 
     ghost meaning = { λ p. ⟦<ValueParser<'src, S, A, O> as Parser<'src, &'src str, Json, EmptyText>>⟧.meaning (record {
       first = record { kind = record {}; of = record {} };
-      second = record {
-        first = p.scalar;
-        second = record {
-          first = record { parser = p.array; mapper = record {}; of = record {} };
-          second = record { parser = p.object; mapper = record {}; of = record {} };
-        };
-      };
+      second = record { first = p.scalar; second = record { first = record { parser = p.array; mapper = record {}; of = record {} }; second = record { parser = p.object; mapper = record {}; of = record {} } } };
       of = record {};
     }) };
 
@@ -534,13 +528,7 @@ impl<
 
     ghost language = { λ p. ⟦<ValueParser<'src, S, A, O> as Parser<'src, &'src str, Json, EmptyText>>⟧.language (record {
       first = record { kind = record {}; of = record {} };
-      second = record {
-        first = p.scalar;
-        second = record {
-          first = record { parser = p.array; mapper = record {}; of = record {} };
-          second = record { parser = p.object; mapper = record {}; of = record {} };
-        };
-      };
+      second = record { first = p.scalar; second = record { first = record { parser = p.array; mapper = record {}; of = record {} }; second = record { parser = p.object; mapper = record {}; of = record {} } } };
       of = record {};
     }) };
 
@@ -600,7 +588,8 @@ impl<'src> Recursion<'src, &'src str, Json, EmptyText> for OfValue {
     ghost says = { λ errors states. exactly (λ call. (ghosts unit call no_dict).body tt) errors states values
         (λ call l h. ignore_then-lawful blanks-lawful
         (or-lawful
-        (or-lawful (map-lawful (number-lawful ⟦<&'src str as Input<'src>>⟧ errors states)) (or-lawful (map-lawful (between-lawful (letter-lawful 34) (repeated-lawful piece-lawful) (letter-lawful 34))) words-lawful))
+        (or-lawful (map-lawful (number-lawful ⟦<&'src str as Input<'src>>⟧ errors states))
+        (or-lawful (map-lawful (between-lawful (letter-lawful 34) (repeated-lawful piece-lawful) (letter-lawful 34))) words-lawful))
         (or-lawful
         (map-lawful (between-lawful (letter-lawful 91) (separated-lawful h (mark-lawful 44)) (mark-lawful 93)))
         (map-lawful (between-lawful (letter-lawful 123)
@@ -753,11 +742,12 @@ pub fn run_value<'src, P: Parser<'src, &'src str, Json, EmptyText> + Copy + Drop
     inp: &mut TextRef<'src, '_, EmptyText>,
 ) -> PResult<Option<Json>>
     requires { P.ready call }
-    ensures ran { Runs ⟦<&'src str as Input<'src>>⟧ ⟦<EmptyErr as Error<&'src str>>⟧ ⟦<() as Inspector<&'src str>>⟧ (Onward (⟦<AnyValue<P> as Parser<'src, &'src str, Json, EmptyText>>⟧.meaning (record {
-      scalar = record { number = record {}; string = record { piece = record {} } };
-      array = record { value = call };
-      object = record { member = record { name = record { piece = record {} }; value = call } };
-    }) ⟦<EmptyErr as Error<&'src str>>⟧ ⟦<() as Inspector<&'src str>>⟧)) wanted inp.old inp.new result }
+    ensures ran { Runs ⟦<&'src str as Input<'src>>⟧ ⟦<EmptyErr as Error<&'src str>>⟧ ⟦<() as Inspector<&'src str>>⟧
+        (Onward (⟦<AnyValue<P> as Parser<'src, &'src str, Json, EmptyText>>⟧.meaning (record {
+          scalar = record { number = record {}; string = record { piece = record {} } };
+          array = record { value = call };
+          object = record { member = record { name = record { piece = record {} }; value = call } };
+        }) ⟦<EmptyErr as Error<&'src str>>⟧ ⟦<() as Inspector<&'src str>>⟧)) wanted inp.old inp.new result }
     ensures as_wanted { IfOk result (λ value. is_some value ≡ wanted) }
     ensures lent { inp.new.state.ghost_name ≡ inp.old.state.ghost_name }
 {
