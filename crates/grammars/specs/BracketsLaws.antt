@@ -18,13 +18,13 @@ use Rattle.chumsky_grammars.specs.RuleLanguage.{Makes, rule_language}
 use Rattle.grammars.specs.Brackets.{IsBalanced, brackets}
 use Rattle.grammars.specs.Brackets.IsBalanced.{none, pair}
 
--- a bracket, whose depth is 0
-abbrev pub bracket : ℕ → Language ℕ ℕ
-bracket c = to_language (λ v. v ≡ 0) ⊤ (literal_language nat_eq (c ∷ []) (λ v. v ≡ c) ⊤)
+-- a character, with a depth
+abbrev pub bracket : ℕ → ℕ → Language ℕ ℕ
+bracket c depth = to_language (λ v. v ≡ depth) ⊤ (literal_language nat_eq (c ∷ []) (λ v. v ≡ c) ⊤)
 
 -- the leaves
 abbrev pub leaves : List (Language ℕ ℕ)
-leaves = bracket 40 ∷ bracket 41 ∷ []
+leaves = bracket 40 0 ∷ bracket 41 0 ∷ []
 
 -- the depth of two parts is the greater, of a pair one more than what is in it, and of nothing 0
 abbrev pub depths : Makes ℕ
@@ -89,3 +89,9 @@ brackets-exact limit ts few enough =
     exactly-by_rules IsBalanced claims depths (leaves_of leaves) (leaves-are claims leaves refl) (brackets ∷ []) refl refl limit 0 (omega arith)
     (omega arith) (λ v s. sound limit ts v few s)
     (λ v d. let c : (language limit).ends (ts ++ []) ≡ At [] = complete {p = ts} d [] refl limit enough in rw append-nil at c)
+
+-- the same of two leaves that are these
+pub brackets-of : {Er spare : Type 0} (limit : ℕ) (ts : List ℕ) → length ts < 2 ^ 64 → length ts < limit → (b d c e : ℕ) → b ≡ 40 → d ≡ 0 → c ≡ 41 → e ≡ 0 → {result : Result (ParseResult ℕ Er) Stop}
+    → ((rule_language depths (leaves_of (bracket b d ∷ bracket c e ∷ [])) (brackets ∷ []) limit 0).said ≡ true → AnswersText Some (rule_language depths (leaves_of (bracket b d ∷ bracket c e ∷ [])) (brackets ∷ []) limit 0) ts spare result)
+    → Exactly IsBalanced ts result
+brackets-of limit ts few enough b d c e eb ed ec ee reads = brackets-exact limit ts few enough (rw (eb, ed, ec, ee) at reads)
