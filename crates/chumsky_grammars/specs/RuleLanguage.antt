@@ -55,7 +55,18 @@ module _ {Tok V : Type 0} (makes : Makes V) (leaf call : ℕ → Language Tok V)
 
 -- no word: each text is refused
 abbrev pub too_deep : {Tok V : Type 0} → Language Tok V
-too_deep = record { said = true; ends = λ _. Refused; value = λ _ _. ⊥; word = λ _. ⊥; stands_for = λ _ _. ⊥; follow = λ _. ⊤; unambiguous = ⊤; refused_from = Some zero; moves = true; takes_no_memory = ⊥ }
+too_deep = record {
+  said = true;
+  ends = λ _. Refused;
+  value = λ _ _. ⊥;
+  word = λ _. ⊥;
+  stands_for = λ _ _. ⊥;
+  follow = λ _. ⊤;
+  unambiguous = ⊤;
+  refused_from = Some zero;
+  moves = true;
+  takes_no_memory = ⊥;
+}
 
 module _ {Tok V : Type 0} (makes : Makes V) (leaf : ℕ → Language Tok V) (rules : List Expression) where
   -- a call of a rule, where so many more may be open: its body, and too deep where none may

@@ -1,6 +1,6 @@
 -- The rule takes just what is balanced.
--- Main law: brackets-exact. Read first: Brackets.antt, ExactlyLaws.antt of chumsky_grammars.
-use Rattle.std.proofs.Common.{◌≡◌, ℕ, zero, suc, ◌+◌, ◌-◌, ◌<◌, ◌≤◌, ◌^◌, max, min, nat_eq, true, false, List, [], ◌∷◌, ◌++◌, Option, Some, None, length, refl, ◌∙◌, ap, arith, append_assoc}
+-- Main law: brackets-of. Read first: Brackets.antt, ExactlyLaws.antt of chumsky_grammars.
+use Rattle.std.proofs.Common.{◌≡◌, ℕ, zero, suc, ◌+◌, ◌-◌, ◌<◌, ◌≤◌, ◌^◌, max, min, nat_eq, true, false, List, [], ◌∷◌, ◌++◌, Some, None, length, refl, ◌∙◌, ap, arith, append_assoc}
 use Rattle.std.proofs.lemmas.List.{length-append, append-nil}
 use Rattle.std.specs.Prelude.{unwrap_or, Result, ⊤}
 use Rattle.chumsky_input.specs.declared.stop.Stop.{Stop}
@@ -18,13 +18,13 @@ use Rattle.chumsky_grammars.specs.RuleLanguage.{Makes, rule_language}
 use Rattle.grammars.specs.Brackets.{IsBalanced, brackets}
 use Rattle.grammars.specs.Brackets.IsBalanced.{none, pair}
 
--- a bracket, whose depth is 0
-abbrev pub bracket : ℕ → Language ℕ ℕ
-bracket c = to_language (λ v. v ≡ 0) ⊤ (literal_language nat_eq (c ∷ []) (λ v. v ≡ c) ⊤)
+-- a character, with a depth
+abbrev pub bracket : ℕ → ℕ → Language ℕ ℕ
+bracket c depth = to_language (λ v. v ≡ depth) ⊤ (literal_language nat_eq (c ∷ []) (λ v. v ≡ c) ⊤)
 
 -- the leaves
 abbrev pub leaves : List (Language ℕ ℕ)
-leaves = bracket 40 ∷ bracket 41 ∷ []
+leaves = bracket 40 0 ∷ bracket 41 0 ∷ []
 
 -- the depth of two parts is the greater, of a pair one more than what is in it, and of nothing 0
 abbrev pub depths : Makes ℕ
@@ -39,9 +39,12 @@ depth_of : (opens inside closes closed both up after v : ℕ) → inside + insid
     → up ≡ min (both + 1) (2 ^ 64 - 1) → v ≡ max up after → v ≡ max (suc inside) after
 depth_of opens inside closes closed both up after v few o c d b u w = omega arith
 
--- the language of the rule
+-- the language of the rule, over such leaves; and over these
+abbrev pub language_over : List (Language ℕ ℕ) → ℕ → Language ℕ ℕ
+language_over ls n = rule_language depths (leaves_of ls) (brackets ∷ []) n 0
+
 abbrev pub language : ℕ → Language ℕ ℕ
-language n = rule_language depths (leaves_of leaves) (brackets ∷ []) n 0
+language = language_over leaves
 
 -- what is balanced is taken, where no pair of brackets follows
 complete : {p : List ℕ} {d : ℕ} → IsBalanced p d → (rest : List ℕ) → literal_ends nat_eq (40 ∷ []) rest ≡ Nowhere → (n : ℕ) → length p < n → (language n).ends (p ++ rest) ≡ At rest
@@ -74,8 +77,7 @@ sound (suc n) w v few (Some u, x, m) =
     let la = levels {p = h.first} a in
     let v_is : v ≡ max x.0.0 x.0.1 = m ∙ x.2 in
     let d : v ≡ max (suc z.0.0) x.0.1 =
-    depth_of y.1.0.0 z.0.0 z.0.1 y.1.0.1 y.0 x.0.0 x.0.1 v (omega (arith, le, la, few)) k.is_first.1 h.is_second.1 z.2 y.1.2
-    y.2 v_is in
+    depth_of y.1.0.0 z.0.0 z.0.1 y.1.0.1 y.0 x.0.0 x.0.1 v (omega (arith, le, la, few)) k.is_first.1 h.is_second.1 z.2 y.1.2 y.2 v_is in
     rw (all, d) (pair {inside = h.first} {after = j.second} a b)
 
 -- a rule that may stay, and calls itself only after a bracket
@@ -83,9 +85,14 @@ abbrev claims : Claims
 claims = record { count = 1; leaf_stays = λ n. false; rule_stays = λ r. true; rank = λ r. 0 }
 
 -- so the answer of `parse` is exact
-pub brackets-exact : {Er spare : Type 0} (limit : ℕ) (ts : List ℕ) → length ts < 2 ^ 64 → length ts < limit → {result : Result (ParseResult ℕ Er) Stop}
+brackets-exact : {Er spare : Type 0} (limit : ℕ) (ts : List ℕ) → length ts < 2 ^ 64 → length ts < limit → {result : Result (ParseResult ℕ Er) Stop}
     → ((language limit).said ≡ true → AnswersText Some (language limit) ts spare result) → Exactly IsBalanced ts result
 brackets-exact limit ts few enough =
-    exactly-by_rules IsBalanced claims depths (leaves_of leaves) (leaves-are claims leaves refl) (brackets ∷ []) refl refl limit 0 (omega arith)
-    (omega arith) (λ v s. sound limit ts v few s)
+    exactly-by_rules IsBalanced claims depths (leaves_of leaves) (leaves-are claims leaves refl) (brackets ∷ []) refl refl limit 0 (omega arith) (omega arith)
+    (λ v s. sound limit ts v few s)
     (λ v d. let c : (language limit).ends (ts ++ []) ≡ At [] = complete {p = ts} d [] refl limit enough in rw append-nil at c)
+
+-- the same of two leaves that are known to be these
+pub brackets-of : {Er spare : Type 0} (limit : ℕ) (ts : List ℕ) → length ts < 2 ^ 64 → length ts < limit → (b d c e : ℕ) → b ≡ 40 → d ≡ 0 → c ≡ 41 → e ≡ 0 → {result : Result (ParseResult ℕ Er) Stop}
+    → ((language_over (bracket b d ∷ bracket c e ∷ []) limit).said ≡ true → AnswersText Some (language_over (bracket b d ∷ bracket c e ∷ []) limit) ts spare result) → Exactly IsBalanced ts result
+brackets-of limit ts few enough b d c e eb ed ec ee reads = brackets-exact limit ts few enough (rw (eb, ed, ec, ee) at reads)
