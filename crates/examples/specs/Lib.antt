@@ -5,12 +5,3 @@ pub mod Date
 pub mod DateLaws
 pub mod Setting
 pub mod SettingLaws
-pub mod Contexts
-pub mod ContextsLaws
-pub mod SoManyLaws
-pub mod SoManyWords
-pub mod Query
-pub mod QueryLabels
-pub mod QueryHead
-pub mod QueryLaws
-pub mod Reported

@@ -1,7 +1,6 @@
 //! Parsers of real size, each with its types, in a file of its own: a date, a line of settings, the header of a packet, a query
 //! to the domain name system, the first line of an HTTP request, statements of which some may be wrong. Then whole languages,
-//! which `programs` reads from any input: INI, and the lines of a log. What the query is made of stands in `prefixed`: lists as
-//! long as what stands before them says.
+//! which `programs` reads from any input: INI, and the lines of a log.
 #![tactic(auto)]
 
 pub mod date;
@@ -9,7 +8,6 @@ pub mod digits;
 pub mod header;
 pub mod ini;
 pub mod log_lines;
-pub mod prefixed;
 pub mod query;
 pub mod request;
 pub mod setting;
