@@ -162,3 +162,22 @@ fn a_list_within_lists_is_refused_that_is_deeper_than_the_limit(rt: HostRuntime)
     }
     Ok(())
 }
+
+/// The same number of calls is asked of a text with one tree in a list and of one with ten thousand.
+#[test]
+fn a_long_list_is_read_under_as_many_calls_as_its_levels_ask(rt: HostRuntime) -> Result<(), Fail> {
+    let alloc = rt.alloc();
+    for (tree, calls) in [("7", 2), ("[]", 3), ("[7,[]]", 4)] {
+        let mut text = String::from_str(alloc, "[")?;
+        for i in 0..10_000 {
+            text.push_str(if i == 0 { "" } else { "," })?;
+            text.push_str(tree)?;
+        }
+        text.push_str("]")?;
+        let parsed = parse_tree(alloc, text.as_str(), calls)?;
+        assert!(rt; parsed.into_output().is_some(), "{tree}");
+        let refused = matches!(parse_tree(alloc, text.as_str(), calls - 1), Err(Stop::TooDeep));
+        assert!(rt; refused, "{tree}");
+    }
+    Ok(())
+}

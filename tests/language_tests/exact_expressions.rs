@@ -53,3 +53,22 @@ fn an_expression_is_refused_that_is_deeper_than_the_limit(rt: HostRuntime) -> Re
     }
     Ok(())
 }
+
+/// The same number of calls is asked of a text with one expression in a list and of one with ten thousand.
+#[test]
+fn a_long_list_of_expressions_is_read_under_as_many_calls_as_its_levels_ask(rt: HostRuntime) -> Result<(), Fail> {
+    let alloc = rt.alloc();
+    for (expression, calls) in [("a", 2), ("()", 3), ("(a 1 ())", 4)] {
+        let mut text = String::from_str(alloc, "(")?;
+        for i in 0..10_000 {
+            text.push_str(if i == 0 { "" } else { " " })?;
+            text.push_str(expression)?;
+        }
+        text.push_str(")")?;
+        let parsed = parse_expression(alloc, text.as_str(), calls)?;
+        assert!(rt; parsed.into_output().is_some(), "{expression}");
+        let refused = matches!(parse_expression(alloc, text.as_str(), calls - 1), Err(Stop::TooDeep));
+        assert!(rt; refused, "{expression}");
+    }
+    Ok(())
+}

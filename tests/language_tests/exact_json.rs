@@ -204,3 +204,25 @@ fn a_text_that_is_deeper_than_the_limit_is_refused(rt: HostRuntime) -> Result<()
     }
     Ok(())
 }
+
+/// The same number of calls is asked of a text with one item and of one with ten thousand.
+#[test]
+fn a_long_text_is_read_under_as_many_calls_as_its_levels_ask(rt: HostRuntime) -> Result<(), Fail> {
+    let alloc = rt.alloc();
+    let rows = [
+        ("[", "7", "]", 2), ("[", "[]", "]", 3), ("[", " {}", " ]", 2), ("{", "\"a\":7", "}", 2), ("{", "\"a\" : [7]", "}", 3), ("{", "\"a\":{}", "}", 2),
+    ];
+    for (opening, item, closing, calls) in rows {
+        let mut text = String::from_str(alloc, opening)?;
+        for i in 0..10_000 {
+            text.push_str(if i == 0 { "" } else { "," })?;
+            text.push_str(item)?;
+        }
+        text.push_str(closing)?;
+        let parsed = parse_json(alloc, text.as_str(), calls)?;
+        assert!(rt; parsed.into_output().is_some(), "{item}");
+        let refused = matches!(parse_json(alloc, text.as_str(), calls - 1), Err(Stop::TooDeep));
+        assert!(rt; refused, "{item}");
+    }
+    Ok(())
+}

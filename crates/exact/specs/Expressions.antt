@@ -1,6 +1,6 @@
 -- Expressions as Lisp writes them: what one says, how it is written, and the language of the function that reads them.
--- Main words: Form, form_of, IsExpression, written, IsSound, expressions. Laws: ExpressionsLaws.antt, WrittenLaws.antt.
-use Rattle.std.specs.Prelude.{ℕ, zero, suc, ◌||◌, nat_eq, true, Bool, List, [], ◌∷◌, ◌++◌, codes, ⊤}
+-- Main words: Form, form_of, IsExpression, written, levels, IsSound, expressions. Laws: ExpressionsLaws.antt, WrittenLaws.antt.
+use Rattle.std.specs.Prelude.{ℕ, zero, suc, max, ◌||◌, nat_eq, true, Bool, List, [], ◌∷◌, ◌++◌, codes, ⊤}
 use Rattle.std.specs.Char.{is_digit}
 use Rattle.std.specs.Str.{chars}
 use Rattle.chumsky_parser.specs.Words.{StopsAt}
@@ -68,6 +68,18 @@ abbrev mutual
   pub more_written : Forms → List ℕ
   more_written no_forms = []
   more_written (form f fs) = codes " " ++ (written f ++ more_written fs)
+
+abbrev mutual
+  -- how many lists stand within one another at most: none in a name, one in `()` and in `(a ())` two
+  pub levels : Form → ℕ
+  levels (name w) = 0
+  levels (number w) = 0
+  levels (list fs) = suc (levels_each fs)
+
+  -- the most of some expressions
+  pub levels_each : Forms → ℕ
+  levels_each no_forms = 0
+  levels_each (form f fs) = max (levels f) (levels_each fs)
 
 -- what is written before the one of an index in a list: a space, but none before the first
 abbrev pub gap_before : ℕ → List ℕ

@@ -1,7 +1,7 @@
 -- The function that reads expressions accepts just these.
 -- Main word: grammar. Main law: expressions-intended. Read first: Expressions.antt.
 use Rattle.std.proofs.Common.{◌≡◌, ℕ, suc, ◌||◌, Bool, true, false, nat_eq, None, List, [], ◌∷◌, ◌++◌, refl, sym, ◌∙◌, ap, subst, arith, rules, inl, inr}
-use Rattle.std.specs.Prelude.{codes, map}
+use Rattle.std.specs.Prelude.{codes, map, ⊤}
 use Rattle.std.specs.Borrow.{Bor}
 use Rattle.std.specs.declared.alloc.Global.{Global}
 use Rattle.std.specs.declared.vec.Vec.{Vec}
@@ -34,7 +34,7 @@ use denote.Builtin.{unit}
 abbrev pub grammar : Language ℕ Expression → Language ℕ Expression
 grammar = grammar_of (λ call. (ghosts unit call no_dict).body tt)
 
-abbrev Is : List ℕ → List ℕ → Type 0
+abbrev pub Is : List ℕ → List ℕ → Type 0
 Is = Equals nat_eq
 
 -- what an expression says, level by level
@@ -47,28 +47,37 @@ form-number text = search (rules, the_lemmas)
 pub form-list : (es : Vec Expression Global) → form_of (expression.List es) ≡ list (forms_of (map form_of es.items))
 form-list es = search (rules, the_lemmas)
 
+-- P of each of some forms
+abbrev pub Each : (Form → Type 0) → Forms → Type 0
+Each P no_forms = ⊤
+Each P (form f fs) = P f × Each P fs
+
+each-any : (fs : Forms) → Each (λ f. ⊤) fs
+each-any no_forms = tt
+each-any (form f fs) = (tt, each-any fs)
+
 -- a text of them is a word of a list
-module _ (P : List ℕ → Type 0) (is : (w : List ℕ) (f : Form) → IsExpression w f → P w) where
-  abbrev IsList : ℕ → List ℕ → Type 0
+module _ (P : List ℕ → Type 0) (Q : Form → Type 0) (is : (w : List ℕ) (f : Form) → Q f → IsExpression w f → P w) where
+  abbrev pub IsList : ℕ → List ℕ → Type 0
   IsList = IsListFrom (SeparatedWord (Is (codes " ")) false None P) (SeparatedEnd (Is (codes " ")) false false 0 None)
 
-  led : {w : List ℕ} {f : Form} {fs : Forms} (k : ℕ) → AreExpressions w (form f fs) → IsList (suc k) (codes " " ++ w)
-  led {w} {f} k (one_expression i) = record {
+  led : {w : List ℕ} {f : Form} {fs : Forms} (k : ℕ) → Each Q (form f fs) → AreExpressions w (form f fs) → IsList (suc k) (codes " " ++ w)
+  led {w} {f} k q (one_expression i) = record {
     items = w ∷ [];
-    are = record { first = codes " " ++ w; second = []; all = sym (append-nil (codes " " ++ w)); is_first = (tt, record { first = codes " "; second = w; all = refl; is_first = same-equals (codes " "); is_second = is w f i }); is_second = (omega arith, refl) };
+    are = record { first = codes " " ++ w; second = []; all = sym (append-nil (codes " " ++ w)); is_first = (tt, record { first = codes " "; second = w; all = refl; is_first = same-equals (codes " "); is_second = is w f q.0 i }); is_second = (omega arith, refl) };
   }
-  led {f = f} k (more_expressions {w} {ws} i a) =
-      let l = led (suc k) a in record {
+  led {f = f} k q (more_expressions {w} {ws} i a) =
+      let l = led (suc k) q.1 a in record {
         items = w ∷ l.items;
-        are = record { first = codes " " ++ w; second = codes " " ++ ws; all = refl; is_first = (tt, record { first = codes " "; second = w; all = refl; is_first = same-equals (codes " "); is_second = is w f i }); is_second = l.are };
+        are = record { first = codes " " ++ w; second = codes " " ++ ws; all = refl; is_first = (tt, record { first = codes " "; second = w; all = refl; is_first = same-equals (codes " "); is_second = is w f q.0 i }); is_second = l.are };
       }
 
-  is_list_word : {w : List ℕ} {fs : Forms} → AreExpressions w fs → IsList 0 w
-  is_list_word no_expression = record { items = []; are = (omega arith, refl) }
-  is_list_word (one_expression {w} {f} i) = record { items = w ∷ []; are = record { first = w; second = []; all = sym (append-nil w); is_first = (tt, is w f i); is_second = (omega arith, refl) } }
-  is_list_word (more_expressions {w} {ws} {f} i a) = let l = led 0 a in record { items = w ∷ l.items; are = record { first = w; second = codes " " ++ ws; all = refl; is_first = (tt, is w f i); is_second = l.are } }
+  pub is_list_word : {w : List ℕ} {fs : Forms} → Each Q fs → AreExpressions w fs → IsList 0 w
+  is_list_word q no_expression = record { items = []; are = (omega arith, refl) }
+  is_list_word q (one_expression {w} {f} i) = record { items = w ∷ []; are = record { first = w; second = []; all = sym (append-nil w); is_first = (tt, is w f q.0 i); is_second = (omega arith, refl) } }
+  is_list_word q (more_expressions {w} {ws} {f} i a) = let l = led 0 q.1 a in record { items = w ∷ l.items; are = record { first = w; second = codes " " ++ ws; all = refl; is_first = (tt, is w f q.0 i); is_second = l.are } }
 
-both_false : (a b : Bool) → (a || b) ≡ false → (a ≡ false) × (b ≡ false)
+pub both_false : (a b : Bool) → (a || b) ≡ false → (a ≡ false) × (b ≡ false)
 both_false true b e = absurd (cc e)
 both_false false b e = (refl, e)
 
@@ -138,12 +147,12 @@ module _ (call : Language ℕ Expression) (depth : ℕ) (i : IsIntended expressi
   each_form : (w : List ℕ) (f : Form) → IsExpression w f → (grammar call).word w
   each_form w _ (is_name n) = inl (inl n)
   each_form w _ (is_number d) = inl (inr (decimal-int w d))
-  each_form _ _ (is_list {w} a) = inr (record {
+  each_form _ _ (is_list {w} {fs} a) = inr (record {
     first = codes "(";
     second = w ++ codes ")";
     all = refl;
     is_first = same-equals (codes "(");
-    is_second = record { first = w; second = codes ")"; all = refl; is_first = is_list_word call.word (λ u f h. i.each u (f, h)) a; is_second = same-equals (codes ")") };
+    is_second = record { first = w; second = codes ")"; all = refl; is_first = is_list_word call.word (λ f. ⊤) (λ u f q h. i.each u (f, h)) (each-any fs) a; is_second = same-equals (codes ")") };
   })
 
   fails : (ts : List ℕ) → StopsAt begins_expression ts → DoesNotEnd ((grammar call).ends ts)

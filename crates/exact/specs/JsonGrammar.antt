@@ -38,21 +38,26 @@ mark c = ignore_then_language blanks (just c)
 abbrev pub word_for : List ℕ → Json → Language ℕ Json
 word_for cs value = map_language (λ v w. w ≡ value) (literal_language nat_eq cs (λ ds. AllZipBelow (λ c d. d ≡ c) cs ds (length cs)) ⊤)
 
+-- `null`, `true` or `false`
+abbrev pub words : Language ℕ Json
+words = or_language (word_for (codes "null") json.Null) (or_language (word_for (codes "true") (json.Bool true)) (word_for (codes "false") (json.Bool false)))
+
 -- a value that has no others in it
 abbrev pub scalar_language : (number string : Language ℕ (String Global)) → Language ℕ Json
-scalar_language number string =
-    or_language (map_language (λ s v. v ≡ json.Number s) number)
-    (or_language (map_language (λ s v. v ≡ json.String s) string)
-    (or_language (word_for (codes "null") json.Null) (or_language (word_for (codes "true") (json.Bool true)) (word_for (codes "false") (json.Bool false)))))
+scalar_language number string = or_language (map_language (λ s v. v ≡ json.Number s) number) (or_language (map_language (λ s v. v ≡ json.String s) string) words)
 
 -- items between two characters, with a comma (44) between each two
 abbrev pub listed_language : {V : Type 0} → ℕ → ℕ → Language ℕ V → Language ℕ (Vec V Global)
 listed_language opening closing item =
     between_language (just opening) (collected_language (separated_language (mark 44) item (record { least = 0; most = None; leading = false; trailing = false; free = false })) (λ vs v. v.items ≡ vs) ⊥) (mark closing)
 
--- a member: a name after blanks, a colon (58) and what a call reads
+-- a name after blanks, and a colon (58)
+abbrev pub name_language : (string : Language ℕ (String Global)) → Language ℕ (String Global)
+name_language string = then_ignore_language (ignore_then_language blanks string) (mark 58)
+
+-- a member: a name, and what a call reads
 abbrev pub member_language : (string : Language ℕ (String Global)) → Language ℕ Json → Language ℕ (String Global × Json)
-member_language string call = then_language (then_ignore_language (ignore_then_language blanks string) (mark 58)) call
+member_language string call = then_language (name_language string) call
 
 -- a value, where a call reads those in it: `[` is 91 and `]` is 93, `{` is 123 and `}` is 125
 abbrev pub bare_language : (number string : Language ℕ (String Global)) → Language ℕ Json → Language ℕ Json

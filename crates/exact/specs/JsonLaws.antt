@@ -27,13 +27,13 @@ use Rattle.exact.specs.JsonNumbers.{IsNumberText, begins_number, number_goes_on}
 use Rattle.exact.specs.JsonNumbersOnce.{both_false, number-begins}
 use Rattle.exact.specs.JsonForms.{Form, null, truth, number, string, array, object, Forms, no_forms, form, Members, no_members, member, forms_of, members_of, form_of, is_blank, AreBlanks}
 use Rattle.exact.specs.JsonForms.{IsValue, is_null, is_true, is_false, is_number, is_string, is_array, is_object, IsElement, is_element, AreElements, no_element, one_element, more_elements, IsMember, is_member, AreMembers, no_member, one_member, more_members, IsJson}
-use Rattle.exact.specs.JsonGrammar.{mark, scalar_language, listed_language, member_language, bare_language, value_language, begins_scalar, begins_value, past_blanks, IsText, values}
+use Rattle.exact.specs.JsonGrammar.{mark, words, scalar_language, listed_language, name_language, member_language, bare_language, value_language, begins_scalar, begins_value, past_blanks, IsText, values}
 
-abbrev Is : List ℕ → List ℕ → Type 0
+abbrev pub Is : List ℕ → List ℕ → Type 0
 Is = Equals nat_eq
 
 -- a character after blanks
-abbrev IsMark : ℕ → List ℕ → Type 0
+abbrev pub IsMark : ℕ → List ℕ → Type 0
 IsMark c = Joined AreBlanks (Is (c ∷ []))
 
 -- a text has a first character, which passes
@@ -132,7 +132,7 @@ begins-no_blank c e = by_blank (is_blank c) refl
     by_blank false h = h
 
 -- past blanks is what follows them
-past : (b rest : List ℕ) → AreBlanks b → StopsAt is_blank rest → past_blanks (b ++ rest) ≡ rest
+pub past : (b rest : List ℕ) → AreBlanks b → StopsAt is_blank rest → past_blanks (b ++ rest) ≡ rest
 past b rest k s = let e : leading is_blank (b ++ rest) ≡ b = leading_stops is_blank b rest k s in rw e (drop_front b)
   where
     drop_front : (b : List ℕ) → drop (length b) (b ++ rest) ≡ rest
@@ -144,6 +144,10 @@ blanks_stop : (b rest : List ℕ) → AreBlanks b → StopsAt number_goes_on res
 blanks_stop [] rest k s = s
 blanks_stop (c ∷ cs) rest k s = (blank_alone c k.0).0
 
+pub blanks-follow : (b : List ℕ) → AreBlanks b → StopsAt number_goes_on b
+blanks-follow [] k = tt
+blanks-follow (c ∷ cs) k = (blank_alone c k.0).0
+
 -- a mark is blanks and its character
 marked : (c : ℕ) (w : List ℕ) → IsMark c w → (b : List ℕ) × AreBlanks b × (w ≡ b ++ (c ∷ []))
 marked c w j = let e : j.second ≡ c ∷ [] = equals-same (c ∷ []) j.second j.is_second in (j.first, j.is_first, cc (j.all, e))
@@ -154,17 +158,17 @@ is_mark c b k = record { first = b; second = c ∷ []; all = refl; is_first = k;
 before_rest : (c : ℕ) (w rest : List ℕ) (j : IsMark c w) → w ++ rest ≡ (marked c w j).0 ++ (c ∷ rest)
 before_rest c w rest j = let m = marked c w j in ap (λ z. z ++ rest) m.2 ∙ append_assoc m.0 (c ∷ []) rest
 
-mark_stops : (c : ℕ) → number_goes_on c ≡ false → (w rest : List ℕ) → IsMark c w → StopsAt number_goes_on (w ++ rest)
+pub mark_stops : (c : ℕ) → number_goes_on c ≡ false → (w rest : List ℕ) → IsMark c w → StopsAt number_goes_on (w ++ rest)
 mark_stops c n w rest j = let m = marked c w j in subst (StopsAt number_goes_on) (sym (before_rest c w rest j)) (blanks_stop m.0 (c ∷ rest) m.1 n)
 
-mark_past : (c : ℕ) → is_blank c ≡ false → (w rest : List ℕ) → IsMark c w → past_blanks (w ++ rest) ≡ c ∷ rest
+pub mark_past : (c : ℕ) → is_blank c ≡ false → (w rest : List ℕ) → IsMark c w → past_blanks (w ++ rest) ≡ c ∷ rest
 mark_past c n w rest j = let m = marked c w j in subst (λ z. past_blanks z ≡ c ∷ rest) (sym (before_rest c w rest j)) (past m.0 (c ∷ rest) m.1 n)
 
 -- no mark is another
-mark_fails : (c d : ℕ) → is_blank d ≡ false → nat_eq c d ≡ false → (w rest : List ℕ) → IsMark d w → DoesNotEnd ((mark c).ends (w ++ rest))
+pub mark_fails : (c d : ℕ) → is_blank d ≡ false → nat_eq c d ≡ false → (w rest : List ℕ) → IsMark d w → DoesNotEnd ((mark c).ends (w ++ rest))
 mark_fails c d n e w rest j = subst (λ z. DoesNotEnd (literal_ends nat_eq (c ∷ []) z)) (sym (mark_past d n w rest j)) (literal_fails c [] rest d e)
 
-mark-unambiguous : (c : ℕ) → is_blank c ≡ false → (mark c).unambiguous
+pub mark-unambiguous : (c : ℕ) → is_blank c ≡ false → (mark c).unambiguous
 mark-unambiguous c n = (tt, tt, λ w rest j f. subst (λ z. StopsAt is_blank (z ++ rest)) (sym (equals-same (c ∷ []) w j)) n)
 
 by_comma : (P : List ℕ → Type 0) (s : List ℕ) → IsMark 44 s → ((b : List ℕ) → AreBlanks b → P (b ++ codes ",")) → P s
@@ -178,20 +182,20 @@ bracketed o q w j =
     let c : j.is_second.second ≡ m.0 ++ (q ∷ []) = m.2 in
     (m.0, m.1, cc (j.all, e, j.is_second.all, c))
 
-is_bracketed : {P : List ℕ → Type 0} (o q : ℕ) (w b : List ℕ) → P w → AreBlanks b → Joined (Is (o ∷ [])) (Joined P (IsMark q)) ((o ∷ []) ++ (w ++ (b ++ (q ∷ []))))
+pub is_bracketed : {P : List ℕ → Type 0} (o q : ℕ) (w b : List ℕ) → P w → AreBlanks b → Joined (Is (o ∷ [])) (Joined P (IsMark q)) ((o ∷ []) ++ (w ++ (b ++ (q ∷ []))))
 is_bracketed o q w b p k = record { first = o ∷ []; second = w ++ (b ++ (q ∷ [])); all = refl; is_first = same-equals (o ∷ []); is_second = record { first = w; second = b ++ (q ∷ []); all = refl; is_first = p; is_second = is_mark q b k } }
 
 opened : {P : List ℕ → Type 0} (o : ℕ) (w : List ℕ) (j : Joined (Is (o ∷ [])) P w) → w ≡ o ∷ j.second
 opened o w j = let e : j.first ≡ o ∷ [] = equals-same (o ∷ []) j.first j.is_first in cc (j.all, e)
 
 -- texts of items, one at least, with a comma between each two
-data AreMore (P : List ℕ → Type 0) : List ℕ → Type 0 where
+pub data AreMore (P : List ℕ → Type 0) : List ℕ → Type 0 where
   last_one : {w : List ℕ} → P w → AreMore P w
   one_more : {w ws : List ℕ} (b : List ℕ) → P w → AreBlanks b → AreMore P ws → AreMore P (w ++ ((b ++ codes ",") ++ ws))
 
 -- they are a word of a list
 module _ (P : List ℕ → Type 0) where
-  abbrev IsList : ℕ → List ℕ → Type 0
+  abbrev pub IsList : ℕ → List ℕ → Type 0
   IsList = IsListFrom (SeparatedWord (IsMark 44) false None P) (SeparatedEnd (IsMark 44) false false 0 None)
 
   led : {w : List ℕ} (k : ℕ) (b : List ℕ) → AreBlanks b → AreMore P w → IsList (suc k) ((b ++ codes ",") ++ w)
@@ -211,10 +215,10 @@ module _ (P : List ℕ → Type 0) where
         };
       }
 
-  none-list : IsList 0 []
+  pub none-list : IsList 0 []
   none-list = record { items = []; are = (omega arith, refl) }
 
-  more-list : {w : List ℕ} → AreMore P w → IsList 0 w
+  pub more-list : {w : List ℕ} → AreMore P w → IsList 0 w
   more-list (last_one {w} i) = record { items = w ∷ []; are = record { first = w; second = []; all = sym (append-nil w); is_first = (tt, i); is_second = (omega arith, refl) } }
   more-list (one_more {w} {ws} b i t a) = let l = led 0 b t a in record { items = w ∷ l.items; are = record { first = w; second = (b ++ codes ",") ++ ws; all = refl; is_first = (tt, i); is_second = l.are } }
 
@@ -293,6 +297,17 @@ module _ {V : Type 0} (o q : ℕ) (item : Language ℕ V) (depth : ℕ) (i : IsI
 list_fails-nil : {V : Type 0} (o q : ℕ) (item : Language ℕ V) → DoesNotEnd ((listed_language o q item).ends [])
 list_fails-nil o q item = tt
 
+-- no word for a value is another
+pub words-unambiguous : words.unambiguous
+words-unambiguous = (
+  tt,
+  (tt, tt, λ w rest j f. fails_on (literal_ends nat_eq (codes "true")) (codes "false") w rest (equals-same (codes "false") w j) tt),
+  λ w rest j f. elim j [
+    | inl k ↦ fails_on (literal_ends nat_eq (codes "null")) (codes "true") w rest (equals-same (codes "true") w k) tt
+    | inr k ↦ fails_on (literal_ends nat_eq (codes "null")) (codes "false") w rest (equals-same (codes "false") w k) tt
+  ],
+)
+
 -- a word of one value
 word_is : (cs w : List ℕ) (f : Form) → Is cs w → IsValue cs f → IsValue w f
 word_is cs w f j t = subst (λ z. IsValue z f) (sym (equals-same cs w j)) t
@@ -308,14 +323,14 @@ member_parts u j =
     (m.0, m.1, cc (j.all, k.all, h.all, c))
 
 -- each text of a value begins so
-string-begins : {w cs : List ℕ} → IsString w cs → Begins begins_value w
+pub string-begins : {w cs : List ℕ} → IsString w cs → Begins begins_value w
 string-begins (quoted a) = refl
 
 module _ (N S : Language ℕ (String Global)) (n : IsNumberLanguage N) (s : IsStringLanguage S) where
-  abbrev scalar : Language ℕ Json
+  abbrev pub scalar : Language ℕ Json
   scalar = scalar_language N S
 
-  value-begins : {w : List ℕ} {f : Form} → IsValue w f → Begins begins_value w
+  pub value-begins : {w : List ℕ} {f : Form} → IsValue w f → Begins begins_value w
   value-begins is_null = refl
   value-begins is_true = refl
   value-begins is_false = refl
@@ -326,7 +341,7 @@ module _ (N S : Language ℕ (String Global)) (n : IsNumberLanguage N) (s : IsSt
   value-begins (is_array b a k) = refl
   value-begins (is_object b a k) = refl
 
-  value-no_blank : (w rest : List ℕ) → Begins begins_value w → StopsAt is_blank (w ++ rest)
+  pub value-no_blank : (w rest : List ℕ) → Begins begins_value w → StopsAt is_blank (w ++ rest)
   value-no_blank [] rest b = absurd b
   value-no_blank (c ∷ cs) rest b = begins-no_blank c b
 
@@ -345,7 +360,7 @@ module _ (N S : Language ℕ (String Global)) (n : IsNumberLanguage N) (s : IsSt
   scalar-sound w v (inr (inr (inr (inl m)))) = subst (IsValue w) (sym (ap form_of m.2 ∙ form-bool true)) (word_is (codes "true") w (truth true) m.1.0 is_true)
   scalar-sound w v (inr (inr (inr (inr m)))) = subst (IsValue w) (sym (ap form_of m.2 ∙ form-bool false)) (word_is (codes "false") w (truth false) m.1.0 is_false)
 
-  scalar-follows : (rest : List ℕ) → StopsAt number_goes_on rest → scalar.follow rest
+  pub scalar-follows : (rest : List ℕ) → StopsAt number_goes_on rest → scalar.follow rest
   scalar-follows rest t = (n.follows rest t, (s.follows rest, (tt, (tt, tt))))
 
   scalar-said : scalar.said ≡ true
@@ -357,7 +372,7 @@ module _ (N S : Language ℕ (String Global)) (n : IsNumberLanguage N) (s : IsSt
   scalar-sure : scalar.refused_from ≡ None
   scalar-sure = rw (n.sure, s.sure) refl
 
-  scalar-fails : (ts : List ℕ) → StopsAt begins_scalar ts → DoesNotEnd (scalar.ends ts)
+  pub scalar-fails : (ts : List ℕ) → StopsAt begins_scalar ts → DoesNotEnd (scalar.ends ts)
   scalar-fails [] t = neither_ends (N.ends []) _ (n.fails [] tt) (neither_ends (S.ends []) Nowhere (s.fails [] tt) tt)
   scalar-fails (c ∷ cs) t =
       let p = both_false (begins_number c) (nat_eq 34 c || (nat_eq 110 c || (nat_eq 116 c || nat_eq 102 c))) t in
@@ -375,19 +390,12 @@ module _ (N S : Language ℕ (String Global)) (n : IsNumberLanguage N) (s : IsSt
   string_no_number w rest cs (quoted a) = n.fails _ refl
 
   -- neither a string nor a word is a number, no word is a string, and none another
-  scalar-unambiguous : scalar.unambiguous
+  pub scalar-unambiguous : scalar.unambiguous
   scalar-unambiguous = (
     n.unambiguous,
     (
       s.unambiguous,
-      (
-        tt,
-        (tt, tt, λ w rest j f. fails_on (literal_ends nat_eq (codes "true")) (codes "false") w rest (equals-same (codes "false") w j) tt),
-        λ w rest j f. elim j [
-          | inl k ↦ fails_on (literal_ends nat_eq (codes "null")) (codes "true") w rest (equals-same (codes "true") w k) tt
-          | inr k ↦ fails_on (literal_ends nat_eq (codes "null")) (codes "false") w rest (equals-same (codes "false") w k) tt
-        ],
-      ),
+      words-unambiguous,
       λ w rest j f. elim j [
         | inl k ↦ fails_on S.ends (codes "null") w rest (equals-same (codes "null") w k) (s.fails _ refl)
         | inr y ↦ elim y [ inl k ↦ fails_on S.ends (codes "true") w rest (equals-same (codes "true") w k) (s.fails _ refl) | inr k ↦ fails_on S.ends (codes "false") w rest (equals-same (codes "false") w k) (s.fails _ refl) ]
@@ -401,6 +409,16 @@ module _ (N S : Language ℕ (String Global)) (n : IsNumberLanguage N) (s : IsSt
       ]
     ],
   )
+
+  -- names
+  pub name-each : (a v b cs : List ℕ) → AreBlanks a → IsString v cs → AreBlanks b → (name_language S).word ((a ++ v) ++ (b ++ codes ":"))
+  name-each a v b cs p t q = record { first = a ++ v; second = b ++ codes ":"; all = refl; is_first = record { first = a; second = v; all = refl; is_first = p; is_second = s.complete v cs t }; is_second = is_mark 58 b q }
+
+  pub name-fails : (ts : List ℕ) → StopsAt (nat_eq 34) (past_blanks ts) → DoesNotEnd ((name_language S).ends ts)
+  name-fails ts t = none_then (mark 58).ends (S.ends (past_blanks ts)) (s.fails (past_blanks ts) t)
+
+  pub name-unambiguous : (name_language S).unambiguous
+  name-unambiguous = ((tt, s.unambiguous, λ w rest j f. let t = s.some w j in value-no_blank w rest (string-begins t.1)), mark-unambiguous 58 refl, λ w rest j f. s.follows (w ++ rest))
 
   module _ (call : Language ℕ Json) (depth : ℕ) (i : IsIntended values call depth) where
     abbrev item : Language ℕ (String Global × Json)
@@ -422,13 +440,7 @@ module _ (N S : Language ℕ (String Global)) (n : IsNumberLanguage N) (s : IsSt
         subst (λ z. IsMember z (chars (string_bytes v.0)) (form_of v.1)) m.2 (is_member h.first m.0 h.is_first (s.sound h.second v.0 h.is_second) m.1 (i.given j.second v.1 j.is_second))
 
     member-each : (u cs : List ℕ) (f : Form) → IsMember u cs f → item.word u
-    member-each _ cs f (is_member {v} {w} a b p t q e) = record {
-      first = (a ++ v) ++ (b ++ codes ":");
-      second = w;
-      all = refl;
-      is_first = record { first = a ++ v; second = b ++ codes ":"; all = refl; is_first = record { first = a; second = v; all = refl; is_first = p; is_second = s.complete v cs t }; is_second = is_mark 58 b q };
-      is_second = i.each w (f, e);
-    }
+    member-each _ cs f (is_member {v} {w} a b p t q e) = record { first = (a ++ v) ++ (b ++ codes ":"); second = w; all = refl; is_first = name-each a v b cs p t q; is_second = i.each w (f, e) }
 
     -- elements and members in brackets
     elements-some : (w : List ℕ) → IsList call.word 0 w → (fs : Forms) × AreElements w fs
@@ -501,20 +513,10 @@ module _ (N S : Language ℕ (String Global)) (n : IsNumberLanguage N) (s : IsSt
     }
 
     member_fails : (w rest : List ℕ) → IsMark 125 w → DoesNotEnd (item.ends (w ++ rest))
-    member_fails w rest j =
-        let e : DoesNotEnd (S.ends (past_blanks (w ++ rest))) = subst (λ z. DoesNotEnd (S.ends z)) (sym (mark_past 125 refl w rest j)) (s.fails (125 ∷ rest) refl) in
-        none_then call.ends _ (none_then (mark 58).ends (S.ends (past_blanks (w ++ rest))) e)
+    member_fails w rest j = none_then call.ends _ (name-fails (w ++ rest) (subst (StopsAt (nat_eq 34)) (sym (mark_past 125 refl w rest j)) refl))
 
     member-unambiguous : item.unambiguous
-    member-unambiguous = (
-      (
-        (tt, s.unambiguous, λ w rest j f. let t = s.some w j in value-no_blank w rest (string-begins t.1)),
-        mark-unambiguous 58 refl,
-        λ w rest j f. s.follows (w ++ rest),
-      ),
-      i.unambiguous,
-      λ w rest j f. tt,
-    )
+    member-unambiguous = (name-unambiguous, i.unambiguous, λ w rest j f. tt)
 
     member_below : (a b : Option ℕ) (moves : Bool) (k : ℕ) → a ≡ None → moves ≡ true → IsBelow (later b true) k → IsBelow (sooner (sooner (sooner None (later a false)) (later None moves)) (later b (moves || true))) k
     member_below a b moves k e f h = rw (e, f) h

@@ -1,18 +1,25 @@
 -- The function that reads values of JSON accepts just these.
--- Main word: grammar. Main laws: number-is, string-is, values-intended. Read first: JsonLaws.antt, and CallLanguage.antt of chumsky_descent.
-use Rattle.std.proofs.Common.{ℕ, suc, nat_eq, List, [], ◌∷◌, refl}
-use Rattle.chumsky_parser.specs.Ending.{DoesNotEnd}
+-- Main word: grammar. Main laws: number-is, string-is, values-intended, refused-deep. Read first: JsonLaws.antt, JsonLevelsLaws.antt, and CallLanguage.antt of chumsky_descent.
+use Rattle.std.proofs.Common.{◌≡◌, ℕ, zero, suc, ◌≤◌, ◌<◌, nat_eq, List, [], ◌∷◌, length, refl, sym, ◌∙◌, ap, arith}
+use Rattle.chumsky_parser.specs.Ending.{At, Nowhere, Refused, DoesNotEnd, and_then}
 use Rattle.chumsky_parser.specs.Language.{Language}
 use Rattle.chumsky_parser.specs.Words.{StopsAt}
+use Rattle.chumsky_primitive.specs.EndLanguage.{end_ends}
 use Rattle.chumsky_primitive.specs.PrimitiveLanguage.{literal_ends}
 use Rattle.chumsky_descent.specs.CallLanguage.{call_language, IsIntended, call-is_intended}
 use Rattle.chumsky_descent.specs.Exactly.{grammar_of}
 use Rattle.exact.specs.declared.json_value.Json.{Json}
+use Rattle.exact.specs.Deep.{IsDeep, deep-unless}
+use Rattle.exact.specs.JsonForms.{IsJson}
+use Rattle.exact.specs.JsonNumbers.{number_goes_on}
 use Rattle.exact.specs.JsonNumbersLanguage.{number_language}
 use Rattle.exact.specs.JsonNumbersLaws.{number-sound, number-some, number-complete, number-follow, number-unambiguous, number-fails}
 use Rattle.exact.specs.JsonStringsLaws.{string_language, string-sound, string-some, string-complete, string-unambiguous}
-use Rattle.exact.specs.JsonGrammar.{value_language, values}
-use Rattle.exact.specs.JsonLaws.{IsNumberLanguage, IsStringLanguage, literal_fails, none_then, kept}
+use Rattle.exact.specs.JsonGrammar.{value_language, begins_value, past_blanks, values}
+use Rattle.exact.specs.JsonLaws.{IsNumberLanguage, IsStringLanguage, literal_fails, none_then, blanks-follow, kept}
+use Rattle.exact.specs.JsonLevels.{levels}
+use Rattle.exact.specs.JsonLevelsLaws.{IsShallow, value-taken, value-fails}
+use Rattle.exact.specs.Taken.{AlwaysTakes}
 use Rattle.exact.specs.contracts.json.OfValueBodyRefStrJsonEmptyText.TheImpl.{ghosts, no_dict}
 use denote.Builtin.{unit}
 
@@ -70,3 +77,23 @@ body-kept call depth i =
 -- and the function has the language that is intended
 pub values-intended : (depth : ℕ) → IsIntended values (call_language values grammar depth) depth
 values-intended = call-is_intended values grammar body-kept
+
+-- under one call at least it fails on what begins no value
+values-fail : (depth : ℕ) → 0 < depth → (ts : List ℕ) → StopsAt begins_value (past_blanks ts) → (call_language values grammar depth).ends ts ≡ Nowhere
+values-fail zero l ts t = absurd (omega (arith, l))
+values-fail (suc depth) l ts t = value-fails number-is string-is (call_language values grammar depth) ts t
+
+-- a value of fewer levels than calls may be open is taken
+values-taken : (depth : ℕ) → AlwaysTakes (call_language values grammar depth).ends (IsShallow depth) (StopsAt number_goes_on)
+values-taken zero w rest i t = let l : levels i.0 < 0 = i.2 in absurd (omega (arith, l))
+values-taken (suc depth) w rest i t = value-taken number-is string-is (call_language values grammar depth) depth (values-taken depth) (values-fail depth) w rest i t
+
+end_known : (ts : List ℕ) → end_ends ts ≡ Refused → ⊥
+end_known [] e = cc e
+end_known (c ∷ cs) e = cc e
+
+-- so a text that is refused, and is no shorter than the limit, is deep
+pub refused-deep : (limit : ℕ) (text : List ℕ) → and_then (λ ts. end_ends (past_blanks ts)) ((call_language values grammar limit).ends text) ≡ Refused → limit ≤ length text → IsDeep IsJson levels limit text
+refused-deep limit text e l = deep-unless IsJson levels limit text l (λ f j k.
+    let d : (call_language values grammar limit).ends text ≡ At j.after = ap (call_language values grammar limit).ends j.all ∙ values-taken limit j.element j.after (f, j.is, k) (blanks-follow j.after j.blank) in
+    end_known (past_blanks j.after) (sym (ap (and_then (λ ts. end_ends (past_blanks ts))) d) ∙ e))

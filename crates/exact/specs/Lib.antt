@@ -3,13 +3,17 @@ pub mod Bits
 pub mod BitsLaws
 pub mod Date
 pub mod DateLaws
+pub mod Deep
 pub mod Expressions
 pub mod ExpressionsLaws
+pub mod ExpressionsLevelsLaws
 pub mod Listed
 pub mod JsonForms
 pub mod JsonGrammar
 pub mod JsonLawful
 pub mod JsonLaws
+pub mod JsonLevels
+pub mod JsonLevelsLaws
 pub mod JsonNumbers
 pub mod JsonNumbersLanguage
 pub mod JsonNumbersLaws
@@ -32,6 +36,8 @@ pub mod NumberLaws
 pub mod Owned
 pub mod Pairs
 pub mod PairsLaws
+pub mod Taken
 pub mod Trees
 pub mod TreesLaws
+pub mod TreesLevelsLaws
 pub mod WrittenLaws

@@ -1,6 +1,6 @@
 -- Numbers in lists within one another: how they are written, and the language of the function that reads them.
--- Main words: IsTree, IsText, trees. Laws: TreesLaws.antt. Read first: Number.antt.
-use Rattle.std.specs.Prelude.{ℕ, zero, suc, ◌||◌, nat_eq, true, Bool, Option, List, [], ◌∷◌, ◌++◌, codes}
+-- Main words: IsTree, IsText, levels, trees. Laws: TreesLaws.antt. Read first: Number.antt.
+use Rattle.std.specs.Prelude.{ℕ, zero, suc, max, ◌||◌, nat_eq, true, Bool, Option, List, [], ◌∷◌, ◌++◌, codes}
 use Rattle.std.specs.Char.{is_digit}
 use Rattle.std.specs.Str.{encode_utf8_all}
 use Rattle.std.specs.declared.alloc.Global.{Global}
@@ -8,7 +8,8 @@ use Rattle.std.specs.declared.vec.Vec.{Vec}
 use Rattle.chumsky_parser.specs.Words.{StopsAt}
 use Rattle.chumsky_text.specs.Decimals.{unsigned_of}
 use Rattle.chumsky_descent.specs.Calls.{Intended}
-use Rattle.exact.specs.declared.trees.Tree.{Tree}
+use Rattle.exact.specs.declared.trees.Tree.{Tree, fold-Tree}
+use Rattle.exact.specs.declared.trees.Tree.TheOpen.{Tree-F}
 use Rattle.exact.specs.declared.trees.Tree as tree
 use Rattle.exact.specs.Number.{IsNumber}
 
@@ -35,6 +36,20 @@ mutual
     no_text : AreTexts [] zero
     one_text : {w : List ℕ} → IsText w → AreTexts w (suc zero)
     more_texts : {w ws : List ℕ} {n : ℕ} → IsText w → AreTexts ws (suc n) → AreTexts (w ++ (codes "," ++ ws)) (suc (suc n))
+
+-- the greatest of some numbers
+abbrev pub most : List ℕ → ℕ
+most [] = 0
+most (n ∷ ns) = max n (most ns)
+
+-- one level, in which each tree inside is already counted
+abbrev pub levels_step : Tree-F ℕ → ℕ
+levels_step (Tree-F.Number n) = 0
+levels_step (Tree-F.List v) = suc (most v.items)
+
+-- how many lists stand within one another at most: none in a number, one in `[]` and in `[1,[]]` two
+abbrev pub levels : Tree → ℕ
+levels = fold-Tree ℕ levels_step
 
 -- a tree begins with a digit or a bracket
 abbrev pub begins_tree : ℕ → Bool

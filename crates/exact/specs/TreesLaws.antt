@@ -30,7 +30,7 @@ use denote.Builtin.{unit}
 abbrev pub grammar : Language ℕ Tree → Language ℕ Tree
 grammar = grammar_of (λ call. (ghosts unit call no_dict).body tt)
 
-abbrev Is : List ℕ → List ℕ → Type 0
+abbrev pub Is : List ℕ → List ℕ → Type 0
 Is = Equals nat_eq
 
 -- the text of a tree is one
@@ -65,7 +65,7 @@ module _ (P : List ℕ → Type 0) (is : (w : List ℕ) → IsText w → P w) wh
   is_list_word (one_text {w} i) = record { items = w ∷ []; are = record { first = w; second = []; all = sym (append-nil w); is_first = (tt, is w i); is_second = (omega arith, refl) } }
   is_list_word (more_texts {w} {ws} i a) = let l = led 0 a in record { items = w ∷ l.items; are = record { first = w; second = codes "," ++ ws; all = refl; is_first = (tt, is w i); is_second = l.are } }
 
-both_false : (a b : Bool) → (a || b) ≡ false → (a ≡ false) × (b ≡ false)
+pub both_false : (a b : Bool) → (a || b) ≡ false → (a ≡ false) × (b ≡ false)
 both_false true b e = absurd (cc e)
 both_false false b e = (refl, e)
 

@@ -1,9 +1,10 @@
 //! Expressions as Lisp writes them, names and numbers in lists within one another, by a function that calls itself.
-ghost use Rattle.std.specs.Prelude.{◌≡◌, ◌≤◌, ◌<◌, false, None, length};
+ghost use Rattle.std.specs.Prelude.{◌≡◌, ◌<◌, false, None};
 ghost use Rattle.std.specs.Str.{chars};
 ghost use Rattle.chumsky.specs.Accepted.{ExactlyUnless};
 ghost use Rattle.chumsky_exact.specs.ReadBack.{GivesBack};
-ghost use Rattle.exact.specs.Expressions.{Form, form_of, IsSound, HoldsExpression, written};
+ghost use Rattle.exact.specs.Deep.{IsDeep};
+ghost use Rattle.exact.specs.Expressions.{Form, form_of, IsExpression, IsSound, HoldsExpression, levels, written};
 
 use chumsky::combinator::{Collect, DelimitedBy, Map, Mapper, Or, SeparatedBy, run_part};
 use chumsky::extra::EmptyText;
@@ -205,15 +206,16 @@ fn any_expression<'src>(
 }
 
 /// Reads a name, a decimal number, or a list of what it reads, as `(add 1 (double x) ())`: in round brackets, with one space between each
-/// two. Of any other text there is no output. A run is refused for memory, or of a text of `limit` characters or more. What an
-/// expression is written as gives it back.
+/// two. Of any other text there is no output. A run is refused for memory; or with `TooDeep`, only where `limit` lists or more stand
+/// within one another, or of a text of `limit` characters or more that is no expression. What an expression is written as gives it
+/// back, where fewer lists than `limit` stand within one another.
 pub fn parse_expression<'src>(
     alloc: Global,
     text: &'src str,
     limit: usize,
 ) -> Result<ParseResult<Expression<'src>, EmptyErr>, Stop>
-    ensures exact { ExactlyUnless HoldsExpression (chars text.now) (limit ≤ length (chars text.now)) result }
-    ensures read_back { (f : Form) → IsSound f → chars text.now ≡ written f → length (written f) < limit → GivesBack form_of f result }
+    ensures exact { ExactlyUnless HoldsExpression (chars text.now) (IsDeep IsExpression levels limit (chars text.now)) result }
+    ensures read_back { (f : Form) → IsSound f → chars text.now ≡ written f → levels f < limit → GivesBack form_of f result }
 {
     recursive_as::<OfExpression, _, _, _, EmptyText>(any_expression, limit).parse(alloc, text)
 }

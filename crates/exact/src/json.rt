@@ -1,10 +1,12 @@
 //! JSON, by a function that calls itself.
-ghost use Rattle.std.specs.Prelude.{◌≡◌, ◌≤◌, [], ◌∷◌, true, false, None, length, IfOk, is_some};
+ghost use Rattle.std.specs.Prelude.{◌≡◌, [], ◌∷◌, true, false, None, IfOk, is_some};
 ghost use Rattle.std.specs.Str.{chars};
 ghost use Rattle.chumsky_input.specs.Run.{Runs};
 ghost use Rattle.chumsky_combinator.specs.Part.{Onward};
 ghost use Rattle.chumsky.specs.Accepted.{ExactlyUnless};
-ghost use Rattle.exact.specs.JsonForms.{HoldsJson};
+ghost use Rattle.exact.specs.Deep.{IsDeep};
+ghost use Rattle.exact.specs.JsonForms.{HoldsJson, IsJson};
+ghost use Rattle.exact.specs.JsonLevels.{levels};
 
 use crate::json_number::Number;
 use crate::json_string::{Piece, StringOf};
@@ -784,13 +786,14 @@ fn any_value<'src>(
 }
 
 /// Reads JSON, as ` {"a": [1.5e3, "b", null]}`: a number as it is written, and members in their order, also two of one name. Of any
-/// other text there is no output. A run is refused for memory, or of a text of `limit` characters or more.
+/// other text there is no output. A run is refused for memory; or with `TooDeep`, only where `limit` arrays and objects or more stand
+/// within one another, or of a text of `limit` characters or more that is no JSON.
 pub fn parse_json(
     alloc: Global,
     text: &str,
     limit: usize,
 ) -> Result<ParseResult<Json, EmptyErr>, Stop>
-    ensures { ExactlyUnless HoldsJson (chars text.now) (limit ≤ length (chars text.now)) result }
+    ensures { ExactlyUnless HoldsJson (chars text.now) (IsDeep IsJson levels limit (chars text.now)) result }
 {
     let value = recursive_as::<OfValue, _, _, _, EmptyText>(any_value, limit);
     value.then_ignore(blanks().then(end())).parse(alloc, text)

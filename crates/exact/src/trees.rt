@@ -1,8 +1,9 @@
 //! Numbers in lists within one another, by a function that calls itself.
-ghost use Rattle.std.specs.Prelude.{◌≡◌, ◌≤◌, false, None, length};
+ghost use Rattle.std.specs.Prelude.{◌≡◌, false, None};
 ghost use Rattle.std.specs.Str.{chars};
 ghost use Rattle.chumsky.specs.Accepted.{ExactlyUnless};
-ghost use Rattle.exact.specs.Trees.{IsTree};
+ghost use Rattle.exact.specs.Deep.{IsDeep};
+ghost use Rattle.exact.specs.Trees.{IsTree, levels};
 
 use chumsky::combinator::{Collect, DelimitedBy, Map, Mapper, Or, PickBy, SeparatedBy, run_part};
 use chumsky::extra::EmptyText;
@@ -156,13 +157,14 @@ fn any_tree<'src>(
 }
 
 /// Reads a number below 2^32, or a list of what it reads, as `[1,[2,30],[]]`, without blanks; of any other text there is no
-/// output. A run is refused for memory, or of a text of `limit` characters or more.
+/// output. A run is refused for memory; or with `TooDeep`, only where `limit` lists or more stand within one another, or of a text
+/// of `limit` characters or more that is no tree.
 pub fn parse_tree(
     alloc: Global,
     text: &str,
     limit: usize,
 ) -> Result<ParseResult<Tree, EmptyErr>, Stop>
-    ensures { ExactlyUnless IsTree (chars text.now) (limit ≤ length (chars text.now)) result }
+    ensures { ExactlyUnless IsTree (chars text.now) (IsDeep IsTree levels limit (chars text.now)) result }
 {
     recursive_as::<OfTree, _, _, _, EmptyText>(any_tree, limit).parse(alloc, text)
 }

@@ -1,10 +1,12 @@
 //! JSON to a tree, with errors for people, and the tree as text again.
 #![tactic(auto)]
 
-ghost use Rattle.std.specs.Prelude.{◌≡◌, ◌≤◌, [], length, IfOk, IsTrue, is_some};
+ghost use Rattle.std.specs.Prelude.{◌≡◌, ◌+◌, ◌-◌, ◌^◌, min, [], IfOk, IsTrue, is_some};
 ghost use Rattle.std.specs.Str.{chars};
 ghost use Rattle.chumsky.specs.Accepted.{ExactlyUnless};
-ghost use Rattle.exact.specs.JsonForms.{HoldsJson};
+ghost use Rattle.exact.specs.Deep.{IsDeep};
+ghost use Rattle.exact.specs.JsonForms.{HoldsJson, IsJson};
+ghost use Rattle.exact.specs.JsonLevels as json;
 
 pub mod leaves;
 pub mod tree;
@@ -119,7 +121,7 @@ fn calls(levels: usize) -> usize {
 
 /// Reads a value. One that is nested more than a hundred and fifty deep is refused with `Stop::TooDeep`.
 pub fn read_json(alloc: Global, text: &str) -> Result<ParseResult<Json, Rich<char>>, Stop>
-    ensures exact { ExactlyUnless HoldsJson (chars text.now) (150 ≤ length (chars text.now)) result }
+    ensures exact { ExactlyUnless HoldsJson (chars text.now) (IsDeep IsJson json.levels 151 (chars text.now)) result }
     ensures told { IfOk result (λ parsed. parsed.errors.items ≡ [] → IsTrue (is_some parsed.output)) }
 {
     read_json_within(alloc, text, LEVELS)
@@ -135,7 +137,7 @@ pub fn read_json_within(
     text: &str,
     levels: usize,
 ) -> Result<ParseResult<Json, Rich<char>>, Stop>
-    ensures exact { ExactlyUnless HoldsJson (chars text.now) (levels ≤ length (chars text.now)) result }
+    ensures exact { ExactlyUnless HoldsJson (chars text.now) (IsDeep IsJson json.levels (min (levels + 1) (2 ^ 64 - 1)) (chars text.now)) result }
     ensures told { IfOk result (λ parsed. parsed.errors.items ≡ [] → IsTrue (is_some parsed.output)) }
 {
     let parsed = parse_json(alloc, text, levels.saturating_add(1))?;
