@@ -4,9 +4,9 @@ use Rattle.std.specs.Prelude.{◌≡◌, ℕ, zero, suc, ◌<◌, map, List, [],
 use Rattle.chumsky_rules.specs.declared.kinds.NodeKind.{NodeKind}
 use Rattle.chumsky_rules.specs.declared.kinds.NodeKind.TheVariants as kind
 use Rattle.chumsky_rules.specs.Tables.{Tables}
-use Rattle.chumsky_grammars.specs.Expression.{Expression, Leaf, Call, Then, Map, Optional, Repeated, Separated, Not, And, Ahead, Unsaid, choice_of}
+use Rattle.chumsky_grammars.specs.Expression.{Expression, Leaf, Call, Then, Map, TryMap, Optional, Repeated, Separated, Not, And, Ahead, Unsaid, choice_of}
 
--- a node, of its parts. Of a mapper that may refuse nothing is said
+-- a node, of its parts
 abbrev pub kind_expression : (ℕ → Expression) → NodeKind → Expression
 kind_expression part (kind.Leaf n) = Leaf n
 kind_expression part (kind.Rule r) = Call r
@@ -19,7 +19,7 @@ kind_expression part (kind.Not n) = Not (part n)
 kind_expression part (kind.AndIs n m) = And (part n) (part m)
 kind_expression part (kind.Rewind n) = Ahead (part n)
 kind_expression part (kind.Map n f) = Map (part n) f
-kind_expression part (kind.TryMap n f) = Unsaid
+kind_expression part (kind.TryMap n f) = TryMap (part n) f
 
 abbrev pub known_expression : (ℕ → Expression) → Option NodeKind → Expression
 known_expression part None = Unsaid

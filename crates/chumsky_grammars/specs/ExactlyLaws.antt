@@ -1,13 +1,13 @@
 -- What a caller makes of the answer of founded rules: that it is exactly as a relation of texts and values of his own.
--- Main laws: exactly-by_rules, one-rule. Read first: Accepted.antt of chumsky, FoundedLaws.antt, Leaves.antt.
+-- Main laws: exactly-by_rules, exactly-by_rule_words, one-rule. Read first: Accepted.antt of chumsky, FoundedLaws.antt, Leaves.antt.
 use Rattle.std.proofs.Common.{◌≡◌, ℕ, ◌+◌, ◌*◌, ◌<◌, true, Some, List, [], ◌∷◌, length, ap, inl, inr}
-use Rattle.std.specs.Prelude.{Result, Ok, Err}
+use Rattle.std.specs.Prelude.{Result, Ok, Err, is_some}
 use Rattle.chumsky_input.specs.declared.stop.Stop.{Stop}
 use Rattle.chumsky_parser.specs.Ending.{At}
 use Rattle.chumsky_parser.specs.Language.{Language, IsBelow}
 use Rattle.chumsky_parser.specs.declared.result.ParseResult.{ParseResult}
 use Rattle.chumsky.specs.Accepted.{AnswersText, Exactly, ExactlyUnless}
-use Rattle.chumsky.specs.AcceptedLaws.{unless-by_ends}
+use Rattle.chumsky.specs.AcceptedLaws.{unless-by_ends, unless-by_words}
 use Rattle.chumsky_rules.specs.Tables.{Tables}
 use Rattle.chumsky_grammars.specs.Compiled.{IsOneRule, expressions_of}
 use Rattle.chumsky_grammars.specs.Expression.{Expression}
@@ -27,7 +27,12 @@ module _ {Tok V Er : Type 0} (P : List Tok → V → Type 0) {ts : List Tok} whe
       → ((v : V) → l.stands_for ts v → P ts v) → ((v : V) → P ts v → l.ends ts ≡ At []) → Exactly P ts result
   exactly-decided {result = result} a below sound complete = for_memory P ts result (unless-by_ends P a (a.decided below) (λ v e w x s. sound v s) complete)
 
-  module _ (c : Claims) (makes : Makes V) (leaf : ℕ → Language Tok V) (leaves : AreLeaves c leaf) (rules : List Expression) (founded : all_founded c 0 rules ≡ true)
+  -- of an unambiguous language it is enough that such a text is a word
+  pub exactly-decided_words : {l : Language Tok V} {spare : Type 0} {result : Result (ParseResult V Er) Stop} → AnswersText Some l ts spare result → IsBelow l.refused_from (length ts)
+      → l.unambiguous → l.follow [] → ((v : V) → l.stands_for ts v → P ts v) → ((v : V) → P ts v → l.word ts) → Exactly P ts result
+  exactly-decided_words {result = result} a below once follows sound complete = for_memory P ts result (unless-by_words P a (a.decided below) once follows (λ v w s. sound v s) complete)
+
+  module _ (c : Claims) (makes : Makes Tok V) (leaf : ℕ → Language Tok V) (leaves : AreLeaves c leaf) (rules : List Expression) (founded : all_founded c (is_some makes.picks) 0 rules ≡ true)
       (all : c.count ≡ length rules) (limit start : ℕ) where
     -- the same of founded rules, under enough calls: more than rules times tokens, and the rank of the start
     pub exactly-by_rules : {spare : Type 0} {result : Result (ParseResult V Er) Stop} → start < c.count → c.count * length ts + c.rank start < limit
@@ -36,6 +41,15 @@ module _ {Tok V Er : Type 0} (P : List Tok → V → Type 0) {ts : List Tok} whe
     exactly-by_rules one enough sound complete reads =
         exactly-decided (reads (rule-said c makes leaf leaves.said leaves.moves leaves.decided rules founded all limit start one))
         (rule-below c makes leaf leaves.said leaves.moves leaves.decided rules founded all limit start (length ts) one enough) sound complete
+
+    -- and where its language is unambiguous
+    pub exactly-by_rule_words : {spare : Type 0} {result : Result (ParseResult V Er) Stop} → start < c.count → c.count * length ts + c.rank start < limit
+        → ((v : V) → (rule_language makes leaf rules limit start).stands_for ts v → P ts v) → (rule_language makes leaf rules limit start).unambiguous → (rule_language makes leaf rules limit start).follow []
+        → ((v : V) → P ts v → (rule_language makes leaf rules limit start).word ts)
+        → ((rule_language makes leaf rules limit start).said ≡ true → AnswersText Some (rule_language makes leaf rules limit start) ts spare result) → Exactly P ts result
+    exactly-by_rule_words one enough sound once follows complete reads =
+        exactly-decided_words (reads (rule-said c makes leaf leaves.said leaves.moves leaves.decided rules founded all limit start one))
+        (rule-below c makes leaf leaves.said leaves.moves leaves.decided rules founded all limit start (length ts) one enough) once follows sound complete
 
 -- the one rule of these tables has that body
 pub one-rule : {leaves : ℕ} {e : Expression} (g : Tables) → IsOneRule leaves e g → expressions_of g ≡ e ∷ []

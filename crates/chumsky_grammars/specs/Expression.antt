@@ -16,6 +16,8 @@ pub data Expression : Type 0 where
   Fail : Expression
   -- with the value that the mapper of this number makes
   Map : Expression → ℕ → Expression
+  -- with the value that the mapper of this number makes, which may refuse
+  TryMap : Expression → ℕ → Expression
   -- or nothing
   Optional : Expression → Expression
   -- again and again until it fails, at least and at most so often

@@ -2,10 +2,13 @@ pub mod Expression
 pub mod Compiled
 pub mod RuleLanguage
 pub mod MadeLanguages
+pub mod Deciding
+pub mod DecidingLaws
 pub mod RulesAccept
+pub mod Assured
 pub mod Founded
 pub mod FoundedLaws
 pub mod Leaves
 pub mod ExactlyLaws
-pub mod ValueMakes
 pub mod SeparatedLaws
+pub mod ValueMakes

@@ -27,8 +27,8 @@ abbrev pub leaves : List (Language ℕ ℕ)
 leaves = bracket 40 0 ∷ bracket 41 0 ∷ []
 
 -- the depth of two parts is the greater, of a pair one more than what is in it, and of nothing 0
-abbrev pub depths : Makes ℕ
-depths = record { pair = λ p v. v ≡ max p.0 p.1; map = λ f v w. w ≡ min (v + 1) (2 ^ 64 - 1); option = λ o v. v ≡ unwrap_or o 0; unit = λ v. ⊤; list = λ vs v. ⊤ }
+abbrev pub depths : Makes ℕ ℕ
+depths = record { pair = λ p v. v ≡ max p.0 p.1; map = λ f v w. w ≡ min (v + 1) (2 ^ 64 - 1); option = λ o v. v ≡ unwrap_or o 0; unit = λ v. ⊤; list = λ vs v. ⊤; picks = None }
 
 -- there are two brackets for each level
 levels : {p : List ℕ} {d : ℕ} → IsBalanced p d → d + d ≤ length p

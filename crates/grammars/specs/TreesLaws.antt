@@ -1,6 +1,6 @@
 -- The rule takes just the texts of trees.
 -- Main law: trees-exact. Read first: Trees.antt, SeparatedLaws.antt and ExactlyLaws.antt of chumsky_grammars.
-use Rattle.std.proofs.Common.{◌≡◌, ℕ, zero, suc, ◌<◌, ◌≤◌, nat_eq, true, false, List, [], ◌∷◌, ◌++◌, Some, length, refl, sym, ◌∙◌, ap, subst, arith, append_assoc, inl, inr}
+use Rattle.std.proofs.Common.{◌≡◌, ℕ, zero, suc, ◌<◌, ◌≤◌, nat_eq, true, false, List, [], ◌∷◌, ◌++◌, Some, None, length, refl, sym, ◌∙◌, ap, subst, arith, append_assoc, inl, inr}
 use Rattle.std.proofs.lemmas.Bool.Decides.{nat_tests}
 use Rattle.std.proofs.lemmas.List.{length-append, append-nil}
 use Rattle.std.specs.Prelude.{Result, ⊤, codes}
@@ -37,8 +37,8 @@ abbrev pub leaves : List (Language ℕ Tree)
 leaves = symbol (codes "0123456789") ∷ symbol (codes "[") ∷ symbol (codes ",") ∷ symbol (codes "]") ∷ []
 
 -- of two parts a list is kept, and a list holds its items
-abbrev pub trees : Makes Tree
-trees = record { pair = λ p v. v ≡ kept p.0 p.1; map = λ f v w. ⊤; option = λ o v. ⊤; unit = λ v. ⊤; list = HoldsItems }
+abbrev pub trees : Makes ℕ Tree
+trees = record { pair = λ p v. v ≡ kept p.0 p.1; map = λ f v w. ⊤; option = λ o v. ⊤; unit = λ v. ⊤; list = HoldsItems; picks = None }
 
 -- nothing, or trees with a comma between each two
 abbrev Items : List ℕ → List Tree → Type 0
