@@ -39,6 +39,21 @@ fn expressions_are_symbols_numbers_texts_lists_and_quotes(rt: HostRuntime) {
     assert_lines(&rt, shown, &rows);
 }
 
+/// A word may have white space in it that is neither a space, a tab nor an end of a line, but it begins with none; and a text needs no
+/// gap before what follows it.
+#[test]
+fn words_begin_and_end_where_they_have_to(rt: HostRuntime) {
+    let rows = [
+        ("\"x\"y", "\"x\"\ny\n"),
+        ("a\u{a0}b", "a\u{a0}b\n"),
+        ("\u{a0}b ;x\n;y", "b\n"),
+        ("(a\u{a0})", "(a\u{a0})\n"),
+        ("(a ;c )\n)", "(a)\n"),
+        ("'\u{b}x", "'x\n"),
+    ];
+    assert_lines(&rt, shown, &rows);
+}
+
 #[test]
 fn a_word_of_digits_is_a_number_and_keeps_its_text(rt: HostRuntime) {
     let rows = [

@@ -1,10 +1,21 @@
 //! S-expressions, as Lisp has them: symbols, numbers, strings, lists and quotes, to trees and to text again.
 #![tactic(auto)]
 
-ghost use Rattle.std.specs.Prelude.{◌≡◌, [], IfOk, IsTrue, is_some, ⊤};
+ghost use Rattle.std.specs.Prelude.{◌≡◌, ◌≤◌, [], length, IfOk, IsTrue, is_some};
+ghost use Rattle.std.specs.Str.{chars};
+ghost use Rattle.chumsky.specs.Accepted.{ExactlyUnless};
+ghost use Rattle.s_expression.specs.Lisp.{HoldsLisp};
 
+pub mod exact_reader;
+pub mod expression;
+pub mod making;
+pub mod pieces;
+
+use crate::exact_reader::parse_expressions;
+use crate::expression::AfterQuote;
+pub use crate::expression::Expression;
+use crate::making::atom_of;
 use chumsky::combinator::{Part, part_of, run_part};
-use chumsky::container::Container;
 use chumsky::extra::RichText;
 use chumsky::input::TextRef;
 use chumsky::prelude::*;
@@ -14,18 +25,6 @@ use chumsky::{PResult, Stop};
 use std::alloc::{AllocError, Global};
 use std::fmt;
 use std::fmt::{Display, Formatter};
-
-/// An expression.
-#[derive(Debug, Drop)]
-pub enum Expression {
-    Symbol(String),
-    /// An integer, as its text.
-    Number(String),
-    Text(String),
-    List(Vec<Expression>),
-    /// What stands after a `'`.
-    Quoted(Box<Expression>),
-}
 
 /// White space, and comments: what follows a `;` on its line.
 #[derive(Clone, Copy)]
@@ -65,16 +64,6 @@ impl<'src> Part<'src, &'src str, String, RichText> for Quotation {
     }
 }
 
-/// The number or the symbol that a word is: digits, perhaps after a minus, are a number.
-fn atom_of(word: String) -> Expression {
-    let digits = word.as_str().strip_prefix('-').unwrap_or(word.as_str());
-    if !digits.is_empty() && digits.bytes().all(|byte| byte.is_ascii_digit()) {
-        Expression::Number(word)
-    } else {
-        Expression::Symbol(word)
-    }
-}
-
 /// A symbol, a number or a text, with the gap after it.
 #[derive(Clone, Copy)]
 struct Atom;
@@ -107,31 +96,6 @@ impl<'src> IsParser<&'src str, char, RichText> for Mark {}
 impl<'src> Part<'src, &'src str, char, RichText> for Mark {
     fn run(&self, wanted: bool, inp: &mut TextRef<'src, '_, RichText>) -> PResult<Option<char>> {
         run_part(&just(self.0).then_ignore(part_of(Gap)), wanted, inp)
-    }
-}
-
-/// Expressions, the last of them quoted; an empty list, before there is one.
-#[derive(Drop)]
-struct AfterQuote {
-    alloc: Global,
-    quoted: Expression,
-}
-
-impl Container<Expression> for AfterQuote {
-    ghost holds = { λ _ _. ⊤ };
-
-    ghost takes_no_memory = { ⊥ };
-
-    fn new(alloc: Global) -> AfterQuote {
-        AfterQuote {
-            alloc,
-            quoted: Expression::List(Vec::new(alloc)),
-        }
-    }
-
-    fn push(&mut self, expression: Expression) -> Result<(), AllocError> {
-        self.quoted = Expression::Quoted(Box::new(self.alloc, expression)?);
-        Ok(())
     }
 }
 
@@ -189,17 +153,48 @@ fn nested<'src>(
 /// 650 bytes of stack, so all of them fit into 256 kB.
 const DEPTH: usize = 302;
 
+/// How many lists and quotes may stand within one another.
+const LEVELS: usize = 150;
+
 /// Reads the expressions of a text. One that is nested more than a hundred and fifty deep is refused with `Stop::TooDeep`.
+///
+/// A reader that keeps no errors tells whether the text is such, and which expressions it is. Only of a text that is none is it read
+/// once more, by a reader that does, for what to say of it.
 pub fn read_expressions(
     alloc: Global,
     text: &str,
 ) -> Result<ParseResult<Vec<Expression>, Rich<char>>, Stop>
-    ensures { IfOk result (λ parsed. parsed.errors.items ≡ [] → IsTrue (is_some parsed.output)) }
+    ensures exact { ExactlyUnless HoldsLisp (chars text.now) (151 ≤ length (chars text.now)) result }
+    ensures told { IfOk result (λ parsed. parsed.errors.items ≡ [] → IsTrue (is_some parsed.output)) }
 {
-    let all = recursive::<_, _, _, RichText>(nested, DEPTH)
-        .repeated()
-        .collect::<Vec<_>>();
-    part_of(Gap).ignore_then(all).parse(alloc, text)
+    let parsed = parse_expressions(alloc, text, LEVELS + 1)?;
+    match parsed.into_output() {
+        Some(expressions) => Ok(ParseResult {
+            output: Some(expressions),
+            errors: Vec::new(alloc),
+        }),
+        None => Ok(ParseResult {
+            output: None,
+            errors: errors_of(alloc, text)?,
+        }),
+    }
+}
+
+/// What is wrong with a text: one error at least.
+fn errors_of(alloc: Global, text: &str) -> Result<Vec<Rich<char>>, AllocError>
+    ensures { IfOk result (λ errors. errors.items ≡ [] → ⊥) }
+{
+    let all = recursive::<_, _, _, RichText>(nested, DEPTH).repeated();
+    let mut errors = match part_of(Gap).ignore_then(all).check(alloc, text) {
+        Ok(parsed) => parsed.into_errors(),
+        Err(Stop::Memory) => return Err(AllocError),
+        Err(_) => Vec::new(alloc),
+    };
+    if errors.is_empty() {
+        let whole = SimpleSpan::from(0..text.len());
+        errors.push(Rich::custom_in(alloc, whole, "these are no expressions")?)?;
+    }
+    Ok(errors)
 }
 
 /// An expression in one line.

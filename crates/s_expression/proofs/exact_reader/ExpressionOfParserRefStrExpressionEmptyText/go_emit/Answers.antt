@@ -1,0 +1,6 @@
+use Rattle.s_expression.proofs.exact_reader.ExpressionOfParserRefStrExpressionEmptyText.go_emit.Goals as goal
+
+pub returns : goal.returns
+returns g c =
+    let x = c.expression_of.ensures in
+    record { ran = rw (x.list, x.quote) at c.go_emit.ensures.ran; lent = c.go_emit.ensures.lent }

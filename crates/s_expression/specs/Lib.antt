@@ -1,0 +1,10 @@
+pub mod Calling
+pub mod Lisp
+pub mod LispLawful
+pub mod ListEnds
+pub mod Picks
+pub mod PieceLaws
+pub mod ReaderLaws
+pub mod Reading
+pub mod TailLaws
+pub mod WholeLaws
