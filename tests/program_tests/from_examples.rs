@@ -99,7 +99,7 @@ fn a_request_has_a_method_and_a_target(rt: HostRuntime) {
 
 #[test]
 fn a_query_has_as_many_questions_as_its_head_says(rt: HostRuntime) {
-    let rows: [(&[u8], &str); 5] = [
+    let rows: [(&[u8], &str); 6] = [
         (
             b"\x12\x34\x01\x00\x00\x01\x00\x00\x00\x00\x00\x01\x07example\x03com\x00\x00\x01\x00\x01",
             "ok Query { head: Head { id: 4660, flags: 256, questions: 1, answers: 0, authorities: 0, additionals: 1 }, questions: [Question { name: [[101, 120, 97, 109, 112, 108, 101], [99, 111, 109]], kind: 1, class: 1 }] }",
@@ -119,6 +119,10 @@ fn a_query_has_as_many_questions_as_its_head_says(rt: HostRuntime) {
         (
             b"\x12\x34\x01\x00\x01\x00\x00\x00\x00\x00\x00\x00\x00\x00\x01\x00\x01",
             "error 17..17 expected any, 0 found end",
+        ),
+        (
+            b"\xff\x00\x00\xff\x00\x01\x00\x00\x00\x00\x00\x00\x03\x00\x40\x02\x01\x00\x00\x00\xff\xff\x00",
+            "ok Query { head: Head { id: 65280, flags: 255, questions: 1, answers: 0, authorities: 0, additionals: 0 }, questions: [Question { name: [[0, 64, 2], [0]], kind: 255, class: 65280 }] }",
         ),
     ];
     for (bytes, line) in rows {

@@ -1,7 +1,10 @@
 pub mod Capped
+pub mod Contexts
+pub mod ContextsLaws
 pub mod Fields
 pub mod Rendered
 pub mod RenderedOnce
 pub mod ReadBack
+pub mod SoMany
 pub mod Table
 pub mod TableLaws

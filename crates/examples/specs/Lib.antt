@@ -5,3 +5,8 @@ pub mod Date
 pub mod DateLaws
 pub mod Setting
 pub mod SettingLaws
+pub mod Query
+pub mod QueryPicks
+pub mod QueryPicksLaws
+pub mod QueryLaws
+pub mod QueryParts
