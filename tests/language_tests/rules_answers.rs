@@ -1,4 +1,5 @@
 //! Grammars by rules whose contracts say exactly which texts they accept.
+use grammars::addresses::parse_address;
 use grammars::brackets::parse_brackets;
 use grammars::trees::{Tree, parse_tree};
 use std::alloc::{AllocError, Global};
@@ -43,6 +44,36 @@ fn digits_in_lists_are_read(rt: HostRuntime) -> Result<(), Fail> {
     for text in ["", "[", "]", "[1,]", "[,1]", "[1 ,2]", "12", "[1]2", "[[]", "a", ","] {
         let parsed = parse_tree(alloc, text)?;
         assert_eq!(rt; parsed.into_output(), None, "{text}");
+    }
+    Ok(())
+}
+
+#[test]
+fn addresses_are_four_numbers_below_256(rt: HostRuntime) -> Result<(), Fail> {
+    let alloc = rt.alloc();
+    let rows = [
+        ("0.0.0.0", Some(0)),
+        ("127.0.0.1", Some(2_130_706_433)),
+        ("192.168.10.25", Some(3_232_238_105)),
+        ("255.255.255.255", Some(4_294_967_295)),
+        ("256.0.0.1", None),
+        ("1.2.3.256", None),
+        ("1.2.3.99999999999", None),
+        ("1.2.3.04", None),
+        ("01.2.3.4", None),
+        ("1.2.3", None),
+        ("1.2.3.4.5", None),
+        ("1.2.3.4.", None),
+        ("1..2.3", None),
+        (".1.2.3.4", None),
+        ("1.2.3.4 ", None),
+        ("1,2,3,4", None),
+        ("+1.2.3.4", None),
+        ("", None),
+    ];
+    for (text, address) in rows {
+        let parsed = parse_address(alloc, text)?;
+        assert_eq!(rt; parsed.into_output(), address, "{text}");
     }
     Ok(())
 }
