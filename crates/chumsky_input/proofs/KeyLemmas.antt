@@ -20,9 +20,10 @@ module _ {T : Type 0} (bucket : T → ℕ) where
   -- with one key more the patterns stay keyed
   pub keyed-more : (m n : BTreeMap ℕ ℕ) (k v : ℕ) → Updates nat_cmp m n k (Some v) → (ps : List (RichPattern T)) → AreKeyed bucket m ps → AreKeyed bucket n ps
   keyed-more m n k v u [] h = tt
-  keyed-more m n k v u (p ∷ ps) h =
-      (subst (λ (o : Option ℕ). is_some o ≡ true) (sym (u.0 (pattern_key bucket p))) (some_or (is_at (nat_cmp k) (pattern_key bucket p)) v (get nat_cmp m (pattern_key bucket p)) h.0),
-          keyed-more m n k v u ps h.1)
+  keyed-more m n k v u (p ∷ ps) h = (
+    subst (λ (o : Option ℕ). is_some o ≡ true) (sym (u.0 (pattern_key bucket p))) (some_or (is_at (nat_cmp k) (pattern_key bucket p)) v (get nat_cmp m (pattern_key bucket p)) h.0),
+    keyed-more m n k v u ps h.1,
+  )
 
   -- and one more of them, whose key is there
   pub keyed-append : (m : BTreeMap ℕ ℕ) (p : RichPattern T) (ps : List (RichPattern T)) → AreKeyed bucket m ps → IsSome (get nat_cmp m (pattern_key bucket p)) → AreKeyed bucket m (ps ++ p ∷ [])

@@ -105,8 +105,8 @@ module _ {T : Type 0} (eq : T → T → Bool) (bucket : T → ℕ) where
       → AreMarked bucket (bit_or marks m) (add_new (pattern_same eq) ps (p ∷ []))
   pattern-marked marks m p ps h f =
       elim (list_any (λ x. pattern_same eq x p) ps) as
-          (λ b. AreMarked bucket (bit_or marks m) (cond b ps (ps ++ p ∷ [])))
-          [ true ↦ more-marked bucket marks m ps f | false ↦ marked-more marks m p ps h f ]
+      (λ b. AreMarked bucket (bit_or marks m) (cond b ps (ps ++ p ∷ [])))
+      [ true ↦ more-marked bucket marks m ps f | false ↦ marked-more marks m p ps h f ]
 
   -- the patterns before place i, and the one there with its mark
   pub marked-next : (marks m i : ℕ) (p : RichPattern T) (ps : List (RichPattern T)) → i < length ps

@@ -58,7 +58,7 @@ module _ {T : Type 0} where
       → ◌≡◌ {A = List (Spanned T SimpleSpan) × SimpleSpan} (take (j - i) (drop i ts), last) (part_of (token_layout us other) i j)
   part_seen ts us end other last i j same e =
       let own : ◌≡◌ {A = List (Spanned T SimpleSpan) × SimpleSpan} (take (j - i) (drop i ts), last) (part_of (token_layout ts end) i j) =
-          rw (spans_of_part ts end i (j - i), no_span ts end j, e) refl in
+      rw (spans_of_part ts end i (j - i), no_span ts end j, e) refl in
       own ∙ ap (λ l. part_of l i j) same
 
 module _ {A T : Type 0} where

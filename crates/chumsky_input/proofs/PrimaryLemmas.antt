@@ -53,11 +53,11 @@ module _ {Er : Type 0} (merged : Er → Er → Er) where
       let kept : primary merged (x ∷ xs) ≡ Some k = ap (merged_left merged) first.2 in
       let kept_top : furthest (k ∷ ys) ≡ top = ap (λ p. max p (furthest ys)) first.3 in
       let left : primary merged (option_to_list (primary merged (x ∷ xs)) ++ ys) ≡ merged_left merged (events_at top (k ∷ ys)) =
-          ap (λ o. primary merged (option_to_list o ++ ys)) kept
-              ∙ ap (λ p. merged_left merged (events_at p (k ∷ ys))) kept_top in
+      ap (λ o. primary merged (option_to_list o ++ ys)) kept
+      ∙ ap (λ p. merged_left merged (events_at p (k ∷ ys))) kept_top in
       let right : primary merged ((x ∷ xs) ++ ys) ≡ merged_left merged (events_at top (x ∷ xs) ++ events_at top ys) =
-          ap (λ p. merged_left merged (events_at p ((x ∷ xs) ++ ys))) whole
-              ∙ ap (merged_left merged) (events_at-append top (x ∷ xs) ys) in
+      ap (λ p. merged_left merged (events_at p ((x ∷ xs) ++ ys))) whole
+      ∙ ap (merged_left merged) (events_at-append top (x ∷ xs) ys) in
       let middle : merged_left merged (events_at top (k ∷ ys)) ≡ merged_left merged (events_at top (x ∷ xs) ++ events_at top ys) =
       elim (eqb_tells (furthest (x ∷ xs)) top) [
         | inl t ↦

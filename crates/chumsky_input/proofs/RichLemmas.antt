@@ -16,8 +16,8 @@ pub add_new-append : {P : Type 0} (same : P → P → Bool) (xs ys zs : List P) 
 add_new-append same xs [] zs = refl
 add_new-append same xs (y ∷ ys) zs =
     elim (list_any (λ x. same x y) xs) as
-        (λ b. cond b (add_new same xs (ys ++ zs)) (add_new same (xs ++ y ∷ []) (ys ++ zs)) ≡ add_new same
-            (cond b (add_new same xs ys) (add_new same (xs ++ y ∷ []) ys)) zs)
+    (λ b. cond b (add_new same xs (ys ++ zs)) (add_new same (xs ++ y ∷ []) (ys ++ zs)) ≡ add_new same
+    (cond b (add_new same xs ys) (add_new same (xs ++ y ∷ []) ys)) zs)
     [ true ↦ add_new-append same xs ys zs | false ↦ add_new-append same (xs ++ y ∷ []) ys zs ]
 
 cons_option-list : {Q : Type 0} (o : Option Q) → cons_option o [] ≡ option_to_list o
@@ -38,11 +38,10 @@ module _ {P Q : Type 0} (eq : P → P → Bool) (same : Q → Q → Bool) (view 
   map-add_new xs [] = refl
   map-add_new xs (y ∷ ys) =
       let rest =
-          elim (list_any (λ x. eq x y) xs) as
-              (λ b. map view (cond b (add_new eq xs ys) (add_new eq (xs ++ y ∷ []) ys)) ≡ cond b
-                  (add_new same (map view xs) (map view ys))
-                  (add_new same (map view xs ++ view y ∷ []) (map view ys)))
-              [
+      elim (list_any (λ x. eq x y) xs) as
+      (λ b. map view (cond b (add_new eq xs ys) (add_new eq (xs ++ y ∷ []) ys)) ≡ cond b
+      (add_new same (map view xs) (map view ys))
+      (add_new same (map view xs ++ view y ∷ []) (map view ys))) [
         | true ↦ map-add_new xs ys
         | false ↦ map-add_new (xs ++ y ∷ []) ys ∙ ap (λ zs. add_new same zs (map view ys)) (map-append view xs (y ∷ []))
       ] in
@@ -85,7 +84,7 @@ module _ {T S : Type 0} (eq : T → T → Bool) (same : S → S → Bool) (seen 
 
   pub patterns-add_new : (ps qs : List (RichPattern T))
       → map (pattern_seen seen) (add_new (pattern_same eq) ps qs)
-          ≡ add_new (wanted_same same) (map (pattern_seen seen) ps) (map (pattern_seen seen) qs)
+      ≡ add_new (wanted_same same) (map (pattern_seen seen) ps) (map (pattern_seen seen) qs)
   patterns-add_new = map-add_new (pattern_same eq) (wanted_same same) (pattern_seen seen) pattern_same-seen
 
   pub patterns-more : {X : Type 0} (f : X → Wanted T) (ps qs : List (RichPattern T)) (xs : List X) (x : X) (o : Option (RichPattern T))
@@ -106,10 +105,10 @@ module _ {T S : Type 0} (eq : T → T → Bool) (same : S → S → Bool) (seen 
 
   named : (ps : List (RichPattern T)) (t : T) (b : Bool) → list_any (λ x. pattern_same eq x (pattern.Token t)) ps ≡ b
       → add_new (wanted_same same) (map (pattern_seen seen) ps) (wanted.Token (seen t) ∷ [])
-          ≡ cond b (map (pattern_seen seen) ps) (map (pattern_seen seen) ps ++ wanted.Token (seen t) ∷ [])
+      ≡ cond b (map (pattern_seen seen) ps) (map (pattern_seen seen) ps ++ wanted.Token (seen t) ∷ [])
   named ps t b is =
       ap (λ c. cond c (map (pattern_seen seen) ps) (map (pattern_seen seen) ps ++ wanted.Token (seen t) ∷ []))
-          (list_any-map (pattern_same eq) (wanted_same same) (pattern_seen seen) pattern_same-seen (pattern.Token t) ps ∙ is)
+      (list_any-map (pattern_same eq) (wanted_same same) (pattern_seen seen) pattern_same-seen (pattern.Token t) ps ∙ is)
 
   -- a token that none of the patterns names, and one that some does
   pub token-added : (ps qs : List (RichPattern T)) (t u : T)
@@ -133,5 +132,5 @@ module _ {T S : Type 0} (eq : T → T → Bool) (same : S → S → Bool) (seen 
       → rich_seen seen (record { span = a.span; reason = Expected ts f }) ≡ rich_merged same (rich_seen seen a) (rich_seen seen b)
   merged-patterns a b {ps = ps} {qs = qs} {f = f} ts first second is =
       rw (first, second)
-          (ap (λ t. let r : RichSeen S = record { span = a.span; found = option_map seen f; expected = t; message = None } in r)
-              (ap (map (pattern_seen seen)) is ∙ patterns-add_new ps.items qs.items))
+      (ap (λ t. let r : RichSeen S = record { span = a.span; found = option_map seen f; expected = t; message = None } in r)
+      (ap (map (pattern_seen seen)) is ∙ patterns-add_new ps.items qs.items))

@@ -33,7 +33,7 @@ labelled-seen {S = S} seen e r text spans founds patterns messages =
     ap (λ t. let s : RichSeen S = record { span = t; found = option_map seen (rich_found r); expected = map (pattern_seen seen) (rich_patterns r); message = rich_message r } in s) spans
     ∙ ap (λ t. let s : RichSeen S = record { span = rich_span e; found = option_map seen t; expected = map (pattern_seen seen) (rich_patterns r); message = rich_message r } in s) founds
     ∙ ap (λ t. let s : RichSeen S
-        = record { span = rich_span e; found = option_map seen (rich_found e); expected = t; message = rich_message r }
-        in s)
-        (patterns-seen seen (rich_patterns r) ∙ ap (map (wanted_map seen)) patterns)
+    = record { span = rich_span e; found = option_map seen (rich_found e); expected = t; message = rich_message r }
+    in s)
+    (patterns-seen seen (rich_patterns r) ∙ ap (map (wanted_map seen)) patterns)
     ∙ ap (λ t. let s : RichSeen S = record { span = rich_span e; found = option_map seen (rich_found e); expected = Label text ∷ []; message = t } in s) messages

@@ -1,11 +1,11 @@
-use Rattle.std.proofs.Common.{◌≡◌, ℕ, ◌+◌, ◌≤◌, ◌<◌, List, [], ◌∷◌, ◌++◌, length, take, drop, slice_get, Some, None,
-    refl, sym, ◌∙◌, ap, arith, append_assoc, length-append, ⊎_elim, ◌-◌, IsTrue, nat_lt}
+use Rattle.std.proofs.Common.{◌≡◌, ℕ, ◌+◌, ◌≤◌, ◌<◌, List, [], ◌∷◌, ◌++◌, length, take, drop, slice_get, Some, None, refl, sym, ◌∙◌, ap, arith}
+use Rattle.std.proofs.Common.{append_assoc, length-append, ⊎_elim, ◌-◌, IsTrue, nat_lt}
 use Rattle.std.proofs.lemmas.List.{take-append-drop, take_at, drop_at, length-take-le}
 use Rattle.std.proofs.Math.Seq.{take-add}
 use Rattle.std.proofs.lemmas.Bool.{cases_lt}
 use Rattle.std.proofs.lemmas.Bool.Decides.{nat_tests}
-use Rattle.std.proofs.lemmas.Str.{chars-nil, chars-append, chars_past_char, IsUtf8-take, IsUtf8-drop,
-    IsCharBoundary-past_char, IsCharBoundary-start, encodes-chars, drop_past_char, encodes-append, length-le-encodes}
+use Rattle.std.proofs.lemmas.Str.{chars-nil, chars-append, chars_past_char, IsUtf8-take, IsUtf8-drop, IsCharBoundary-past_char, IsCharBoundary-start}
+use Rattle.std.proofs.lemmas.Str.{encodes-chars, drop_past_char, encodes-append, length-le-encodes}
 use Rattle.std.proofs.lemmas.Option.{slice_get_past}
 use Rattle.std.proofs.lemmas.List.{nil_from_length}
 use Rattle.std.specs.Str.{chars, encode_utf8_all, IsUtf8}
@@ -94,8 +94,8 @@ text_between bs c d h k l =
     let split : take d bs ≡ take c bs ++ middle = (let e : c + (d - c) ≡ d = omega arith in rw (← e) (take-add c (d - c) bs ∙ ap (λ n. take c bs ++ take n (drop c bs)) (omega arith))) in
     let front : chars (take d bs) ≡ chars (take c bs) ++ chars middle = ap chars split ∙ chars-append (take c bs) middle (IsUtf8-take bs c h.text h.boundary) in
     let whole : chars bs ≡ chars (take c bs) ++ (chars middle ++ chars (drop d bs)) =
-        chars_cut bs d k ∙ ap (λ t. t ++ chars (drop d bs)) front
-            ∙ append_assoc (chars (take c bs)) (chars middle) (chars (drop d bs)) in
+    chars_cut bs d k ∙ ap (λ t. t ++ chars (drop d bs)) front
+    ∙ append_assoc (chars (take c bs)) (chars middle) (chars (drop d bs)) in
     let n : length (chars middle) ≡ text_place bs d - text_place bs c = (let e = ap length front in omega (arith, simp length-append at e)) in
     sym (ap (λ t. take (text_place bs d - text_place bs c) (drop (text_place bs c) t)) whole
     ∙ ap (take (text_place bs d - text_place bs c)) (drop_at (chars (take c bs)) (chars middle ++ chars (drop d bs)) (text_place bs c) refl)
