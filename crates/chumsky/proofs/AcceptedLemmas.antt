@@ -16,7 +16,7 @@ use Rattle.chumsky_parser.specs.Ending.{At, Nowhere, Refused, Within, IfValue, A
 use Rattle.chumsky_parser.specs.Language.{Begins, Language, Described, Accepts}
 use Rattle.chumsky_parser.specs.Memory.{NeverOutOfMemory}
 use Rattle.chumsky_parser.specs.WordsLaws.{whole-taken}
-use Rattle.chumsky_parse_iter.specs.Settled.{RefusesBy}
+use Rattle.chumsky_parser.specs.Settled.{RefusesBy}
 use Rattle.chumsky_primitive.specs.End.{MeansEnd}
 use Rattle.chumsky_primitive.specs.EndLanguage.{end_ends, end-reads}
 use Rattle.chumsky.specs.Answer.{WholeRun, IsOutput, Answers}

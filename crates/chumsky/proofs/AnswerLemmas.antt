@@ -15,7 +15,7 @@ use Rattle.chumsky_parser.specs.Language.{Language}
 use Rattle.chumsky_parser.specs.declared.result.ParseResult.{ParseResult}
 use Rattle.chumsky.specs.Accepted.{AnswersText}
 use Rattle.chumsky.specs.Answer.{IsOutput, Reports, Answers, Parses, WholeRun}
-use Rattle.chumsky_parse_iter.specs.Settled.{SettlesAs, reported}
+use Rattle.chumsky_parser.specs.Settled.{SettlesAs, reported}
 use Rattle.chumsky_parser.specs.FailureLaws.{SameUnit}
 use Rattle.chumsky_primitive.specs.EndLaws.{end-agrees}
 use Rattle.chumsky_parser.specs.Laws.{chained-agrees, given-agrees, asked-agrees}

@@ -8,7 +8,7 @@ use Rattle.chumsky_input.specs.declared.input.Input as input_trait
 use Rattle.chumsky_input.specs.declared.stop.Stop.{Stop}
 use Rattle.chumsky_input.specs.declared.stop.Stop.TheVariants.{Memory}
 use Rattle.chumsky_input.specs.Outcome.{Event, Meaning, Beginning, Outcome, Verdict, Yes, No, Halt, Clash}
-use Rattle.chumsky_parse_iter.specs.Settled.{RefusesBy}
+use Rattle.chumsky_parser.specs.Settled.{RefusesBy}
 use Rattle.chumsky_parser.specs.Chained.{Chained, Follows, Given, Asked, from}
 use Rattle.chumsky_parser.specs.Failure.{Refuses, Misses, FailsAt}
 use Rattle.chumsky_parser.specs.Language.{Language}

@@ -11,7 +11,7 @@ use Rattle.chumsky_input.specs.Words.{Does}
 use Rattle.chumsky_parser.specs.Chained.{Chained, Given, Asked}
 use Rattle.chumsky_parser.specs.Language.{Language}
 use Rattle.chumsky_primitive.specs.End.{MeansEnd}
-use Rattle.chumsky_parse_iter.specs.Settled.{reported, RefusesBy}
+use Rattle.chumsky_parser.specs.Settled.{reported, RefusesBy}
 use Rattle.chumsky_parser.specs.declared.parser.Parser as parser_trait
 use Rattle.chumsky_parser.specs.declared.result.ParseResult.{ParseResult}
 use Rattle.chumsky_recursive.specs.declared.actions.Actions as actions_trait

@@ -9,7 +9,7 @@ use Rattle.chumsky_input.specs.declared.stop.Stop.TheVariants.{Memory}
 use Rattle.chumsky_input.specs.Outcome.{Meaning, Beginning, Outcome, Verdict, Yes, No, Halt, Clash}
 use Rattle.chumsky_parser.specs.Chained.{Asked}
 use Rattle.chumsky_primitive.specs.End.{MeansEnd}
-use Rattle.chumsky_parse_iter.specs.Settled.{RefusesBy}
+use Rattle.chumsky_parser.specs.Settled.{RefusesBy}
 use Rattle.chumsky_parser.specs.Memory.{IsNotMemory, SparesMemory, NeverOutOfMemory}
 use Rattle.chumsky_parser.specs.MemoryLaws.{chained-spares, asked-spares, given-spares}
 use Rattle.chumsky_primitive.specs.EndLanguage.{end-spares}

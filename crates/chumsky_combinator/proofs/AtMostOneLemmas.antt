@@ -11,8 +11,11 @@ use Rattle.chumsky_parser.proofs.ChainedLemmas.{ran-weaker, ran-given, chained, 
 use Rattle.chumsky_parser.proofs.ChoiceLemmas.{ran-first, ran-second, ran-unmarked, ran-unrestored}
 use Rattle.chumsky_combinator.specs.AtMostOne.{OnceTried, AtMostOne}
 
-module _ {Tok Cx St Mk Er V : Type 0} {merged : Er → Er → Er} {safe : Type 0} (mark : St → Mk) (back : St → Mk → St) (quiet : Type 0) {part : Meaning Tok Cx St Er V} {tried wanted : Bool} {old : Held Tok Cx St Er} where
-  stepped : {new : Held Tok Cx St Er} {r : Result (Option (Next Bool V)) Fault} (t : Bool) → tried ≡ t → Ran merged safe (OnceTried mark back quiet part t) wanted old new r → Ran merged safe (AtMostOne mark back quiet part tried) wanted old new r
+module _ {Tok Cx St Mk Er V : Type 0} {merged : Er → Er → Er} {safe : Type 0} (mark : St → Mk) (back : St → Mk → St)
+    (quiet : Type 0) {part : Meaning Tok Cx St Er V} {tried wanted : Bool} {old : Held Tok Cx St Er} where
+  stepped : {new : Held Tok Cx St Er} {r : Result (Option (Next Bool V)) Fault} (t : Bool) → tried ≡ t
+      → Ran merged safe (OnceTried mark back quiet part t) wanted old new r
+      → Ran merged safe (AtMostOne mark back quiet part tried) wanted old new r
   stepped {new} {r} t e h =
       ran-weaker merged safe (OnceTried mark back quiet part t) (AtMostOne mark back quiet part tried) wanted old new r
       (λ o m. record { step = subst (λ z. OnceTried mark back quiet part z (begin wanted old) o) (sym e) m }) h
@@ -34,10 +37,14 @@ module _ {Tok Cx St Mk Er V : Type 0} {merged : Er → Er → Er} {safe : Type 0
       pub one-stopped : {f : Fault} {y : Result (Option (Next Bool V)) Fault} → x ≡ Err f → (f ≡ fault.Fail → ⊥) → y ≡ Err f → Ran merged safe (AtMostOne mark back quiet part tried) wanted old mid y
       one-stopped d n z = rw z (stepped false e (ran-first merged safe mark back quiet _ _ wanted old mid _ (failed h d refl) (λ q. n (cc q))))
 
-      pub one-unrestored : {new : Held Tok Cx St Er} {y : Result (Option (Next Bool V)) Fault} → x ≡ Err fault.Fail → new ≡ mid → (quiet → ⊥) → y ≡ Err (fault.Stop Memory) → Ran merged safe (AtMostOne mark back quiet part tried) wanted old new y
+      pub one-unrestored : {new : Held Tok Cx St Er} {y : Result (Option (Next Bool V)) Fault} → x ≡ Err fault.Fail
+          → new ≡ mid → (quiet → ⊥) → y ≡ Err (fault.Stop Memory)
+          → Ran merged safe (AtMostOne mark back quiet part tried) wanted old new y
       one-unrestored {new} d p may z = rw z (stepped false e (ran-unrestored merged safe mark back quiet _ _ wanted old mid new (failed h d refl) p may))
 
-      pub one-absent : {m : Marks Tok Mk} {new : Held Tok Cx St Er} → x ≡ Err fault.Fail → m ≡ marked_here mark old → new ≡ gone_back back mid m → Ran merged safe (AtMostOne mark back quiet part tried) wanted old new (Ok (Some End))
+      pub one-absent : {m : Marks Tok Mk} {new : Held Tok Cx St Er} → x ≡ Err fault.Fail → m ≡ marked_here mark old
+          → new ≡ gone_back back mid m
+          → Ran merged safe (AtMostOne mark back quiet part tried) wanted old new (Ok (Some End))
       one-absent {m} {new} d p q = stepped false e (ran-second merged safe mark back quiet _ _ wanted old m mid new new _ (failed h d refl) p q ran-given)
 
 module _ {V : Type 0} (s : Bool) where

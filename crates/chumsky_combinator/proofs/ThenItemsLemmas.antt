@@ -16,23 +16,32 @@ module _ {Tok Cx St Er S T V : Type 0} {merged : Er → Er → Er} {safe : Type 
   second-emit t (Ok None) h = chained h refl ran-given
   second-emit t (Err f) h = failed h refl refl
 
-  second-check : (t : T) (q : Result (Option (Unit {0})) Fault) → Ran merged safe step wanted old new (without_item t q) → Ran merged safe (OfSecond {S = S} step) wanted old new (without_item (Second t) q)
+  second-check : (t : T) (q : Result (Option (Unit {0})) Fault)
+      → Ran merged safe step wanted old new (without_item t q)
+      → Ran merged safe (OfSecond {S = S} step) wanted old new (without_item (Second t) q)
   second-check t (Ok (Some u)) h = chained h refl ran-given
   second-check t (Ok None) h = chained h refl ran-given
   second-check t (Err f) h = failed h refl refl
 
-module _ {Tok Cx St Er S T V : Type 0} {merged : Er → Er → Er} {safe : Type 0} {firsts : S → Meaning Tok Cx St Er (Next S V)} {begins : Meaning Tok Cx St Er T} {seconds : T → Meaning Tok Cx St Er (Next T V)} {at : Stage S T} {wanted : Bool} {old : Held Tok Cx St Er} where
-  stepped : {new : Held Tok Cx St Er} {r : Result (Option (Next (Stage S T) V)) Fault} (x : Stage S T) → at ≡ x → Ran merged safe (GivesAt firsts begins seconds x) wanted old new r → Ran merged safe (GivesInTurn firsts begins seconds at) wanted old new r
+module _ {Tok Cx St Er S T V : Type 0} {merged : Er → Er → Er} {safe : Type 0}
+    {firsts : S → Meaning Tok Cx St Er (Next S V)} {begins : Meaning Tok Cx St Er T}
+    {seconds : T → Meaning Tok Cx St Er (Next T V)} {at : Stage S T} {wanted : Bool} {old : Held Tok Cx St Er} where
+  stepped : {new : Held Tok Cx St Er} {r : Result (Option (Next (Stage S T) V)) Fault} (x : Stage S T) → at ≡ x
+      → Ran merged safe (GivesAt firsts begins seconds x) wanted old new r
+      → Ran merged safe (GivesInTurn firsts begins seconds at) wanted old new r
   stepped {new} {r} x e h =
       ran-weaker merged safe (GivesAt firsts begins seconds x) (GivesInTurn firsts begins seconds at) wanted old new r
       (λ o m. record { step = subst (λ z. GivesAt firsts begins seconds z (begin wanted old) o) (sym e) m }) h
 
   module _ {t : T} (e : at ≡ Second t) {new : Held Tok Cx St Er} (u : T) where
     -- a step of the second items
-    pub turn-second : (q : Result (Option V) Fault) → Ran merged safe (seconds t) wanted old new (with_item u q) → Ran merged safe (GivesInTurn firsts begins seconds at) wanted old new (with_item (Second u) q)
+    pub turn-second : (q : Result (Option V) Fault) → Ran merged safe (seconds t) wanted old new (with_item u q)
+        → Ran merged safe (GivesInTurn firsts begins seconds at) wanted old new (with_item (Second u) q)
     turn-second q h = stepped (Second t) e (second-emit u q h)
 
-    pub turn-second_check : (q : Result (Option (Unit {0})) Fault) → Ran merged safe (seconds t) wanted old new (without_item u q) → Ran merged safe (GivesInTurn firsts begins seconds at) wanted old new (without_item (Second u) q)
+    pub turn-second_check : (q : Result (Option (Unit {0})) Fault)
+        → Ran merged safe (seconds t) wanted old new (without_item u q)
+        → Ran merged safe (GivesInTurn firsts begins seconds at) wanted old new (without_item (Second u) q)
     turn-second_check q h = stepped (Second t) e (second-check u q h)
 
   module _ {s : S} (e : at ≡ First s) {mid : Held Tok Cx St Er} {x : Result (Option (Next S V)) Fault} (h : Ran merged safe (firsts s) wanted old mid x) where
@@ -50,8 +59,11 @@ module _ {Tok Cx St Er S T V : Type 0} {merged : Er → Er → Er} {safe : Type 
 
       -- their end, and then a step of the second
       module _ {t : T} (p : y ≡ Ok (Some t)) {new : Held Tok Cx St Er} (u : T) where
-        pub turn-made : (q : Result (Option V) Fault) → Ran merged safe (seconds t) wanted now new (with_item u q) → Ran merged safe (GivesInTurn firsts begins seconds at) wanted old new (with_item (Second u) q)
+        pub turn-made : (q : Result (Option V) Fault) → Ran merged safe (seconds t) wanted now new (with_item u q)
+            → Ran merged safe (GivesInTurn firsts begins seconds at) wanted old new (with_item (Second u) q)
         turn-made q l = stepped (First s) e (chained h d (chained (ran-asked k) p (second-emit u q l)))
 
-        pub turn-made_check : (q : Result (Option (Unit {0})) Fault) → Ran merged safe (seconds t) wanted now new (without_item u q) → Ran merged safe (GivesInTurn firsts begins seconds at) wanted old new (without_item (Second u) q)
+        pub turn-made_check : (q : Result (Option (Unit {0})) Fault)
+            → Ran merged safe (seconds t) wanted now new (without_item u q)
+            → Ran merged safe (GivesInTurn firsts begins seconds at) wanted old new (without_item (Second u) q)
         turn-made_check q l = stepped (First s) e (chained h d (chained (ran-asked k) p (second-check u q l)))

@@ -12,12 +12,17 @@ use Rattle.chumsky_combinator.specs.MappedLaws.{given_by-ends, given_by-agrees}
 use Rattle.chumsky_combinator.specs.MappedItems.{Remade, MapsItem, MapsItemWith}
 
 module _ {Tok Cx St Er S V W : Type 0} where
-  pub remade-ends : (made : Option V → Meaning Tok Cx St Er W) (step : Meaning Tok Cx St Er (Next S V)) → ((v : Option V) → EndsAfterStart (made v)) → EndsAfterStart step → EndsAfterStart (Remade made step)
+  pub remade-ends : (made : Option V → Meaning Tok Cx St Er W) (step : Meaning Tok Cx St Er (Next S V))
+      → ((v : Option V) → EndsAfterStart (made v)) → EndsAfterStart step → EndsAfterStart (Remade made step)
   remade-ends made step hm hs =
-      chained-ends step _ hs (after_step-ends (λ v s. Chained (made v) (λ w. Given (Some (More w s)))) (Given (Some End)) (λ v s. chained-ends (made v) _ (hm v) (λ w. given-ends (Some (More w s)))) (given-ends (Some End)))
+      chained-ends step _ hs
+      (after_step-ends (λ v s. Chained (made v) (λ w. Given (Some (More w s)))) (Given (Some End))
+      (λ v s. chained-ends (made v) _ (hm v) (λ w. given-ends (Some (More w s)))) (given-ends (Some End)))
 
   module _ (same : V → V → Type 0) (other : W → W → Type 0) (alike : S → S → Type 0) where
-    pub remade-agrees : (made made' : Option V → Meaning Tok Cx St Er W) (step step' : Meaning Tok Cx St Er (Next S V)) → ((v w : Option V) → SameValue same v w → Agreeing other (made v) (made' w)) → Agreeing (SameNext same alike) step step'
+    pub remade-agrees : (made made' : Option V → Meaning Tok Cx St Er W) (step step' : Meaning Tok Cx St Er (Next S V))
+        → ((v w : Option V) → SameValue same v w → Agreeing other (made v) (made' w))
+        → Agreeing (SameNext same alike) step step'
         → Agreeing (SameNext other alike) (Remade made step) (Remade made' step')
     remade-agrees made made' step step' hm hs =
         chained-agrees step step' _ _ (SameNext same alike) (SameNext other alike) hs
@@ -33,17 +38,24 @@ module _ {Tok Cx St Er S V W : Type 0} (maps : V → W → Type 0) (begins : Mea
   maps_item-agree same alike h =
       record {
         begin = h.begin;
-        step = λ s t l b c o q z m n x y. remade-agrees same (SameMapped same maps) alike (GivenBy maps) (GivenBy maps) (gives s) (gives t) (given_by-agrees maps same) (h.step s t l) b c o q z m.remade n.remade x y;
+        step =
+            λ s t l b c o q z m n x y. remade-agrees same (SameMapped same maps) alike (GivenBy maps) (GivenBy maps)
+            (gives s) (gives t) (given_by-agrees maps same) (h.step s t l) b c o q z m.remade n.remade x y;
       }
 
 module _ {Tok Cx St Er S V W : Type 0} (maps : GivesShown Tok Cx St V W) (begins : Meaning Tok Cx St Er S) (gives : S → Meaning Tok Cx St Er (Next S V)) where
   pub maps_item_with-end : ItemsEnd begins gives → ItemsEnd begins (λ s. MapsItemWith maps (gives s))
   maps_item_with-end h = record { begin = h.begin; step = λ s b o m a. remade-ends (GivenShown maps b.start) (gives s) (shown-ends maps b.start) (h.step s) b o m.remade a }
 
-  pub maps_item_with-agree : OnlyAnswers maps → (same : V → V → Type 0) (alike : S → S → Type 0) → ItemsAgree same alike begins gives → ItemsAgree (SameShown maps same) alike begins (λ s. MapsItemWith maps (gives s))
+  pub maps_item_with-agree : OnlyAnswers maps → (same : V → V → Type 0) (alike : S → S → Type 0)
+      → ItemsAgree same alike begins gives
+      → ItemsAgree (SameShown maps same) alike begins (λ s. MapsItemWith maps (gives s))
   maps_item_with-agree one same alike h =
       record {
         begin = h.begin;
         step = λ s t l b c o q z m n x y.
-            remade-agrees same (SameShown maps same) alike (GivenShown maps b.start) (GivenShown maps c.start) (gives s) (gives t) (shown-agrees maps one same (SameShown maps same) (λ w w' k. k) b.start c.start z.start) (h.step s t l) b c o q z m.remade n.remade x y;
+            remade-agrees same (SameShown maps same) alike (GivenShown maps b.start) (GivenShown maps c.start)
+            (gives s) (gives t)
+            (shown-agrees maps one same (SameShown maps same) (λ w w' k. k) b.start c.start z.start)
+            (h.step s t l) b c o q z m.remade n.remade x y;
       }

@@ -13,7 +13,9 @@ module _ {Tok Cx St Er V W : Type 0} (maps : V → W → Type 0) where
   given_as-ends (Some v) b o m a = given-ends (Some m.0) b o m.2 a
   given_as-ends None b o m a = given-ends None b o m a
 
-  given_as-agrees : (same : V → V → Type 0) (v v' : Option V) → SameValue same v v' → (b c : Beginning Tok Cx St) (o q : Outcome W Er St) → Alike b c → GivenAs maps v b o → GivenAs maps v' c q → IsAnswer o.verdict → IsAnswer q.verdict → Agree (SameMapped same maps) o q
+  given_as-agrees : (same : V → V → Type 0) (v v' : Option V) → SameValue same v v'
+      → (b c : Beginning Tok Cx St) (o q : Outcome W Er St) → Alike b c → GivenAs maps v b o → GivenAs maps v' c q
+      → IsAnswer o.verdict → IsAnswer q.verdict → Agree (SameMapped same maps) o q
   given_as-agrees same (Some v) (Some v') e b c o q alike m n a z =
       given-agrees (SameMapped same maps) (Some m.0) (Some n.0) (record { first = v; second = v'; alike = e; from_first = m.1; from_second = n.1 }) b c o q alike m.2 n.2 a z
   given_as-agrees same (Some v) None e b c o q alike m n a z = given-agrees (SameMapped same maps) (Some m.0) None tt b c o q alike m.2 n a z

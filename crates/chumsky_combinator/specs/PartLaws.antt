@@ -12,5 +12,6 @@ module _ {Tok Cx St Er V : Type 0} (meaning : Meaning Tok Cx St Er V) where
   onward-agrees same h b c o q alike m n = h b c o q alike m.means n.means
 
   -- what means no more than something steady is steady
-  pub less-agrees : (less : Meaning Tok Cx St Er V) (same alike : V → V → Type 0) → Agreeing same meaning meaning → MeansNoMore less meaning → ((v w : V) → same v w → alike v w) → Agreeing alike less less
+  pub less-agrees : (less : Meaning Tok Cx St Er V) (same alike : V → V → Type 0) → Agreeing same meaning meaning
+      → MeansNoMore less meaning → ((v w : V) → same v w → alike v w) → Agreeing alike less less
   less-agrees less same alike h within weaker b c o q similar m n a z = agree-weaker same alike weaker o q (h b c o q similar (within b o m) (within c q n) a z)

@@ -11,7 +11,8 @@ module _ {Tok Cx St Er V W : Type 0} (v : Option V) (next : Option V → Meaning
   -- what is given at once, and then what follows it
   given-then : (b : Beginning Tok Cx St) (o : Outcome W Er St) → Chained (Given v) next b o → next v b o
   given-then b o m =
-      let f : Follows {Er = Er} (Yes v) next b (record { verdict = Yes v; end = b.start; state = b.state; events = []; emitted = [] }) o = subst (λ (p : Outcome V Er St). Follows p.verdict next b p o) m.meant m.follows in
+      let f : Follows {Er = Er} (Yes v) next b (record { verdict = Yes v; end = b.start; state = b.state; events = []; emitted = [] }) o =
+      subst (λ (p : Outcome V Er St). Follows p.verdict next b p o) m.meant m.follows in
       subst (next v b) (sym f.2) f.1
 
   then-given : (b : Beginning Tok Cx St) (o : Outcome W Er St) → next v b o → Chained (Given v) next b o
@@ -31,7 +32,9 @@ module _ {Tok Cx St Er V : Type 0} (part : Meaning Tok Cx St Er V) where
   part-given b o m = record { first = o; meant = m; follows = kept_as_given b o.verdict o.end o.state o.events o.emitted }
 
 module _ {Tok Cx St Er V W X : Type 0} (f : W → X) (part : Meaning Tok Cx St Er V) (next : Option V → Meaning Tok Cx St Er W) (other : Option V → Meaning Tok Cx St Er X) where
-  chained_shown : ((v : Option V) → ShownAs f (next v) (other v)) → (b : Beginning Tok Cx St) (o : Outcome W Er St) (v : Verdict V Er) (p : Outcome V Er St) → Follows v next b p o → Follows v other b p (shown_as f o)
+  chained_shown : ((v : Option V) → ShownAs f (next v) (other v))
+      → (b : Beginning Tok Cx St) (o : Outcome W Er St) (v : Verdict V Er) (p : Outcome V Er St)
+      → Follows v next b p o → Follows v other b p (shown_as f o)
   chained_shown h b o (Yes v) p m = (shown_as f m.0, h v (from b p) m.0 m.1, ap (shown_as f) m.2)
   chained_shown h b o No p m = ap (shown_as f) m
   chained_shown h b o (Halt s) p m = ap (shown_as f) m
@@ -45,7 +48,8 @@ module _ {Tok Cx St Er V W X : Type 0} (last : Option W → Meaning Tok Cx St Er
   joined : (p : Outcome V Er St) (q : Outcome W Er St) (r : Outcome X Er St) → after (after p q) r ≡ after p (after q r)
   joined p q r = cc (append_assoc p.events q.events r.events, append_assoc p.emitted q.emitted r.emitted)
 
-  inwards : (b : Beginning Tok Cx St) (p : Outcome V Er St) (q : Outcome W Er St) (o : Outcome X Er St) (w : Verdict W Er) → Follows w last b (after p q) o → (r : Outcome X Er St) × Follows w last (from b p) q r × (o ≡ after p r)
+  inwards : (b : Beginning Tok Cx St) (p : Outcome V Er St) (q : Outcome W Er St) (o : Outcome X Er St) (w : Verdict W Er)
+      → Follows w last b (after p q) o → (r : Outcome X Er St) × Follows w last (from b p) q r × (o ≡ after p r)
   inwards b p q o (Yes w) m = (after q m.0, (m.0, m.1, refl), m.2 ∙ joined p q m.0)
   inwards b p q o No m = (retold No q, refl, m)
   inwards b p q o (Halt s) m = (retold (Halt s) q, refl, m)
@@ -58,7 +62,8 @@ module _ {Tok Cx St Er V W X : Type 0} (last : Option W → Meaning Tok Cx St Er
   outwards b p q r (Clash e) m = ap (after p) m
 
 module _ {Tok Cx St Er V W X : Type 0} (part : Meaning Tok Cx St Er V) (next : Option V → Meaning Tok Cx St Er W) (last : Option W → Meaning Tok Cx St Er X) where
-  to_right : (b : Beginning Tok Cx St) (o : Outcome X Er St) (v : Verdict V Er) (p : Outcome V Er St) (q : Outcome W Er St) → Follows v next b p q → Follows q.verdict last b q o → Follows v (λ v. Chained (next v) last) b p o
+  to_right : (b : Beginning Tok Cx St) (o : Outcome X Er St) (v : Verdict V Er) (p : Outcome V Er St) (q : Outcome W Er St)
+      → Follows v next b p q → Follows q.verdict last b q o → Follows v (λ v. Chained (next v) last) b p o
   to_right b o (Yes v) p q f k =
       let t = inwards last b p f.0 o f.0.verdict (subst (λ (z : Outcome W Er St). Follows z.verdict last b z o) f.2 k) in
       (t.0, record { first = f.0; meant = f.1; follows = t.1 }, t.2)
@@ -76,10 +81,46 @@ module _ {Tok Cx St Er V W X : Type 0} (part : Meaning Tok Cx St Er V) (next : O
   to_left b o (Yes v) end state events emitted m f =
       let p : Outcome V Er St = record { verdict = Yes v; end = end; state = state; events = events; emitted = emitted } in
       let k = f.1 in
-      record { first = after p k.first; meant = record { first = p; meant = m; follows = (k.first, k.meant, refl) }; follows = subst (Follows k.first.verdict last b (after p k.first)) (sym f.2) (outwards last b p k.first f.0 k.first.verdict k.follows) }
-  to_left b o No end state events emitted m f = record { first = retold No o; meant = record { first = record { verdict = No; end = end; state = state; events = events; emitted = emitted }; meant = m; follows = rw f refl }; follows = rw f refl }
-  to_left b o (Halt s) end state events emitted m f = record { first = retold (Halt s) o; meant = record { first = record { verdict = Halt s; end = end; state = state; events = events; emitted = emitted }; meant = m; follows = rw f refl }; follows = rw f refl }
-  to_left b o (Clash e) end state events emitted m f = record { first = retold (Clash e) o; meant = record { first = record { verdict = Clash e; end = end; state = state; events = events; emitted = emitted }; meant = m; follows = rw f refl }; follows = rw f refl }
+      record {
+        first = after p k.first;
+        meant = record { first = p; meant = m; follows = (k.first, k.meant, refl) };
+        follows =
+            subst (Follows k.first.verdict last b (after p k.first)) (sym f.2)
+            (outwards last b p k.first f.0 k.first.verdict k.follows);
+      }
+  to_left b o No end state events emitted m f =
+      record {
+        first = retold No o;
+        meant =
+            record {
+              first = record { verdict = No; end = end; state = state; events = events; emitted = emitted };
+              meant = m;
+              follows = rw f refl;
+            };
+        follows = rw f refl;
+      }
+  to_left b o (Halt s) end state events emitted m f =
+      record {
+        first = retold (Halt s) o;
+        meant =
+            record {
+              first = record { verdict = Halt s; end = end; state = state; events = events; emitted = emitted };
+              meant = m;
+              follows = rw f refl;
+            };
+        follows = rw f refl;
+      }
+  to_left b o (Clash e) end state events emitted m f =
+      record {
+        first = retold (Clash e) o;
+        meant =
+            record {
+              first = record { verdict = Clash e; end = end; state = state; events = events; emitted = emitted };
+              meant = m;
+              follows = rw f refl;
+            };
+        follows = rw f refl;
+      }
 
   -- and the other way round
   grouped-left : (b : Beginning Tok Cx St) (o : Outcome X Er St) → Chained part (λ v. Chained (next v) last) b o → Chained (Chained part next) last b o
@@ -147,8 +188,15 @@ module _ {Tok Cx St Er V W : Type 0} (first : Meaning Tok Cx St Er V) (second : 
   -- a sequence, its value being the second part's, agrees with its second part after the first without its value
   pub sequence-second_agrees : Agreeing sv first first → Agreeing sw second second → AgreesAs (λ (p : V × W). p.1) sw (Sequence first second) (IgnoringFirst first second)
   sequence-second_agrees f s b c o q alike m n a z =
-      let shown = chained-shown (λ (p : V × W). p.1) first _ _ (λ v d p h. chained-shown (λ (p : V × W). p.1) second _ _ (λ w e r k. given-shown (λ (p : V × W). p.1) (both v w) (option_map (λ (p : V × W). p.1) (both v w)) refl e r k) d p h) b o m in
+      let shown =
+      chained-shown (λ (p : V × W). p.1) first _ _
+      (λ v d p h. chained-shown (λ (p : V × W). p.1) second _ _
+      (λ w e r k. given-shown (λ (p : V × W). p.1) (both v w) (option_map (λ (p : V × W). p.1) (both v w)) refl e r k)
+      d p h)
+      b o m in
       chained-agrees first (Asked false first) (λ v. Chained second (λ w. Given (option_map (λ (p : V × W). p.1) (both v w)))) (λ _. second) sv sw
       (λ b c o q alike m n. f b (record c { wanted = false }) o q (record { tokens = alike.tokens; start = alike.start; context = alike.context; state = alike.state }) m n.run)
-      (λ v v' e b c o q alike m n. chained-agrees second second _ Given sw sw s (λ w w' d. given-agrees sw (option_map (λ (p : V × W). p.1) (both v w)) w' (second-same sw v w w' d)) b c o q alike m (part-given second c q n))
+      (λ v v' e b c o q alike m n. chained-agrees second second _ Given sw sw s
+      (λ w w' d. given-agrees sw (option_map (λ (p : V × W). p.1) (both v w)) w' (second-same sw v w w' d)) b c o
+      q alike m (part-given second c q n))
       b c (shown_as (λ (p : V × W). p.1) o) q alike shown n (still-answers (λ (p : V × W). p.1) o.verdict a) z

@@ -16,7 +16,8 @@ module _ {V : Type 0} where
 
 module _ {Tok Cx St Mk Er V : Type 0} (mark : St → Mk) (back : St → Mk → St) (safe : Type 0) where
   -- one alternative stands in both, and calls their values the same
-  pub record BothStand (s : V → V → Type 0) (ss : List (V → V → Type 0)) (first : Meaning Tok Cx St Er V) (others : List (Meaning Tok Cx St Er V)) (b c : Beginning Tok Cx St) (o q : Outcome V Er St) : Type 0 where
+  pub record BothStand (s : V → V → Type 0) (ss : List (V → V → Type 0)) (first : Meaning Tok Cx St Er V)
+      (others : List (Meaning Tok Cx St Er V)) (b c : Beginning Tok Cx St) (o q : Outcome V Er St) : Type 0 where
     pub k : ℕ
     pub stands : Stands back safe (mark b.state) k first others b o
     pub other_stands : Stands back safe (mark c.state) k first others c q
@@ -24,7 +25,9 @@ module _ {Tok Cx St Mk Er V : Type 0} (mark : St → Mk) (back : St → Mk → S
 
   -- so it is of any two answers from alike beginnings
   abbrev pub SameByStanding : Meaning Tok Cx St Er V → (V → V → Type 0) → List (V → V → Type 0) → Meaning Tok Cx St Er V → List (Meaning Tok Cx St Er V) → Type 0
-  SameByStanding whole s ss first others = (b c : Beginning Tok Cx St) (o q : Outcome V Er St) → Alike b c → whole b o → whole c q → IsAnswer o.verdict → IsAnswer q.verdict → BothStand s ss first others b c o q
+  SameByStanding whole s ss first others =
+      (b c : Beginning Tok Cx St) (o q : Outcome V Er St) → Alike b c → whole b o → whole c q → IsAnswer o.verdict
+      → IsAnswer q.verdict → BothStand s ss first others b c o q
 
   -- of a list of alternatives, if there is one
   abbrev pub SameByStandingIfAny : Meaning Tok Cx St Er V → List (V → V → Type 0) → List (Meaning Tok Cx St Er V) → Type 0

@@ -27,7 +27,9 @@ module _ {S T : Type 0} (la : S → S → Type 0) (lb : T → T → Type 0) wher
   begun (Some s) None l = tt
   begun None t l = tt
 
-module _ {Tok Cx St Er S T V : Type 0} (before : Meaning Tok Cx St Er S) (firsts : S → Meaning Tok Cx St Er (Next S V)) (begins : Meaning Tok Cx St Er T) (seconds : T → Meaning Tok Cx St Er (Next T V)) where
+module _ {Tok Cx St Er S T V : Type 0} (before : Meaning Tok Cx St Er S)
+    (firsts : S → Meaning Tok Cx St Er (Next S V)) (begins : Meaning Tok Cx St Er T)
+    (seconds : T → Meaning Tok Cx St Er (Next T V)) where
   of_second-ends : (step : Meaning Tok Cx St Er (Next T V)) → EndsAfterStart step → EndsAfterStart (OfSecond {S = S} step)
   of_second-ends step h = chained-ends step _ h (after_step-ends (λ v t. Given (Some (More v (Second t)))) (Given (Some End)) (λ v t. given-ends (Some (More v (Second t)))) (given-ends (Some End)))
 
@@ -38,7 +40,10 @@ module _ {Tok Cx St Er S T V : Type 0} (before : Meaning Tok Cx St Er S) (firsts
   at-ends : ((s : S) → EndsAfterStart (firsts s)) → EndsAfterStart begins → ((t : T) → EndsAfterStart (seconds t)) → (at : Stage S T) → EndsAfterStart (GivesAt firsts begins seconds at)
   at-ends hs hb ht (First s) =
       chained-ends (firsts s) _ (hs s)
-      (after_step-ends (λ v t. Given (Some (More v (First t)))) (Chained (Asked true begins) (FirstOfSecond firsts begins seconds)) (λ v t. given-ends (Some (More v (First t)))) (chained-ends (Asked true begins) _ (asked-ends true begins hb) (first_of-ends ht)))
+      (after_step-ends (λ v t. Given (Some (More v (First t))))
+      (Chained (Asked true begins) (FirstOfSecond firsts begins seconds))
+      (λ v t. given-ends (Some (More v (First t))))
+      (chained-ends (Asked true begins) _ (asked-ends true begins hb) (first_of-ends ht)))
   at-ends hs hb ht (Second t) = of_second-ends (seconds t) (ht t)
 
   pub in_turn-end : ItemsEnd before firsts → ItemsEnd begins seconds → ItemsEnd (BeginsFirst before) (GivesInTurn firsts begins seconds)
@@ -56,7 +61,10 @@ module _ {Tok Cx St Er S T V : Type 0} (before : Meaning Tok Cx St Er S) (firsts
         (λ v w s t e l. given-agrees (SameNext (SameEither sa sb) (SameStage la lb)) (Some (More v (Second s))) (Some (More w (Second t))) (by_second sa sb v w e, l))
         (given-agrees (SameNext (SameEither sa sb) (SameStage la lb)) (Some End) (Some End) tt))
 
-    first_of-agrees : ((s t : T) → lb s t → Agreeing (SameNext sb lb) (seconds s) (seconds t)) → (s t : Option T) → SameValue lb s t → Agreeing (SameNext (SameEither sa sb) (SameStage la lb)) (FirstOfSecond firsts begins seconds s) (FirstOfSecond firsts begins seconds t)
+    first_of-agrees : ((s t : T) → lb s t → Agreeing (SameNext sb lb) (seconds s) (seconds t)) → (s t : Option T)
+        → SameValue lb s t
+        → Agreeing (SameNext (SameEither sa sb) (SameStage la lb)) (FirstOfSecond firsts begins seconds s)
+        (FirstOfSecond firsts begins seconds t)
     first_of-agrees h (Some s) (Some t) l = of_second-agrees (seconds s) (seconds t) (h s t l)
     first_of-agrees h (Some s) None l = λ b c o q z m n. absurd n
     first_of-agrees h None t l = λ b c o q z m. absurd m

@@ -12,7 +12,9 @@ module _ {Tok Cx St Er S T V : Type 0} where
   carried-ends carry step h b o m a =
       chained-ends step _ h (after_step-ends (λ v s. Given (Some (More v (carry s)))) (Given (Some End)) (λ v s. given-ends (Some (More v (carry s)))) (given-ends (Some End))) b o m.run a
 
-  pub carried-agrees : (carry carry' : S → T) (step step' : Meaning Tok Cx St Er (Next S V)) (same : V → V → Type 0) (alike : S → S → Type 0) (beside : T → T → Type 0) → ((s t : S) → alike s t → beside (carry s) (carry' t))
+  pub carried-agrees : (carry carry' : S → T) (step step' : Meaning Tok Cx St Er (Next S V)) (same : V → V → Type 0)
+      (alike : S → S → Type 0) (beside : T → T → Type 0)
+      → ((s t : S) → alike s t → beside (carry s) (carry' t))
       → Agreeing (SameNext same alike) step step' → Agreeing (SameNext same beside) (Carried carry step) (Carried carry' step')
   carried-agrees carry carry' step step' same alike beside k h b c o q l m n a z =
       chained-agrees step step' _ _ (SameNext same alike) (SameNext same beside) h

@@ -8,7 +8,9 @@ use Rattle.chumsky_context.specs.CarriedLaws.{carried-ends, carried-agrees}
 use Rattle.chumsky_context.specs.ConfiguredItems.{BesideAs, BeginsBeside, GivesBeside, AlikeBeside}
 
 module _ {Tok Cx St Er S C V : Type 0} (gives : C → S → Meaning Tok Cx St Er (Next S V)) (same : V → V → Type 0) (alike : S → S → Type 0) where
-  pub beside_step : ((c : C) (s t : S) → alike s t → Agreeing (SameNext same alike) (gives c s) (gives c t)) → (s t : S) (c d : C) → alike s t → c ≡ d → Agreeing (SameNext same (AlikeBeside alike)) (GivesBeside gives (s, c)) (GivesBeside gives (t, d))
+  pub beside_step : ((c : C) (s t : S) → alike s t → Agreeing (SameNext same alike) (gives c s) (gives c t))
+      → (s t : S) (c d : C) → alike s t → c ≡ d
+      → Agreeing (SameNext same (AlikeBeside alike)) (GivesBeside gives (s, c)) (GivesBeside gives (t, d))
   beside_step h s t c d l e =
       subst (λ x. Agreeing (SameNext same (AlikeBeside alike)) (GivesBeside gives (s, c)) (GivesBeside gives (t, x))) e
       (carried-agrees (λ u. (u, c)) (λ u. (u, c)) (gives c s) (gives c t) same alike (AlikeBeside alike) (λ u v i. (i, refl)) (h c s t l))
@@ -26,14 +28,18 @@ module _ {Tok Cx St Er S C V : Type 0} (sets : Cx → C → Type 0) (begins : Me
       }
 
   module _ (one : IsDeterministic sets) (same : V → V → Type 0) (alike : S → S → Type 0) where
-    beside_as-agrees : (s t : Option S) → SameValue alike s t → (b c : Beginning Tok Cx St) (o q : Outcome (S × C) Er St) → Alike b c → BesideAs sets s b o → BesideAs sets t c q → IsAnswer o.verdict → IsAnswer q.verdict → Agree (AlikeBeside alike) o q
+    beside_as-agrees : (s t : Option S) → SameValue alike s t
+        → (b c : Beginning Tok Cx St) (o q : Outcome (S × C) Er St) → Alike b c → BesideAs sets s b o
+        → BesideAs sets t c q → IsAnswer o.verdict → IsAnswer q.verdict → Agree (AlikeBeside alike) o q
     beside_as-agrees (Some s) (Some t) e b c o q l m n a z =
         let k : m.0 ≡ n.0 = one c.context m.0 n.0 (subst (λ x. sets x m.0) l.context m.1) n.1 in
         given-agrees (AlikeBeside alike) (Some (s, m.0)) (Some (t, n.0)) (e, k) b c o q l m.2 n.2 a z
     beside_as-agrees (Some s) None e b c o q l m n a z = absurd n
     beside_as-agrees None t e b c o q l m n a z = absurd m
 
-    pub beside-agree : Agreeing alike begins begins → ((c : C) (s t : S) → alike s t → Agreeing (SameNext same alike) (gives c s) (gives c t)) → ItemsAgree same (AlikeBeside alike) (BeginsBeside sets begins) (GivesBeside gives)
+    pub beside-agree : Agreeing alike begins begins
+        → ((c : C) (s t : S) → alike s t → Agreeing (SameNext same alike) (gives c s) (gives c t))
+        → ItemsAgree same (AlikeBeside alike) (BeginsBeside sets begins) (GivesBeside gives)
     beside-agree h k =
         record {
           begin = chained-agrees begins begins _ _ alike (AlikeBeside alike) h (λ s t e b c o q l m n a z. beside_as-agrees s t e b c o q l m.made n.made a z);

@@ -22,7 +22,9 @@ module _ {Tok Cx St Er V W : Type 0} (is : Layout Tok → ℕ → ℕ → W → 
 
     pub covers-agree : Agreeing sv part part → Agreeing same (Covers is part) (Covers is part)
     covers-agree h b c o q alike m n a z =
-        chained-agrees (Asked false part) (Asked false part) (λ _. Cover is b.start) (λ _. Cover is c.start) sv same (asked-agrees false part sv h) (λ _ _ _. cover-agrees b.start c.start alike.start) b c o q alike m.run n.run a z
+        chained-agrees (Asked false part) (Asked false part) (λ _. Cover is b.start) (λ _. Cover is c.start) sv same
+        (asked-agrees false part sv h) (λ _ _ _. cover-agrees b.start c.start alike.start) b c o q alike m.run
+        n.run a z
 
 module _ {Tok Cx St Er V W : Type 0} (with_span : Layout Tok → ℕ → ℕ → V → W) (part : Meaning Tok Cx St Er V) where
   pub with_span-ends : EndsAfterStart part → EndsAfterStart (WithSpan with_span part)
@@ -37,8 +39,12 @@ module _ {Tok Cx St Er V W : Type 0} (with_span : Layout Tok → ℕ → ℕ →
     adds_span-agrees : (i j : ℕ) → i ≡ j → (v w : Option V) → SameValue sv v w → Agreeing (SameSpanned with_span sv) (AddsSpan {Cx = Cx} {St = St} {Er = Er} with_span i v) (AddsSpan with_span j w)
     adds_span-agrees i j e v w s b c o q alike m n a z =
         let there : with_span c.tokens j c.start ≡ with_span b.tokens i b.start = cc (alike.tokens, alike.start, e) in
-        given-agrees (SameSpanned with_span sv) (option_map (with_span b.tokens i b.start) v) (option_map (with_span b.tokens i b.start) w) (spanned-same b.tokens i b.start v w s) b c o q alike m.given (subst (λ f. Given (option_map f w) c q) there n.given) a z
+        given-agrees (SameSpanned with_span sv) (option_map (with_span b.tokens i b.start) v)
+        (option_map (with_span b.tokens i b.start) w) (spanned-same b.tokens i b.start v w s) b c o q alike
+        m.given (subst (λ f. Given (option_map f w) c q) there n.given) a z
 
     pub with_span-agree : Agreeing sv part part → Agreeing (SameSpanned with_span sv) (WithSpan with_span part) (WithSpan with_span part)
     with_span-agree h b c o q alike m n a z =
-        chained-agrees part part (AddsSpan with_span b.start) (AddsSpan with_span c.start) sv (SameSpanned with_span sv) h (λ v w s. adds_span-agrees b.start c.start alike.start v w s) b c o q alike m.run n.run a z
+        chained-agrees part part (AddsSpan with_span b.start) (AddsSpan with_span c.start) sv
+        (SameSpanned with_span sv) h (λ v w s. adds_span-agrees b.start c.start alike.start v w s) b c o q alike
+        m.run n.run a z

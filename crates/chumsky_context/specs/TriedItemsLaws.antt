@@ -13,7 +13,9 @@ use Rattle.chumsky_context.specs.ConfiguredItems.{GivesBeside, AlikeBeside}
 use Rattle.chumsky_context.specs.ConfiguredItemsLaws.{beside_step}
 use Rattle.chumsky_context.specs.TriedItems.{SameConfig, OneRuling, ByRuling, BeginsTried}
 
-module _ {I Tok Sp Cu Er St Cx S C V : Type 0} (source : input_trait.Ghosts I Cu Tok Sp) (errors : error_trait.Ghosts Er I Tok Sp) (tries : Cx → Sp → Result C Er → Type 0) (begins : Meaning Tok Cx St errors.Seen S) (gives : C → S → Meaning Tok Cx St errors.Seen (Next S V)) where
+module _ {I Tok Sp Cu Er St Cx S C V : Type 0} (source : input_trait.Ghosts I Cu Tok Sp)
+    (errors : error_trait.Ghosts Er I Tok Sp) (tries : Cx → Sp → Result C Er → Type 0)
+    (begins : Meaning Tok Cx St errors.Seen S) (gives : C → S → Meaning Tok Cx St errors.Seen (Next S V)) where
   by_ruling-ends : EndsAfterStart begins → (r : Result C Er) (b : Beginning Tok Cx St) (o : Outcome (S × C) errors.Seen St) → ByRuling source errors begins r b o → IsAnswer o.verdict → b.start ≤ o.end
   by_ruling-ends h (Ok c) b o m a = chained-ends begins (λ s. Given (option_map (λ t. (t, c)) s)) h (λ s. given-ends (option_map (λ t. (t, c)) s)) b o m a
   by_ruling-ends h (Err e) b o m a = misses-ends (λ _ _. ⊤) {safe = ⊤} (omega arith) (inr m) a
@@ -40,7 +42,9 @@ module _ {I Tok Sp Cu Er St Cx S C V : Type 0} (source : input_trait.Ghosts I Cu
     by_ruling-agrees h (Err x) (Ok y) e b c o p l m n a z = absurd e
     by_ruling-agrees h (Err x) (Err y) e b c o p l m n a z = misses-agree (AlikeBeside alike) {safe = ⊤} (cc (l.start, e)) l.start l.state (inr m) (inr n) a z
 
-    pub tried-agree : Agreeing alike begins begins → ((c : C) (s t : S) → alike s t → Agreeing (SameNext same alike) (gives c s) (gives c t)) → ItemsAgree same (AlikeBeside alike) (BeginsTried source errors tries begins) (GivesBeside gives)
+    pub tried-agree : Agreeing alike begins begins
+        → ((c : C) (s t : S) → alike s t → Agreeing (SameNext same alike) (gives c s) (gives c t))
+        → ItemsAgree same (AlikeBeside alike) (BeginsTried source errors tries begins) (GivesBeside gives)
     tried-agree h k =
         record {
           begin = λ b c o q l m n a z.

@@ -32,7 +32,8 @@ module _ {Tok Cx St Er V W : Type 0} (part part' : Meaning Tok V St Er W) where
   runs_under-agrees sv sw equal h (Some v) None s b c o q alike m n a z = absurd n
   runs_under-agrees sv sw equal h None w s b c o q alike m n a z = absurd m
 
-  pub under-agrees : (sv : V → V → Type 0) (sw : W → W → Type 0) → SameAreEqual sv → Agreeing sw part part' → (v w : Option V) → SameValue sv v w → Agreeing sw (UnderValue {Cx = Cx} part v) (UnderValue part' w)
+  pub under-agrees : (sv : V → V → Type 0) (sw : W → W → Type 0) → SameAreEqual sv → Agreeing sw part part'
+      → (v w : Option V) → SameValue sv v w → Agreeing sw (UnderValue {Cx = Cx} part v) (UnderValue part' w)
   under-agrees sv sw equal h v w s b c o q alike m n a z = runs_under-agrees sv sw equal h v w s b c o q alike m.runs n.runs a z
 
 module _ {V W : Type 0} (sv : V → V → Type 0) (sw : W → W → Type 0) where
@@ -58,7 +59,9 @@ module _ {Tok Cx St Er V W : Type 0} (first : Meaning Tok Cx St Er V) (second : 
     pub sequence_under-agrees : Agreeing sv first first → Agreeing sw second second → Agreeing (SamePair sv sw) (SequenceUnder first second) (SequenceUnder first second)
     sequence_under-agrees f s =
         chained-agrees (Asked true first) (Asked true first) _ _ sv (SamePair sv sw) (asked-agrees true first sv f)
-        (λ v v' e. chained-agrees (UnderValue second v) (UnderValue second v') _ _ sw (SamePair sv sw) (under-agrees second second sv sw equal s v v' e) (λ w w' d. given-agrees (SamePair sv sw) (both v w) (both v' w') (both-same sv sw v v' w w' e d)))
+        (λ v v' e. chained-agrees (UnderValue second v) (UnderValue second v') _ _ sw (SamePair sv sw)
+        (under-agrees second second sv sw equal s v v' e)
+        (λ w w' d. given-agrees (SamePair sv sw) (both v w) (both v' w') (both-same sv sw v v' w w' e d)))
 
 module _ {V S : Type 0} (sv : V → V → Type 0) (alike : S → S → Type 0) (equal : SameAreEqual sv) where
   made-alike : (v v' : Option V) (s s' : Option S) → SameValue sv v v' → SameValue alike s s' → SameValue (AlikeUnder alike) (both v s) (both v' s')
@@ -78,14 +81,19 @@ module _ {Tok Cx St Er V S W : Type 0} (first : Meaning Tok Cx St Er V) (begins 
       }
 
   module _ (sv : V → V → Type 0) (sw : W → W → Type 0) (alike : S → S → Type 0) (equal : SameAreEqual sv) where
-    under_step : ((s t : S) → alike s t → Agreeing (SameNext sw alike) (gives s) (gives t)) → (v w : V) (s t : S) → v ≡ w → alike s t → Agreeing (SameNext sw (AlikeUnder alike)) (GivesUnder {Cx = Cx} gives (v, s)) (GivesUnder gives (w, t))
+    under_step : ((s t : S) → alike s t → Agreeing (SameNext sw alike) (gives s) (gives t)) → (v w : V) (s t : S)
+        → v ≡ w → alike s t
+        → Agreeing (SameNext sw (AlikeUnder alike)) (GivesUnder {Cx = Cx} gives (v, s)) (GivesUnder gives (w, t))
     under_step h v w s t e l =
-        carried-agrees (λ u. (v, u)) (λ u. (w, u)) _ _ sw alike (AlikeUnder alike) (λ x y i. (e, i)) (under-agrees (gives s) (gives t) (λ x y. x ≡ y) (SameNext sw alike) (λ x y i. i) (h s t l) (Some v) (Some w) e)
+        carried-agrees (λ u. (v, u)) (λ u. (w, u)) _ _ sw alike (AlikeUnder alike) (λ x y i. (e, i))
+        (under-agrees (gives s) (gives t) (λ x y. x ≡ y) (SameNext sw alike) (λ x y i. i) (h s t l) (Some v) (Some w) e)
 
     pub under_items-agree : Agreeing sv first first → ItemsAgree sw alike begins gives → ItemsAgree sw (AlikeUnder alike) (BeginsUnder first begins) (GivesUnder gives)
     under_items-agree f h =
         record {
           begin = chained-agrees first first _ _ sv (AlikeUnder alike) f
-              (λ v v' e. chained-agrees (UnderValue begins v) (UnderValue begins v') _ _ alike (AlikeUnder alike) (under-agrees begins begins sv alike equal h.begin v v' e) (λ s s' l. given-agrees (AlikeUnder alike) (both v s) (both v' s') (made-alike sv alike equal v v' s s' e l)));
+              (λ v v' e. chained-agrees (UnderValue begins v) (UnderValue begins v') _ _ alike (AlikeUnder alike)
+              (under-agrees begins begins sv alike equal h.begin v v' e)
+              (λ s s' l. given-agrees (AlikeUnder alike) (both v s) (both v' s') (made-alike sv alike equal v v' s s' e l)));
           step = λ s t l. under_step h.step s.0 t.0 s.1 t.1 l.0 l.1;
         }

@@ -73,7 +73,14 @@ event_at seen place e = record { place = place; error = seen e }
 module _ {I Tok Sp Er St Mk : Type 0} (errors : error_trait.Ghosts Er I Tok Sp) (states : inspector_trait.Ghosts St I Mk Tok Sp) where
   -- the outcome that a report stands for: its error is one event at a place, and its emitted errors are emitted
   abbrev pub outcome_of_report : {V : Type 0} → ℕ → ℕ → RunReport (Option V) Er St → Outcome V errors.Seen states.Seen
-  outcome_of_report place end r = record { verdict = verdict_of r.answer; end = end; state = states.seen r.state; events = option_to_list (option_map (event_at errors.seen place) r.error); emitted = map errors.seen r.emitted }
+  outcome_of_report place end r =
+      record {
+        verdict = verdict_of r.answer;
+        end = end;
+        state = states.seen r.state;
+        events = option_to_list (option_map (event_at errors.seen place) r.error);
+        emitted = map errors.seen r.emitted;
+      }
 
 module _ {Tok Cx St Er : Type 0} (merged : Er → Er → Er) where
   -- an event, if there is one, and emitted errors are added after those that are held
@@ -105,7 +112,9 @@ module _ {V Er St : Type 0} where
   abbrev pub OrOutOfMemory : Outcome V Er St → Outcome V Er St → Type 0
   OrOutOfMemory whole o = (o ≡ whole) ⊎ (ClashesAlone whole o ⊎ Refuses (whole.emitted ≡ [] → ⊥) whole.state o)
 
-module _ {J Tok Sp Cu Mk Er St I Tok' Sp' Mk' Cx V : Type 0} (source : input_trait.Ghosts J Cu Tok Sp) (errors : error_trait.Ghosts Er J Tok Sp) (states : inspector_trait.Ghosts St J Mk Tok Sp) (errors' : error_trait.Ghosts Er I Tok' Sp') (states' : inspector_trait.Ghosts St I Mk' Tok' Sp') where
+module _ {J Tok Sp Cu Mk Er St I Tok' Sp' Mk' Cx V : Type 0} (source : input_trait.Ghosts J Cu Tok Sp)
+    (errors : error_trait.Ghosts Er J Tok Sp) (states : inspector_trait.Ghosts St J Mk Tok Sp)
+    (errors' : error_trait.Ghosts Er I Tok' Sp') (states' : inspector_trait.Ghosts St I Mk' Tok' Sp') where
   -- the part runs over the given input, on a state that counts as the run's, and its report is told at a place; or there is no
   -- memory for that
   pub record Within (part : Meaning Tok Cx states.Seen errors.Seen V) (place : ℕ) (given : Option J) (b : Beginning Tok' Cx states'.Seen) (o : Outcome V errors'.Seen states'.Seen) : Type 0 where
@@ -121,7 +130,9 @@ module _ {J Tok Sp Cu Mk Er St I Tok' Sp' Mk' Cx V : Type 0} (source : input_tra
   abbrev pub MeansNestedIn : Meaning Tok Cx states.Seen errors.Seen V → Meaning Tok' Cx states'.Seen errors'.Seen J → Meaning Tok' Cx states'.Seen errors'.Seen V
   MeansNestedIn inner outer b o = Chained (Asked true outer) (Within inner b.start) b o
 
-module _ {J Tok Sp Cu Mk Er St I Tok' Sp' Mk' : Type 0} (source : input_trait.Ghosts J Cu Tok Sp) (errors : error_trait.Ghosts Er J Tok Sp) (states : inspector_trait.Ghosts St J Mk Tok Sp) (errors' : error_trait.Ghosts Er I Tok' Sp') (states' : inspector_trait.Ghosts St I Mk' Tok' Sp') where
+module _ {J Tok Sp Cu Mk Er St I Tok' Sp' Mk' : Type 0} (source : input_trait.Ghosts J Cu Tok Sp)
+    (errors : error_trait.Ghosts Er J Tok Sp) (states : inspector_trait.Ghosts St J Mk Tok Sp)
+    (errors' : error_trait.Ghosts Er I Tok' Sp') (states' : inspector_trait.Ghosts St I Mk' Tok' Sp') where
   -- errors that count as the same over the inner input do so over the outer one, states do in both directions, and inputs that
   -- are the same have the same tokens
   pub record SameOverBoth (same : J → J → Type 0) : Type 0 where
@@ -134,7 +145,13 @@ module _ {J Tok Sp Cu Mk Er St I Tok' Sp' Mk' : Type 0} (source : input_trait.Gh
   abbrev pub SteadyNested : {A B C S M : Type 0} → (A → Type 0) → (B → Type 0) → (B → J → J → Type 0) → (NestedIn A B J C Tok S M → Type 0) → NestedIn A B J C Tok S M → Type 0
   SteadyNested inner outer same nested p = inner p.parser → outer p.outer → SameOverBoth (same p.outer) → nested p
 
-module _ {J Tok Sp Cu Mk Er St I X Tok' Sp' Cu' Mk' Cx V : Type 0} (source : input_trait.Ghosts J Cu Tok Sp) (errors : error_trait.Ghosts Er J Tok Sp) (states : inspector_trait.Ghosts St J Mk Tok Sp) (source' : input_trait.Ghosts I Cu' Tok' Sp') (errors' : error_trait.Ghosts Er I Tok' Sp') (states' : inspector_trait.Ghosts St I Mk' Tok' Sp') where
+module _ {J Tok Sp Cu Mk Er St I X Tok' Sp' Cu' Mk' Cx V : Type 0} (source : input_trait.Ghosts J Cu Tok Sp)
+    (errors : error_trait.Ghosts Er J Tok Sp) (states : inspector_trait.Ghosts St J Mk Tok Sp)
+    (source' : input_trait.Ghosts I Cu' Tok' Sp') (errors' : error_trait.Ghosts Er I Tok' Sp')
+    (states' : inspector_trait.Ghosts St I Mk' Tok' Sp') where
   -- a run shows one outcome of what is done over the whole of another input, which is told at a place
   abbrev pub RunsWithin : Does J Tok Sp Er St Mk Cx V → ℕ → J → Bool → InputRef I X Cu' Tok' Sp' Er St Cx Mk' → InputRef I X Cu' Tok' Sp' Er St Cx Mk' → Result (Option V) Fault → Type 0
-  RunsWithin does place input wanted old new result = Runs source' errors' states' (Within source errors states errors' states' (ToEnd source errors states (does errors states)) place (Some input)) wanted old new result
+  RunsWithin does place input wanted old new result =
+      Runs source' errors' states'
+      (Within source errors states errors' states' (ToEnd source errors states (does errors states)) place (Some input))
+      wanted old new result

@@ -39,7 +39,8 @@ list-same f g h [] [] e = refl
 
 module _ {V Er : Type 0} (same : V → V → Type 0) (Er' : Type 0) where
   -- answers of the same verdicts
-  answer-same : (v w : Verdict V Er) (a b : Result (Option V) Fault) → a ≡ answer v → b ≡ answer w → IsAnswer v → IsAnswer w → SameAnswer same v w → SameAnswer same (verdict_of {Er = Er'} a) (verdict_of {Er = Er'} b)
+  answer-same : (v w : Verdict V Er) (a b : Result (Option V) Fault) → a ≡ answer v → b ≡ answer w → IsAnswer v
+      → IsAnswer w → SameAnswer same v w → SameAnswer same (verdict_of {Er = Er'} a) (verdict_of {Er = Er'} b)
   answer-same (Yes v) (Yes w) a b e d x y s = rw (e, d) s
   answer-same (Yes v) No a b e d x y s = absurd s
   answer-same No (Yes w) a b e d x y s = absurd s
@@ -65,7 +66,9 @@ module _ {J Tok Sp Cu Er : Type 0} (source : input_trait.Ghosts J Cu Tok Sp) (er
     emitted : map errors.seen r.emitted ≡ o.emitted
 
   -- of outcomes that agree the same error is reported
-  last-same : {V S : Type 0} (same : V → V → Type 0) (v w : Verdict V errors.Seen) (ts us : Layout Tok) (o q : Outcome V errors.Seen S) → IsAnswer v → IsAnswer w → SameAnswer same v w → ts ≡ us → o.end ≡ q.end → o.events ≡ q.events → last_of v ts o ≡ last_of w us q
+  last-same : {V S : Type 0} (same : V → V → Type 0) (v w : Verdict V errors.Seen) (ts us : Layout Tok) (o q : Outcome V errors.Seen S)
+      → IsAnswer v → IsAnswer w → SameAnswer same v w → ts ≡ us → o.end ≡ q.end → o.events ≡ q.events
+      → last_of v ts o ≡ last_of w us q
   last-same same (Yes v) (Yes w) ts us o q a z s t e es = cc es
   last-same same (Yes v) No ts us o q a z s t e es = absurd s
   last-same same No (Yes w) ts us o q a z s t e es = absurd s
@@ -86,7 +89,9 @@ module _ {J Tok Sp Cu Er St Mk Cx V : Type 0} (source : input_trait.Ghosts J Cu 
     emitted : map errors.seen r.emitted ≡ outcome.emitted
     state : states.seen r.state ≡ outcome.state
 
-  tallies : (X : Type 0) (v : Verdict V errors.Seen) (a : Result (Option V) Fault) (o : Outcome V errors.Seen states.Seen) (input : J) (context : Cx) (state : St) (last : Held Tok Cx states.Seen errors.Seen) (r : RunReport (Option V) Er St)
+  tallies : (X : Type 0) (v : Verdict V errors.Seen) (a : Result (Option V) Fault)
+      (o : Outcome V errors.Seen states.Seen) (input : J) (context : Cx) (state : St)
+      (last : Held Tok Cx states.Seen errors.Seen) (r : RunReport (Option V) Er St)
       → a ≡ answer v → LeavesBy errors.merged errors.takes_no_memory v o (held_at_start source errors states input context state) last → last.tokens ≡ source.tokens input
       → ReportsRun source errors states a last r → IsAnswer (verdict_of {Er = X} r.answer) → Tallies source errors v o (source.tokens input) r
   tallies X (Yes v) (Ok x) o input context state last r e l t p q =
@@ -105,13 +110,17 @@ module _ {J Tok Sp Cu Er St Mk Cx V : Type 0} (source : input_trait.Ghosts J Cu 
 
   -- a run that is reported to answer
   answers : (X : Type 0) (part : Meaning Tok Cx states.Seen errors.Seen V) (wanted : Bool) (input : J) (context : Cx) (state : St) (r : RunReport (Option V) Er St)
-      → RunsWhole source errors states part wanted input context state r → IsAnswer (verdict_of {Er = X} r.answer) → AnswersWithin part (begin wanted (held_at_start source errors states input context state)) r
+      → RunsWhole source errors states part wanted input context state r → IsAnswer (verdict_of {Er = X} r.answer)
+      → AnswersWithin part (begin wanted (held_at_start source errors states input context state)) r
   answers X part wanted input context state r w q =
       let o = w.ran.outcome in
       let t = tallies X o.verdict w.answer o input context state w.last r w.ran.answered w.ran.left w.ran.same.tokens w.reported q in
       record { outcome = o; meant = w.ran.meant; is_answer = t.is_answer; answered = t.answered; error = t.error; emitted = t.emitted; state = w.left ∙ w.ran.state }
 
-module _ {J Tok Sp Cu Mk Er St I Tok' Sp' Mk' Cx V : Type 0} (source : input_trait.Ghosts J Cu Tok Sp) (errors : error_trait.Ghosts Er J Tok Sp) (states : inspector_trait.Ghosts St J Mk Tok Sp) (errors' : error_trait.Ghosts Er I Tok' Sp') (states' : inspector_trait.Ghosts St I Mk' Tok' Sp') (inner : Meaning Tok Cx states.Seen errors.Seen V) (outer : Meaning Tok' Cx states'.Seen errors'.Seen J) where
+module _ {J Tok Sp Cu Mk Er St I Tok' Sp' Mk' Cx V : Type 0} (source : input_trait.Ghosts J Cu Tok Sp)
+    (errors : error_trait.Ghosts Er J Tok Sp) (states : inspector_trait.Ghosts St J Mk Tok Sp)
+    (errors' : error_trait.Ghosts Er I Tok' Sp') (states' : inspector_trait.Ghosts St I Mk' Tok' Sp')
+    (inner : Meaning Tok Cx states.Seen errors.Seen V) (outer : Meaning Tok' Cx states'.Seen errors'.Seen J) where
   within-ends : (place : ℕ) (v : Option J) → EndsAfterStart (Within source errors states errors' states' inner place v)
   within-ends place v b o m a =
       let e : o.end ≡ b.start = ap (λ (x : Outcome V errors'.Seen states'.Seen). x.end) (answer-told _ o m.does a) in
@@ -122,11 +131,19 @@ module _ {J Tok Sp Cu Mk Er St I Tok' Sp' Mk' Cx V : Type 0} (source : input_tra
 
   -- reports of outcomes that agree are told alike
   told-agrees : (sv : V → V → Type 0) (sj : J → J → Type 0) → SameOverBoth source errors states errors' states' sj → (place place' end end' : ℕ) → place ≡ place' → end ≡ end'
-      → (b c : Beginning Tok Cx states.Seen) (r r' : RunReport (Option V) Er St) → b.tokens ≡ c.tokens → (x : AnswersWithin source errors states inner b r) (y : AnswersWithin source errors states inner c r')
+      → (b c : Beginning Tok Cx states.Seen) (r r' : RunReport (Option V) Er St) → b.tokens ≡ c.tokens
+      → (x : AnswersWithin source errors states inner b r) (y : AnswersWithin source errors states inner c r')
       → Agree sv x.outcome y.outcome → Agree sv (outcome_of_report errors' states' place end r) (outcome_of_report errors' states' place' end' r')
   told-agrees sv sj count place place' end end' p e b c r r' ts x y h =
-      let error : option_map errors.seen r.error ≡ option_map errors.seen r'.error = x.error ∙ last-same source errors sv x.outcome.verdict y.outcome.verdict b.tokens c.tokens x.outcome y.outcome x.is_answer y.is_answer h.answer ts h.end h.events ∙ sym y.error in
-      let event : option_map (event_at errors'.seen place) r.error ≡ option_map (event_at errors'.seen place) r'.error = option-same errors.seen (event_at errors'.seen place) (λ a z s. ap (λ q. record { place = place; error = q }) (count.same_errors a z s)) r.error r'.error error in
+      let error : option_map errors.seen r.error ≡ option_map errors.seen r'.error =
+      x.error
+      ∙ last-same source errors sv x.outcome.verdict y.outcome.verdict b.tokens c.tokens x.outcome y.outcome
+      x.is_answer y.is_answer h.answer ts h.end h.events
+      ∙ sym y.error in
+      let event : option_map (event_at errors'.seen place) r.error ≡ option_map (event_at errors'.seen place) r'.error =
+      option-same errors.seen (event_at errors'.seen place)
+      (λ a z s. ap (λ q. record { place = place; error = q }) (count.same_errors a z s)) r.error r'.error
+      error in
       record {
         answer = answer-same sv errors'.Seen x.outcome.verdict y.outcome.verdict r.answer r'.answer x.answered y.answered x.is_answer y.is_answer h.answer;
         end = e;
@@ -135,7 +152,8 @@ module _ {J Tok Sp Cu Mk Er St I Tok' Sp' Mk' Cx V : Type 0} (source : input_tra
         emitted = list-same errors.seen errors'.seen count.same_errors r.emitted r'.emitted (x.emitted ∙ h.emitted ∙ sym y.emitted);
       }
 
-  within-agrees : (sv : V → V → Type 0) (sj : J → J → Type 0) → SameOverBoth source errors states errors' states' sj → Agreeing sv inner inner → (place place' : ℕ) → place ≡ place' → (v w : Option J) → SameValue sj v w
+  within-agrees : (sv : V → V → Type 0) (sj : J → J → Type 0) → SameOverBoth source errors states errors' states' sj
+      → Agreeing sv inner inner → (place place' : ℕ) → place ≡ place' → (v w : Option J) → SameValue sj v w
       → Agreeing sv (Within source errors states errors' states' inner place v) (Within source errors states errors' states' inner place' w)
   within-agrees sv sj count f place place' p v w s b c o q alike m n a z =
       let om = answer-told _ o m.does a in
@@ -152,5 +170,6 @@ module _ {J Tok Sp Cu Mk Er St I Tok' Sp' Mk' Cx V : Type 0} (source : input_tra
   pub nested_in-agrees : (sv : V → V → Type 0) (sj : J → J → Type 0) → SameOverBoth source errors states errors' states' sj → Agreeing sv inner inner → Agreeing sj outer outer
       → Agreeing sv (MeansNestedIn source errors states errors' states' inner outer) (MeansNestedIn source errors states errors' states' inner outer)
   nested_in-agrees sv sj count f g b c o q alike m n a z =
-      chained-agrees (Asked true outer) (Asked true outer) (Within source errors states errors' states' inner b.start) (Within source errors states errors' states' inner c.start) sj sv (asked-agrees true outer sj g)
+      chained-agrees (Asked true outer) (Asked true outer) (Within source errors states errors' states' inner b.start)
+      (Within source errors states errors' states' inner c.start) sj sv (asked-agrees true outer sj g)
       (λ v w s. within-agrees sv sj count f b.start c.start alike.start v w s) b c o q alike m n a z

@@ -20,7 +20,9 @@ pub named_none : (nodes : List NodeKind) (n : ℕ) → is_named nodes 0 n ≡ fa
 unfolding is_named
 named_none nodes n = refl
 
-pub node_step : (info : DebugInfo) (bound level n : ℕ) (k : Option NodeKind) → (bound ≡ 0 → ⊥) → slice_get info.rules.now.nodes n ≡ k → node_text info bound level n ≡ kind_text (part_text info (bound - 1)) info level k
+pub node_step : (info : DebugInfo) (bound level n : ℕ) (k : Option NodeKind) → (bound ≡ 0 → ⊥)
+    → slice_get info.rules.now.nodes n ≡ k
+    → node_text info bound level n ≡ kind_text (part_text info (bound - 1)) info level k
 unfolding node_text
 node_step info zero level n k some is = absurd (some refl)
 node_step info (suc bound) level n k some is = ap (kind_text (part_text info bound) info level) is ∙ ap (λ b. kind_text (part_text info b) info level k) (less_one bound)
@@ -39,7 +41,9 @@ lines_none line = refl
 
 -- what is printed of one more of a list
 pub each_more : (f : ℕ → List ℕ) (xs : List ℕ) (i x : ℕ) → i < length xs → x ≡ get_or xs i x → flat_map f (take (i + 1) xs) ≡ flat_map f (take i xs) ++ f x
-each_more f xs i x within is = ap (flat_map f) (take_more xs i x within) ∙ flat_map-append f (take i xs) (get_or xs i x ∷ []) ∙ ap (λ text. flat_map f (take i xs) ++ text) (append-nil (f (get_or xs i x)) ∙ ap f (sym is))
+each_more f xs i x within is =
+    ap (flat_map f) (take_more xs i x within) ∙ flat_map-append f (take i xs) (get_or xs i x ∷ [])
+    ∙ ap (λ text. flat_map f (take i xs) ++ text) (append-nil (f (get_or xs i x)) ∙ ap f (sym is))
 
 -- those after the first
 abbrev pub others_of : List ℕ → List ℕ

@@ -27,13 +27,19 @@ module _ {Tok Cx St Er S A : Type 0} {merged : Er → Er → Er} {safe : Type 0}
     makes-emit (Err f) h = failed (ran-asked h) refl refl
 
     -- one that was made and let go, the end, and a fault
-    pub makes-passed : {x : A} {r : Result (Option A) Fault} {o : Option A} → r ≡ Ok o → o ≡ Some x → Ran merged safe step true old new (with_item s r) → Ran merged safe (MakesItem step) false old new (Ok (Some (More None s)))
+    pub makes-passed : {x : A} {r : Result (Option A) Fault} {o : Option A} → r ≡ Ok o → o ≡ Some x
+        → Ran merged safe step true old new (with_item s r)
+        → Ran merged safe (MakesItem step) false old new (Ok (Some (More None s)))
     makes-passed {x} e d h = chained {a = Some (More (Some x) s)} (ran-asked h) (rw (e, d) refl) (offered false x)
 
-    pub makes-ended : {r : Result (Option A) Fault} {o : Option A} → r ≡ Ok o → o ≡ None → Ran merged safe step true old new (with_item s r) → Ran merged safe (MakesItem step) false old new (Ok (Some End))
+    pub makes-ended : {r : Result (Option A) Fault} {o : Option A} → r ≡ Ok o → o ≡ None
+        → Ran merged safe step true old new (with_item s r)
+        → Ran merged safe (MakesItem step) false old new (Ok (Some End))
     makes-ended e d h = chained {a = Some End} (ran-asked h) (rw (e, d) refl) ran-given
 
-    pub makes-failed : {f : Fault} {r : Result (Option A) Fault} {y : Result (Option (Next S A)) Fault} → r ≡ Err f → y ≡ Err f → Ran merged safe step true old new (with_item s r) → Ran merged safe (MakesItem step) false old new y
+    pub makes-failed : {f : Fault} {r : Result (Option A) Fault} {y : Result (Option (Next S A)) Fault} → r ≡ Err f
+        → y ≡ Err f → Ran merged safe step true old new (with_item s r)
+        → Ran merged safe (MakesItem step) false old new y
     makes-failed e z h = failed (ran-asked h) (rw e refl) z
 
 module _ {Tok Cx St Er J A : Type 0} {merged : Er → Er → Er} {safe : Type 0} (nexts : J → Option A → J → Type 0) {j : J} {old : Held Tok Cx St Er} where

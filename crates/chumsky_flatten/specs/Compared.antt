@@ -17,7 +17,9 @@ module _ {O J A : Type 0} (makes : O → J → Type 0) (nexts : J → Option A �
     pub record FlattensCollected (outer : List O → C → Type 0) (holds : List A → D → Type 0) (collects : Meaning Tok Cx St Er C) (whole : Meaning Tok Cx St Er D) : Type 0 where
       pub apart : (b : Beginning Tok Cx St) (o : Outcome D Er St) (d : D) → b.wanted ≡ true → whole b o → o.verdict ≡ Yes (Some d)
           → (os : List O) × (xs : List A) × HaveItems os xs × holds xs d × (length os < 2 ^ 64 → (c : C) → outer os c → collects b (retold (Yes (Some c)) o))
-      pub together : (b : Beginning Tok Cx St) (o : Outcome C Er St) (c : C) (os : List O) (xs : List A) (d : D) → b.wanted ≡ true → collects b o → o.verdict ≡ Yes (Some c) → outer os c → HaveItems os xs → holds xs d → length xs < 2 ^ 64
+      pub together : (b : Beginning Tok Cx St) (o : Outcome C Er St) (c : C) (os : List O) (xs : List A) (d : D)
+          → b.wanted ≡ true → collects b o → o.verdict ≡ Yes (Some c) → outer os c → HaveItems os xs → holds xs d
+          → length xs < 2 ^ 64
           → whole b (retold (Yes (Some d)) o)
 
   module _ {Tok Cx St Er D : Type 0} where

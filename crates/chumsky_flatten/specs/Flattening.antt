@@ -38,7 +38,8 @@ abbrev pub Uncounted : {Tok Cx St Er W : Type 0} → ℕ → Meaning Tok Cx St E
 Uncounted zero = Stops CountTooLarge
 Uncounted (suc left) = λ b o. ⊥
 
-module _ {Tok Cx St Mk Er S O J A : Type 0} (mark : St → Mk) (back : St → Mk → St) (safe : Type 0) (makes : O → J → Type 0) (nexts : J → Option A → J → Type 0) (gives : S → Meaning Tok Cx St Er (Next S O)) where
+module _ {Tok Cx St Mk Er S O J A : Type 0} (mark : St → Mk) (back : St → Mk → St) (safe : Type 0)
+    (makes : O → J → Type 0) (nexts : J → Option A → J → Type 0) (gives : S → Meaning Tok Cx St Er (Next S O)) where
   -- how the passing over closes: by the first item of a collection, by the end, by a step that gives no collection, or by an
   -- empty one that can't be counted
   abbrev pub ClosesAt : ℕ → S → Meaning Tok Cx St Er (Next (S × Option J) A)

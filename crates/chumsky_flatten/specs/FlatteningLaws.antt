@@ -16,8 +16,11 @@ use Rattle.chumsky_flatten.specs.FlatteningSteps.{FirstSteps, first-unlisted}
 use Rattle.chumsky_flatten.specs.IntoItemsLaws.{fresh-same, rest-more, item-same, makes_item-ends, makes_item-agrees}
 
 -- two parts that agree, a no of which is gone back from
-module _ {Tok Cx St Mk Er V : Type 0} (back : St → Mk → St) (safe : Type 0) (mark : Mk) (first first' : Meaning Tok Cx St Er V) (same : V → V → Type 0) (h : Agreeing same first first') (b c : Beginning Tok Cx St) (o q p r : Outcome V Er St) (alike : Alike b c) (m : first b p) (n : first' c r) where
-  undone_agree : (v w : Verdict V Er) → p.verdict ≡ v → r.verdict ≡ w → ElseFrom back safe mark v SaysNo b p o → ElseFrom back safe mark w SaysNo c r q → IsAnswer o.verdict → IsAnswer q.verdict → Agree same o q
+module _ {Tok Cx St Mk Er V : Type 0} (back : St → Mk → St) (safe : Type 0) (mark : Mk)
+    (first first' : Meaning Tok Cx St Er V) (same : V → V → Type 0) (h : Agreeing same first first')
+    (b c : Beginning Tok Cx St) (o q p r : Outcome V Er St) (alike : Alike b c) (m : first b p) (n : first' c r) where
+  undone_agree : (v w : Verdict V Er) → p.verdict ≡ v → r.verdict ≡ w → ElseFrom back safe mark v SaysNo b p o
+      → ElseFrom back safe mark w SaysNo c r q → IsAnswer o.verdict → IsAnswer q.verdict → Agree same o q
   undone_agree (Yes v) (Yes w) pv rw' e d a z = rw (e, d) (h b c p r alike m n (rw pv tt) (rw rw' tt))
   undone_agree (Yes v) No pv rw' e d a z =
       let k : SameAnswer same p.verdict r.verdict = (h b c p r alike m n (rw pv tt) (rw rw' tt)).answer in absurd (rw (pv, rw') at k)
@@ -64,7 +67,9 @@ module _ {O J A : Type 0} (makes : O → J → Type 0) (nexts : J → Option A �
   pub ends_at_once : (o : O) (h : CollectionHas makes nexts o []) → nexts h.0 None h.2.0
   ends_at_once o h = subst (λ t. nexts t None h.2.0) (sym h.2.1.1) h.2.1.2
 
-module _ {Tok Cx St Mk Er S O J A : Type 0} (mark : St → Mk) (back : St → Mk → St) (safe : Type 0) (makes : O → J → Type 0) (nexts : J → Option A → J → Type 0) (begins : Meaning Tok Cx St Er S) (gives : S → Meaning Tok Cx St Er (Next S O)) where
+module _ {Tok Cx St Mk Er S O J A : Type 0} (mark : St → Mk) (back : St → Mk → St) (safe : Type 0)
+    (makes : O → J → Type 0) (nexts : J → Option A → J → Type 0) (begins : Meaning Tok Cx St Er S)
+    (gives : S → Meaning Tok Cx St Er (Next S O)) where
   inside-ends : ((s : S) → EndsAfterStart (gives s)) → (s : S) → EndsAfterStart (Inside mark back safe gives s)
   inside-ends h s = or_else-ends mark back safe (gives s) SaysNo (h s) no-ends
 
@@ -74,10 +79,16 @@ module _ {Tok Cx St Mk Er S O J A : Type 0} (mark : St → Mk) (back : St → Mk
   first_else-ends else h None s b o m a = absurd m
 
   first_steps-ends : ((s : S) → EndsAfterStart (gives s)) → (room : ℕ) (s : S) → EndsAfterStart (FirstSteps mark back safe makes nexts gives room s)
-  first_steps-ends h zero s = chained-ends (Inside mark back safe gives s) _ (inside-ends h s) (after_step-ends (FirstElse makes nexts (Stops CountTooLarge)) (Given (Some End)) (first_else-ends (Stops CountTooLarge) (stops-ends CountTooLarge)) (given-ends (Some End)))
+  first_steps-ends h zero s =
+      chained-ends (Inside mark back safe gives s) _ (inside-ends h s)
+      (after_step-ends (FirstElse makes nexts (Stops CountTooLarge)) (Given (Some End))
+      (first_else-ends (Stops CountTooLarge) (stops-ends CountTooLarge)) (given-ends (Some End)))
   first_steps-ends h (suc room) s =
       chained-ends (Inside mark back safe gives s) _ (inside-ends h s)
-      (after_step-ends (λ v t. FirstElse makes nexts (FirstSteps mark back safe makes nexts gives room t) v t) (Given (Some End)) (λ v t. first_else-ends (FirstSteps mark back safe makes nexts gives room t) (first_steps-ends h room t) v t) (given-ends (Some End)))
+      (after_step-ends (λ v t. FirstElse makes nexts (FirstSteps mark back safe makes nexts gives room t) v t)
+      (Given (Some End))
+      (λ v t. first_else-ends (FirstSteps mark back safe makes nexts gives room t) (first_steps-ends h room t) v t)
+      (given-ends (Some End)))
 
   first-ends : ((s : S) → EndsAfterStart (gives s)) → (s : S) → EndsAfterStart (FirstOfNext mark back safe makes nexts gives s)
   first-ends h s b o m a = first_steps-ends h m.room s b o (first-unlisted mark back safe makes nexts gives m.room s b o m.first) a
@@ -105,7 +116,9 @@ module _ {Tok Cx St Mk Er S O J A : Type 0} (mark : St → Mk) (back : St → Mk
     one_has : (x y : O) → same x y → (j l : J) (v : A) → makes y j → nexts j (Some v) l → CollectionHas makes nexts x [] → ⊥
     one_has x y e j l v m n h = many h.0 j h.2.0 l None (Some v) (fresh-same makes nexts same x y h.0 j e h.1 m) (ends_at_once makes nexts x h) n
 
-    first_else-agrees : (else else' : Meaning Tok Cx St Er (Next (S × Option J) A)) → Agreeing Same else else' → (v w : Option O) (s t : S) → SameValue same v w → alike s t → Agreeing Same (FirstElse makes nexts else v s) (FirstElse makes nexts else' w t)
+    first_else-agrees : (else else' : Meaning Tok Cx St Er (Next (S × Option J) A)) → Agreeing Same else else'
+        → (v w : Option O) (s t : S) → SameValue same v w → alike s t
+        → Agreeing Same (FirstElse makes nexts else v s) (FirstElse makes nexts else' w t)
     first_else-agrees else else' h (Some x) (Some y) s t e l b c o q z (inl m) (inl n) =
         let fresh = fresh-same makes nexts same x y m.1 n.1 e m.3 n.3 in
         given-agrees Same (Some (More (Some m.0) (s, Some m.2))) (Some (More (Some n.0) (t, Some n.2)))
@@ -116,7 +129,9 @@ module _ {Tok Cx St Mk Er S O J A : Type 0} (mark : St → Mk) (back : St → Mk
     first_else-agrees else else' h (Some x) None s t e l b c o q z m n = absurd n
     first_else-agrees else else' h None w s t e l b c o q z m n = absurd m
 
-    first_steps-agree : ((s t : S) → alike s t → Agreeing (SameNext same alike) (gives s) (gives t)) → (room : ℕ) (s t : S) → alike s t → Agreeing Same (FirstSteps mark back safe makes nexts gives room s) (FirstSteps mark back safe makes nexts gives room t)
+    first_steps-agree : ((s t : S) → alike s t → Agreeing (SameNext same alike) (gives s) (gives t))
+        → (room : ℕ) (s t : S) → alike s t
+        → Agreeing Same (FirstSteps mark back safe makes nexts gives room s) (FirstSteps mark back safe makes nexts gives room t)
     first_steps-agree h zero s t l =
         chained-agrees (Inside mark back safe gives s) (Inside mark back safe gives t) _ _ (SameNext same alike) Same (undone-agrees mark back safe (gives s) (gives t) (SameNext same alike) (h s t l))
         (after_step-agrees same alike Same (FirstElse makes nexts (Stops CountTooLarge)) (FirstElse makes nexts (Stops CountTooLarge)) (Given (Some End)) (Given (Some End))
@@ -124,12 +139,19 @@ module _ {Tok Cx St Mk Er S O J A : Type 0} (mark : St → Mk) (back : St → Mk
     first_steps-agree h (suc room) s t l =
         chained-agrees (Inside mark back safe gives s) (Inside mark back safe gives t) _ _ (SameNext same alike) Same (undone-agrees mark back safe (gives s) (gives t) (SameNext same alike) (h s t l))
         (after_step-agrees same alike Same (λ v y. FirstElse makes nexts (FirstSteps mark back safe makes nexts gives room y) v y) (λ v y. FirstElse makes nexts (FirstSteps mark back safe makes nexts gives room y) v y) (Given (Some End)) (Given (Some End))
-        (λ v w x y e k. first_else-agrees (FirstSteps mark back safe makes nexts gives room x) (FirstSteps mark back safe makes nexts gives room y) (first_steps-agree h room x y k) v w x y e k) (given-agrees Same (Some End) (Some End) tt))
+        (λ v w x y e k. first_else-agrees (FirstSteps mark back safe makes nexts gives room x)
+        (FirstSteps mark back safe makes nexts gives room y) (first_steps-agree h room x y k) v w x y e k)
+        (given-agrees Same (Some End) (Some End) tt))
 
-    first-agrees : ((s t : S) → alike s t → Agreeing (SameNext same alike) (gives s) (gives t)) → (s t : S) → alike s t → Agreeing Same (FirstOfNext mark back safe makes nexts gives s) (FirstOfNext mark back safe makes nexts gives t)
+    first-agrees : ((s t : S) → alike s t → Agreeing (SameNext same alike) (gives s) (gives t)) → (s t : S)
+        → alike s t
+        → Agreeing Same (FirstOfNext mark back safe makes nexts gives s) (FirstOfNext mark back safe makes nexts gives t)
     first-agrees h s t l b c o q z m n =
         let even : n.room ≡ m.room = omega (arith, m.full, n.full) in
-        first_steps-agree h m.room s t l b c o q z (first-unlisted mark back safe makes nexts gives m.room s b o m.first) (first-unlisted mark back safe makes nexts gives m.room t c q (subst (λ k. FirstWithin mark back safe makes nexts gives k t c q) even n.first))
+        first_steps-agree h m.room s t l b c o q z
+        (first-unlisted mark back safe makes nexts gives m.room s b o m.first)
+        (first-unlisted mark back safe makes nexts gives m.room t c q
+        (subst (λ k. FirstWithin mark back safe makes nexts gives k t c q) even n.first))
 
     in_hand-agrees : ((s t : S) → alike s t → Agreeing (SameNext same alike) (gives s) (gives t)) → (i j : Option J) (s t : S) → SameInHand makes nexts same i j → alike s t
         → Agreeing Same (InHandOrNext mark back safe makes nexts gives i s) (InHandOrNext mark back safe makes nexts gives j t)
@@ -148,9 +170,18 @@ module _ {Tok Cx St Mk Er S O J A : Type 0} (mark : St → Mk) (back : St → Mk
     begun (Some s) None l = tt
     begun None t l = tt
 
-    pub flattens-agree : ItemsAgree same alike begins gives → ItemsAgree (SameItem makes nexts same) (AlikeInside makes nexts alike same) (BeginsInside begins) (Flattens mark back safe makes nexts gives)
+    pub flattens-agree : ItemsAgree same alike begins gives
+        → ItemsAgree (SameItem makes nexts same) (AlikeInside makes nexts alike same) (BeginsInside begins)
+        (Flattens mark back safe makes nexts gives)
     flattens-agree h =
         record {
-          begin = chained-agrees begins begins _ _ alike (AlikeInside makes nexts alike same) h.begin (λ s t l. given-agrees (AlikeInside makes nexts alike same) (option_map (λ x. (x, None)) s) (option_map (λ x. (x, None)) t) (begun s t l));
-          step = λ s t l b c o q z m n. makes_item-agrees (SameItem makes nexts same) (AlikeInside makes nexts alike same) (InHandOrNext mark back safe makes nexts gives s.1 s.0) (InHandOrNext mark back safe makes nexts gives t.1 t.0) (in_hand-agrees h.step s.1 t.1 s.0 t.0 l.1 l.0) b c o q z m.step n.step;
+          begin =
+              chained-agrees begins begins _ _ alike (AlikeInside makes nexts alike same) h.begin
+              (λ s t l. given-agrees (AlikeInside makes nexts alike same) (option_map (λ x. (x, None)) s)
+              (option_map (λ x. (x, None)) t) (begun s t l));
+          step =
+              λ s t l b c o q z m n. makes_item-agrees (SameItem makes nexts same)
+              (AlikeInside makes nexts alike same) (InHandOrNext mark back safe makes nexts gives s.1 s.0)
+              (InHandOrNext mark back safe makes nexts gives t.1 t.0)
+              (in_hand-agrees h.step s.1 t.1 s.0 t.0 l.1 l.0) b c o q z m.step n.step;
         }

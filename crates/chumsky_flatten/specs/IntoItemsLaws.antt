@@ -91,7 +91,9 @@ module _ {Tok Cx St Er O J A : Type 0} (makes : O → J → Type 0) (nexts : J �
     iterator-agrees (Some x) None e b c o q l m n = absurd n
     iterator-agrees None w e b c o q l m n = absurd m
 
-    next-agrees : (i j : J) → SameRest makes nexts same i j → Agreeing (SameNext (SameItem makes nexts same) (SameRest makes nexts same)) (NextOf {Tok = Tok} {Cx = Cx} {St = St} {Er = Er} nexts i) (NextOf nexts j)
+    next-agrees : (i j : J) → SameRest makes nexts same i j
+        → Agreeing (SameNext (SameItem makes nexts same) (SameRest makes nexts same))
+        (NextOf {Tok = Tok} {Cx = Cx} {St = St} {Er = Er} nexts i) (NextOf nexts j)
     next-agrees i j r b c o q l (inl m) (inl n) =
         given-agrees (SameNext (SameItem makes nexts same) (SameRest makes nexts same)) (Some (More (Some m.0) m.1)) (Some (More (Some n.0) n.1))
         (item-same makes nexts same i j m.1 n.1 m.0 n.0 r m.2 n.2, rest-more makes nexts same i j m.1 n.1 m.0 n.0 r m.2 n.2) b c o q l m.3 n.3

@@ -31,13 +31,20 @@ module _ {I Tok Sp Er St Mk Cx S O : Type 0} (gives : IterParserDebug → S → 
     DoesInHandOrNext in_hand s errors states =
         InHandOrNext states.mark states.back states.takes_no_memory makes nexts (λ t. gives (record { nonconsumption_is_ok = false }) t errors states) in_hand s
 
-module _ {I Tok Sp Er St Mk Cx A O J V : Type 0} (errors : error_trait.Ghosts Er I Tok Sp) (states : inspector_trait.Ghosts St I Mk Tok Sp) (makes : O → J → Type 0) (nexts : J → Option V → J → Type 0) where
+module _ {I Tok Sp Er St Mk Cx A O J V : Type 0} (errors : error_trait.Ghosts Er I Tok Sp)
+    (states : inspector_trait.Ghosts St I Mk Tok Sp) (makes : O → J → Type 0)
+    (nexts : J → Option V → J → Type 0) where
   -- what `collect` of `into_iter` into a `Vec` gives are the items of what the parser inside gives
   abbrev pub IntoIterGives : (A → Does I Tok Sp Er St Mk Cx O) → (Collect (IntoIter A O) V (Vec V Global) → Does I Tok Sp Er St Mk Cx (Vec V Global)) → Collect (IntoIter A O) V (Vec V Global) → Type 0
   IntoIterGives part whole p = GivesItemsOf makes nexts (λ xs (v : Vec V Global). v.items ≡ xs) (part p.parser.parser errors states) (whole p errors states)
 
   -- what `collect` of `flatten` into a `Vec` gives are the items of the collections that the items inside, collected, are
-  abbrev pub FlattenGives : {S : Type 0} → (A → Does I Tok Sp Er St Mk Cx S) → (A → IterParserDebug → S → Does I Tok Sp Er St Mk Cx (Next S O)) → (Collect (Flatten A O) V (Vec V Global) → Does I Tok Sp Er St Mk Cx (Vec V Global)) → Collect (Flatten A O) V (Vec V Global) → Type 0
+  abbrev pub FlattenGives : {S : Type 0} → (A → Does I Tok Sp Er St Mk Cx S)
+      → (A → IterParserDebug → S → Does I Tok Sp Er St Mk Cx (Next S O))
+      → (Collect (Flatten A O) V (Vec V Global) → Does I Tok Sp Er St Mk Cx (Vec V Global))
+      → Collect (Flatten A O) V (Vec V Global) → Type 0
   FlattenGives begins gives whole p =
       FlattensCollected makes nexts (λ os (v : Vec O Global). v.items ≡ os) (λ xs (v : Vec V Global). v.items ≡ xs)
-      (Collects (λ s. gives p.parser.parser (record { nonconsumption_is_ok = false }) s errors states) (begins p.parser.parser errors states) (λ os (v : Vec O Global). v.items ≡ os) ⊥) (whole p errors states)
+      (Collects (λ s. gives p.parser.parser (record { nonconsumption_is_ok = false }) s errors states)
+      (begins p.parser.parser errors states) (λ os (v : Vec O Global). v.items ≡ os) ⊥)
+      (whole p errors states)

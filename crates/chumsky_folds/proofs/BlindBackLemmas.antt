@@ -36,7 +36,9 @@ module _ {Tok Cx St Er V V' W W' : Type 0} (f : V → V') (h : W → W') (next :
   follows-carried (Clash e) p o m = ap (λ (y : Outcome W Er St). carried h y) m
 
   -- a part and what follows it, where both are carried
-  chained-carried : (part : Meaning Tok Cx St Er V) (part' : Meaning Tok Cx St Er V') → ((p : Outcome V Er St) → part b p → part' b (carried f p)) → (o : Outcome W Er St) → Chained part next b o → Chained part' next' b (carried h o)
+  chained-carried : (part : Meaning Tok Cx St Er V) (part' : Meaning Tok Cx St Er V')
+      → ((p : Outcome V Er St) → part b p → part' b (carried f p)) → (o : Outcome W Er St) → Chained part next b o
+      → Chained part' next' b (carried h o)
   chained-carried part part' k o m = record { first = carried f m.first; meant = k m.first m.meant; follows = follows-carried m.first.verdict m.first o m.follows }
 
 module _ {Tok Cx St Er P W W' : Type 0} (h : W → W') (next : Option P → Meaning Tok Cx St Er W) (next' : Option P → Meaning Tok Cx St Er W') (b : Beginning Tok Cx St)
@@ -86,7 +88,8 @@ module _ {Tok Cx St Er S V : Type 0} (step : Meaning Tok Cx St Er (Next S V)) (b
   unplaced-step : (o : Outcome (Next S (V × ℕ)) Er St) → Placed step b o → step b (carried unplaced o)
   unplaced-step o m = subst (step b) (sym (unplaced-by m.run.first o m.run.first.verdict refl m.run.follows)) m.run.meant
 
-module _ {Tok Cx St Er S V C D : Type 0} (gives : S → Meaning Tok Cx St Er (Next S V)) (begins : Meaning Tok Cx St Er S) (held : List (V × ℕ) → C → Type 0) (holds : List V → D → Type 0) (plain : C → D)
+module _ {Tok Cx St Er S V C D : Type 0} (gives : S → Meaning Tok Cx St Er (Next S V))
+    (begins : Meaning Tok Cx St Er S) (held : List (V × ℕ) → C → Type 0) (holds : List V → D → Type 0) (plain : C → D)
     (keeps : (xs : List (V × ℕ)) (c : C) → held xs c → holds (map (λ x. x.0) xs) (plain c)) where
   abbrev bare : List (V × ℕ) → List V
   bare xs = map (λ x. x.0) xs
@@ -100,10 +103,14 @@ module _ {Tok Cx St Er S V C D : Type 0} (gives : S → Meaning Tok Cx St Er (Ne
   collected-carried : (l : Option (List (V × ℕ))) (b : Beginning Tok Cx St) (o : Outcome C Er St) → Collected held l b o → Collected holds (option_map bare l) b (carried plain o)
   collected-carried l b o m = record { value = option_map plain m.value; is = holds-carried l m.value m.is; given = ap (λ (y : Outcome C Er St). carried plain y) m.given }
 
-  appends-carried : (l : Option (List (V × ℕ))) (v : Option (V × ℕ)) (b : Beginning Tok Cx St) (r : Outcome (List (V × ℕ)) Er St) → Appends ⊥ l v b r → Appends ⊥ (option_map bare l) (option_map (λ y. y.0) v) b (carried bare r)
+  appends-carried : (l : Option (List (V × ℕ))) (v : Option (V × ℕ)) (b : Beginning Tok Cx St) (r : Outcome (List (V × ℕ)) Er St)
+      → Appends ⊥ l v b r → Appends ⊥ (option_map bare l) (option_map (λ y. y.0) v) b (carried bare r)
   appends-carried (Some xs) (Some v) b r (inl m) = inl (m.0, ap (λ y. mapped bare y) m.1, m.2)
   appends-carried (Some xs) (Some v) b r (inr m) =
-      inr (ap (λ (y : Outcome (List (V × ℕ)) Er St). carried bare y) m ∙ ap (λ l. record { verdict = Yes (Some l); end = b.start; state = b.state; events = []; emitted = [] }) (map-append (λ (y : V × ℕ). y.0) xs (v ∷ [])))
+      inr
+      (ap (λ (y : Outcome (List (V × ℕ)) Er St). carried bare y) m
+      ∙ ap (λ l. record { verdict = Yes (Some l); end = b.start; state = b.state; events = []; emitted = [] })
+      (map-append (λ (y : V × ℕ). y.0) xs (v ∷ [])))
   appends-carried (Some xs) None b r m = ap (λ (y : Outcome (List (V × ℕ)) Er St). carried bare y) m
   appends-carried None v b r m = ap (λ (y : Outcome (List (V × ℕ)) Er St). carried bare y) m
 
@@ -113,15 +120,24 @@ module _ {Tok Cx St Er S V C D : Type 0} (gives : S → Meaning Tok Cx St Er (Ne
   abbrev listing : ℕ → Option (List V) → S → Meaning Tok Cx St Er D
   listing = AllSteps gives (Appends ⊥) (Collected holds)
 
-  full-carried : (l : Option (List (V × ℕ))) (x : Option (Next S (V × ℕ))) (c : Beginning Tok Cx St) (q : Outcome C Er St) → AfterStep (λ _ _. Stops CountTooLarge) (Collected held l) x c q → AfterStep (λ _ _. Stops CountTooLarge) (Collected holds (option_map bare l)) (option_map unplaced x) c (carried plain q)
+  full-carried : (l : Option (List (V × ℕ))) (x : Option (Next S (V × ℕ))) (c : Beginning Tok Cx St) (q : Outcome C Er St)
+      → AfterStep (λ _ _. Stops CountTooLarge) (Collected held l) x c q
+      → AfterStep (λ _ _. Stops CountTooLarge) (Collected holds (option_map bare l)) (option_map unplaced x) c (carried plain q)
   full-carried l (Some (More v t)) c q m = ap (λ (y : Outcome C Er St). carried plain y) m
   full-carried l (Some End) c q m = collected-carried l c q m
   full-carried l None c q m = m
 
-  more-carried : (room : ℕ) → ((l : Option (List (V × ℕ))) (s : S) (b : Beginning Tok Cx St) (o : Outcome C Er St) → placed room l s b o → listing room (option_map bare l) s b (carried plain o)) → (l : Option (List (V × ℕ))) (x : Option (Next S (V × ℕ))) (c : Beginning Tok Cx St) (q : Outcome C Er St)
-      → AfterStep (λ v t. Chained (Appends ⊥ l v) (λ k. placed room k t)) (Collected held l) x c q → AfterStep (λ v t. Chained (Appends ⊥ (option_map bare l) v) (λ k. listing room k t)) (Collected holds (option_map bare l)) (option_map unplaced x) c (carried plain q)
+  more-carried : (room : ℕ)
+      →
+      ((l : Option (List (V × ℕ))) (s : S) (b : Beginning Tok Cx St) (o : Outcome C Er St) → placed room l s b o
+      → listing room (option_map bare l) s b (carried plain o))
+      → (l : Option (List (V × ℕ))) (x : Option (Next S (V × ℕ))) (c : Beginning Tok Cx St) (q : Outcome C Er St)
+      → AfterStep (λ v t. Chained (Appends ⊥ l v) (λ k. placed room k t)) (Collected held l) x c q
+      → AfterStep (λ v t. Chained (Appends ⊥ (option_map bare l) v) (λ k. listing room k t))
+      (Collected holds (option_map bare l)) (option_map unplaced x) c (carried plain q)
   more-carried room ih l (Some (More v t)) c q m =
-      chained-carried bare plain (λ k. placed room k t) (λ k. listing room k t) c (λ k d r n. ih k t d r n) (Appends ⊥ l v) (Appends ⊥ (option_map bare l) (option_map (λ y. y.0) v)) (appends-carried l v c) q m
+      chained-carried bare plain (λ k. placed room k t) (λ k. listing room k t) c (λ k d r n. ih k t d r n)
+      (Appends ⊥ l v) (Appends ⊥ (option_map bare l) (option_map (λ y. y.0) v)) (appends-carried l v c) q m
   more-carried room ih l (Some End) c q m = collected-carried l c q m
   more-carried room ih l None c q m = m
 
@@ -129,9 +145,12 @@ module _ {Tok Cx St Er S V C D : Type 0} (gives : S → Meaning Tok Cx St Er (Ne
   steps-carried zero l s b o m = chained-carried unplaced plain _ _ b (full-carried l) (Placed (gives s)) (gives s) (unplaced-step (gives s) b) o m
   steps-carried (suc room) l s b o m = chained-carried unplaced plain _ _ b (more-carried room (steps-carried room) l) (Placed (gives s)) (gives s) (unplaced-step (gives s) b) o m
 
-  made-carried : (room : ℕ) (l : Option (List (V × ℕ))) (s : Option S) (b : Beginning Tok Cx St) (o : Outcome C Er St) → FromMade (λ t. Placed (gives t)) (Appends ⊥) (Collected held) room l s b o → FromMade gives (Appends ⊥) (Collected holds) room (option_map bare l) s b (carried plain o)
+  made-carried : (room : ℕ) (l : Option (List (V × ℕ))) (s : Option S) (b : Beginning Tok Cx St) (o : Outcome C Er St)
+      → FromMade (λ t. Placed (gives t)) (Appends ⊥) (Collected held) room l s b o
+      → FromMade gives (Appends ⊥) (Collected holds) room (option_map bare l) s b (carried plain o)
   made-carried room l (Some s) b o m =
-      listed gives (Appends ⊥) (Collected holds) room (option_map bare l) s b (carried plain o) (steps-carried room l s b o (unlisted (λ t. Placed (gives t)) (Appends ⊥) (Collected held) room l s b o m))
+      listed gives (Appends ⊥) (Collected holds) room (option_map bare l) s b (carried plain o)
+      (steps-carried room l s b o (unlisted (λ t. Placed (gives t)) (Appends ⊥) (Collected held) room l s b o m))
   made-carried room l None b o m = m
 
   no_items : (w : Bool) → option_map bare (wanting w []) ≡ wanting w []
@@ -141,7 +160,10 @@ module _ {Tok Cx St Er S V C D : Type 0} (gives : S → Meaning Tok Cx St Er (Ne
   -- items collected with their places are those collected without
   collects-carried : (b : Beginning Tok Cx St) (o : Outcome C Er St) → Collects (λ s. Placed (gives s)) begins held ⊥ b o → Collects gives begins holds ⊥ b (carried plain o)
   collects-carried b o m =
-      let run = chained-on plain (FromMade (λ t. Placed (gives t)) (Appends ⊥) (Collected held) m.room (wanting b.wanted [])) (FromMade gives (Appends ⊥) (Collected holds) m.room (option_map bare (wanting b.wanted []))) b
+      let run =
+      chained-on plain
+      (FromMade (λ t. Placed (gives t)) (Appends ⊥) (Collected held) m.room (wanting b.wanted []))
+      (FromMade gives (Appends ⊥) (Collected holds) m.room (option_map bare (wanting b.wanted []))) b
       (made-carried m.room (wanting b.wanted [])) (Asked true begins) o m.run in
       record { room = m.room; full = m.full; run = subst (λ l. Chained (Asked true begins) (FromMade gives (Appends ⊥) (Collected holds) m.room l) b (carried plain o)) (no_items b.wanted) run }
 
@@ -160,7 +182,9 @@ module _ {Tok Cx St Er S V C D : Type 0} (gives : S → Meaning Tok Cx St Er (Ne
     folded-bare (Some c) None b o m = record { value = None; is = refl; given = m }
     folded-bare None a b o m = record { value = None; is = refl; given = m }
 
-    after_part : (c : Option C) (v : Verdict A Er) (b : Beginning Tok Cx St) (p : Outcome A Er St) (o : Outcome A Er St) → Follows v (FoldedBackShown held folds c) b p o → Follows v (FoldedBack holds steps (option_map plain c)) b p o
+    after_part : (c : Option C) (v : Verdict A Er) (b : Beginning Tok Cx St) (p : Outcome A Er St) (o : Outcome A Er St)
+        → Follows v (FoldedBackShown held folds c) b p o
+        → Follows v (FoldedBack holds steps (option_map plain c)) b p o
     after_part c (Yes a) b p o m = (m.0, folded-bare c a (from b p) m.0 m.1.by_value, m.2)
     after_part c No b p o m = m
     after_part c (Halt s) b p o m = m

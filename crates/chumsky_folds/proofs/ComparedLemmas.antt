@@ -3,8 +3,8 @@ use Rattle.std.proofs.Common.{◌≡◌, ◌∙◌, ℕ, zero, suc, Bool, true, 
 use Rattle.std.specs.Prelude.{⊤}
 use Rattle.std.proofs.lemmas.List.{append-nil, reverse-append}
 use Rattle.chumsky_input.specs.declared.stop.Stop.TheVariants.{CountTooLarge}
-use Rattle.chumsky_input.specs.Outcome.{Meaning, Beginning, Outcome, Verdict, Yes, No, Halt, Clash}
-use Rattle.chumsky_parser.specs.Chained.{Chained, Follows, Given, Asked, Sequence, both, from, retold, after}
+use Rattle.chumsky_input.specs.Outcome.{Meaning, Beginning, Outcome, Yes}
+use Rattle.chumsky_parser.specs.Chained.{Chained, Given, Asked, Sequence, both, from, retold, after}
 use Rattle.chumsky_parser.specs.Copied.{GivesCopy}
 use Rattle.chumsky_parser.specs.Failure.{IsWanted, Stops, wanting}
 use Rattle.chumsky_parser.specs.Items.{Next, More, End, AfterStep, FromMade}
@@ -15,55 +15,11 @@ use Rattle.chumsky_folds.specs.Folding.{FoldsLeft, FoldsFrom, FoldsItems, FoldsF
 use Rattle.chumsky_folds.specs.FoldingBack.{FoldsRight, FoldsHeld, FoldedBack, FoldsBack}
 use Rattle.chumsky_folds.specs.Compared.{FoldsCollected}
 use Rattle.chumsky_folds.specs.FoldingLaws.{folds_left-more}
-
-abbrev value_in : {V : Type 0} → V → Option V → V
-value_in d (Some v) = v
-value_in d None = d
-
-pub some-same : {V : Type 0} {v w : V} → Some v ≡ Some w → v ≡ w
-some-same {V} {v} {w} e = ap (value_in v) e
-
-module _ {V Er : Type 0} where
-  abbrev value_of : Option V → Verdict V Er → Option V
-  value_of d (Yes v) = v
-  value_of d No = d
-  value_of d (Halt s) = d
-  value_of d (Clash e) = d
-
-  pub same_yes : {x : Verdict V Er} {v w : Option V} → x ≡ Yes v → x ≡ Yes w → v ≡ w
-  same_yes {x} {v} {w} e d = sym (ap (value_of v) e) ∙ ap (value_of v) d
-
-  pub is_yes : {x : Verdict V Er} {v : Option V} → x ≡ Yes v → IsYes x
-  is_yes e = subst IsYes (sym e) tt
-
-module _ {Tok Cx St Er V W : Type 0} (part : Meaning Tok Cx St Er V) (next : Option V → Meaning Tok Cx St Er W) (b : Beginning Tok Cx St) (o : Outcome W Er St) (w : Option W) where
-  -- where one part after another says yes, both do
-  pub record BothYes : Type 0 where
-    pub first : Outcome V Er St
-    pub value : Option V
-    pub second : Outcome W Er St
-    pub meant : part b first
-    pub said : first.verdict ≡ Yes value
-    pub follows : next value (from b first) second
-    pub answers : second.verdict ≡ Yes w
-    pub whole : o ≡ after first second
-
-  both_by : (p : Outcome V Er St) (x : Verdict V Er) → part b p → p.verdict ≡ x → Follows x next b p o → o.verdict ≡ Yes w → BothYes
-  both_by p (Yes v) m e f a = record { first = p; value = v; second = f.0; meant = m; said = e; follows = f.1; answers = sym (ap (λ (x : Outcome W Er St). x.verdict) f.2) ∙ a; whole = f.2 }
-  both_by p No m e f a = absurd (subst IsYes (ap (λ (x : Outcome W Er St). x.verdict) f) (is_yes a))
-  both_by p (Halt s) m e f a = absurd (subst IsYes (ap (λ (x : Outcome W Er St). x.verdict) f) (is_yes a))
-  both_by p (Clash x) m e f a = absurd (subst IsYes (ap (λ (x : Outcome W Er St). x.verdict) f) (is_yes a))
-
-  pub both_yes : Chained part next b o → o.verdict ≡ Yes w → BothYes
-  both_yes m a = both_by m.first m.first.verdict m.meant refl m.follows a
-
-module _ {Tok Cx St Er V W : Type 0} (part : Meaning Tok Cx St Er V) (next : Option V → Meaning Tok Cx St Er W) (b : Beginning Tok Cx St) where
-  -- and the other way round
-  pub yes_both : (p : Outcome V Er St) (v : Option V) (q : Outcome W Er St) → part b p → p.verdict ≡ Yes v → next v (from b p) q → Chained part next b (after p q)
-  yes_both p v q m e n = record { first = p; meant = m; follows = subst (λ x. Follows x next b p (after p q)) (sym e) (q, n, refl) }
+use Rattle.chumsky_parser.proofs.YesLemmas.{some-same, same_yes, is_yes, both_yes, yes_both}
 
 module _ {Tok Cx St Er V C : Type 0} (holds : List V → C → Type 0) where
-  pub collected-value : (a : Option (List V)) (b : Beginning Tok Cx St) (o : Outcome C Er St) (c : C) → Collected holds a b o → o.verdict ≡ Yes (Some c) → HoldsAll holds a (Some c) × Given (Some c) b o
+  pub collected-value : (a : Option (List V)) (b : Beginning Tok Cx St) (o : Outcome C Er St) (c : C)
+      → Collected holds a b o → o.verdict ≡ Yes (Some c) → HoldsAll holds a (Some c) × Given (Some c) b o
   collected-value a b o c m e =
       let v : m.value ≡ Some c = same_yes (ap (λ (x : Outcome C Er St). x.verdict) m.given) e in
       (subst (HoldsAll holds a) v m.is, subst (λ x. Given x b o) v m.given)
@@ -87,7 +43,8 @@ module _ {Tok Cx St Er V C D : Type 0} (holds : List V → C → Type 0) (other 
       let k = collected-value holds a b o c m e in
       record { items = a; held = k.0; again = λ d h. record { value = Some d; is = h; given = ap (λ (x : Outcome C Er St). retold (Yes (Some d)) x) k.1 } }
 
-  again-after : {P : Type 0} (part part' : Meaning Tok Cx St Er P) (next : Option P → Meaning Tok Cx St Er C) (next' : Option P → Meaning Tok Cx St Er D) (b : Beginning Tok Cx St) (o : Outcome C Er St) (c : C)
+  again-after : {P : Type 0} (part part' : Meaning Tok Cx St Er P) (next : Option P → Meaning Tok Cx St Er C)
+      (next' : Option P → Meaning Tok Cx St Er D) (b : Beginning Tok Cx St) (o : Outcome C Er St) (c : C)
       → ((p : Outcome P Er St) (v : Option P) → part b p → p.verdict ≡ Yes v → part' b p)
       → ((p : Outcome P Er St) (v : Option P) (q : Outcome C Er St) → next v (from b p) q → q.verdict ≡ Yes (Some c) → Again (next' v) (from b p) q c)
       → Chained part next b o → o.verdict ≡ Yes (Some c) → Again (Chained part' next') b o c
@@ -97,42 +54,75 @@ module _ {Tok Cx St Er V C D : Type 0} (holds : List V → C → Type 0) (other 
       record {
         items = r.items;
         held = r.held;
-        again = λ d g. subst (Chained part' next' b) (sym (ap (λ (x : Outcome C Er St). retold (Yes (Some d)) x) y.whole)) (yes_both part' next' b y.first y.value (retold (Yes (Some d)) y.second) (k y.first y.value y.meant y.said) y.said (r.again d g));
+        again =
+            λ d g. subst (Chained part' next' b) (sym (ap (λ (x : Outcome C Er St). retold (Yes (Some d)) x) y.whole))
+            (yes_both part' next' b y.first y.value (retold (Yes (Some d)) y.second)
+            (k y.first y.value y.meant y.said) y.said (r.again d g));
       }
 
-module _ {Tok Cx St Er S V C D : Type 0} (gives : S → Meaning Tok Cx St Er (Next S V)) (begins : Meaning Tok Cx St Er S) (holds : List V → C → Type 0) (other : List V → D → Type 0) (quiet still : Type 0) where
-  again-full : (a : Option (List V)) (x : Option (Next S V)) (b : Beginning Tok Cx St) (q : Outcome C Er St) (c : C) → AfterStep (λ _ _. Stops CountTooLarge) (Collected holds a) x b q → q.verdict ≡ Yes (Some c)
+module _ {Tok Cx St Er S V C D : Type 0} (gives : S → Meaning Tok Cx St Er (Next S V))
+    (begins : Meaning Tok Cx St Er S) (holds : List V → C → Type 0) (other : List V → D → Type 0)
+    (quiet still : Type 0) where
+  again-full : (a : Option (List V)) (x : Option (Next S V)) (b : Beginning Tok Cx St) (q : Outcome C Er St) (c : C)
+      → AfterStep (λ _ _. Stops CountTooLarge) (Collected holds a) x b q → q.verdict ≡ Yes (Some c)
       → Again holds other (AfterStep (λ _ _. Stops CountTooLarge) (Collected other a) x) b q c
   again-full a (Some (More v t)) b q c m e = absurd (subst IsYes (ap (λ (x : Outcome C Er St). x.verdict) m) (is_yes e))
   again-full a (Some End) b q c m e = again-ended holds other a b q c m e
   again-full a None b q c m e = absurd m
 
-  again-more : (room : ℕ) (a : Option (List V)) → ((l : Option (List V)) (t : S) (d : Beginning Tok Cx St) (q : Outcome C Er St) (c : C) → AllSteps gives (Appends quiet) (Collected holds) room l t d q → q.verdict ≡ Yes (Some c) → Again holds other (AllSteps gives (Appends still) (Collected other) room l t) d q c)
-      → (x : Option (Next S V)) (b : Beginning Tok Cx St) (q : Outcome C Er St) (c : C) → AfterStep (λ v t. Chained (Appends quiet a v) (λ l. AllSteps gives (Appends quiet) (Collected holds) room l t)) (Collected holds a) x b q → q.verdict ≡ Yes (Some c)
+  again-more : (room : ℕ) (a : Option (List V))
+      →
+      ((l : Option (List V)) (t : S) (d : Beginning Tok Cx St) (q : Outcome C Er St) (c : C)
+      → AllSteps gives (Appends quiet) (Collected holds) room l t d q → q.verdict ≡ Yes (Some c)
+      → Again holds other (AllSteps gives (Appends still) (Collected other) room l t) d q c)
+      → (x : Option (Next S V)) (b : Beginning Tok Cx St) (q : Outcome C Er St) (c : C)
+      → AfterStep
+      (λ v t. Chained (Appends quiet a v) (λ l. AllSteps gives (Appends quiet) (Collected holds) room l t))
+      (Collected holds a) x b q
+      → q.verdict ≡ Yes (Some c)
       → Again holds other (AfterStep (λ v t. Chained (Appends still a v) (λ l. AllSteps gives (Appends still) (Collected other) room l t)) (Collected other a) x) b q c
   again-more room a ih (Some (More v t)) b q c m e =
-      again-after holds other (Appends quiet a v) (Appends still a v) (λ l. AllSteps gives (Appends quiet) (Collected holds) room l t) (λ l. AllSteps gives (Appends still) (Collected other) room l t) b q c
+      again-after holds other (Appends quiet a v) (Appends still a v)
+      (λ l. AllSteps gives (Appends quiet) (Collected holds) room l t)
+      (λ l. AllSteps gives (Appends still) (Collected other) room l t) b q c
       (λ p l. appends-still quiet still a v b p l) (λ p l r n z. ih l t (from b p) r c n z) m e
   again-more room a ih (Some End) b q c m e = again-ended holds other a b q c m e
   again-more room a ih None b q c m e = absurd m
 
-  again-steps : (room : ℕ) (a : Option (List V)) (s : S) (b : Beginning Tok Cx St) (o : Outcome C Er St) (c : C) → AllSteps gives (Appends quiet) (Collected holds) room a s b o → o.verdict ≡ Yes (Some c) → Again holds other (AllSteps gives (Appends still) (Collected other) room a s) b o c
+  again-steps : (room : ℕ) (a : Option (List V)) (s : S) (b : Beginning Tok Cx St) (o : Outcome C Er St) (c : C)
+      → AllSteps gives (Appends quiet) (Collected holds) room a s b o → o.verdict ≡ Yes (Some c)
+      → Again holds other (AllSteps gives (Appends still) (Collected other) room a s) b o c
   again-steps zero a s b o c m e =
-      again-after holds other (gives s) (gives s) (AfterStep (λ _ _. Stops CountTooLarge) (Collected holds a)) (AfterStep (λ _ _. Stops CountTooLarge) (Collected other a)) b o c (λ p v n z. n) (λ p x q n z. again-full a x (from b p) q c n z) m e
+      again-after holds other (gives s) (gives s) (AfterStep (λ _ _. Stops CountTooLarge) (Collected holds a))
+      (AfterStep (λ _ _. Stops CountTooLarge) (Collected other a)) b o c (λ p v n z. n)
+      (λ p x q n z. again-full a x (from b p) q c n z) m e
   again-steps (suc room) a s b o c m e =
-      again-after holds other (gives s) (gives s) (AfterStep (λ v t. Chained (Appends quiet a v) (λ l. AllSteps gives (Appends quiet) (Collected holds) room l t)) (Collected holds a)) (AfterStep (λ v t. Chained (Appends still a v) (λ l. AllSteps gives (Appends still) (Collected other) room l t)) (Collected other a)) b o c
+      again-after holds other (gives s) (gives s)
+      (AfterStep
+      (λ v t. Chained (Appends quiet a v) (λ l. AllSteps gives (Appends quiet) (Collected holds) room l t))
+      (Collected holds a))
+      (AfterStep
+      (λ v t. Chained (Appends still a v) (λ l. AllSteps gives (Appends still) (Collected other) room l t))
+      (Collected other a))
+      b o c
       (λ p v n z. n) (λ p x q n z. again-more room a (again-steps room) x (from b p) q c n z) m e
 
-  again-made : (room : ℕ) (a : Option (List V)) (s : Option S) (b : Beginning Tok Cx St) (o : Outcome C Er St) (c : C) → FromMade gives (Appends quiet) (Collected holds) room a s b o → o.verdict ≡ Yes (Some c) → Again holds other (FromMade gives (Appends still) (Collected other) room a s) b o c
+  again-made : (room : ℕ) (a : Option (List V)) (s : Option S) (b : Beginning Tok Cx St) (o : Outcome C Er St) (c : C)
+      → FromMade gives (Appends quiet) (Collected holds) room a s b o → o.verdict ≡ Yes (Some c)
+      → Again holds other (FromMade gives (Appends still) (Collected other) room a s) b o c
   again-made room a (Some s) b o c m e =
       let r = again-steps room a s b o c (unlisted gives (Appends quiet) (Collected holds) room a s b o m) e in
       record { items = r.items; held = r.held; again = λ d h. listed gives (Appends still) (Collected other) room a s b (retold (Yes (Some d)) o) (r.again d h) }
   again-made room a None b o c m e = absurd m
 
   -- a yes of collecting is one of collecting the same items in another way
-  pub collects-again : (b : Beginning Tok Cx St) (o : Outcome C Er St) (c : C) → Collects gives begins holds quiet b o → o.verdict ≡ Yes (Some c) → Again holds other (Collects gives begins other still) b o c
+  pub collects-again : (b : Beginning Tok Cx St) (o : Outcome C Er St) (c : C) → Collects gives begins holds quiet b o
+      → o.verdict ≡ Yes (Some c) → Again holds other (Collects gives begins other still) b o c
   collects-again b o c m e =
-      let r = again-after holds other (Asked true begins) (Asked true begins) (FromMade gives (Appends quiet) (Collected holds) m.room (wanting b.wanted [])) (FromMade gives (Appends still) (Collected other) m.room (wanting b.wanted [])) b o c
+      let r =
+      again-after holds other (Asked true begins) (Asked true begins)
+      (FromMade gives (Appends quiet) (Collected holds) m.room (wanting b.wanted []))
+      (FromMade gives (Appends still) (Collected other) m.room (wanting b.wanted [])) b o c
       (λ p v n z. n) (λ p s q n z. again-made m.room (wanting b.wanted []) s (from b p) q c n z) m.run e in
       record { items = r.items; held = r.held; again = λ d h. record { room = m.room; full = m.full; run = r.again d h } }
 
@@ -143,7 +133,8 @@ module _ {A : Type 0} (copies : A → Type 0) where
   wanted_some false v t i = let no : ⊥ = cc in absurd no
 
 module _ {Tok Cx St Er A W : Type 0} (copies : A → Type 0) (safe : Type 0) (next : Option A → Meaning Tok Cx St Er W) (b : Beginning Tok Cx St) (o : Outcome W Er St) where
-  copied : b.wanted ≡ true → (p : Outcome A Er St) (v u : Option A) (q : Outcome W Er St) → IsWanted copies b.wanted v → Given v b p → p.verdict ≡ Yes u → next u (from b p) q → o ≡ after p q → (a : A) × copies a × next (Some a) b o
+  copied : b.wanted ≡ true → (p : Outcome A Er St) (v u : Option A) (q : Outcome W Er St) → IsWanted copies b.wanted v
+      → Given v b p → p.verdict ≡ Yes u → next u (from b p) q → o ≡ after p q → (a : A) × copies a × next (Some a) b o
   copied t p v u q i g s n w =
       let k = wanted_some copies b.wanted v t i in
       let ua : u ≡ Some k.0 = same_yes s (ap (λ (x : Outcome A Er St). x.verdict) g) ∙ k.2 in
@@ -167,7 +158,10 @@ module _ {Tok Cx St Er A W : Type 0} (copies : A → Type 0) (safe : Type 0) (ne
         follows = (o, n, refl);
       }
 
-module _ {Tok Cx St Er S V C A : Type 0} (gives : S → Meaning Tok Cx St Er (Next S V)) (begins : Meaning Tok Cx St Er S) (holds : List V → C → Type 0) (one_list : (xs ys : List V) (c : C) → holds xs c → holds ys c → xs ≡ ys) (quiet : Type 0) (steps : A → V → A → Type 0) where
+module _ {Tok Cx St Er S V C A : Type 0} (gives : S → Meaning Tok Cx St Er (Next S V))
+    (begins : Meaning Tok Cx St Er S) (holds : List V → C → Type 0)
+    (one_list : (xs ys : List V) (c : C) → holds xs c → holds ys c → xs ≡ ys) (quiet : Type 0)
+    (steps : A → V → A → Type 0) where
   -- a fold, apart: where it began, and the items that it folded, which are collected just so
   record Parted (a : Option A) (b : Beginning Tok Cx St) (o : Outcome A Er St) (z : A) : Type 0 where
     pub start : A
@@ -176,7 +170,10 @@ module _ {Tok Cx St Er S V C A : Type 0} (gives : S → Meaning Tok Cx St Er (Ne
     pub folds : FoldsLeft steps start items z
     pub again : (c : C) → holds items c → Collects gives begins holds quiet b (retold (Yes (Some c)) o)
 
-  parted : (a : Option A) (b : Beginning Tok Cx St) (o : Outcome A Er St) (z : A) (l : Option (List V)) → HoldsAll (FoldsFrom steps a) l (Some z) → ((c : C) → HoldsAll holds l (Some c) → Collects gives begins holds quiet b (retold (Yes (Some c)) o)) → Parted a b o z
+  parted : (a : Option A) (b : Beginning Tok Cx St) (o : Outcome A Er St) (z : A) (l : Option (List V))
+      → HoldsAll (FoldsFrom steps a) l (Some z)
+      → ((c : C) → HoldsAll holds l (Some c) → Collects gives begins holds quiet b (retold (Yes (Some c)) o))
+      → Parted a b o z
   parted (Some x) b o z (Some xs) h k = record { start = x; begins_at = refl; items = xs; folds = h; again = k }
   parted None b o z (Some xs) h k = absurd h
   parted a b o z None h k = absurd h
@@ -190,12 +187,16 @@ module _ {Tok Cx St Er S V C A : Type 0} (gives : S → Meaning Tok Cx St Er (Ne
   rejoined x c xs z h f (Some ys) k = subst (λ ws. FoldsLeft steps x ws z) (one_list xs ys c h k) f
   rejoined x c xs z h f None k = absurd k
 
-  folds-together : (x : A) (b : Beginning Tok Cx St) (o : Outcome C Er St) (c : C) (xs : List V) (z : A) → Collects gives begins holds quiet b o → o.verdict ≡ Yes (Some c) → holds xs c → FoldsLeft steps x xs z → FoldsItems gives begins steps (Some x) b (retold (Yes (Some z)) o)
+  folds-together : (x : A) (b : Beginning Tok Cx St) (o : Outcome C Er St) (c : C) (xs : List V) (z : A)
+      → Collects gives begins holds quiet b o → o.verdict ≡ Yes (Some c) → holds xs c → FoldsLeft steps x xs z
+      → FoldsItems gives begins steps (Some x) b (retold (Yes (Some z)) o)
   folds-together x b o c xs z m e h f =
       let r = collects-again gives begins holds (FoldsFrom steps (Some x)) quiet ⊤ b o c m e in
       r.again z (rejoined x c xs z h f r.items r.held)
 
-  pub fold-collected : (copies : A → Type 0) (safe : Type 0) → FoldsCollected holds (λ xs z. (a : A) × copies a × FoldsLeft steps a xs z) (Collects gives begins holds quiet) (FoldsFromCopy gives begins steps copies safe)
+  pub fold-collected : (copies : A → Type 0) (safe : Type 0)
+      → FoldsCollected holds (λ xs z. (a : A) × copies a × FoldsLeft steps a xs z) (Collects gives begins holds quiet)
+      (FoldsFromCopy gives begins steps copies safe)
   fold-collected copies safe =
       record {
         apart = λ b o z t m e.
@@ -221,16 +222,21 @@ module _ {Tok Cx St Er V W : Type 0} where
     pub gives : f value ≡ w
     pub whole : o ≡ retold (Yes w) done
 
-  last-apart : (part : Meaning Tok Cx St Er V) (f : Option V → Option W) (b : Beginning Tok Cx St) (o : Outcome W Er St) (w : Option W) → Chained part (λ v. Given (f v)) b o → o.verdict ≡ Yes w → LastGiven part f b o w
+  last-apart : (part : Meaning Tok Cx St Er V) (f : Option V → Option W) (b : Beginning Tok Cx St) (o : Outcome W Er St) (w : Option W)
+      → Chained part (λ v. Given (f v)) b o → o.verdict ≡ Yes w → LastGiven part f b o w
   last-apart part f b o w m e =
       let y = both_yes part (λ v. Given (f v)) b o w m e in
       let fw : f y.value ≡ w = same_yes (ap (λ (x : Outcome W Er St). x.verdict) y.follows) y.answers in
       let same : o ≡ retold (Yes (f y.value)) y.first = y.whole ∙ ap (after y.first) y.follows ∙ nothing_after y.first (f y.value) in
       record { done = y.first; value = y.value; meant = y.meant; said = y.said; gives = fw; whole = subst (λ x. o ≡ retold (Yes x) y.first) fw same }
 
-  last-together : (part : Meaning Tok Cx St Er V) (f : Option V → Option W) (b : Beginning Tok Cx St) (p : Outcome V Er St) (v : Option V) (w : Option W) → part b p → p.verdict ≡ Yes v → f v ≡ w → Chained part (λ x. Given (f x)) b (retold (Yes w) p)
+  last-together : (part : Meaning Tok Cx St Er V) (f : Option V → Option W) (b : Beginning Tok Cx St)
+      (p : Outcome V Er St) (v : Option V) (w : Option W)
+      → part b p → p.verdict ≡ Yes v → f v ≡ w → Chained part (λ x. Given (f x)) b (retold (Yes w) p)
   last-together part f b p v w m e g =
-      subst (Chained part (λ x. Given (f x)) b) (nothing_after p (f v) ∙ ap (λ x. retold (Yes x) p) g) (yes_both part (λ x. Given (f x)) b p v (record { verdict = Yes (f v); end = p.end; state = p.state; events = []; emitted = [] }) m e refl)
+      subst (Chained part (λ x. Given (f x)) b) (nothing_after p (f v) ∙ ap (λ x. retold (Yes x) p) g)
+      (yes_both part (λ x. Given (f x)) b p v
+      (record { verdict = Yes (f v); end = p.end; state = p.state; events = []; emitted = [] }) m e refl)
 
 both-some : {V W : Type 0} (v : Option V) (w : Option W) (c : V × W) → both v w ≡ Some c → (v ≡ Some c.0) × (w ≡ Some c.1)
 both-some (Some v) (Some w) c e = let same : (v, w) ≡ c = some-same e in (ap (λ x. Some x.0) same, ap (λ x. Some x.1) same)
@@ -240,7 +246,10 @@ both-some None w c e = let no : ⊥ = cc in absurd no
 some-both : {V W : Type 0} (v : Option V) (w : Option W) (c : V × W) → v ≡ Some c.0 → w ≡ Some c.1 → both v w ≡ Some c
 some-both v w c e d = ap (λ x. both x w) e ∙ ap (both (Some c.0)) d
 
-module _ {Tok Cx St Er S V C A : Type 0} (gives : S → Meaning Tok Cx St Er (Next S V)) (begins : Meaning Tok Cx St Er S) (holds : List V → C → Type 0) (one_list : (xs ys : List V) (c : C) → holds xs c → holds ys c → xs ≡ ys) (quiet : Type 0) (steps : A → V → A → Type 0) (part : Meaning Tok Cx St Er A) where
+module _ {Tok Cx St Er S V C A : Type 0} (gives : S → Meaning Tok Cx St Er (Next S V))
+    (begins : Meaning Tok Cx St Er S) (holds : List V → C → Type 0)
+    (one_list : (xs ys : List V) (c : C) → holds xs c → holds ys c → xs ≡ ys) (quiet : Type 0)
+    (steps : A → V → A → Type 0) (part : Meaning Tok Cx St Er A) where
   foldl-apart : (b : Beginning Tok Cx St) (o : Outcome A Er St) (z : A) → FoldsFromPart gives begins steps part b o → o.verdict ≡ Yes (Some z)
       → (l : A × List V) × FoldsLeft steps l.0 l.1 z × ((c : A × C) → (l.0 ≡ c.0) × holds l.1 c.1 → Sequence part (Collects gives begins holds quiet) b (retold (Yes (Some c)) o))
   foldl-apart b o z m e =
@@ -249,12 +258,17 @@ module _ {Tok Cx St Er S V C A : Type 0} (gives : S → Meaning Tok Cx St Er (Ne
         (r.start, r.items),
         r.folds,
         λ c h.
-            let inner = last-together (Collects gives begins holds quiet) (both y.value) (from b y.first) (retold (Yes (Some c.1)) y.second) (Some c.1) (Some c) (r.again c.1 h.1) refl (some-both y.value (Some c.1) c (r.begins_at ∙ ap Some h.0) refl) in
+            let inner =
+            last-together (Collects gives begins holds quiet) (both y.value) (from b y.first)
+            (retold (Yes (Some c.1)) y.second) (Some c.1) (Some c) (r.again c.1 h.1)
+            refl (some-both y.value (Some c.1) c (r.begins_at ∙ ap Some h.0) refl) in
             subst (Sequence part (Collects gives begins holds quiet) b) (sym (ap (λ (x : Outcome A Er St). retold (Yes (Some c)) x) y.whole))
             (yes_both part (λ v. Chained (Collects gives begins holds quiet) (λ w. Given (both v w))) b y.first y.value (retold (Yes (Some c)) y.second) y.meant y.said inner),
       )
 
-  foldl-together : (b : Beginning Tok Cx St) (o : Outcome (A × C) Er St) (c : A × C) (l : A × List V) (z : A) → Sequence part (Collects gives begins holds quiet) b o → o.verdict ≡ Yes (Some c) → (l.0 ≡ c.0) × holds l.1 c.1 → FoldsLeft steps l.0 l.1 z
+  foldl-together : (b : Beginning Tok Cx St) (o : Outcome (A × C) Er St) (c : A × C) (l : A × List V) (z : A)
+      → Sequence part (Collects gives begins holds quiet) b o → o.verdict ≡ Yes (Some c) → (l.0 ≡ c.0) × holds l.1 c.1
+      → FoldsLeft steps l.0 l.1 z
       → FoldsFromPart gives begins steps part b (retold (Yes (Some z)) o)
   foldl-together b o c l z m e h f =
       let y = both_yes part (λ v. Chained (Collects gives begins holds quiet) (λ w. Given (both v w))) b o (Some c) m e in
@@ -263,9 +277,12 @@ module _ {Tok Cx St Er S V C A : Type 0} (gives : S → Meaning Tok Cx St Er (Ne
       let n = folds-together gives begins holds one_list quiet steps c.0 (from b y.first) i.done c.1 l.1 z i.meant (i.said ∙ ap Yes k.1) h.1 (subst (λ x. FoldsLeft steps x l.1 z) h.0 f) in
       let same : o ≡ after y.first (retold (Yes (Some c)) i.done) = y.whole ∙ ap (after y.first) i.whole in
       subst (FoldsFromPart gives begins steps part b) (sym (ap (λ (x : Outcome (A × C) Er St). retold {W = A} (Yes (Some z)) x) same))
-      (yes_both part (FoldsItems gives begins steps) b y.first y.value (retold (Yes (Some z)) i.done) y.meant y.said (subst (λ u. FoldsItems gives begins steps u (from b y.first) (retold (Yes (Some z)) i.done)) (sym k.0) n))
+      (yes_both part (FoldsItems gives begins steps) b y.first y.value (retold (Yes (Some z)) i.done) y.meant y.said
+      (subst (λ u. FoldsItems gives begins steps u (from b y.first) (retold (Yes (Some z)) i.done)) (sym k.0) n))
 
-  pub foldl-collected : FoldsCollected (λ (l : A × List V) (c : A × C). (l.0 ≡ c.0) × holds l.1 c.1) (λ (l : A × List V) (z : A). FoldsLeft steps l.0 l.1 z) (Sequence part (Collects gives begins holds quiet)) (FoldsFromPart gives begins steps part)
+  pub foldl-collected : FoldsCollected (λ (l : A × List V) (c : A × C). (l.0 ≡ c.0) × holds l.1 c.1)
+      (λ (l : A × List V) (z : A). FoldsLeft steps l.0 l.1 z) (Sequence part (Collects gives begins holds quiet))
+      (FoldsFromPart gives begins steps part)
   foldl-collected = record { apart = λ b o z t. foldl-apart b o z; together = λ b o c l z t. foldl-together b o c l z }
 
 module _ {A V : Type 0} (steps : V → A → A → Type 0) where
@@ -302,14 +319,18 @@ module _ {V C A : Type 0} (holds : List V → C → Type 0) (steps : V → A →
   held-parts (Some c) None z f = let no : ⊥ = cc in absurd no
   held-parts None a z f = let no : ⊥ = cc in absurd no
 
-module _ {Tok Cx St Er S V C A : Type 0} (gives : S → Meaning Tok Cx St Er (Next S V)) (begins : Meaning Tok Cx St Er S) (holds : List V → C → Type 0) (one_list : (xs ys : List V) (c : C) → holds xs c → holds ys c → xs ≡ ys) (quiet : Type 0) (part : Meaning Tok Cx St Er A) (steps : V → A → A → Type 0) where
+module _ {Tok Cx St Er S V C A : Type 0} (gives : S → Meaning Tok Cx St Er (Next S V))
+    (begins : Meaning Tok Cx St Er S) (holds : List V → C → Type 0)
+    (one_list : (xs ys : List V) (c : C) → holds xs c → holds ys c → xs ≡ ys) (quiet : Type 0)
+    (part : Meaning Tok Cx St Er A) (steps : V → A → A → Type 0) where
   -- another collection of the same items
   held_again : (xs : List V) (c d : C) → holds xs c → holds xs d → (l : Option (List V)) → HoldsAll holds l (Some c) → HoldsAll holds l (Some d)
   held_again xs c d h k (Some ys) g = subst (λ ws. holds ws d) (one_list xs ys c h g) k
   held_again xs c d h k None g = absurd g
 
   foldr-apart : (b : Beginning Tok Cx St) (o : Outcome A Er St) (z : A) → FoldsBack gives begins holds quiet part steps b o → o.verdict ≡ Yes (Some z)
-      → (l : List V × A) × FoldsLeft (λ a x w. steps x a w) l.1 (reverse l.0) z × ((c : C × A) → holds l.0 c.0 × (l.1 ≡ c.1) → Sequence (Collects gives begins holds quiet) part b (retold (Yes (Some c)) o))
+      → (l : List V × A) × FoldsLeft (λ a x w. steps x a w) l.1 (reverse l.0) z
+      × ((c : C × A) → holds l.0 c.0 × (l.1 ≡ c.1) → Sequence (Collects gives begins holds quiet) part b (retold (Yes (Some c)) o))
   foldr-apart b o z m e =
       let collects = Collects gives begins holds quiet in
       let y = both_yes collects (λ c. Chained part (FoldedBack holds steps c)) b o (Some z) m e in
@@ -326,10 +347,14 @@ module _ {Tok Cx St Er S V C A : Type 0} (gives : S → Meaning Tok Cx St Er (Ne
             ap (λ (x : Outcome A Er St). retold (Yes (Some c)) x) (i.whole ∙ ap (after i.first) i.follows.given ∙ nothing_after i.first i.follows.value) in
             let same : retold (Yes (Some c)) o ≡ after first (retold (Yes (Some c)) i.first) = ap (λ (x : Outcome A Er St). retold (Yes (Some c)) x) y.whole ∙ ap (after y.first) last in
             subst (Sequence collects part b) (sym same)
-            (yes_both collects (λ v. Chained part (λ w. Given (both v w))) b first (Some c.0) (retold (Yes (Some c)) i.first) (r.again c.0 (held_again h.items h.collection c.0 h.held k.0 r.items r.held)) refl inner),
+            (yes_both collects (λ v. Chained part (λ w. Given (both v w))) b first (Some c.0)
+            (retold (Yes (Some c)) i.first)
+            (r.again c.0 (held_again h.items h.collection c.0 h.held k.0 r.items r.held)) refl inner),
       )
 
-  foldr-together : (b : Beginning Tok Cx St) (o : Outcome (C × A) Er St) (c : C × A) (l : List V × A) (z : A) → Sequence (Collects gives begins holds quiet) part b o → o.verdict ≡ Yes (Some c) → holds l.0 c.0 × (l.1 ≡ c.1) → FoldsLeft (λ a x w. steps x a w) l.1 (reverse l.0) z
+  foldr-together : (b : Beginning Tok Cx St) (o : Outcome (C × A) Er St) (c : C × A) (l : List V × A) (z : A)
+      → Sequence (Collects gives begins holds quiet) part b o → o.verdict ≡ Yes (Some c) → holds l.0 c.0 × (l.1 ≡ c.1)
+      → FoldsLeft (λ a x w. steps x a w) l.1 (reverse l.0) z
       → FoldsBack gives begins holds quiet part steps b (retold (Yes (Some z)) o)
   foldr-together b o c l z m e h f =
       let collects = Collects gives begins holds quiet in
@@ -337,7 +362,9 @@ module _ {Tok Cx St Er S V C A : Type 0} (gives : S → Meaning Tok Cx St Er (Ne
       let i = last-apart part (both y.value) (from b y.first) y.second (Some c) y.follows y.answers in
       let k = both-some y.value i.value c i.gives in
       let right : FoldsRight steps c.1 l.0 z = subst (λ a. FoldsRight steps a l.0 z) h.1 (left-right steps l.0 l.1 z f) in
-      let held : FoldsHeld holds steps y.value i.value (Some z) = subst (λ v. FoldsHeld holds steps v i.value (Some z)) (sym k.0) (subst (λ w. FoldsHeld holds steps (Some c.0) w (Some z)) (sym k.1) (l.0, h.0, right)) in
+      let held : FoldsHeld holds steps y.value i.value (Some z) =
+      subst (λ v. FoldsHeld holds steps v i.value (Some z)) (sym k.0)
+      (subst (λ w. FoldsHeld holds steps (Some c.0) w (Some z)) (sym k.1) (l.0, h.0, right)) in
       let given : Outcome A Er St = record { verdict = Yes (Some z); end = i.done.end; state = i.done.state; events = []; emitted = [] } in
       let inner : Chained part (FoldedBack holds steps y.value) (from b y.first) (retold (Yes (Some z)) i.done) =
       subst (Chained part (FoldedBack holds steps y.value) (from b y.first)) (nothing_after i.done (Some z))
@@ -346,5 +373,7 @@ module _ {Tok Cx St Er S V C A : Type 0} (gives : S → Meaning Tok Cx St Er (Ne
       subst (FoldsBack gives begins holds quiet part steps b) (sym (ap (λ (x : Outcome (C × A) Er St). retold {W = A} (Yes (Some z)) x) same))
       (yes_both collects (λ v. Chained part (FoldedBack holds steps v)) b y.first y.value (retold (Yes (Some z)) i.done) y.meant y.said inner)
 
-  pub foldr-collected : FoldsCollected (λ (l : List V × A) (c : C × A). holds l.0 c.0 × (l.1 ≡ c.1)) (λ (l : List V × A) (z : A). FoldsLeft (λ a x w. steps x a w) l.1 (reverse l.0) z) (Sequence (Collects gives begins holds quiet) part) (FoldsBack gives begins holds quiet part steps)
+  pub foldr-collected : FoldsCollected (λ (l : List V × A) (c : C × A). holds l.0 c.0 × (l.1 ≡ c.1))
+      (λ (l : List V × A) (z : A). FoldsLeft (λ a x w. steps x a w) l.1 (reverse l.0) z)
+      (Sequence (Collects gives begins holds quiet) part) (FoldsBack gives begins holds quiet part steps)
   foldr-collected = record { apart = λ b o z t. foldr-apart b o z; together = λ b o c l z t. foldr-together b o c l z }

@@ -24,7 +24,9 @@ module _ {Tok Cx St Er S V : Type 0} {merged : Er → Er → Er} {safe : Type 0}
   numbered-full false n v t f = ran-stops CountTooLarge
 
 module _ {Tok Cx St Er S V : Type 0} {merged : Er → Er → Er} {safe : Type 0} {gives : S → Meaning Tok Cx St Er (Next S V)} {s : ℕ × S} {wanted : Bool} {old new : Held Tok Cx St Er} where
-  stepped : {r : Result (Option (Next (ℕ × S) (ℕ × V))) Fault} → Ran merged safe (Chained (gives s.1) (AfterStep (Numbered (fits s.0) s.0) (Given (Some End)))) wanted old new r → Ran merged safe (Enumerates gives s) wanted old new r
+  stepped : {r : Result (Option (Next (ℕ × S) (ℕ × V))) Fault}
+      → Ran merged safe (Chained (gives s.1) (AfterStep (Numbered (fits s.0) s.0) (Given (Some End)))) wanted old new r
+      → Ran merged safe (Enumerates gives s) wanted old new r
   stepped {r} h = ran-weaker merged safe (Chained (gives s.1) (AfterStep (Numbered (fits s.0) s.0) (Given (Some End)))) (Enumerates gives s) wanted old new r (λ o m. record { step = m }) h
 
   module _ {x : Result (Option (Next S V)) Fault} (h : Ran merged safe (gives s.1) wanted old new x) where

@@ -14,4 +14,6 @@ module _ {A V : Type 0} (steps : V → A → A → Type 0) where
 
 module _ {Tok Cx St Er V C A : Type 0} {merged : Er → Er → Er} {safe : Type 0} {holds : List V → C → Type 0} {steps : V → A → A → Type 0} {now : Held Tok Cx St Er} where
   pub ran-folded_back : {c : C} {a z : A} (xs : List V) → holds xs c → FoldsRight steps a xs z → Ran merged safe (FoldedBack holds steps (Some c) (Some a)) true now now (Ok (Some z))
-  ran-folded_back {c} {a} {z} xs h f = ran-weaker merged safe (Given (Some z)) (FoldedBack holds steps (Some c) (Some a)) true now now (Ok (Some z)) (λ o m. record { value = Some z; is = (xs, h, f); given = m }) ran-given
+  ran-folded_back {c} {a} {z} xs h f =
+      ran-weaker merged safe (Given (Some z)) (FoldedBack holds steps (Some c) (Some a)) true now now (Ok (Some z))
+      (λ o m. record { value = Some z; is = (xs, h, f); given = m }) ran-given

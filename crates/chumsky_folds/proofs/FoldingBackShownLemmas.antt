@@ -18,13 +18,22 @@ use Rattle.chumsky_folds.specs.FoldingBackShown.{FoldsRightShown, FoldedBackShow
 
 module _ {Tok Cx St V A : Type 0} (folds : GivesShown Tok Cx St (V × A) A) where
   -- what is left of a list, after its last item was taken
-  pub folds_right_shown-less : (run : Shown Tok Cx St) (a b z : A) (s t : St) (xs : List (V × ℕ)) (x : V × ℕ) → folds (x.0, a) (record run { from = x.1 }) b t → FoldsRightShown folds (record run { state = t }) b xs z s → FoldsRightShown folds run a (xs ++ x ∷ []) z s
-  folds_right_shown-less run a b z s t [] x m f = (a, run.state, (refl, refl), subst (λ y. folds (x.0, a) (record run { from = x.1 }) y s) (sym f.0) (subst (λ y. folds (x.0, a) (record run { from = x.1 }) b y) (sym f.1) m))
+  pub folds_right_shown-less : (run : Shown Tok Cx St) (a b z : A) (s t : St) (xs : List (V × ℕ)) (x : V × ℕ)
+      → folds (x.0, a) (record run { from = x.1 }) b t → FoldsRightShown folds (record run { state = t }) b xs z s
+      → FoldsRightShown folds run a (xs ++ x ∷ []) z s
+  folds_right_shown-less run a b z s t [] x m f = (
+    a,
+    run.state,
+    (refl, refl),
+    subst (λ y. folds (x.0, a) (record run { from = x.1 }) y s) (sym f.0)
+        (subst (λ y. folds (x.0, a) (record run { from = x.1 }) b y) (sym f.1) m),
+  )
   folds_right_shown-less run a b z s t (y ∷ ys) x m f = (f.0, f.1, folds_right_shown-less run a b f.0 f.1 t ys x m f.2, f.3)
 
 module _ {I Cu Tok Sp Cx St Er V A : Type 0} (source : input_trait.Ghosts I Cu Tok Sp) (folds : GivesShown Tok Cx St (V × A) A) (start mid new : Held Tok Cx St Er) where
   -- the last item was taken: what is left of the fold is what was left before
-  pub folds_back-on : (items left rest : List (V × Cu)) (x : V × Cu) (last a b : A) → left ≡ rest ++ x ∷ [] → new ≡ record mid { state = new.state } → folds (x.0, a) (shown_from (source.place x.1) mid) b new.state
+  pub folds_back-on : (items left rest : List (V × Cu)) (x : V × Cu) (last a b : A) → left ≡ rest ++ x ∷ []
+      → new ≡ record mid { state = new.state } → folds (x.0, a) (shown_from (source.place x.1) mid) b new.state
       → ((z : A) (s : St) → FoldsRightShown folds (shown_from mid.place mid) a (places_of source left) z s → FoldsRightShown folds (shown_from start.place start) last (places_of source items) z s)
       → (z : A) (s : St) → FoldsRightShown folds (shown_from new.place new) b (places_of source rest) z s → FoldsRightShown folds (shown_from start.place start) last (places_of source items) z s
   folds_back-on items left rest x last a b e n m so z s f =
@@ -40,7 +49,9 @@ module _ {Tok Cx St Er : Type 0} (start mid new : Held Tok Cx St Er) where
 
 module _ {Tok Cx St Er V C A : Type 0} {merged : Er → Er → Er} {safe : Type 0} {holds : List (V × ℕ) → C → Type 0} {folds : GivesShown Tok Cx St (V × A) A} {mid : Held Tok Cx St Er} where
   -- the folder was called for each item, and left what it was lent but for the state
-  pub ran-folded_back_shown : {c : C} {a z : A} {new : Held Tok Cx St Er} (xs : List (V × ℕ)) → holds xs c → FoldsRightShown folds (shown_from mid.place mid) a xs z new.state → new ≡ record mid { state = new.state } → Ran merged safe (FoldedBackShown holds folds (Some c) (Some a)) true mid new (Ok (Some z))
+  pub ran-folded_back_shown : {c : C} {a z : A} {new : Held Tok Cx St Er} (xs : List (V × ℕ)) → holds xs c
+      → FoldsRightShown folds (shown_from mid.place mid) a xs z new.state → new ≡ record mid { state = new.state }
+      → Ran merged safe (FoldedBackShown holds folds (Some c) (Some a)) true mid new (Ok (Some z))
   ran-folded_back_shown {c} {a} {z} {new} xs h f n =
       record {
         outcome = record { verdict = Yes (Some z); end = mid.place; state = new.state; events = []; emitted = [] };
@@ -58,5 +69,10 @@ module _ {Tok Cx St Er V C A : Type 0} {merged : Er → Er → Er} {safe : Type 
 
 module _ {Tok Cx St Er S V C : Type 0} {merged : Er → Er → Er} {safe : Type 0} {gives : S → Meaning Tok Cx St Er (Next S V)} {begins : Meaning Tok Cx St Er S} {old new : Held Tok Cx St Er} where
   -- without values nothing is collected
-  pub placed-passed : (holds : List (V × ℕ) → C → Type 0) (r : Result (Option C) Fault) → Ran merged safe (Passes gives begins C) false old new r → Ran merged safe (Collects (λ s. Placed (gives s)) begins holds ⊥) false old new r
-  placed-passed holds r h = ran-passed (λ s. Placed (gives s)) (λ s. Placed (gives s)) (Appends ⊥) (Collected holds) (λ s b o w m. m) (λ v b o m. m) (λ b o m. record { value = None; is = tt; given = m }) begins [] r (passes-placed gives begins r h)
+  pub placed-passed : (holds : List (V × ℕ) → C → Type 0) (r : Result (Option C) Fault)
+      → Ran merged safe (Passes gives begins C) false old new r
+      → Ran merged safe (Collects (λ s. Placed (gives s)) begins holds ⊥) false old new r
+  placed-passed holds r h =
+      ran-passed (λ s. Placed (gives s)) (λ s. Placed (gives s)) (Appends ⊥) (Collected holds) (λ s b o w m. m)
+      (λ v b o m. m) (λ b o m. record { value = None; is = tt; given = m }) begins [] r
+      (passes-placed gives begins r h)

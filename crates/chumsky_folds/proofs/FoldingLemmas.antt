@@ -14,8 +14,12 @@ use Rattle.std.specs.Prelude.{⊤}
 
 module _ {Tok Cx St Er S V A : Type 0} {merged : Er → Er → Er} {safe : Type 0} {gives : S → Meaning Tok Cx St Er (Next S V)} {begins : Meaning Tok Cx St Er S} {old new : Held Tok Cx St Er} where
   -- without a value nothing is folded
-  pub folds-passed : (steps : A → V → A → Type 0) (a : Option A) (r : Result (Option A) Fault) → Ran merged safe (Passes gives begins A) false old new r → Ran merged safe (FoldsItems gives begins steps a) false old new r
+  pub folds-passed : (steps : A → V → A → Type 0) (a : Option A) (r : Result (Option A) Fault)
+      → Ran merged safe (Passes gives begins A) false old new r
+      → Ran merged safe (FoldsItems gives begins steps a) false old new r
   folds-passed steps a r h = collects-passed (FoldsFrom steps a) ⊤ r h
 
-  pub folds_copy-passed : (steps : A → V → A → Type 0) (copies : A → Type 0) (quiet : Type 0) (r : Result (Option A) Fault) → Ran merged safe (Passes gives begins A) false old new r → Ran merged safe (FoldsFromCopy gives begins steps copies quiet) false old new r
+  pub folds_copy-passed : (steps : A → V → A → Type 0) (copies : A → Type 0) (quiet : Type 0) (r : Result (Option A) Fault)
+      → Ran merged safe (Passes gives begins A) false old new r
+      → Ran merged safe (FoldsFromCopy gives begins steps copies quiet) false old new r
   folds_copy-passed steps copies quiet r h = chained ran-uncopied refl (folds-passed steps None r h)

@@ -19,7 +19,9 @@ use Rattle.chumsky_items.specs.Consumers.{Skips, Passes}
 use Rattle.chumsky_folds.specs.Placed.{PairedWith, Placed, places_of, StartsIn}
 
 module _ {Tok Cx St Er S V : Type 0} {merged : Er → Er → Er} {safe : Type 0} {step : Meaning Tok Cx St Er (Next S V)} {wanted : Bool} {old new : Held Tok Cx St Er} where
-  paired : {r : Result (Option (Next S (V × ℕ))) Fault} → Ran merged safe (Chained step (AfterStep (PairedWith old.place) (Given (Some End)))) wanted old new r → Ran merged safe (Placed step) wanted old new r
+  paired : {r : Result (Option (Next S (V × ℕ))) Fault}
+      → Ran merged safe (Chained step (AfterStep (PairedWith old.place) (Given (Some End)))) wanted old new r
+      → Ran merged safe (Placed step) wanted old new r
   paired {r} h = ran-weaker merged safe (Chained step (AfterStep (PairedWith old.place) (Given (Some End)))) (Placed step) wanted old new r (λ o m. record { run = m }) h
 
   module _ {x : Result (Option (Next S V)) Fault} (h : Ran merged safe step wanted old new x) where
@@ -47,12 +49,17 @@ module _ {I Cu Tok Sp V : Type 0} (source : input_trait.Ghosts I Cu Tok Sp) wher
     starts-on e l xs h = All-weaker (StartsIn source mid.tokens mid.place) (StartsIn source new.tokens new.place) (λ x s. (s.0 ∙ sym e, omega (arith, s.1, l))) xs h
 
     -- and an item was put behind, that began where it stood
-    pub starts-pushed : (xs ys : List (V × Cu)) (x : V × Cu) → ys ≡ xs ++ x ∷ [] → source.cursor_tokens x.1 ≡ mid.tokens → source.place x.1 ≡ mid.place → new.tokens ≡ mid.tokens → mid.place ≤ new.place → All (StartsIn source mid.tokens mid.place) xs → All (StartsIn source new.tokens new.place) ys
+    pub starts-pushed : (xs ys : List (V × Cu)) (x : V × Cu) → ys ≡ xs ++ x ∷ []
+        → source.cursor_tokens x.1 ≡ mid.tokens → source.place x.1 ≡ mid.place → new.tokens ≡ mid.tokens
+        → mid.place ≤ new.place → All (StartsIn source mid.tokens mid.place) xs
+        → All (StartsIn source new.tokens new.place) ys
     starts-pushed xs ys x d t p e l h =
         All-same (StartsIn source new.tokens new.place) ys (xs ++ x ∷ []) d (All-push (StartsIn source new.tokens new.place) xs x (starts-on e l xs h) (t ∙ sym e, omega (arith, p, l)))
 
     -- an item was taken from behind, and only the state has changed
-    pub starts-popped : (xs ys : List (V × Cu)) (x : V × Cu) → xs ≡ ys ++ x ∷ [] → new ≡ record mid { state = new.state } → All (StartsIn source mid.tokens mid.place) xs → All (StartsIn source new.tokens new.place) ys
+    pub starts-popped : (xs ys : List (V × Cu)) (x : V × Cu) → xs ≡ ys ++ x ∷ []
+        → new ≡ record mid { state = new.state } → All (StartsIn source mid.tokens mid.place) xs
+        → All (StartsIn source new.tokens new.place) ys
     starts-popped xs ys x d n h =
         let place : new.place ≡ mid.place = ap (λ (z : Held Tok Cx St Er). z.place) n in
         starts-on (ap (λ (z : Held Tok Cx St Er). z.tokens) n) (omega (arith, place)) ys (All-pop (StartsIn source mid.tokens mid.place) xs ys (Some x) d h).0
@@ -91,7 +98,9 @@ module _ {Tok Cx St Er S V : Type 0} (step : Meaning Tok Cx St Er (Next S V)) (b
     placed_before (Clash e) d f = record { first = retold (Clash e) p; meant = placed_clash e d; follows = f }
 
 module _ {Tok Cx St Er S V W : Type 0} (gives : S → Meaning Tok Cx St Er (Next S V)) where
-  placed_step : (on : S → Meaning Tok Cx St Er W) (ended : Meaning Tok Cx St Er W) (s : S) (b : Beginning Tok Cx St) (o : Outcome W Er St) → Chained (gives s) (AfterStep (λ _ t. on t) ended) b o → Chained (Placed (gives s)) (AfterStep (λ _ t. on t) ended) b o
+  placed_step : (on : S → Meaning Tok Cx St Er W) (ended : Meaning Tok Cx St Er W) (s : S) (b : Beginning Tok Cx St) (o : Outcome W Er St)
+      → Chained (gives s) (AfterStep (λ _ t. on t) ended) b o
+      → Chained (Placed (gives s)) (AfterStep (λ _ t. on t) ended) b o
   placed_step on ended s b o m = placed_before (gives s) b m.first m.meant on ended o m.first.verdict refl m.follows
 
   abbrev skips_all : ℕ → Option (Unit {0}) → S → Meaning Tok Cx St Er W
@@ -100,7 +109,11 @@ module _ {Tok Cx St Er S V W : Type 0} (gives : S → Meaning Tok Cx St Er (Next
   abbrev skips_placed : ℕ → Option (Unit {0}) → S → Meaning Tok Cx St Er W
   skips_placed = AllSteps (λ s. Placed (gives s)) Skips (λ _. Given None)
 
-  after_placed : (room : ℕ) → ((a : Option (Unit {0})) (t : S) (b : Beginning Tok Cx St) (o : Outcome W Er St) → skips_all room a t b o → skips_placed room a t b o) → (x : Option (Next S (V × ℕ))) (c : Beginning Tok Cx St) (q : Outcome W Er St)
+  after_placed : (room : ℕ)
+      →
+      ((a : Option (Unit {0})) (t : S) (b : Beginning Tok Cx St) (o : Outcome W Er St) → skips_all room a t b o
+      → skips_placed room a t b o)
+      → (x : Option (Next S (V × ℕ))) (c : Beginning Tok Cx St) (q : Outcome W Er St)
       → AfterStep (λ _ t. Chained (Given None) (λ z. skips_all room z t)) (Given None) x c q → AfterStep (λ _ t. Chained (Given None) (λ z. skips_placed room z t)) (Given None) x c q
   after_placed room ih (Some (More v t)) c q m = skips (λ z. skips_placed room z t) c q (Given None) refl (ih None t c q (skipped (λ z. skips_all room z t) c q m))
   after_placed room ih (Some End) c q m = m
@@ -109,14 +122,21 @@ module _ {Tok Cx St Er S V W : Type 0} (gives : S → Meaning Tok Cx St Er (Next
   all_placed : (room : ℕ) (a : Option (Unit {0})) (s : S) (b : Beginning Tok Cx St) (o : Outcome W Er St) → skips_all room a s b o → skips_placed room a s b o
   all_placed zero a s b o m = placed_step (λ _. Stops CountTooLarge) (Given None) s b o m
   all_placed (suc room) a s b o m =
-      chained-weaker _ _ b (λ x c q e. after_placed room (all_placed room) x c q) (Placed (gives s)) (Placed (gives s)) (λ q z. z) o (placed_step (λ t. Chained (Given None) (λ z. skips_all room z t)) (Given None) s b o m)
+      chained-weaker _ _ b (λ x c q e. after_placed room (all_placed room) x c q) (Placed (gives s))
+      (Placed (gives s)) (λ q z. z) o
+      (placed_step (λ t. Chained (Given None) (λ z. skips_all room z t)) (Given None) s b o m)
 
-  made_placed : (room : ℕ) (a : Option (Unit {0})) (s : Option S) (b : Beginning Tok Cx St) (o : Outcome W Er St) → FromMade gives Skips (λ _. Given None) room a s b o → FromMade (λ t. Placed (gives t)) Skips (λ _. Given None) room a s b o
+  made_placed : (room : ℕ) (a : Option (Unit {0})) (s : Option S) (b : Beginning Tok Cx St) (o : Outcome W Er St)
+      → FromMade gives Skips (λ _. Given None) room a s b o
+      → FromMade (λ t. Placed (gives t)) Skips (λ _. Given None) room a s b o
   made_placed room a (Some s) b o m = listed (λ t. Placed (gives t)) Skips (λ _. Given None) room a s b o (all_placed room a s b o (unlisted gives Skips (λ _. Given None) room a s b o m))
   made_placed room a None b o m = m
 
   -- where nothing is made of the items, their places are no matter
-  pub passes-placed : {merged : Er → Er → Er} {safe : Type 0} {old new : Held Tok Cx St Er} (begins : Meaning Tok Cx St Er S) (r : Result (Option W) Fault) → Ran merged safe (Passes gives begins W) false old new r → Ran merged safe (Passes (λ s. Placed (gives s)) begins W) false old new r
+  pub passes-placed : {merged : Er → Er → Er} {safe : Type 0} {old new : Held Tok Cx St Er}
+      (begins : Meaning Tok Cx St Er S) (r : Result (Option W) Fault)
+      → Ran merged safe (Passes gives begins W) false old new r
+      → Ran merged safe (Passes (λ s. Placed (gives s)) begins W) false old new r
   passes-placed {merged} {safe} {old} {new} begins r h =
       ran-weaker merged safe (Passes gives begins W) (Passes (λ s. Placed (gives s)) begins W) false old new r
       (λ o m. record { room = m.room; full = m.full; run = chained-weaker _ _ _ (λ s c q e. made_placed m.room None s c q) (Asked true begins) (Asked true begins) (λ q z. z) o m.run }) h

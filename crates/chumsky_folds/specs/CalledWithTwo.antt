@@ -7,11 +7,17 @@ use Rattle.chumsky_input.specs.declared.input.Input as input_trait
 use Rattle.chumsky_input.specs.declared.map_extra.MapExtra.{MapExtra}
 use Rattle.chumsky_input.specs.Extra.{Shown, shown, InOrder}
 
-module _ {I X Cu Tok Sp Er St Cx Mk : Type 0} (source : input_trait.Ghosts I Cu Tok Sp) (states : inspector_trait.Ghosts St I Mk Tok Sp) {F A V R : Type 0} (calls : Shared F (A × (V × (MutBor (MapExtra I X Cu Tok Sp Er St Cx Mk) × Unit {0}))) (R × (MutBor (MapExtra I X Cu Tok Sp Er St Cx Mk) × Unit {0}))) (f : F) where
+module _ {I X Cu Tok Sp Er St Cx Mk : Type 0} (source : input_trait.Ghosts I Cu Tok Sp)
+    (states : inspector_trait.Ghosts St I Mk Tok Sp) {F A V R : Type 0}
+    (calls : Shared F (A × (V × (MutBor (MapExtra I X Cu Tok Sp Er St Cx Mk) × Unit {0})))
+    (R × (MutBor (MapExtra I X Cu Tok Sp Er St Cx Mk) × Unit {0})))
+    (f : F) where
   -- f may be called with any two values and any extra whose cursors are in order, and keeps the reference to the state
   pub record KeepsStateOfTwo : Type 0 where
     pub may : (a : A) (v : V) (x : MutBor (MapExtra I X Cu Tok Sp Er St Cx Mk)) → InOrder source states x.now → calls.pre f (a, (v, (x, tt)))
-    pub keeps : (a : A) (v : V) (x left : MutBor (MapExtra I X Cu Tok Sp Er St Cx Mk)) (r : R) → InOrder source states x.now → calls.post f (a, (v, (x, tt))) (r, (left, tt)) → left.now.state.ghost_name ≡ x.now.state.ghost_name
+    pub keeps : (a : A) (v : V) (x left : MutBor (MapExtra I X Cu Tok Sp Er St Cx Mk)) (r : R)
+        → InOrder source states x.now → calls.post f (a, (v, (x, tt))) (r, (left, tt))
+        → left.now.state.ghost_name ≡ x.now.state.ghost_name
 
   -- f may answer r to the two values and an extra that shows x, and leave the state s
   pub record AnswersTwo (values : A × V) (x : Shown Tok Cx states.Seen) (r : R) (s : states.Seen) : Type 0 where

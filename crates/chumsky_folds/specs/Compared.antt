@@ -12,8 +12,11 @@ module _ {Tok Cx St Er L C A : Type 0} where
   -- where a value is wanted: each yes of the whole is the fold of what is collected when it succeeds in the same way; and
   -- the other way round, the fold of whatever is collected is a yes of the whole
   pub record FoldsCollected (holds : L → C → Type 0) (folds : L → A → Type 0) (collects : Meaning Tok Cx St Er C) (whole : Meaning Tok Cx St Er A) : Type 0 where
-    pub apart : (b : Beginning Tok Cx St) (o : Outcome A Er St) (z : A) → b.wanted ≡ true → whole b o → o.verdict ≡ Yes (Some z) → (l : L) × folds l z × ((c : C) → holds l c → collects b (retold (Yes (Some c)) o))
-    pub together : (b : Beginning Tok Cx St) (o : Outcome C Er St) (c : C) (l : L) (z : A) → b.wanted ≡ true → collects b o → o.verdict ≡ Yes (Some c) → holds l c → folds l z → whole b (retold (Yes (Some z)) o)
+    pub apart : (b : Beginning Tok Cx St) (o : Outcome A Er St) (z : A) → b.wanted ≡ true → whole b o
+        → o.verdict ≡ Yes (Some z)
+        → (l : L) × folds l z × ((c : C) → holds l c → collects b (retold (Yes (Some c)) o))
+    pub together : (b : Beginning Tok Cx St) (o : Outcome C Er St) (c : C) (l : L) (z : A) → b.wanted ≡ true
+        → collects b o → o.verdict ≡ Yes (Some c) → holds l c → folds l z → whole b (retold (Yes (Some z)) o)
 
 module _ {Tok St : Type 0} (stands : Layout Tok → ℕ → St → Type 0) where
   -- where a run may stand, over these tokens at a place in a state: a part that begins there succeeds only there
@@ -22,7 +25,9 @@ module _ {Tok St : Type 0} (stands : Layout Tok → ℕ → St → Type 0) where
 
   -- a run may stand at this beginning, and a part, an iteration and each of its steps that begin where a run may stand
   -- succeed only there
-  pub record StandsFrom {Cx Er S V A : Type 0} (begins : Meaning Tok Cx St Er S) (gives : S → Meaning Tok Cx St Er (Next S V)) (parser : Meaning Tok Cx St Er A) (b : Beginning Tok Cx St) : Type 0 where
+  pub record StandsFrom {Cx Er S V A : Type 0} (begins : Meaning Tok Cx St Er S)
+      (gives : S → Meaning Tok Cx St Er (Next S V)) (parser : Meaning Tok Cx St Er A) (b : Beginning Tok Cx St) : Type
+      0 where
     pub here : stands b.tokens b.start b.state
     pub begin : EndsWhere begins
     pub step : (s : S) → EndsWhere (gives s)

@@ -25,7 +25,9 @@ module _ {Tok Cx St Er S V : Type 0} where
     numbered-agrees : (fit : Bool) (n : ℕ) (v w : Option V) (s t : S) → SameValue same v w → alike s t
         → Agreeing (SameNext (SameNumbered same) (AlikeNumbered alike)) (Numbered {Tok = Tok} {Cx = Cx} {St = St} {Er = Er} fit n v s) (Numbered fit n w t)
     numbered-agrees true n v w s t e l =
-        given-agrees (SameNext (SameNumbered same) (AlikeNumbered alike)) (Some (More (option_map (λ x. (n, x)) v) (n + 1, s))) (Some (More (option_map (λ x. (n, x)) w) (n + 1, t))) (same_number same n v w e, (refl, l))
+        given-agrees (SameNext (SameNumbered same) (AlikeNumbered alike))
+        (Some (More (option_map (λ x. (n, x)) v) (n + 1, s)))
+        (Some (More (option_map (λ x. (n, x)) w) (n + 1, t))) (same_number same n v w e, (refl, l))
     numbered-agrees false n v w s t e l = stops-agrees _ (SameNext (SameNumbered same) (AlikeNumbered alike)) CountTooLarge
 
 module _ {S : Type 0} (alike : S → S → Type 0) where
@@ -52,6 +54,9 @@ module _ {Tok Cx St Er S V : Type 0} (gives : S → Meaning Tok Cx St Er (Next S
     pub enumerates-agree : ItemsAgree same alike begins gives → ItemsAgree (SameNumbered same) (AlikeNumbered alike) (BeginsAtZero begins) (Enumerates gives)
     enumerates-agree h =
         record {
-          begin = chained-agrees begins begins _ _ alike (AlikeNumbered alike) h.begin (λ s t l. given-agrees (AlikeNumbered alike) (option_map (λ x. (0, x)) s) (option_map (λ x. (0, x)) t) (at_zero alike s t l));
+          begin =
+              chained-agrees begins begins _ _ alike (AlikeNumbered alike) h.begin
+              (λ s t l. given-agrees (AlikeNumbered alike) (option_map (λ x. (0, x)) s)
+              (option_map (λ x. (0, x)) t) (at_zero alike s t l));
           step = λ s t l. subst (λ n. Agreeing (SameNext (SameNumbered same) (AlikeNumbered alike)) (Enumerates gives s) (Enumerates gives (n, t.1))) l.0 (step-agrees h.step s.0 s.1 t.1 l.1);
         }

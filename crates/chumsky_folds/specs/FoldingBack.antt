@@ -25,7 +25,9 @@ module _ {Tok Cx St Er V C A : Type 0} where
     pub is : FoldsHeld holds steps c a value
     pub given : Given value b o
 
-module _ {Tok Cx St Er S V C A : Type 0} (gives : S → Meaning Tok Cx St Er (Next S V)) (begins : Meaning Tok Cx St Er S) (holds : List V → C → Type 0) (quiet : Type 0) (part : Meaning Tok Cx St Er A) where
+module _ {Tok Cx St Er S V C A : Type 0} (gives : S → Meaning Tok Cx St Er (Next S V))
+    (begins : Meaning Tok Cx St Er S) (holds : List V → C → Type 0) (quiet : Type 0)
+    (part : Meaning Tok Cx St Er A) where
   -- the items, collected, and then a part, and the right fold from its value
   abbrev pub FoldsBack : (V → A → A → Type 0) → Meaning Tok Cx St Er A
   FoldsBack steps = Chained (Collects gives begins holds quiet) (λ c. Chained part (FoldedBack holds steps c))

@@ -23,7 +23,8 @@ module _ {Tok Cx St V A : Type 0} (folds : GivesShown Tok Cx St (V × A) A) wher
 module _ {Tok Cx St Er V C A : Type 0} (holds : List (V × ℕ) → C → Type 0) (folds : GivesShown Tok Cx St (V × A) A) where
   abbrev pub GivenBack : Option C → Option A → Meaning Tok Cx St Er A
   GivenBack (Some c) (Some a) b o =
-      (xs : List (V × ℕ)) × (z : A) × (s : St) × holds xs c × FoldsRightShown folds (shown_since b.start b) a xs z s × (o ≡ record { verdict = Yes (Some z); end = b.start; state = s; events = []; emitted = [] })
+      (xs : List (V × ℕ)) × (z : A) × (s : St) × holds xs c × FoldsRightShown folds (shown_since b.start b) a xs z s
+      × (o ≡ record { verdict = Yes (Some z); end = b.start; state = s; events = []; emitted = [] })
   GivenBack (Some c) None b o = Given None b o
   GivenBack None a b o = Given None b o
 
@@ -31,7 +32,9 @@ module _ {Tok Cx St Er V C A : Type 0} (holds : List (V × ℕ) → C → Type 0
   pub record FoldedBackShown (c : Option C) (a : Option A) (b : Beginning Tok Cx St) (o : Outcome A Er St) : Type 0 where
     pub by_value : GivenBack c a b o
 
-module _ {Tok Cx St Er S V C A : Type 0} (gives : S → Meaning Tok Cx St Er (Next S V)) (begins : Meaning Tok Cx St Er S) (holds : List (V × ℕ) → C → Type 0) (folds : GivesShown Tok Cx St (V × A) A) where
+module _ {Tok Cx St Er S V C A : Type 0} (gives : S → Meaning Tok Cx St Er (Next S V))
+    (begins : Meaning Tok Cx St Er S) (holds : List (V × ℕ) → C → Type 0)
+    (folds : GivesShown Tok Cx St (V × A) A) where
   -- the items, collected with the places before their steps, and then a part, and the right fold from its value
   abbrev pub FoldsBackShown : Meaning Tok Cx St Er A → Meaning Tok Cx St Er A
   FoldsBackShown part = Chained (Collects (λ s. Placed (gives s)) begins holds ⊥) (λ c. Chained part (FoldedBackShown holds folds c))

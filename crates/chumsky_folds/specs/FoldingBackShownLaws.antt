@@ -45,15 +45,31 @@ module _ {Tok Cx St Er V C A : Type 0} (holds : List (V × ℕ) → C → Type 0
   back-ends None a b o m z = given-ends None b o m z
 
   module _ (one_list : (xs ys : List (V × ℕ)) (c : C) → holds xs c → holds ys c → xs ≡ ys) (one : OnlyAnswers folds) (same : V → V → Type 0) (start : A → A → Type 0) where
-    back-agrees : (c d : Option C) (a e : Option A) → SameValue (SameContents (SamePlaced same) holds) c d → SameValue start a e → (b f : Beginning Tok Cx St) (o q : Outcome A Er St) → Alike b f → GivenBack holds folds c a b o → GivenBack holds folds d e f q → IsAnswer o.verdict → IsAnswer q.verdict
+    back-agrees : (c d : Option C) (a e : Option A) → SameValue (SameContents (SamePlaced same) holds) c d
+        → SameValue start a e → (b f : Beginning Tok Cx St) (o q : Outcome A Er St) → Alike b f
+        → GivenBack holds folds c a b o → GivenBack holds folds d e f q → IsAnswer o.verdict → IsAnswer q.verdict
         → Agree (other folds same start) o q
     back-agrees (Some c) (Some d) (Some a) (Some e) h s b f o q l m n y z =
         let run : Shown Tok Cx St = shown_since b.start b in
         let there : shown_since f.start f ≡ run = cc (l.tokens, l.start, l.context, l.state) in
         let first = folds_right-shown folds one run a m.1 m.2 h.first (subst (λ xs. FoldsRightShown folds run a xs m.1 m.2) (one_list m.0 h.first c m.3 h.holds_first) m.4) in
-        let second = folds_right-shown folds one run e n.1 n.2 h.second (subst (λ xs. FoldsRightShown folds run e xs n.1 n.2) (one_list n.0 h.second d n.3 h.holds_second) (subst (λ x. FoldsRightShown folds x e n.0 n.1 n.2) there n.4)) in
+        let second =
+        folds_right-shown folds one run e n.1 n.2 h.second
+        (subst (λ xs. FoldsRightShown folds run e xs n.1 n.2) (one_list n.0 h.second d n.3 h.holds_second)
+        (subst (λ x. FoldsRightShown folds x e n.0 n.1 n.2) there n.4))
+        in
         let k : other folds same start m.1 n.1 =
-        record { first_start = a; second_start = e; starts = s; first = items_shown run h.first; second = items_shown run h.second; are = shown-same run same h.first h.second h.are; folds_first = first.1; folds_second = second.1 } in
+        record {
+          first_start = a;
+          second_start = e;
+          starts = s;
+          first = items_shown run h.first;
+          second = items_shown run h.second;
+          are = shown-same run same h.first h.second h.are;
+          folds_first = first.1;
+          folds_second = second.1;
+        }
+        in
         rw (m.5, n.5) (record { answer = k; end = l.start; state = first.0 ∙ sym second.0; events = refl; emitted = refl })
     back-agrees (Some c) (Some d) (Some a) None h s b f o q l m n y z =
         let run : Shown Tok Cx St = shown_since b.start b in
@@ -76,11 +92,17 @@ module _ {Tok Cx St Er V C A : Type 0} (holds : List (V × ℕ) → C → Type 0
     back-agrees None (Some d) a None h s b f o q l m n y z = given-agrees (other folds same start) None None tt b f o q l m n y z
     back-agrees None None a e h s b f o q l m n y z = given-agrees (other folds same start) None None tt b f o q l m n y z
 
-module _ {Tok Cx St Er S V C A : Type 0} (gives : S → Meaning Tok Cx St Er (Next S V)) (begins : Meaning Tok Cx St Er S) (holds : List (V × ℕ) → C → Type 0) (folds : GivesShown Tok Cx St (V × A) A) (part : Meaning Tok Cx St Er A) where
+module _ {Tok Cx St Er S V C A : Type 0} (gives : S → Meaning Tok Cx St Er (Next S V))
+    (begins : Meaning Tok Cx St Er S) (holds : List (V × ℕ) → C → Type 0) (folds : GivesShown Tok Cx St (V × A) A)
+    (part : Meaning Tok Cx St Er A) where
   pub folds_back_shown-ends : ItemsEnd begins gives → EndsAfterStart part → EndsAfterStart (FoldsBackShown gives begins holds folds part)
-  folds_back_shown-ends h p = chained-ends _ _ (collects-ends (λ s. Placed (gives s)) begins holds ⊥ (placed-end gives begins h)) (λ c. chained-ends part _ p (λ a b o m z. back-ends holds folds c a b o m.by_value z))
+  folds_back_shown-ends h p =
+      chained-ends _ _ (collects-ends (λ s. Placed (gives s)) begins holds ⊥ (placed-end gives begins h))
+      (λ c. chained-ends part _ p (λ a b o m z. back-ends holds folds c a b o m.by_value z))
 
-  pub folds_back_shown-agree : ((xs ys : List (V × ℕ)) (c : C) → holds xs c → holds ys c → xs ≡ ys) → OnlyAnswers folds → (same : V → V → Type 0) (start : A → A → Type 0) (alike : S → S → Type 0) → ItemsAgree same alike begins gives → Agreeing start part part
+  pub folds_back_shown-agree : ((xs ys : List (V × ℕ)) (c : C) → holds xs c → holds ys c → xs ≡ ys)
+      → OnlyAnswers folds → (same : V → V → Type 0) (start : A → A → Type 0) (alike : S → S → Type 0)
+      → ItemsAgree same alike begins gives → Agreeing start part part
       → Agreeing (SameFoldedBack start (SameTaken same) (StepsBackShown folds)) (FoldsBackShown gives begins holds folds part) (FoldsBackShown gives begins holds folds part)
   folds_back_shown-agree one_list one same start alike h p =
       let sw : A → A → Type 0 = SameFoldedBack start (SameTaken same) (StepsBackShown folds) in

@@ -39,12 +39,16 @@ module _ {V : Type 0} (same : V → V → Type 0) where
   appended-same (Some xs) c None w e d = tt
   appended-same None c v w e d = tt
 
-  appends-agrees : {Tok Cx St Er : Type 0} (a c : Option (List V)) (v w : Option V) → SameValue (SameItems same) a c → SameValue same v w → Agreeing (SameItems same) (Appends {Tok = Tok} {Cx = Cx} {St = St} {Er = Er} ⊤ a v) (Appends ⊤ c w)
+  appends-agrees : {Tok Cx St Er : Type 0} (a c : Option (List V)) (v w : Option V) → SameValue (SameItems same) a c
+      → SameValue same v w
+      → Agreeing (SameItems same) (Appends {Tok = Tok} {Cx = Cx} {St = St} {Er = Er} ⊤ a v) (Appends ⊤ c w)
   appends-agrees a c v w e d b f o q alike m n x z =
       given-agrees (SameItems same) (appended a v) (appended c w) (appended-same a c v w e d) b f o q alike (appends-given a v b o m) (appends-given c w f q n) x z
 
 module _ {A V : Type 0} (steps : A → V → A → Type 0) (same_start : A → A → Type 0) (same : V → V → Type 0) where
-  folded : (a c : Option A) → SameValue same_start a c → (xs ys : Option (List V)) (z w : Option A) → HoldsAll (FoldsFrom steps a) xs z → HoldsAll (FoldsFrom steps c) ys w → SameValue (SameItems same) xs ys → SameValue (SameFolded same_start same steps) z w
+  folded : (a c : Option A) → SameValue same_start a c → (xs ys : Option (List V)) (z w : Option A)
+      → HoldsAll (FoldsFrom steps a) xs z → HoldsAll (FoldsFrom steps c) ys w → SameValue (SameItems same) xs ys
+      → SameValue (SameFolded same_start same steps) z w
   folded (Some a) (Some c) s (Some xs) (Some ys) (Some z) (Some w) g h e =
       record { first_start = a; second_start = c; starts = s; first = xs; second = ys; are = e; folds_first = g; folds_second = h }
   folded (Some a) None s (Some xs) (Some ys) (Some z) (Some w) g h e = absurd h
@@ -64,7 +68,9 @@ module _ {Tok Cx St Er S V A : Type 0} (gives : S → Meaning Tok Cx St Er (Next
   pub folds-agree : (same_start : A → A → Type 0) (same : V → V → Type 0) (alike : S → S → Type 0) → ItemsAgree same alike begins gives → (a c : Option A) → SameValue same_start a c
       → Agreeing (SameFolded same_start same steps) (FoldsItems gives begins steps a) (FoldsItems gives begins steps c)
   folds-agree same_start same alike h a c s =
-      two_runs-agree gives gives (Appends ⊤) (Appends ⊤) (Collected (FoldsFrom steps a)) (Collected (FoldsFrom steps c)) same alike (SameItems same) (SameFolded same_start same steps) h.step (appends-agrees same)
+      two_runs-agree gives gives (Appends ⊤) (Appends ⊤) (Collected (FoldsFrom steps a))
+      (Collected (FoldsFrom steps c)) same alike (SameItems same) (SameFolded same_start same steps) h.step
+      (appends-agrees same)
       (λ xs ys e b d o q l m n z y.
       given-agrees (SameFolded same_start same steps) m.value n.value (folded steps same_start same a c s xs ys m.value n.value m.is n.is e) b d o q l m.given n.given z y) begins [] tt h.begin
 
@@ -72,7 +78,9 @@ module _ {Tok Cx St Er S V A : Type 0} (gives : S → Meaning Tok Cx St Er (Next
     pub folds_copy-ends : ItemsEnd begins gives → EndsAfterStart (FoldsFromCopy gives begins steps copies safe)
     folds_copy-ends h = chained-ends _ _ (copy-ends copies safe) (folds-ends h)
 
-    pub folds_copy-agree : (same : V → V → Type 0) (alike : S → S → Type 0) → ItemsAgree same alike begins gives → Agreeing (SameFolded (BothCopies copies) same steps) (FoldsFromCopy gives begins steps copies safe) (FoldsFromCopy gives begins steps copies safe)
+    pub folds_copy-agree : (same : V → V → Type 0) (alike : S → S → Type 0) → ItemsAgree same alike begins gives
+        → Agreeing (SameFolded (BothCopies copies) same steps) (FoldsFromCopy gives begins steps copies safe)
+        (FoldsFromCopy gives begins steps copies safe)
     folds_copy-agree same alike h = chained-agrees _ _ _ _ (BothCopies copies) (SameFolded (BothCopies copies) same steps) (copy-agrees copies safe) (folds-agree (BothCopies copies) same alike h)
 
   module _ (part : Meaning Tok Cx St Er A) where

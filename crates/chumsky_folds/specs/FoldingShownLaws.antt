@@ -13,14 +13,20 @@ use Rattle.chumsky_folds.specs.FoldingLaws.{folds_left-more}
 use Rattle.chumsky_folds.specs.FoldingShown.{TakesAll, TakesShown, StepsShown, FoldsShown, SameTaken}
 
 module _ {Tok Cx St Er S V A : Type 0} (gives : S → Meaning Tok Cx St Er (Next S V)) (begins : Meaning Tok Cx St Er S) where
-  pub takes_all-ends : (more : Option A → Option V → Meaning Tok Cx St Er A) → ItemsEnd begins gives → ((a : Option A) (v : Option V) → EndsAfterStart (more a v)) → (a : Option A) → EndsAfterStart (TakesAll gives begins more a)
+  pub takes_all-ends : (more : Option A → Option V → Meaning Tok Cx St Er A) → ItemsEnd begins gives
+      → ((a : Option A) (v : Option V) → EndsAfterStart (more a v)) → (a : Option A)
+      → EndsAfterStart (TakesAll gives begins more a)
   takes_all-ends more h hm a b o m z = chained-ends (Asked true begins) _ (asked-ends true begins h.begin) (from_made-ends gives more Given h.step hm given-ends m.room a) b o m.run z
 
   pub takes_all-agree : (more more' : Option A → Option V → Meaning Tok Cx St Er A) (sv : V → V → Type 0) (alike : S → S → Type 0) (sa : A → A → Type 0) → ItemsAgree sv alike begins gives
-      → ((a c : Option A) (v w : Option V) → SameValue sa a c → SameValue sv v w → Agreeing sa (more a v) (more' c w)) → (a c : Option A) → SameValue sa a c → Agreeing sa (TakesAll gives begins more a) (TakesAll gives begins more' c)
+      → ((a c : Option A) (v w : Option V) → SameValue sa a c → SameValue sv v w → Agreeing sa (more a v) (more' c w))
+      → (a c : Option A) → SameValue sa a c
+      → Agreeing sa (TakesAll gives begins more a) (TakesAll gives begins more' c)
   takes_all-agree more more' sv alike sa h hm a c e b d o q l m n y z =
       let even : n.room ≡ m.room = omega (arith, m.full, n.full) in
-      chained-agrees (Asked true begins) (Asked true begins) _ _ alike sa (asked-agrees true begins alike h.begin) (from_made-agree gives gives more more' Given Given sv alike sa sa h.step hm (given-agrees sa) m.room a c e) b d o q l m.run
+      chained-agrees (Asked true begins) (Asked true begins) _ _ alike sa (asked-agrees true begins alike h.begin)
+      (from_made-agree gives gives more more' Given Given sv alike sa sa h.step hm (given-agrees sa) m.room a c e)
+      b d o q l m.run
       (subst (λ r. Chained (Asked true begins) (FromMade gives more' Given r c) d q) even n.run) y z
 
 -- both are the same, where all are there
@@ -64,5 +70,7 @@ module _ {Tok Cx St Er S V A : Type 0} (gives : S → Meaning Tok Cx St Er (Next
       let sa : A → A → Type 0 = SameFolded start (SameTaken same) (StepsShown folds) in
       chained-agrees part part _ _ start sa p
       (λ a d e. takes_all-agree gives begins (TakesShown folds b.start) (TakesShown folds c.start) same alike sa h
-      (λ a d v w e k. shown-agrees folds one (SamePair sa same) sa (one_taken folds start same) b.start c.start l.start (both a v) (both d w) (both_same sa same a d v w e k)) a d (not_taken folds start same a d e))
+      (λ a d v w e k. shown-agrees folds one (SamePair sa same) sa (one_taken folds start same) b.start c.start
+      l.start (both a v) (both d w) (both_same sa same a d v w e k))
+      a d (not_taken folds start same a d e))
       b c o q l m.run n.run y z

@@ -36,7 +36,9 @@ abbrev pub where_wanted : {A : Type 0} → Bool → Option A → Option A
 where_wanted true a = a
 where_wanted false a = None
 
-module _ {Tok Cx St E Er S V A : Type 0} (gives : S → Meaning Tok Cx St Er (Next S V)) (begins : Meaning Tok Cx St Er S) (seen : E → Er) (tries : GivesShown Tok Cx St (A × V) (Result A E)) (part : Meaning Tok Cx St Er A) where
+module _ {Tok Cx St E Er S V A : Type 0} (gives : S → Meaning Tok Cx St Er (Next S V))
+    (begins : Meaning Tok Cx St Er S) (seen : E → Er) (tries : GivesShown Tok Cx St (A × V) (Result A E))
+    (part : Meaning Tok Cx St Er A) where
   -- a part, and then all items, each taken by a folder that is shown what ran since the part began, until one is refused
   pub record FoldsTrying (b : Beginning Tok Cx St) (o : Outcome A Er St) : Type 0 where
     pub run : Chained part (TakesAll (λ s. Placed (gives s)) begins (TakesTried seen tries b.start)) b o
@@ -56,4 +58,7 @@ module _ {Tok Cx St E Er V A : Type 0} (seen : E → Er) (tries : GivesShown Tok
   -- of accumulators, folded in the same way, and items that are the same, shown one run, both are taken, or both refused with
   -- errors that count as one; and one state is left
   abbrev pub TakesAlike : Type 0
-  TakesAlike = (v w : A × V) (x : Shown Tok Cx St) (r r' : Result A E) (s t : St) → SamePair (SameFolded start (SameTaken same) (StepsTried tries)) same v w → tries v x r s → tries w x r' t → BothRule seen r r' × (s ≡ t)
+  TakesAlike =
+      (v w : A × V) (x : Shown Tok Cx St) (r r' : Result A E) (s t : St)
+      → SamePair (SameFolded start (SameTaken same) (StepsTried tries)) same v w → tries v x r s → tries w x r' t
+      → BothRule seen r r' × (s ≡ t)

@@ -47,14 +47,20 @@ module _ {Tok Cx St E Er V A : Type 0} (seen : E → Er) (tries : GivesShown Tok
           folds_second = folds_left-more (StepsTried tries) f.second f.second_start w.0 y (w.1, x) f.folds_second (t, n);
         }
 
-    rules-agree : (r r' : Result A E) (p p' : ℕ) (s s' : St) → p ≡ p' → s ≡ s' → BothRule seen r r' → ((z y : A) → r ≡ Ok z → r' ≡ Ok y → folded z y) → (b c : Beginning Tok Cx St) (o q : Outcome A Er St) → Alike b c → TakenOrRefused seen r p s b o → TakenOrRefused seen r' p' s' c q → IsAnswer o.verdict → IsAnswer q.verdict
+    rules-agree : (r r' : Result A E) (p p' : ℕ) (s s' : St) → p ≡ p' → s ≡ s' → BothRule seen r r'
+        → ((z y : A) → r ≡ Ok z → r' ≡ Ok y → folded z y) → (b c : Beginning Tok Cx St) (o q : Outcome A Er St)
+        → Alike b c → TakenOrRefused seen r p s b o → TakenOrRefused seen r' p' s' c q → IsAnswer o.verdict
+        → IsAnswer q.verdict
         → Agree folded o q
     rules-agree (Ok z) (Ok y) p p' s s' k d e h b c o q l m n a u = rw (m, n) (record { answer = h z y refl refl; end = l.start; state = d; events = refl; emitted = refl })
     rules-agree (Ok z) (Err i) p p' s s' k d e h b c o q l m n a u = absurd e
     rules-agree (Err i) (Ok y) p p' s s' k d e h b c o q l m n a u = absurd e
     rules-agree (Err i) (Err j) p p' s s' k d e h b c o q l m n a u = misses-agree folded {safe = ⊤} (cc (k, e)) l.start d (inr m) (inr n) a u
 
-    tries-agree : TakesAlike seen tries start same → (from from' : ℕ) → from ≡ from' → (x y : Option (A × (V × ℕ))) → SameValue (SamePair folded (SamePlaced same)) x y → (b c : Beginning Tok Cx St) (o q : Outcome A Er St) → Alike b c → TriesSince seen tries from x b o → TriesSince seen tries from' y c q → IsAnswer o.verdict → IsAnswer q.verdict
+    tries-agree : TakesAlike seen tries start same → (from from' : ℕ) → from ≡ from' → (x y : Option (A × (V × ℕ)))
+        → SameValue (SamePair folded (SamePlaced same)) x y → (b c : Beginning Tok Cx St) (o q : Outcome A Er St)
+        → Alike b c → TriesSince seen tries from x b o → TriesSince seen tries from' y c q → IsAnswer o.verdict
+        → IsAnswer q.verdict
         → Agree folded o q
     tries-agree alike_tries from from' d (Some x) (Some y) e b c o q l m n a z =
         let there : shown_since from' c ≡ shown_since from b = cc (d, l.tokens, l.start, l.context, l.state) in
@@ -62,7 +68,10 @@ module _ {Tok Cx St E Er V A : Type 0} (seen : E → Er) (tries : GivesShown Tok
         let pair : SamePair folded same (x.0, x.1.0) (y.0, y.1.0) = (e.0, e.1.0) in
         let k = alike_tries (x.0, x.1.0) (y.0, y.1.0) (shown_since from b) m.0 n.0 m.1 n.1 pair m.2 other in
         rules-agree m.0 n.0 x.1.1 y.1.1 m.1 n.1 e.1.1 k.1 k.0
-        (λ u v f g. one_more (x.0, x.1.0) (y.0, y.1.0) (shown_since from b) u v m.1 n.1 pair (subst (λ r. tries (x.0, x.1.0) (shown_since from b) r m.1) f m.2) (subst (λ r. tries (y.0, y.1.0) (shown_since from b) r n.1) g other)) b c o q l m.3 n.3 a z
+        (λ u v f g. one_more (x.0, x.1.0) (y.0, y.1.0) (shown_since from b) u v m.1 n.1 pair
+        (subst (λ r. tries (x.0, x.1.0) (shown_since from b) r m.1) f m.2)
+        (subst (λ r. tries (y.0, y.1.0) (shown_since from b) r n.1) g other))
+        b c o q l m.3 n.3 a z
     tries-agree alike_tries from from' d (Some x) None e b c o q l m n a z = absurd n
     tries-agree alike_tries from from' d None y e b c o q l m n a z = absurd m
 
@@ -78,20 +87,30 @@ wanted-same same true false (Some a) c e = tt
 wanted-same same true false None c e = tt
 wanted-same same false v a c e = tt
 
-module _ {Tok Cx St E Er S V A : Type 0} (gives : S → Meaning Tok Cx St Er (Next S V)) (begins : Meaning Tok Cx St Er S) (seen : E → Er) (tries : GivesShown Tok Cx St (A × V) (Result A E)) (part : Meaning Tok Cx St Er A) where
+module _ {Tok Cx St E Er S V A : Type 0} (gives : S → Meaning Tok Cx St Er (Next S V))
+    (begins : Meaning Tok Cx St Er S) (seen : E → Er) (tries : GivesShown Tok Cx St (A × V) (Result A E))
+    (part : Meaning Tok Cx St Er A) where
   trying-ends : ItemsEnd begins gives → EndsAfterStart part → EndsAfterStart (FoldsTrying gives begins seen tries part)
-  trying-ends h p b o m z = chained-ends part _ p (takes_all-ends (λ s. Placed (gives s)) begins (TakesTried seen tries b.start) (placed-end gives begins h) (taken-ends seen tries b.start)) b o m.run z
+  trying-ends h p b o m z =
+      chained-ends part _ p
+      (takes_all-ends (λ s. Placed (gives s)) begins (TakesTried seen tries b.start) (placed-end gives begins h)
+      (taken-ends seen tries b.start))
+      b o m.run z
 
   pub folds_tried-ends : ItemsEnd begins gives → EndsAfterStart part → EndsAfterStart (FoldsTried gives begins seen tries part)
   folds_tried-ends h p b o m z = chained-ends (Asked true (FoldsTrying gives begins seen tries part)) _ (asked-ends true _ (trying-ends h p)) (λ a. given-ends (where_wanted b.wanted a)) b o m.run z
 
-  module _ (start : A → A → Type 0) (same : V → V → Type 0) (alike : S → S → Type 0) (alike_tries : TakesAlike seen tries start same) (h : ItemsAgree same alike begins gives) (p : Agreeing start part part) where
+  module _ (start : A → A → Type 0) (same : V → V → Type 0) (alike : S → S → Type 0)
+      (alike_tries : TakesAlike seen tries start same) (h : ItemsAgree same alike begins gives)
+      (p : Agreeing start part part) where
     trying-agree : Agreeing (folded seen tries start same) (FoldsTrying gives begins seen tries part) (FoldsTrying gives begins seen tries part)
     trying-agree b c o q l m n y z =
         let sa : A → A → Type 0 = folded seen tries start same in
         chained-agrees part part _ _ start sa p
         (λ a d e. takes_all-agree (λ s. Placed (gives s)) begins (TakesTried seen tries b.start) (TakesTried seen tries c.start) (SamePlaced same) alike sa (placed-agree gives begins same alike h)
-        (λ a d v w e k f g i j x u r t. tries-agree seen tries start same alike_tries b.start c.start l.start (both a v) (both d w) (both_same sa (SamePlaced same) a d v w e k) f g i j x u.by_value r.by_value t) a d (none_tried seen tries start same a d e))
+        (λ a d v w e k f g i j x u r t. tries-agree seen tries start same alike_tries b.start c.start l.start
+        (both a v) (both d w) (both_same sa (SamePlaced same) a d v w e k) f g i j x u.by_value r.by_value t)
+        a d (none_tried seen tries start same a d e))
         b c o q l m.run n.run y z
 
     pub folds_tried-agree : Agreeing (SameFolded start (SameTaken same) (StepsTried tries)) (FoldsTried gives begins seen tries part) (FoldsTried gives begins seen tries part)

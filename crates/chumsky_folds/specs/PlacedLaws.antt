@@ -17,7 +17,11 @@ module _ {Tok Cx St Er S V : Type 0} (gives : S → Meaning Tok Cx St Er (Next S
   placed-end h =
       record {
         begin = h.begin;
-        step = λ s b o m. chained-ends (gives s) _ (h.step s) (after_step-ends (PairedWith b.start) (Given (Some End)) (λ v t. given-ends (Some (More (option_map (λ x. (x, b.start)) v) t))) (given-ends (Some End))) b o m.run;
+        step =
+            λ s b o m. chained-ends (gives s) _ (h.step s)
+            (after_step-ends (PairedWith b.start) (Given (Some End))
+            (λ v t. given-ends (Some (More (option_map (λ x. (x, b.start)) v) t))) (given-ends (Some End)))
+            b o m.run;
       }
 
   pub placed-agree : (same : V → V → Type 0) (alike : S → S → Type 0) → ItemsAgree same alike begins gives → ItemsAgree (SamePlaced same) alike begins (λ s. Placed (gives s))

@@ -37,7 +37,9 @@ module _ {I Tok Sp Er St Mk Cx S V A : Type 0} (begins : Does I Tok Sp Er St Mk 
   DoesFoldTrying tries since start errors states =
       TakesAll (λ s. Placed (gives (record { nonconsumption_is_ok = false }) s errors states)) (begins errors states) (TakesTried errors.seen (tries states) since) (Some start)
 
-module _ {I Tok Sp Er St Mk Cx F A B S V W : Type 0} (tries : F → Makes I Tok Sp St Mk Cx (V × W) (Result V Er)) (part : A → Does I Tok Sp Er St Mk Cx V) (begins : B → Does I Tok Sp Er St Mk Cx S) (gives : B → IterParserDebug → S → Does I Tok Sp Er St Mk Cx (Next S W)) where
+module _ {I Tok Sp Er St Mk Cx F A B S V W : Type 0} (tries : F → Makes I Tok Sp St Mk Cx (V × W) (Result V Er))
+    (part : A → Does I Tok Sp Er St Mk Cx V) (begins : B → Does I Tok Sp Er St Mk Cx S)
+    (gives : B → IterParserDebug → S → Does I Tok Sp Er St Mk Cx (Next S W)) where
   -- a part runs, and then each item is so taken into its value, or refused
   abbrev pub DoesFoldTried : TryFoldl F A B W → Does I Tok Sp Er St Mk Cx V
   DoesFoldTried p errors states =

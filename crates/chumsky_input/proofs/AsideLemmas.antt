@@ -15,12 +15,16 @@ module _ {Tok Cx St Er E : Type 0} (merged : Er → Er → Er) (seen : E → Er)
   keeps_older q n = ap (λ k. record h { kept = k }) (kept-same merged older ∙ ap (λ k. primary merged (option_to_list older ++ option_to_list k)) (sym (q ∙ ap (option_map (located seen)) (sym n))))
 
 module _ {Tok Cx St Er E : Type 0} (merged : Er → Er → Er) (safe : Type 0) (seen : E → Er) (h : Held Tok Cx St Er) (older : Option (Event Er)) where
-  pub clashes_older : {o : Option (Located E)} {k : Located E} {new : Held Tok Cx St Er} {s : Stop} → h.kept ≡ option_map (located seen) o → Some k ≡ o → Adds merged safe (located seen k) (record h { kept = older }) new (fault.Stop s)
+  pub clashes_older : {o : Option (Located E)} {k : Located E} {new : Held Tok Cx St Er} {s : Stop}
+      → h.kept ≡ option_map (located seen) o → Some k ≡ o
+      → Adds merged safe (located seen k) (record h { kept = older }) new (fault.Stop s)
       → ClashesWith safe older h.kept × (new ≡ record h { kept = None })
   clashes_older {k = k} q n a = ((located seen k, q ∙ ap (option_map (located seen)) (sym n), a.1, a.2), a.3)
 
 module _ {Tok Cx St Er : Type 0} (safe : Type 0) (h : Held Tok Cx St Er) (older : Option (Event Er)) where
-  pub clashes_after : {es : List Er} {mid new : Held Tok Cx St Er} → mid ≡ record h { emitted = es } → ClashesWith safe older mid.kept × (new ≡ record mid { kept = None }) → ClashesWith safe older h.kept × SameButErrors h new
+  pub clashes_after : {es : List Er} {mid new : Held Tok Cx St Er} → mid ≡ record h { emitted = es }
+      → ClashesWith safe older mid.kept × (new ≡ record mid { kept = None })
+      → ClashesWith safe older h.kept × SameButErrors h new
   clashes_after e k = (
     subst (λ (m : Held Tok Cx St Er). ClashesWith safe older m.kept) e k.0,
     subst (λ (x : Held Tok Cx St Er). SameButErrors h x) (sym (k.1 ∙ ap (λ (m : Held Tok Cx St Er). record m { kept = None }) e)) refl,

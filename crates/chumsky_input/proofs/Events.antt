@@ -18,7 +18,9 @@ module _ {Tok Cx St Er E : Type 0} (merged : Er → Er → Er) (seen : E → Er)
   pub adds_nearer : {o : Option (Located E)} {k : Located E} → h.kept ≡ option_map (located seen) o → Some k ≡ o → e.place < k.place → record h { kept = Some (located seen k) } ≡ added merged h e
   adds_nearer {o} {k} q n l = ap (λ z. record h { kept = z }) (kept-nearer merged h.kept (located seen k) e (q ∙ ap (option_map (located seen)) (sym n)) l)
 
-  pub adds_here : {o : Option (Located E)} {k : Located E} {m : Er} → h.kept ≡ option_map (located seen) o → Some k ≡ o → k.place ≡ e.place → m ≡ merged (seen k.error) e.error → record h { kept = Some (record { place = e.place; error = m }) } ≡ added merged h e
+  pub adds_here : {o : Option (Located E)} {k : Located E} {m : Er} → h.kept ≡ option_map (located seen) o
+      → Some k ≡ o → k.place ≡ e.place → m ≡ merged (seen k.error) e.error
+      → record h { kept = Some (record { place = e.place; error = m }) } ≡ added merged h e
   adds_here {o} {k} {m} q n l w = ap (λ z. record h { kept = z }) (kept-here merged h.kept (located seen k) e m (q ∙ ap (option_map (located seen)) (sym n)) l w)
 
 module _ {Tok Cx St Er : Type 0} (merged : Er → Er → Er) (h : Held Tok Cx St Er) (e : Event Er) where

@@ -18,17 +18,26 @@ module _ {E Er : Type 0} (merged : Er → Er → Er) (seen : E → Er) {p : ℕ}
   keeps_first {o = o} n e = ap (λ z. Some (record { place = p; error = z })) e ∙ kept-none merged (kept_event seen o) (record { place = p; error = x }) (ap (kept_event seen) (sym n))
 
   -- one further on
-  pub keeps_further : {o : Option (Located E)} {k : Located E} → Some k ≡ o → k.place < p → y ≡ x → Some (record { place = p; error = y }) ≡ primary merged (option_to_list (kept_event seen o) ++ record { place = p; error = x } ∷ [])
-  keeps_further {o = o} {k = k} n l e = ap (λ z. Some (record { place = p; error = z })) e ∙ kept-further merged (kept_event seen o) (record { place = k.place; error = seen k.error }) (record { place = p; error = x }) (ap (kept_event seen) (sym n)) l
+  pub keeps_further : {o : Option (Located E)} {k : Located E} → Some k ≡ o → k.place < p → y ≡ x
+      → Some (record { place = p; error = y }) ≡ primary merged (option_to_list (kept_event seen o) ++ record { place = p; error = x } ∷ [])
+  keeps_further {o = o} {k = k} n l e =
+      ap (λ z. Some (record { place = p; error = z })) e
+      ∙ kept-further merged (kept_event seen o) (record { place = k.place; error = seen k.error })
+      (record { place = p; error = x }) (ap (kept_event seen) (sym n)) l
 
   -- one at the same place, which is not before p
-  pub keeps_here : {o : Option (Located E)} {k : Located E} → Some k ≡ o → MatchOption o ⊤ (λ older. older.place ≤ p) → p ≤ k.place → y ≡ merged (seen k.error) x → Some (record { place = p; error = y }) ≡ primary merged (option_to_list (kept_event seen o) ++ record { place = p; error = x } ∷ [])
+  pub keeps_here : {o : Option (Located E)} {k : Located E} → Some k ≡ o → MatchOption o ⊤ (λ older. older.place ≤ p)
+      → p ≤ k.place → y ≡ merged (seen k.error) x
+      → Some (record { place = p; error = y }) ≡ primary merged (option_to_list (kept_event seen o) ++ record { place = p; error = x } ∷ [])
   keeps_here {o = o} {k = k} n near l e =
       let m : k.place ≤ p = subst (λ z. MatchOption z ⊤ (λ older. older.place ≤ p)) (sym n) near in
       kept-here merged (kept_event seen o) (record { place = k.place; error = seen k.error }) (record { place = p; error = x }) y (ap (kept_event seen) (sym n)) (omega (arith, l, m)) e
 
   -- the same, where the place is left as it is
-  pub keeps_there : {o : Option (Located E)} {k : Located E} → Some k ≡ o → MatchOption o ⊤ (λ older. older.place ≤ p) → p ≤ k.place → y ≡ merged (seen k.error) x → Some (record { place = k.place; error = y }) ≡ primary merged (option_to_list (kept_event seen o) ++ record { place = p; error = x } ∷ [])
+  pub keeps_there : {o : Option (Located E)} {k : Located E} → Some k ≡ o → MatchOption o ⊤ (λ older. older.place ≤ p)
+      → p ≤ k.place → y ≡ merged (seen k.error) x
+      → Some (record { place = k.place; error = y })
+      ≡ primary merged (option_to_list (kept_event seen o) ++ record { place = p; error = x } ∷ [])
   keeps_there {o = o} {k = k} n near l e =
       let m : k.place ≤ p = subst (λ z. MatchOption z ⊤ (λ older. older.place ≤ p)) (sym n) near in
       let here : k.place ≡ p = omega (arith, l, m) in

@@ -41,7 +41,9 @@ module _ {T : Type 0} (bucket : T → ℕ) where
   more-marked marks m [] f = tt
   more-marked marks m (p ∷ ps) f = (or_keeps marks m (wanted_bucket bucket (pattern_wanted p)) f.0, more-marked marks m ps f.1)
 
-  one-more : (marks : ℕ) (p : RichPattern T) (ps : List (RichPattern T)) → bit_at marks (wanted_bucket bucket (pattern_wanted p)) ≡ 1 → AreMarked bucket marks ps → AreMarked bucket marks (ps ++ p ∷ [])
+  one-more : (marks : ℕ) (p : RichPattern T) (ps : List (RichPattern T))
+      → bit_at marks (wanted_bucket bucket (pattern_wanted p)) ≡ 1 → AreMarked bucket marks ps
+      → AreMarked bucket marks (ps ++ p ∷ [])
   one-more marks p [] e f = (e, tt)
   one-more marks p (q ∷ ps) e f = (f.0, one-more marks p ps e f.1)
 
@@ -76,7 +78,9 @@ module _ {T : Type 0} (eq : T → T → Bool) (bucket : T → ℕ) where
       by false is = refl
       by true is = absurd (apart marks m (wanted_bucket bucket v) none (marks_shared v w m h is) f)
 
-  none_same : (marks m : ℕ) (p : RichPattern T) (ps : List (RichPattern T)) → bit_and marks m ≡ 0 → MarksBucket eq bucket (pattern_wanted p) m → AreMarked bucket marks ps → list_any (λ x. pattern_same eq x p) ps ≡ false
+  none_same : (marks m : ℕ) (p : RichPattern T) (ps : List (RichPattern T)) → bit_and marks m ≡ 0
+      → MarksBucket eq bucket (pattern_wanted p) m → AreMarked bucket marks ps
+      → list_any (λ x. pattern_same eq x p) ps ≡ false
   none_same marks m p [] none h f = refl
   none_same marks m p (q ∷ ps) none h f =
       let here : pattern_same eq q p ≡ false = differs marks m (pattern_wanted q) (pattern_wanted p) none h f.0 in
@@ -84,18 +88,28 @@ module _ {T : Type 0} (eq : T → T → Bool) (bucket : T → ℕ) where
       ap (λ b. b || list_any (λ x. pattern_same eq x p) ps) here ∙ there
 
   -- a pattern in a bucket without a mark is none of the others
-  pub pattern-new : (marks m : ℕ) (p : RichPattern T) (ps : List (RichPattern T)) → bit_and marks m ≡ 0 → MarksBucket eq bucket (pattern_wanted p) m → AreMarked bucket marks ps → ps ++ p ∷ [] ≡ add_new (pattern_same eq) ps (p ∷ [])
+  pub pattern-new : (marks m : ℕ) (p : RichPattern T) (ps : List (RichPattern T)) → bit_and marks m ≡ 0
+      → MarksBucket eq bucket (pattern_wanted p) m → AreMarked bucket marks ps
+      → ps ++ p ∷ [] ≡ add_new (pattern_same eq) ps (p ∷ [])
   pattern-new marks m p ps none h f = sym (ap (λ b. cond b ps (ps ++ p ∷ [])) (none_same marks m p ps none h f))
 
   -- the patterns, and one more with its mark
-  marked-more : (marks m : ℕ) (p : RichPattern T) (ps : List (RichPattern T)) → MarksBucket eq bucket (pattern_wanted p) m → AreMarked bucket marks ps → AreMarked bucket (bit_or marks m) (ps ++ p ∷ [])
+  marked-more : (marks m : ℕ) (p : RichPattern T) (ps : List (RichPattern T))
+      → MarksBucket eq bucket (pattern_wanted p) m → AreMarked bucket marks ps
+      → AreMarked bucket (bit_or marks m) (ps ++ p ∷ [])
   marked-more marks m p ps h f = one-more bucket (bit_or marks m) p ps (or_sets marks m (wanted_bucket bucket (pattern_wanted p)) (marks_own (pattern_wanted p) m h)) (more-marked bucket marks m ps f)
 
   -- the patterns, and one more with its mark, where it is new
-  pub pattern-marked : (marks m : ℕ) (p : RichPattern T) (ps : List (RichPattern T)) → MarksBucket eq bucket (pattern_wanted p) m → AreMarked bucket marks ps → AreMarked bucket (bit_or marks m) (add_new (pattern_same eq) ps (p ∷ []))
+  pub pattern-marked : (marks m : ℕ) (p : RichPattern T) (ps : List (RichPattern T))
+      → MarksBucket eq bucket (pattern_wanted p) m → AreMarked bucket marks ps
+      → AreMarked bucket (bit_or marks m) (add_new (pattern_same eq) ps (p ∷ []))
   pattern-marked marks m p ps h f =
-      elim (list_any (λ x. pattern_same eq x p) ps) as (λ b. AreMarked bucket (bit_or marks m) (cond b ps (ps ++ p ∷ []))) [ true ↦ more-marked bucket marks m ps f | false ↦ marked-more marks m p ps h f ]
+      elim (list_any (λ x. pattern_same eq x p) ps) as
+      (λ b. AreMarked bucket (bit_or marks m) (cond b ps (ps ++ p ∷ [])))
+      [ true ↦ more-marked bucket marks m ps f | false ↦ marked-more marks m p ps h f ]
 
   -- the patterns before place i, and the one there with its mark
-  pub marked-next : (marks m i : ℕ) (p : RichPattern T) (ps : List (RichPattern T)) → i < length ps → p ≡ get_or ps i p → MarksBucket eq bucket (pattern_wanted p) m → AreMarked bucket marks (take i ps) → AreMarked bucket (bit_or marks m) (take (i + 1) ps)
+  pub marked-next : (marks m i : ℕ) (p : RichPattern T) (ps : List (RichPattern T)) → i < length ps
+      → p ≡ get_or ps i p → MarksBucket eq bucket (pattern_wanted p) m → AreMarked bucket marks (take i ps)
+      → AreMarked bucket (bit_or marks m) (take (i + 1) ps)
   marked-next marks m i p ps l is h f = subst (λ t. AreMarked bucket (bit_or marks m) t) (sym (take_more ps i p l ∙ ap (λ q. take i ps ++ q ∷ []) (sym is))) (marked-more marks m p (take i ps) h f)

@@ -33,7 +33,9 @@ module _ {T : Type 0} where
       rw (lt-ltb i (suc i) (omega arith), before, e) refl
 
   -- tokens with their own spans are as they are
-  with_own_spans : (span : ℕ → ℕ → SimpleSpan) (i : ℕ) (us : List (Spanned T SimpleSpan)) → ((k : ℕ) (u : Spanned T SimpleSpan) → slice_get us k ≡ Some u → span (i + k) (suc (i + k)) ≡ u.span) → with_spans span i (map inner us) ≡ us
+  with_own_spans : (span : ℕ → ℕ → SimpleSpan) (i : ℕ) (us : List (Spanned T SimpleSpan))
+      → ((k : ℕ) (u : Spanned T SimpleSpan) → slice_get us k ≡ Some u → span (i + k) (suc (i + k)) ≡ u.span)
+      → with_spans span i (map inner us) ≡ us
   unfolding with_spans
   with_own_spans span i [] h = refl
   with_own_spans span i (u ∷ us) h =
@@ -55,16 +57,21 @@ module _ {T : Type 0} where
   pub part_seen : (ts us : List (Spanned T SimpleSpan)) (end other last : SimpleSpan) (i j : ℕ) → token_layout ts end ≡ token_layout us other → last ≡ point end (slice_get ts j)
       → ◌≡◌ {A = List (Spanned T SimpleSpan) × SimpleSpan} (take (j - i) (drop i ts), last) (part_of (token_layout us other) i j)
   part_seen ts us end other last i j same e =
-      let own : ◌≡◌ {A = List (Spanned T SimpleSpan) × SimpleSpan} (take (j - i) (drop i ts), last) (part_of (token_layout ts end) i j) = rw (spans_of_part ts end i (j - i), no_span ts end j, e) refl in
+      let own : ◌≡◌ {A = List (Spanned T SimpleSpan) × SimpleSpan} (take (j - i) (drop i ts), last) (part_of (token_layout ts end) i j) =
+      rw (spans_of_part ts end i (j - i), no_span ts end j, e) refl in
       own ∙ ap (λ l. part_of l i j) same
 
 module _ {A T : Type 0} where
   -- the token in the element at a place
-  pub token_in : (apart : A → Spanned T SimpleSpan) (es : List A) (place : ℕ) (element : A) (token : T) → slice_get es place ≡ Some element → token ≡ (apart element).inner → Some token ≡ slice_get (map inner (map apart es)) place
+  pub token_in : (apart : A → Spanned T SimpleSpan) (es : List A) (place : ℕ) (element : A) (token : T)
+      → slice_get es place ≡ Some element → token ≡ (apart element).inner
+      → Some token ≡ slice_get (map inner (map apart es)) place
   token_in apart es place element token here is = rw (slice_get-map inner (map apart es) place, slice_get-map apart es place, here, is) refl
 
   -- a part of elements that are taken apart
-  pub mapped_part_seen : (apart : A → Spanned T SimpleSpan) (es : List A) (us : List (Spanned T SimpleSpan)) (end other last : SimpleSpan) (i j : ℕ) → token_layout (map apart es) end ≡ token_layout us other → last ≡ point end (slice_get (map apart es) j)
+  pub mapped_part_seen : (apart : A → Spanned T SimpleSpan) (es : List A) (us : List (Spanned T SimpleSpan))
+      (end other last : SimpleSpan) (i j : ℕ)
+      → token_layout (map apart es) end ≡ token_layout us other → last ≡ point end (slice_get (map apart es) j)
       → ◌≡◌ {A = List (Spanned T SimpleSpan) × SimpleSpan} (map apart (take (j - i) (drop i es)), last) (part_of (token_layout us other) i j)
   mapped_part_seen apart es us end other last i j same e =
       rw (sym (take-map apart (j - i) (drop i es)), sym (drop-map apart i es)) (part_seen (map apart es) us end other last i j same e)

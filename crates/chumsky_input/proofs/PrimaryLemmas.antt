@@ -52,8 +52,12 @@ module _ {Er : Type 0} (merged : Er → Er → Er) where
       let whole : furthest ((x ∷ xs) ++ ys) ≡ top = furthest-append (x ∷ xs) ys in
       let kept : primary merged (x ∷ xs) ≡ Some k = ap (merged_left merged) first.2 in
       let kept_top : furthest (k ∷ ys) ≡ top = ap (λ p. max p (furthest ys)) first.3 in
-      let left : primary merged (option_to_list (primary merged (x ∷ xs)) ++ ys) ≡ merged_left merged (events_at top (k ∷ ys)) = ap (λ o. primary merged (option_to_list o ++ ys)) kept ∙ ap (λ p. merged_left merged (events_at p (k ∷ ys))) kept_top in
-      let right : primary merged ((x ∷ xs) ++ ys) ≡ merged_left merged (events_at top (x ∷ xs) ++ events_at top ys) = ap (λ p. merged_left merged (events_at p ((x ∷ xs) ++ ys))) whole ∙ ap (merged_left merged) (events_at-append top (x ∷ xs) ys) in
+      let left : primary merged (option_to_list (primary merged (x ∷ xs)) ++ ys) ≡ merged_left merged (events_at top (k ∷ ys)) =
+      ap (λ o. primary merged (option_to_list o ++ ys)) kept
+      ∙ ap (λ p. merged_left merged (events_at p (k ∷ ys))) kept_top in
+      let right : primary merged ((x ∷ xs) ++ ys) ≡ merged_left merged (events_at top (x ∷ xs) ++ events_at top ys) =
+      ap (λ p. merged_left merged (events_at p ((x ∷ xs) ++ ys))) whole
+      ∙ ap (merged_left merged) (events_at-append top (x ∷ xs) ys) in
       let middle : merged_left merged (events_at top (k ∷ ys)) ≡ merged_left merged (events_at top (x ∷ xs) ++ events_at top ys) =
       elim (eqb_tells (furthest (x ∷ xs)) top) [
         | inl t ↦
@@ -144,7 +148,9 @@ module _ {Er : Type 0} (merged : Er → Er → Er) where
   pub kept-nearer : (o : Option (Event Er)) (k e : Event Er) → o ≡ Some k → e.place < k.place → Some k ≡ primary merged (option_to_list o ++ e ∷ [])
   kept-nearer o k e h n = sym (ap (λ q. primary merged (option_to_list q ++ e ∷ [])) h ∙ primary-nearer k e n)
 
-  pub kept-here : (o : Option (Event Er)) (k e : Event Er) (m : Er) → o ≡ Some k → k.place ≡ e.place → m ≡ merged k.error e.error → Some (record { place = e.place; error = m }) ≡ primary merged (option_to_list o ++ e ∷ [])
+  pub kept-here : (o : Option (Event Er)) (k e : Event Er) (m : Er) → o ≡ Some k → k.place ≡ e.place
+      → m ≡ merged k.error e.error
+      → Some (record { place = e.place; error = m }) ≡ primary merged (option_to_list o ++ e ∷ [])
   kept-here o k e m h n q = ap (λ a. Some (record { place = e.place; error = a })) q ∙ sym (ap (λ q. primary merged (option_to_list q ++ e ∷ [])) h ∙ primary-here k e n)
 
   pub kept-same : (o : Option (Event Er)) → o ≡ primary merged (option_to_list o ++ [])

@@ -44,7 +44,8 @@ module _ {I X Cu Tok Sp Er St Cx Mk : Type 0} (source : input_trait.Ghosts I Cu 
     -- f may be called with any argument and any extra whose cursors are in order, and keeps the reference to the state
     pub record KeepsState : Type 0 where
       pub may : (a : A) (x : MutBor (MapExtra I X Cu Tok Sp Er St Cx Mk)) → InOrder x.now → calls.pre f (a, (x, tt))
-      pub keeps : (a : A) (x left : MutBor (MapExtra I X Cu Tok Sp Er St Cx Mk)) (r : R) → InOrder x.now → calls.post f (a, (x, tt)) (r, (left, tt)) → left.now.state.ghost_name ≡ x.now.state.ghost_name
+      pub keeps : (a : A) (x left : MutBor (MapExtra I X Cu Tok Sp Er St Cx Mk)) (r : R) → InOrder x.now
+          → calls.post f (a, (x, tt)) (r, (left, tt)) → left.now.state.ghost_name ≡ x.now.state.ghost_name
 
     -- f may answer r to a and an extra that shows x, and leave the state s
     pub record MayAnswer (a : A) (x : Shown Tok Cx states.Seen) (r : R) (s : states.Seen) : Type 0 where

@@ -68,7 +68,9 @@ module _ {I X Tok Sp Cu Er St Cx Mk : Type 0} (source : input_trait.Ghosts I Cu 
 
   -- the last error is handed out, and the older one kept in its place; or there is no memory for it
   abbrev pub HandsOutLast : Option (Located Er) → InputRef I X Cu Tok Sp Er St Cx Mk → InputRef I X Cu Tok Sp Er St Cx Mk → Failure Er → Type 0
-  HandsOutLast older old new failure = HandsOut errors.takes_no_memory (final_error errors.expectation source.span_between) (option_map (located errors.seen) older) (view old) (view new) (failure_seen errors.seen failure)
+  HandsOutLast older old new failure =
+      HandsOut errors.takes_no_memory (final_error errors.expectation source.span_between)
+      (option_map (located errors.seen) older) (view old) (view new) (failure_seen errors.seen failure)
 
   -- the older error counts as kept before the one that is kept; or the two clash, and neither is
   abbrev pub KeepsBefore : {V A : Type 0} → Option (Located Er) → InputRef I X Cu Tok Sp Er St Cx Mk → InputRef I X Cu Tok Sp Er St Cx Mk → Result V A → Type 0
@@ -86,4 +88,7 @@ module _ {I X Tok Sp Cu Er St Cx Mk : Type 0} (source : input_trait.Ghosts I Cu 
   abbrev pub BringsBack : {V A : Type 0} → Aside Er → InputRef I X Cu Tok Sp Er St Cx Mk → InputRef I X Cu Tok Sp Er St Cx Mk → Result V A → Type 0
   BringsBack older old new result =
       let kept = option_map (located errors.seen) older.kept in
-      MatchResult result (λ _. view new ≡ brought_back errors.merged kept (map errors.seen older.emitted.items) (view old)) (λ _. (ClashesWith errors.takes_no_memory kept (view old).kept ⊎ (¬ ((view old).emitted ≡ []))) × SameButErrors (view old) (view new))
+      MatchResult result
+      (λ _. view new ≡ brought_back errors.merged kept (map errors.seen older.emitted.items) (view old))
+      (λ _. (ClashesWith errors.takes_no_memory kept (view old).kept ⊎ (¬ ((view old).emitted ≡ []))) ×
+      SameButErrors (view old) (view new))

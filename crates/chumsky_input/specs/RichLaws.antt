@@ -26,9 +26,14 @@ patterns-seen seen [] = refl
 patterns-seen seen (p ∷ ps) = ap (λ t. pattern_seen seen p ∷ t) (patterns-seen seen ps)
 
 -- an error with the span and the found token of another, and one label for patterns, counts as that one with the label
-pub labelled-seen : {T S : Type 0} (seen : T → S) (e r : Rich T) (text : List ℕ) → rich_span r ≡ rich_span e → rich_found r ≡ rich_found e → map pattern_wanted (rich_patterns r) ≡ Label text ∷ [] → rich_message r ≡ None → rich_seen seen r ≡ rich_labelled text (rich_seen seen e)
+pub labelled-seen : {T S : Type 0} (seen : T → S) (e r : Rich T) (text : List ℕ) → rich_span r ≡ rich_span e
+    → rich_found r ≡ rich_found e → map pattern_wanted (rich_patterns r) ≡ Label text ∷ [] → rich_message r ≡ None
+    → rich_seen seen r ≡ rich_labelled text (rich_seen seen e)
 labelled-seen {S = S} seen e r text spans founds patterns messages =
     ap (λ t. let s : RichSeen S = record { span = t; found = option_map seen (rich_found r); expected = map (pattern_seen seen) (rich_patterns r); message = rich_message r } in s) spans
     ∙ ap (λ t. let s : RichSeen S = record { span = rich_span e; found = option_map seen t; expected = map (pattern_seen seen) (rich_patterns r); message = rich_message r } in s) founds
-    ∙ ap (λ t. let s : RichSeen S = record { span = rich_span e; found = option_map seen (rich_found e); expected = t; message = rich_message r } in s) (patterns-seen seen (rich_patterns r) ∙ ap (map (wanted_map seen)) patterns)
+    ∙ ap (λ t. let s : RichSeen S
+    = record { span = rich_span e; found = option_map seen (rich_found e); expected = t; message = rich_message r }
+    in s)
+    (patterns-seen seen (rich_patterns r) ∙ ap (map (wanted_map seen)) patterns)
     ∙ ap (λ t. let s : RichSeen S = record { span = rich_span e; found = option_map seen (rich_found e); expected = Label text ∷ []; message = t } in s) messages

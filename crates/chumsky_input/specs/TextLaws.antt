@@ -1,9 +1,11 @@
-use Rattle.std.proofs.Common.{◌≡◌, ℕ, ◌+◌, ◌≤◌, ◌<◌, List, [], ◌∷◌, ◌++◌, length, take, drop, slice_get, Some, None, refl, sym, ◌∙◌, ap, arith, append_assoc, length-append, ⊎_elim, ◌-◌, IsTrue, nat_lt}
+use Rattle.std.proofs.Common.{◌≡◌, ℕ, ◌+◌, ◌≤◌, ◌<◌, List, [], ◌∷◌, ◌++◌, length, take, drop, slice_get, Some, None, refl, sym, ◌∙◌, ap, arith}
+use Rattle.std.proofs.Common.{append_assoc, length-append, ⊎_elim, ◌-◌, IsTrue, nat_lt}
 use Rattle.std.proofs.lemmas.List.{take-append-drop, take_at, drop_at, length-take-le}
 use Rattle.std.proofs.Math.Seq.{take-add}
 use Rattle.std.proofs.lemmas.Bool.{cases_lt}
 use Rattle.std.proofs.lemmas.Bool.Decides.{nat_tests}
-use Rattle.std.proofs.lemmas.Str.{chars-nil, chars-append, chars_past_char, IsUtf8-take, IsUtf8-drop, IsCharBoundary-past_char, IsCharBoundary-start, encodes-chars, drop_past_char, encodes-append, length-le-encodes}
+use Rattle.std.proofs.lemmas.Str.{chars-nil, chars-append, chars_past_char, IsUtf8-take, IsUtf8-drop, IsCharBoundary-past_char, IsCharBoundary-start}
+use Rattle.std.proofs.lemmas.Str.{encodes-chars, drop_past_char, encodes-append, length-le-encodes}
 use Rattle.std.proofs.lemmas.Option.{slice_get_past}
 use Rattle.std.proofs.lemmas.List.{nil_from_length}
 use Rattle.std.specs.Str.{chars, encode_utf8_all, IsUtf8}
@@ -76,7 +78,8 @@ text_le bs c d h k l =
     let m : text_offset bs (text_place bs c) ≤ text_offset bs (text_place bs d) = text_offset_mono bs (text_place bs c) (text_place bs d) l in
     omega (arith, text_offset_place bs c h, text_offset_place bs d k, m)
 
-pub text_is_before : (bs : List ℕ) (c d : ℕ) → IsTextCursor bs c → IsTextCursor bs d → (IsTrue (nat_lt c d) → text_place bs c < text_place bs d) × (text_place bs c < text_place bs d → IsTrue (nat_lt c d))
+pub text_is_before : (bs : List ℕ) (c d : ℕ) → IsTextCursor bs c → IsTextCursor bs d
+    → (IsTrue (nat_lt c d) → text_place bs c < text_place bs d) × (text_place bs c < text_place bs d → IsTrue (nat_lt c d))
 text_is_before bs c d h k = (
   λ t. text_before bs c d h k (grind (arith, nat_tests)),
   λ l. ⊎_elim (λ m. grind (arith, nat_tests)) (λ m. absurd (let n = text_not_before bs c d h k m in omega arith)) (cases_lt c d),
@@ -90,7 +93,9 @@ text_between bs c d h k l =
     let middle = take (d - c) (drop c bs) in
     let split : take d bs ≡ take c bs ++ middle = (let e : c + (d - c) ≡ d = omega arith in rw (← e) (take-add c (d - c) bs ∙ ap (λ n. take c bs ++ take n (drop c bs)) (omega arith))) in
     let front : chars (take d bs) ≡ chars (take c bs) ++ chars middle = ap chars split ∙ chars-append (take c bs) middle (IsUtf8-take bs c h.text h.boundary) in
-    let whole : chars bs ≡ chars (take c bs) ++ (chars middle ++ chars (drop d bs)) = chars_cut bs d k ∙ ap (λ t. t ++ chars (drop d bs)) front ∙ append_assoc (chars (take c bs)) (chars middle) (chars (drop d bs)) in
+    let whole : chars bs ≡ chars (take c bs) ++ (chars middle ++ chars (drop d bs)) =
+    chars_cut bs d k ∙ ap (λ t. t ++ chars (drop d bs)) front
+    ∙ append_assoc (chars (take c bs)) (chars middle) (chars (drop d bs)) in
     let n : length (chars middle) ≡ text_place bs d - text_place bs c = (let e = ap length front in omega (arith, simp length-append at e)) in
     sym (ap (λ t. take (text_place bs d - text_place bs c) (drop (text_place bs c) t)) whole
     ∙ ap (take (text_place bs d - text_place bs c)) (drop_at (chars (take c bs)) (chars middle ++ chars (drop d bs)) (text_place bs c) refl)

@@ -20,14 +20,19 @@ use Rattle.chumsky_input.proofs.PrimaryLemmas.{kept-nearer}
 use Rattle.chumsky_label.specs.Labelling.{LabelsSeen}
 use Rattle.chumsky_label.specs.Labelled.{RelabelsAt, Relabels, LabelledAs, MeansLabelled, Relabelled, KeepsLabelled, LosesLabelled}
 
-module _ {Tok Cx St Er V : Type 0} (merged : Er → Er → Er) (safe : Type 0) (maps : Er → Er → Type 0) (free : Type 0) (part : Meaning Tok Cx St Er V) (w : Bool) (old mid : Held Tok Cx St Er) where
-  inside : (new : Held Tok Cx St Er) (r : Result (Option V) Fault) → Ran merged safe (Shielded part (λ b v p o. LabelledAs merged maps free (Yes v) b p o) (λ b p o. LabelledAs merged maps free No b p o)) w old new r → Ran merged safe (MeansLabelled merged maps free part) w old new r
+module _ {Tok Cx St Er V : Type 0} (merged : Er → Er → Er) (safe : Type 0) (maps : Er → Er → Type 0) (free : Type 0)
+    (part : Meaning Tok Cx St Er V) (w : Bool) (old mid : Held Tok Cx St Er) where
+  inside : (new : Held Tok Cx St Er) (r : Result (Option V) Fault)
+      → Ran merged safe
+      (Shielded part (λ b v p o. LabelledAs merged maps free (Yes v) b p o) (λ b p o. LabelledAs merged maps free No b p o))
+      w old new r
+      → Ran merged safe (MeansLabelled merged maps free part) w old new r
   inside new r h = ran-weaker merged safe _ _ w old new r (λ o k. record { run = k }) h
 
-  pub labelled_stops : {s : Stop} → Ran merged safe part w (record old { kept = None }) mid (Err (fault.Stop s)) → Ran merged safe (MeansLabelled merged maps free part) w old mid (Err (fault.Stop s))
-  labelled_stops h = inside mid _ (shield_stop h)
-
-  module _ (u : Verdict V Er) (is : IsAnswer u) (went : Went merged safe part w old mid u) (judge : (o : Outcome V Er St) → LabelledAs merged maps free u (begin w old) went.first o → ByVerdict u (λ b v p o. LabelledAs merged maps free (Yes v) b p o) (λ b p o. LabelledAs merged maps free No b p o) (begin w old) went.first o) where
+  module _ (u : Verdict V Er) (is : IsAnswer u) (went : Went merged safe part w old mid u)
+      (judge : (o : Outcome V Er St) → LabelledAs merged maps free u (begin w old) went.first o
+      → ByVerdict u (λ b v p o. LabelledAs merged maps free (Yes v) b p o)
+      (λ b p o. LabelledAs merged maps free No b p o) (begin w old) went.first o) where
     kept_is : mid.kept ≡ primary merged went.first.events
     kept_is = ap (λ (z : Held Tok Cx St Er). z.kept) went.left
 
@@ -37,7 +42,10 @@ module _ {Tok Cx St Er V : Type 0} (merged : Er → Er → Er) (safe : Type 0) (
         inside new _ (shield_whole went whole new is (judge whole (record { says = inr (k.event, subst (λ z. Relabels maps old.place z k.event) kept_is k.relabels, inl refl) }))
         (k.left ∙ ap (λ (z : Held Tok Cx St Er). record z { kept = primary merged (option_to_list old.kept ++ option_to_list k.event) }) went.left))
 
-    loses : (new : Held Tok Cx St Er) → ((free → ⊥) ⊎ ((k : Option (Event Er)) × Relabels maps old.place mid.kept k × ClashesWith safe old.kept k)) → new ≡ record mid { kept = None } → Ran merged safe (MeansLabelled merged maps free part) w old new (Err (fault.Stop Memory))
+    loses : (new : Held Tok Cx St Er)
+        → ((free → ⊥) ⊎ ((k : Option (Event Er)) × Relabels maps old.place mid.kept k × ClashesWith safe old.kept k))
+        → new ≡ record mid { kept = None }
+        → Ran merged safe (MeansLabelled merged maps free part) w old new (Err (fault.Stop Memory))
     loses new (inl may) n =
         let l = n ∙ ap (λ (z : Held Tok Cx St Er). record z { kept = None }) went.left in
         inside new _ (shield_halts went new (λ o v s. judge o (record { says = inl (may, v, s ∙ ap (λ (z : Held Tok Cx St Er). z.state) l) }))
@@ -46,19 +54,38 @@ module _ {Tok Cx St Er V : Type 0} (merged : Er → Er → Er) (safe : Type 0) (
         let l = n ∙ ap (λ (z : Held Tok Cx St Er). record z { kept = None }) went.left in
         let whole : Outcome V Er St = record (retold u went.first) { events = option_to_list k.0 } in
         inside new _ (shield_clash went whole k.2.0 new (ap option_to_list k.2.1) (λ o j. judge o (record { says = inr (k.0, subst (λ z. Relabels maps old.place z k.0) kept_is k.1, j) }))
-        (ap (λ (z : Held Tok Cx St Er). z.state) l) (record { tokens = ap (λ (z : Held Tok Cx St Er). z.tokens) l; context = ap (λ (z : Held Tok Cx St Er). z.context) l }) (ap (λ (z : Held Tok Cx St Er). z.stopped) l) k.2.2 k.2.3)
+        (ap (λ (z : Held Tok Cx St Er). z.state) l)
+        (record { tokens = ap (λ (z : Held Tok Cx St Er). z.tokens) l; context = ap (λ (z : Held Tok Cx St Er). z.context) l })
+        (ap (λ (z : Held Tok Cx St Er). z.stopped) l) k.2.2 k.2.3)
 
-  pub labelled_yes : (v : Option V) (new : Held Tok Cx St Er) → Ran merged safe part w (record old { kept = None }) mid (Ok v) → KeepsLabelled merged maps old.place old.kept mid new → Ran merged safe (MeansLabelled merged maps free part) w old new (Ok v)
-  labelled_yes v new h k = keeps (Yes v) tt (went_yes merged safe part w old mid v h) (λ o j. j) new k
+module _ {Tok Cx St Er V : Type 0} {merged : Er → Er → Er} {safe : Type 0} {maps : Er → Er → Type 0} {free : Type 0}
+    {part : Meaning Tok Cx St Er V} {w : Bool} {old mid : Held Tok Cx St Er} where
+  pub labelled_stops : {s : Stop} → Ran merged safe part w (record old { kept = None }) mid (Err (fault.Stop s)) → Ran merged safe (MeansLabelled merged maps free part) w old mid (Err (fault.Stop s))
+  labelled_stops h = inside merged safe maps free part w old mid mid _ (shield_stop h)
 
-  pub labelled_yes_lost : (v : Option V) (new : Held Tok Cx St Er) → Ran merged safe part w (record old { kept = None }) mid (Ok v) → LosesLabelled safe maps free old.place old.kept mid new → Ran merged safe (MeansLabelled merged maps free part) w old new (Err (fault.Stop Memory))
-  labelled_yes_lost v new h k = loses (Yes v) tt (went_yes merged safe part w old mid v h) (λ o j. j) new k.0 k.1
+  pub labelled_yes : {v : Option V} {new : Held Tok Cx St Er}
+      → Ran merged safe part w (record old { kept = None }) mid (Ok v)
+      → KeepsLabelled merged maps old.place old.kept mid new
+      → Ran merged safe (MeansLabelled merged maps free part) w old new (Ok v)
+  labelled_yes {v} {new} h k = keeps merged safe maps free part w old mid (Yes v) tt (went_yes merged safe part w old mid v h) (λ o j. j) new k
 
-  pub labelled_no : (new : Held Tok Cx St Er) → Ran merged safe part w (record old { kept = None }) mid (Err fault.Fail) → KeepsLabelled merged maps old.place old.kept mid new → Ran merged safe (MeansLabelled merged maps free part) w old new (Err fault.Fail)
-  labelled_no new h k = keeps No tt (went_no merged safe part w old mid h) (λ o j. j) new k
+  pub labelled_yes_lost : {v : Option V} {new : Held Tok Cx St Er}
+      → Ran merged safe part w (record old { kept = None }) mid (Ok v)
+      → LosesLabelled safe maps free old.place old.kept mid new
+      → Ran merged safe (MeansLabelled merged maps free part) w old new (Err (fault.Stop Memory))
+  labelled_yes_lost {v} {new} h k = loses merged safe maps free part w old mid (Yes v) tt (went_yes merged safe part w old mid v h) (λ o j. j) new k.0 k.1
 
-  pub labelled_no_lost : (new : Held Tok Cx St Er) → Ran merged safe part w (record old { kept = None }) mid (Err fault.Fail) → LosesLabelled safe maps free old.place old.kept mid new → Ran merged safe (MeansLabelled merged maps free part) w old new (Err (fault.Stop Memory))
-  labelled_no_lost new h k = loses No tt (went_no merged safe part w old mid h) (λ o j. j) new k.0 k.1
+  pub labelled_no : {new : Held Tok Cx St Er}
+      → Ran merged safe part w (record old { kept = None }) mid (Err fault.Fail)
+      → KeepsLabelled merged maps old.place old.kept mid new
+      → Ran merged safe (MeansLabelled merged maps free part) w old new (Err fault.Fail)
+  labelled_no {new} h k = keeps merged safe maps free part w old mid No tt (went_no merged safe part w old mid h) (λ o j. j) new k
+
+  pub labelled_no_lost : {new : Held Tok Cx St Er}
+      → Ran merged safe part w (record old { kept = None }) mid (Err fault.Fail)
+      → LosesLabelled safe maps free old.place old.kept mid new
+      → Ran merged safe (MeansLabelled merged maps free part) w old new (Err (fault.Stop Memory))
+  labelled_no_lost {new} h k = loses merged safe maps free part w old mid No tt (went_no merged safe part w old mid h) (λ o j. j) new k.0 k.1
 
 module _ {Tok Cx St Er A B : Type 0} (merged : Er → Er → Er) (safe : Type 0) (maps : Er → Er → Type 0) (free : Type 0) (start : ℕ) (older : Option (Event Er)) (old mid new : Held Tok Cx St Er) where
   -- the event that is kept was labelled, and the older one is put before it
@@ -85,11 +112,21 @@ module _ {E Er : Type 0} (merged : Er → Er → Er) (safe : Type 0) (seen label
         | inl t ↦
             record {
               event = Some (record { place = x.place; error = labelled x.error });
-              relabels = subst (λ at. RelabelsAt (LabelsSeen seen labelled) at (located seen x) (Some (record { place = x.place; error = labelled x.error }))) (sym t.0) (labelled x.error, record { error = x.error; counts = refl; says = refl }, refl);
+              relabels =
+                  subst
+                  (λ at. RelabelsAt (LabelsSeen seen labelled) at (located seen x)
+                  (Some (record { place = x.place; error = labelled x.error })))
+                  (sym t.0) (labelled x.error, record { error = x.error; counts = refl; says = refl }, refl);
               same =
                   sym (kept-nearer merged (Some (located seen o)) (located seen o) (located seen x) refl (omega (arith, h, t.1)))
                   ∙ kept-nearer merged (Some (located seen o)) (located seen o) (record { place = x.place; error = labelled x.error }) refl (omega (arith, h, t.1));
-              clashes = λ c. let e : located seen x ≡ c.0 = cc in (record { place = x.place; error = labelled x.error }, refl, c.2, subst (λ (z : Event Er). HasEventAt z.place (located seen o ∷ [])) (sym e) c.3);
+              clashes = λ c.
+                  let e : located seen x ≡ c.0 = cc in (
+                    record { place = x.place; error = labelled x.error },
+                    refl,
+                    c.2,
+                    subst (λ (z : Event Er). HasEventAt z.place (located seen o ∷ [])) (sym e) c.3,
+                  );
             }
         | inr f ↦
             record {
@@ -105,9 +142,13 @@ module _ {E Er : Type 0} (merged : Er → Er → Er) (safe : Type 0) (seen label
   hidden (Some o) None h = record { event = None; relabels = refl; same = refl; clashes = λ c. c }
   hidden (Some o) (Some x) h = hidden_some o x h
 
-  pub keeps_hidden : {Tok Cx St A B : Type 0} (free : Type 0) (old new : Held Tok Cx St Er) (r : Result A B) (older kept : Option (Located E)) → MatchOption older ⊥ (λ o. start < o.place) → old.kept ≡ option_map (located seen) kept
+  pub keeps_hidden : {Tok Cx St A B : Type 0} (free : Type 0) (old new : Held Tok Cx St Er) (r : Result A B)
+      (older kept : Option (Located E))
+      → MatchOption older ⊥ (λ o. start < o.place) → old.kept ≡ option_map (located seen) kept
       → MatchResult r (λ _. new ≡ kept_after merged (option_map (located seen) older) old) (λ _. ClashesWith safe (option_map (located seen) older) old.kept × (new ≡ record old { kept = None }))
-      → MatchResult r (λ _. KeepsLabelled merged (LabelsSeen seen labelled) start (option_map (located seen) older) old new) (λ _. LosesLabelled safe (LabelsSeen seen labelled) free start (option_map (located seen) older) old new)
+      → MatchResult r
+      (λ _. KeepsLabelled merged (LabelsSeen seen labelled) start (option_map (located seen) older) old new)
+      (λ _. LosesLabelled safe (LabelsSeen seen labelled) free start (option_map (located seen) older) old new)
   keeps_hidden free old new (Ok u) older kept h is k =
       let d = hidden older kept h in
       record {

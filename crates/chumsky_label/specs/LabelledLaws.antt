@@ -23,7 +23,12 @@ module _ {Er : Type 0} (maps : Er → Er → Type 0) (once : MapsOnce maps) wher
   relabels_once start (Some x) k l m n = one_at (eqb x.place start) x k l m n
 
 module _ {Tok Cx St Er V : Type 0} (merged : Er → Er → Er) (maps : Er → Er → Type 0) (free : Type 0) (part : Meaning Tok Cx St Er V) where
-  labelled_is : (u : Verdict V Er) (b : Beginning Tok Cx St) (p o : Outcome V Er St) → Refuses (free → ⊥) p.state o ⊎ ((k : Option (Event Er)) × Relabels maps b.start (primary merged p.events) k × OrClash (record (retold u p) { events = option_to_list k }) o) → IsAnswer o.verdict
+  labelled_is : (u : Verdict V Er) (b : Beginning Tok Cx St) (p o : Outcome V Er St)
+      → Refuses (free → ⊥) p.state o
+      ⊎
+      ((k : Option (Event Er)) × Relabels maps b.start (primary merged p.events) k × OrClash
+      (record (retold u p) { events = option_to_list k }) o)
+      → IsAnswer o.verdict
       → (k : Option (Event Er)) × Relabels maps b.start (primary merged p.events) k × (o ≡ record (retold u p) { events = option_to_list k })
   labelled_is u b p o (inl r) a = absurd (subst IsAnswer r.1 a)
   labelled_is u b p o (inr m) a = (m.0, m.1, or_clash-whole m.2 a)
@@ -35,13 +40,19 @@ module _ {Tok Cx St Er V : Type 0} (merged : Er → Er → Er) (maps : Er → Er
   labelled-ends h b o m a = shielded-ends part _ _ h (λ b v p o l j x. labelled_ends (Yes v) b p o l j x) (λ b p o l j x. labelled_ends No b p o l j x) b o m.run a
 
   module _ (sv : V → V → Type 0) (once : MapsOnce maps) where
-    labelled_agree : (u u' : Verdict V Er) (b c : Beginning Tok Cx St) (p p' o q : Outcome V Er St) → SameAnswer sv u u' → Alike b c → Agree sv p p' → LabelledAs merged maps free u b p o → LabelledAs merged maps free u' c p' q → IsAnswer o.verdict → IsAnswer q.verdict → Agree sv o q
+    labelled_agree : (u u' : Verdict V Er) (b c : Beginning Tok Cx St) (p p' o q : Outcome V Er St)
+        → SameAnswer sv u u' → Alike b c → Agree sv p p' → LabelledAs merged maps free u b p o
+        → LabelledAs merged maps free u' c p' q → IsAnswer o.verdict → IsAnswer q.verdict → Agree sv o q
     labelled_agree u u' b c p p' o q s alike g h k a z =
         let m = labelled_is u b p o h.says a in
         let n = labelled_is u' c p' q k.says z in
-        let there : Relabels maps b.start (primary merged p.events) n.0 = subst (λ es. Relabels maps b.start (primary merged es) n.0) (sym g.events) (subst (λ i. Relabels maps i (primary merged p'.events) n.0) (sym alike.start) n.1) in
+        let there : Relabels maps b.start (primary merged p.events) n.0 =
+        subst (λ es. Relabels maps b.start (primary merged es) n.0) (sym g.events)
+        (subst (λ i. Relabels maps i (primary merged p'.events) n.0) (sym alike.start) n.1) in
         let same : m.0 ≡ n.0 = relabels_once maps once b.start (primary merged p.events) m.0 n.0 m.1 there in
-        let told : Agree sv (record (retold u p) { events = option_to_list m.0 }) (record (retold u' p') { events = option_to_list n.0 }) = record { answer = s; end = g.end; state = g.state; events = ap option_to_list same; emitted = g.emitted } in
+        let told : Agree sv (record (retold u p) { events = option_to_list m.0 }) (record (retold u' p') { events = option_to_list n.0 }) =
+        record { answer = s; end = g.end; state = g.state; events = ap option_to_list same; emitted = g.emitted }
+        in
         rw (m.2, n.2) told
 
     pub labelled-agrees : Agreeing sv part part → Agreeing sv (MeansLabelled merged maps free part) (MeansLabelled merged maps free part)
@@ -85,7 +96,9 @@ module _ {Tok Cx St Er V : Type 0} (merged : Er → Er → Er) (maps : Er → Er
         place = ap places events ∙ relabels_place maps b.start (primary merged p.events) m.0 m.1;
       }
 
-  as_part : (u : Verdict V Er) (b : Beginning Tok Cx St) (p o : Outcome V Er St) → part b p → p.verdict ≡ u → ByVerdict u (λ b v p o. LabelledAs merged maps free (Yes v) b p o) (λ b p o. LabelledAs merged maps free No b p o) b p o → IsAnswer o.verdict → (q : Outcome V Er St) × part b q × ButEvents merged q o
+  as_part : (u : Verdict V Er) (b : Beginning Tok Cx St) (p o : Outcome V Er St) → part b p → p.verdict ≡ u
+      → ByVerdict u (λ b v p o. LabelledAs merged maps free (Yes v) b p o) (λ b p o. LabelledAs merged maps free No b p o) b p o
+      → IsAnswer o.verdict → (q : Outcome V Er St) × part b q × ButEvents merged q o
   as_part (Yes v) b p o m e j a = (p, m, but_events (Yes v) b p o e j a)
   as_part No b p o m e j a = (p, m, but_events No b p o e j a)
   as_part (Halt s) b p o m e j a = absurd (subst IsAnswer (ap (λ (x : Outcome V Er St). x.verdict) j) a)
@@ -98,16 +111,23 @@ module _ {Tok Cx St Er V : Type 0} (merged : Er → Er → Er) (maps : Er → Er
   abbrev with_label : Outcome V Er St → Option (Event Er) → Outcome V Er St
   with_label p k = record p { events = option_to_list k }
 
-  labels_it : (u : Verdict V Er) (b : Beginning Tok Cx St) (p : Outcome V Er St) (k : Option (Event Er)) → Relabels maps b.start (primary merged p.events) k → p.verdict ≡ u → LabelledAs merged maps free u b p (with_label p k)
+  labels_it : (u : Verdict V Er) (b : Beginning Tok Cx St) (p : Outcome V Er St) (k : Option (Event Er))
+      → Relabels maps b.start (primary merged p.events) k → p.verdict ≡ u
+      → LabelledAs merged maps free u b p (with_label p k)
   labels_it u b p k m e = record { says = inr (k, m, inl (sym (ap (λ (z : Outcome V Er St). record z { events = option_to_list k }) (retold-same u p e)))) }
 
-  judged : (u : Verdict V Er) (b : Beginning Tok Cx St) (p : Outcome V Er St) (k : Option (Event Er)) → Relabels maps b.start (primary merged p.events) k → p.verdict ≡ u → IsAnswer u → ByVerdict u (λ b v p o. LabelledAs merged maps free (Yes v) b p o) (λ b p o. LabelledAs merged maps free No b p o) b p (with_label p k)
+  judged : (u : Verdict V Er) (b : Beginning Tok Cx St) (p : Outcome V Er St) (k : Option (Event Er))
+      → Relabels maps b.start (primary merged p.events) k → p.verdict ≡ u → IsAnswer u
+      → ByVerdict u (λ b v p o. LabelledAs merged maps free (Yes v) b p o)
+      (λ b p o. LabelledAs merged maps free No b p o) b p (with_label p k)
   judged (Yes v) b p k m e a = labels_it (Yes v) b p k m e
   judged No b p k m e a = labels_it No b p k m e
   judged (Halt s) b p k m e a = absurd a
   judged (Clash s) b p k m e a = absurd a
 
-  answered_by : (b : Beginning Tok Cx St) (p : Outcome V Er St) → part b p → IsAnswer p.verdict → (k : Option (Event Er)) → Relabels maps b.start (primary merged p.events) k → (o : Outcome V Er St) × MeansLabelled merged maps free part b o × ButEvents merged p o
+  answered_by : (b : Beginning Tok Cx St) (p : Outcome V Er St) → part b p → IsAnswer p.verdict
+      → (k : Option (Event Er)) → Relabels maps b.start (primary merged p.events) k
+      → (o : Outcome V Er St) × MeansLabelled merged maps free part b o × ButEvents merged p o
   answered_by b p m a k l = (
     with_label p k,
     record { run = record { first = p; meant = m; judges = judged p.verdict b p k l refl a } },

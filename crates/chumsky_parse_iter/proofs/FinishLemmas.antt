@@ -22,7 +22,7 @@ use Rattle.chumsky_parser.proofs.FailureLemmas.{ran-stops, ran-no}
 use Rattle.chumsky_primitive.specs.End.{MeansEnd}
 use Rattle.chumsky_parse_iter.specs.declared.parse_iter.Phase.{Phase}
 use Rattle.chumsky_parse_iter.specs.declared.parse_iter.Phase.TheVariants.{Unbegun, Running, Ended, Refused}
-use Rattle.chumsky_parse_iter.specs.Settled.{SettlesAs, reported, RefusesBy}
+use Rattle.chumsky_parser.specs.Settled.{SettlesAs, reported, RefusesBy}
 use Rattle.chumsky_parse_iter.specs.Finish.{Closing, ClosesWith, Replies, Finishes, AnswersBeside, AnswersWhole}
 use Rattle.chumsky_parse_iter.specs.Walk.{with_next, GivesCounted, GivesMade, GivesFirst, Steps, WalksOn}
 

@@ -26,7 +26,7 @@ use Rattle.chumsky_parse_iter.specs.declared.parse_iter.ParseIter.{ParseIter}
 use Rattle.chumsky_parse_iter.specs.declared.parse_iter.Parts.{Parts}
 use Rattle.chumsky_parse_iter.specs.declared.parse_iter.Phase.{Phase}
 use Rattle.chumsky_parse_iter.specs.declared.parse_iter.Phase.TheVariants.{Unbegun, Running, Ended, Refused}
-use Rattle.chumsky_parse_iter.specs.Settled.{SettlesAs, reported, RefusesBy}
+use Rattle.chumsky_parser.specs.Settled.{SettlesAs, reported, RefusesBy}
 use Rattle.chumsky_parse_iter.specs.Walk.{held_of, held_in}
 
 module _ {I Tok Sp Cu Er St Mk Cx : Type 0} (source : input_trait.Ghosts I Cu Tok Sp) (errors : error_trait.Ghosts Er I Tok Sp) (states : inspector_trait.Ghosts St I Mk Tok Sp) where

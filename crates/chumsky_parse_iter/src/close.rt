@@ -4,13 +4,13 @@ ghost use Rattle.chumsky_input.specs.Run.{Runs, without_value};
 ghost use Rattle.chumsky_parse_iter.specs.Finish.{Closing, ClosesFrom};
 
 use crate::parse_iter::Phase;
-use crate::settle::settle;
 use chumsky_input::aside::Aside;
 use chumsky_input::extra::ParserExtra;
 use chumsky_input::input::Input;
 use chumsky_input::input_ref::{Finished, InputRef};
 use chumsky_input::stop::{PResult, Stop};
 use chumsky_parser::parser::Parser;
+use chumsky_parser::settle::settle;
 use chumsky_primitive::end::End;
 use std::alloc::Global;
 use std::marker::PhantomData;

@@ -4,5 +4,4 @@
 mod close;
 pub mod laws;
 pub mod parse_iter;
-pub mod settle;
 mod step;

@@ -58,14 +58,20 @@ module _ {Tok Cx St Er V W : Type 0} (merged : Er → Er → Er) (safe : Type 0)
   chained_left p q (Yes _) mid new first l =
       record {
         end = l.end;
-        kept = l.kept ∙ ap (λ k. primary merged (option_to_list k ++ q.events)) first.kept ∙ primary-append merged (option_to_list old.kept ++ p.events) q.events ∙ ap (primary merged) (append_assoc (option_to_list old.kept) p.events q.events);
+        kept =
+            l.kept ∙ ap (λ k. primary merged (option_to_list k ++ q.events)) first.kept
+            ∙ primary-append merged (option_to_list old.kept ++ p.events) q.events
+            ∙ ap (primary merged) (append_assoc (option_to_list old.kept) p.events q.events);
         emitted = l.emitted ∙ ap (λ es. es ++ q.emitted) first.emitted ∙ append_assoc old.emitted p.emitted q.emitted;
         stopped = l.stopped ∙ first.stopped;
       }
   chained_left p q No mid new first l =
       record {
         end = l.end;
-        kept = l.kept ∙ ap (λ k. primary merged (option_to_list k ++ q.events)) first.kept ∙ primary-append merged (option_to_list old.kept ++ p.events) q.events ∙ ap (primary merged) (append_assoc (option_to_list old.kept) p.events q.events);
+        kept =
+            l.kept ∙ ap (λ k. primary merged (option_to_list k ++ q.events)) first.kept
+            ∙ primary-append merged (option_to_list old.kept ++ p.events) q.events
+            ∙ ap (primary merged) (append_assoc (option_to_list old.kept) p.events q.events);
         emitted = l.emitted ∙ ap (λ es. es ++ q.emitted) first.emitted ∙ append_assoc old.emitted p.emitted q.emitted;
         stopped = l.stopped ∙ first.stopped;
       }
@@ -124,7 +130,8 @@ module _ {Tok Cx St Er V : Type 0} (merged : Er → Er → Er) (safe : Type 0) (
   pub ran-weaker : (r : Result (Option V) Fault) → ((o : Outcome V Er St) → m (begin wanted old) o → n (begin wanted old) o) → Ran merged safe m wanted old new r → Ran merged safe n wanted old new r
   ran-weaker r h k = record { outcome = k.outcome; meant = h k.outcome k.meant; answered = k.answered; state = k.state; left = k.left; same = k.same }
 
-module _ {Tok Cx St Er V W : Type 0} (next next' : Option V → Meaning Tok Cx St Er W) (b : Beginning Tok Cx St) (h : (v : Option V) (c : Beginning Tok Cx St) (o : Outcome W Er St) → c.wanted ≡ b.wanted → next v c o → next' v c o) where
+module _ {Tok Cx St Er V W : Type 0} (next next' : Option V → Meaning Tok Cx St Er W) (b : Beginning Tok Cx St)
+    (h : (v : Option V) (c : Beginning Tok Cx St) (o : Outcome W Er St) → c.wanted ≡ b.wanted → next v c o → next' v c o) where
   follows-weaker : (v : Verdict V Er) (p : Outcome V Er St) (o : Outcome W Er St) → Follows v next b p o → Follows v next' b p o
   follows-weaker (Yes v) p o f = (f.0, h v (from b p) f.0 refl f.1, f.2)
   follows-weaker No p o f = f
@@ -170,23 +177,42 @@ check_err e = rw e
 pub check_ok : {V : Type 0} {x : Result (Unit {0}) Fault} {u : Unit {0}} → x ≡ Ok u → without_value {V = V} x ≡ Ok None
 check_ok e = rw e
 
-module _ {Tok Cx St Er V W : Type 0} {merged : Er → Er → Er} {safe : Type 0} {part : Meaning Tok Cx St Er V} {next : Option V → Meaning Tok Cx St Er W} {wanted : Bool} {old new : Held Tok Cx St Er} where
+module _ {Tok Cx St Er V W : Type 0} {merged : Er → Er → Er} {safe : Type 0} {part : Meaning Tok Cx St Er V}
+    {next : Option V → Meaning Tok Cx St Er W} {wanted : Bool} {old new : Held Tok Cx St Er} where
   -- a last part, whose answer without a value is handed on
   pub last_check : (x : Result (Unit {0}) Fault)
-      → Ran merged safe part wanted old new (without_value x) → ((b : Beginning Tok Cx St) (o : Outcome W Er St) → Given None b o → next None b o) → Ran merged safe (Chained part next) wanted old new (without_value x)
+      → Ran merged safe part wanted old new (without_value x)
+      → ((b : Beginning Tok Cx St) (o : Outcome W Er St) → Given None b o → next None b o)
+      → Ran merged safe (Chained part next) wanted old new (without_value x)
   last_check (Ok u) r h = chained r refl (ran-weaker merged safe (Given None) (next None) wanted new new (Ok None) (h (begin wanted new)) ran-given)
   last_check (Err f) r h = failed r refl refl
 
 module _ {Tok Cx St Er V : Type 0} (merged : Er → Er → Er) (safe : Type 0) where
-  pub rebased : (v : Verdict V Er) (o : Outcome V Er St) (old mid new : Held Tok Cx St Er) → mid.kept ≡ old.kept → mid.emitted ≡ old.emitted → mid.stopped ≡ old.stopped → LeavesBy merged safe v o mid new → LeavesBy merged safe v o old new
-  rebased (Yes _) o old mid new k e s l = record { end = l.end; kept = l.kept ∙ ap (λ z. primary merged (option_to_list z ++ o.events)) k; emitted = l.emitted ∙ ap (λ z. z ++ o.emitted) e; stopped = l.stopped ∙ s }
-  rebased No o old mid new k e s l = record { end = l.end; kept = l.kept ∙ ap (λ z. primary merged (option_to_list z ++ o.events)) k; emitted = l.emitted ∙ ap (λ z. z ++ o.emitted) e; stopped = l.stopped ∙ s }
+  pub rebased : (v : Verdict V Er) (o : Outcome V Er St) (old mid new : Held Tok Cx St Er) → mid.kept ≡ old.kept
+      → mid.emitted ≡ old.emitted → mid.stopped ≡ old.stopped → LeavesBy merged safe v o mid new
+      → LeavesBy merged safe v o old new
+  rebased (Yes _) o old mid new k e s l =
+      record {
+        end = l.end;
+        kept = l.kept ∙ ap (λ z. primary merged (option_to_list z ++ o.events)) k;
+        emitted = l.emitted ∙ ap (λ z. z ++ o.emitted) e;
+        stopped = l.stopped ∙ s;
+      }
+  rebased No o old mid new k e s l =
+      record {
+        end = l.end;
+        kept = l.kept ∙ ap (λ z. primary merged (option_to_list z ++ o.events)) k;
+        emitted = l.emitted ∙ ap (λ z. z ++ o.emitted) e;
+        stopped = l.stopped ∙ s;
+      }
   rebased (Halt h) o old mid new k e s l = l ∙ ap (λ z. first_stop z h) s
   rebased (Clash x) o old mid new k e s l = (l.0, subst (λ z. HasEventAt x.place (option_to_list z ++ o.events)) k l.1, l.2 ∙ ap (λ z. first_stop z Memory) s)
 
 module _ {Tok Cx St Er V : Type 0} {merged : Er → Er → Er} {safe : Type 0} {meaning : Meaning Tok Cx St Er V} {wanted : Bool} where
   -- a run from where nothing has changed is one from before
-  pub ran-from : {old mid new : Held Tok Cx St Er} {r : Result (Option V) Fault} → SameRun old mid → mid.place ≡ old.place → mid.state ≡ old.state → mid.kept ≡ old.kept → mid.emitted ≡ old.emitted → mid.stopped ≡ old.stopped
+  pub ran-from : {old mid new : Held Tok Cx St Er} {r : Result (Option V) Fault} → SameRun old mid
+      → mid.place ≡ old.place → mid.state ≡ old.state → mid.kept ≡ old.kept → mid.emitted ≡ old.emitted
+      → mid.stopped ≡ old.stopped
       → Ran merged safe meaning wanted mid new r → Ran merged safe meaning wanted old new r
   ran-from {old} {mid} {new} {r} same cursor state kept emitted stopped h =
       let begun : begin wanted mid ≡ begin wanted old = cc (same.tokens, same.context) in

@@ -13,7 +13,8 @@ use Rattle.chumsky_parser.specs.Choice.{ElseFrom, AttemptFrom, ByMark, OrElse, S
 use Rattle.chumsky_parser.proofs.ChainedLemmas.{ran-weaker}
 use Rattle.chumsky_parser.proofs.FailureLemmas.{ran-halts}
 
-module _ {Tok Cx St Mk Er V : Type 0} (merged : Er → Er → Er) (safe : Type 0) (back : St → Mk → St) (quiet : Type 0) (mark : Mk) (first second : Meaning Tok Cx St Er V) (wanted : Bool) (old : Held Tok Cx St Er) where
+module _ {Tok Cx St Mk Er V : Type 0} (merged : Er → Er → Er) (safe : Type 0) (back : St → Mk → St) (quiet : Type 0)
+    (mark : Mk) (first second : Meaning Tok Cx St Er V) (wanted : Bool) (old : Held Tok Cx St Er) where
   -- a verdict of the attempt that stands
   stands : (v : Verdict V Er) (o : Outcome V Er St) (r : Result (Option V) Fault) → r ≡ answer v → (r ≡ Err fault.Fail → ⊥) → ElseFrom back quiet mark v second (begin wanted old) o o
   stands (Yes v) o r a n = refl
@@ -43,19 +44,26 @@ module _ {Tok Cx St Er V : Type 0} (merged : Er → Er → Er) (safe : Type 0) (
   tried (Halt s) end state events emitted a mid l = let no : ⊥ = cc in absurd no
   tried (Clash e) end state events emitted a mid l = let no : ⊥ = cc in absurd no
 
-  back_left : (p : Outcome V Er St) (v : Verdict V Er) (q : Outcome V Er St) (mid bk new : Held Tok Cx St Er) → Leaves merged safe p old mid → bk.kept ≡ mid.kept → bk.emitted ≡ old.emitted → bk.stopped ≡ mid.stopped
+  back_left : (p : Outcome V Er St) (v : Verdict V Er) (q : Outcome V Er St) (mid bk new : Held Tok Cx St Er)
+      → Leaves merged safe p old mid → bk.kept ≡ mid.kept → bk.emitted ≡ old.emitted → bk.stopped ≡ mid.stopped
       → LeavesBy merged safe v q bk new → LeavesBy merged safe v (record q { events = p.events ++ q.events }) old new
   back_left p (Yes _) q mid bk new t k e s l =
       record {
         end = l.end;
-        kept = l.kept ∙ ap (λ z. primary merged (option_to_list z ++ q.events)) (k ∙ t.kept) ∙ primary-append merged (option_to_list old.kept ++ p.events) q.events ∙ ap (primary merged) (append_assoc (option_to_list old.kept) p.events q.events);
+        kept =
+            l.kept ∙ ap (λ z. primary merged (option_to_list z ++ q.events)) (k ∙ t.kept)
+            ∙ primary-append merged (option_to_list old.kept ++ p.events) q.events
+            ∙ ap (primary merged) (append_assoc (option_to_list old.kept) p.events q.events);
         emitted = l.emitted ∙ ap (λ z. z ++ q.emitted) e;
         stopped = l.stopped ∙ s ∙ t.stopped;
       }
   back_left p No q mid bk new t k e s l =
       record {
         end = l.end;
-        kept = l.kept ∙ ap (λ z. primary merged (option_to_list z ++ q.events)) (k ∙ t.kept) ∙ primary-append merged (option_to_list old.kept ++ p.events) q.events ∙ ap (primary merged) (append_assoc (option_to_list old.kept) p.events q.events);
+        kept =
+            l.kept ∙ ap (λ z. primary merged (option_to_list z ++ q.events)) (k ∙ t.kept)
+            ∙ primary-append merged (option_to_list old.kept ++ p.events) q.events
+            ∙ ap (primary merged) (append_assoc (option_to_list old.kept) p.events q.events);
         emitted = l.emitted ∙ ap (λ z. z ++ q.emitted) e;
         stopped = l.stopped ∙ s ∙ t.stopped;
       }
@@ -67,7 +75,8 @@ module _ {Tok Cx St Er V : Type 0} (merged : Er → Er → Er) (safe : Type 0) (
     l.2 ∙ ap (λ z. first_stop z Memory) (s ∙ t.stopped),
   )
 
-module _ {Tok Cx St Mk Er V : Type 0} (merged : Er → Er → Er) (safe : Type 0) (back : St → Mk → St) (quiet : Type 0) (m : Marks Tok Mk) (first : Meaning Tok Cx St Er V) (wanted : Bool) (old mid : Held Tok Cx St Er) where
+module _ {Tok Cx St Mk Er V : Type 0} (merged : Er → Er → Er) (safe : Type 0) (back : St → Mk → St) (quiet : Type 0)
+    (m : Marks Tok Mk) (first : Meaning Tok Cx St Er V) (wanted : Bool) (old mid : Held Tok Cx St Er) where
   -- the errors emitted since the mark are dropped
   cut : StandsAt m old → Ran merged safe first wanted old mid (Err fault.Fail) → take m.emitted mid.emitted ≡ old.emitted
   cut at h =
@@ -130,7 +139,8 @@ module _ {Tok Cx St Mk Er V : Type 0} (merged : Er → Er → Er) (safe : Type 0
   pub ran-not_marked : (quiet → ⊥) → Ran merged safe (ByMark mark quiet part) wanted old old (Err (fault.Stop Memory))
   ran-not_marked may = ran-halts merged safe _ wanted old old (record { tokens = refl; context = refl }) refl (λ o v s. inl (may, v, s))
 
-module _ {Tok Cx St Mk Er V : Type 0} (merged : Er → Er → Er) (safe : Type 0) (mark : St → Mk) (back : St → Mk → St) (quiet : Type 0) (first second : Meaning Tok Cx St Er V) (wanted : Bool) (old : Held Tok Cx St Er) where
+module _ {Tok Cx St Mk Er V : Type 0} (merged : Er → Er → Er) (safe : Type 0) (mark : St → Mk) (back : St → Mk → St)
+    (quiet : Type 0) (first second : Meaning Tok Cx St Er V) (wanted : Bool) (old : Held Tok Cx St Er) where
   ran-attempt : (new : Held Tok Cx St Er) (r : Result (Option V) Fault) → Ran merged safe (AttemptFrom back quiet (mark old.state) first second) wanted old new r
       → Ran merged safe (OrElse mark back quiet first second) wanted old new r
   ran-attempt new r h = ran-weaker merged safe _ _ wanted old new r (λ o a. record { cases = inr a }) h
@@ -153,3 +163,32 @@ module _ {Tok Cx St Mk Er V : Type 0} (merged : Er → Er → Er) (safe : Type 0
   pub ran-unrestored : (mid new : Held Tok Cx St Er) → Ran merged safe first wanted old mid (Err fault.Fail) → new ≡ mid → (quiet → ⊥)
       → Ran merged safe (OrElse mark back quiet first second) wanted old new (Err (fault.Stop Memory))
   ran-unrestored mid new h e may = ran-attempt new _ (attempt-unrestored merged safe back quiet (marked_here mark old) first wanted old mid second new h e may)
+
+-- the same with what was found of the calls, as proofs of combinators cite them
+module _ {Tok Cx St Mk Er V : Type 0} {merged : Er → Er → Er} {safe : Type 0} {mark : St → Mk} {back : St → Mk → St}
+    {quiet : Type 0} {first second : Meaning Tok Cx St Er V} {wanted : Bool} {old : Held Tok Cx St Er} where
+  -- the first alternative did not fail
+  pub stood : {new : Held Tok Cx St Er} {r x : Result (Option V) Fault}
+      → Ran merged safe first wanted old new x → x ≡ r → (r ≡ Err fault.Fail → ⊥)
+      → Ran merged safe (OrElse mark back quiet first second) wanted old new r
+  stood {new} {r} h e n = ran-first merged safe mark back quiet first second wanted old new r (rw e at h) n
+
+  -- it failed, the run went back, and the second ran
+  pub gone_on : {m : Marks Tok Mk} {mid bk new : Held Tok Cx St Er} {r x : Result (Option V) Fault}
+      → Ran merged safe first wanted old mid x → x ≡ Err fault.Fail → m ≡ marked_here mark old
+      → bk ≡ gone_back back mid m → Ran merged safe second wanted bk new r
+      → Ran merged safe (OrElse mark back quiet first second) wanted old new r
+  gone_on {m} {mid} {bk} {new} {r} h e s b k =
+      ran-second merged safe mark back quiet first second wanted old m mid bk new r (rw e at h) s b k
+
+  -- there was no memory for the mark
+  pub unmarked : {r : Result (Option V) Fault} → r ≡ Err (fault.Stop Memory) → (quiet → ⊥)
+      → Ran merged safe (OrElse mark back quiet first second) wanted old old r
+  unmarked e may = rw e (ran-unmarked merged safe mark back quiet first second wanted old old refl may)
+
+  -- there was none for going back
+  pub unrestored : {mid new : Held Tok Cx St Er} {r x : Result (Option V) Fault}
+      → Ran merged safe first wanted old mid x → x ≡ Err fault.Fail → (new ≡ mid) × (quiet → ⊥)
+      → r ≡ Err (fault.Stop Memory) → Ran merged safe (OrElse mark back quiet first second) wanted old new r
+  unrestored {mid} {new} h e b d =
+      rw d (ran-unrestored merged safe mark back quiet first second wanted old mid new (rw e at h) b.0 b.1)

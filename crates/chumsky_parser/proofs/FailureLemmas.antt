@@ -47,7 +47,13 @@ module _ {Tok Cx St Er V : Type 0} (merged : Er → Er → Er) (safe : Type 0) (
         meant = m _ (record { by = inl (refl, refl); end_at = refl; left = refl; emitted = refl });
         answered = refl;
         state = ap (λ (h : Held Tok Cx St Er). h.state) a;
-        left = record { end = ap (λ (h : Held Tok Cx St Er). h.place) a; kept = ap (λ (h : Held Tok Cx St Er). h.kept) a; emitted = ap (λ (h : Held Tok Cx St Er). h.emitted) a ∙ sym (append-nil old.emitted); stopped = ap (λ (h : Held Tok Cx St Er). h.stopped) a };
+        left =
+            record {
+              end = ap (λ (h : Held Tok Cx St Er). h.place) a;
+              kept = ap (λ (h : Held Tok Cx St Er). h.kept) a;
+              emitted = ap (λ (h : Held Tok Cx St Er). h.emitted) a ∙ sym (append-nil old.emitted);
+              stopped = ap (λ (h : Held Tok Cx St Er). h.stopped) a;
+            };
         same = record { tokens = ap (λ (h : Held Tok Cx St Er). h.tokens) a; context = ap (λ (h : Held Tok Cx St Er). h.context) a };
       }
   ran-adds e new (fault.Stop s) a m =

@@ -10,7 +10,8 @@ use Rattle.std.proofs.lemmas.List.Folds.{list_any_none, list_any-append}
 use Rattle.std.proofs.lemmas.List.Elements.{All-from_get_or}
 use Rattle.std.proofs.Math.Utf8.{encodes}
 use Rattle.std.proofs.lemmas.Bool.Decides.{nat_tests}
-use Rattle.std.proofs.lemmas.Str.{chars-nil, chars_past_char, drop_past_char, IsUtf8-drop, IsCharBoundary-start, IsCharBoundary-past_char, IsCharBoundary-before_ascii, encode_ascii, len_utf8_ascii, encodes-chars, length-le-encodes, NoCharPasses-byte}
+use Rattle.std.proofs.lemmas.Str.{chars-nil, chars_past_char, drop_past_char, IsUtf8-drop, IsCharBoundary-start, IsCharBoundary-past_char}
+use Rattle.std.proofs.lemmas.Str.{IsCharBoundary-before_ascii, encode_ascii, len_utf8_ascii, encodes-chars, length-le-encodes, NoCharPasses-byte}
 use Rattle.chumsky_parser.specs.Members.{at_boundary, chars_from}
 
 boundary_yes : (bs : List ℕ) (i : ℕ) → IsCharBoundary bs i → at_boundary bs i ≡ true

@@ -96,7 +96,9 @@ scalar_or (Some x) a h = (λ s. h.1, λ n. absurd (n h.0))
 pub first_from : (a c : ℕ) → a < 1114112 → (IsScalar a → c ≡ a) → (¬ IsScalar a → c ≡ 57344) → (a ≤ c) × IsScalar c × (chars_between a c ≡ [])
 first_from a c l here there =
     ⊎_elim (λ e. let f = here e in subst (λ k. (a ≤ k) × IsScalar k × (chars_between a k ≡ [])) (sym f) (omega arith, e, between_none a a (omega arith)))
-    (λ e. let n : ¬ IsScalar a = λ t. absurd (let b : true ≡ false = sym t ∙ e in cc) in let f = there n in let g = in_gap a e l in subst (λ k. (a ≤ k) × IsScalar k × (chars_between a k ≡ [])) (sym f) (g.1, refl, gap a g.0 g.1))
+    (λ e. let n : ¬ IsScalar a = λ t. absurd (let b : true ≡ false = sym t ∙ e in cc) in let f = there n in let g
+    = in_gap a e l in subst (λ k. (a ≤ k) × IsScalar k × (chars_between a k ≡ [])) (sym f)
+    (g.1, refl, gap a g.0 g.1))
     (cases_Bool (scalar a))
 
 range_any : (a n t : ℕ) → list_any (λ x. nat_eq x t) (range_with_len a n) ≡ (nat_le a t && nat_lt t (a + n))
@@ -130,11 +132,15 @@ pub range_tests : (a e t : ℕ) (spent : Bool) → (is_le (nat_cmp a t) && cond 
 range_tests a e t true = let p = le_test a t in let q = lt_test t e in cc
 range_tests a e t false = let p = le_test a t in let q = le_test t e in let r : nat_le t e ≡ nat_lt t (e + 1) = grind (arith, nat_tests) in cc
 
-pub range_has : (a e t : ℕ) (spent : Bool) → IsScalar t → (is_le (nat_cmp a t) && cond spent (is_lt (nat_cmp t e)) (is_le (nat_cmp t e))) ≡ list_any (λ x. nat_eq x t) (chars_between a (cond spent e (e + 1)))
+pub range_has : (a e t : ℕ) (spent : Bool) → IsScalar t
+    → (is_le (nat_cmp a t) && cond spent (is_lt (nat_cmp t e)) (is_le (nat_cmp t e)))
+    ≡ list_any (λ x. nat_eq x t) (chars_between a (cond spent e (e + 1)))
 range_has a e t spent s = range_tests a e t spent ∙ sym (between_any a (cond spent e (e + 1)) t s)
 
 -- the first character from a number on is in the range
-pub range_next : (a e at now code c : ℕ) (spent : Bool) → now ≡ a → code ≡ now + at → (code ≤ c) × IsScalar c × (chars_between code c ≡ []) → true ≡ (is_le (nat_cmp a c) && cond spent (is_lt (nat_cmp c e)) (is_le (nat_cmp c e)))
+pub range_next : (a e at now code c : ℕ) (spent : Bool) → now ≡ a → code ≡ now + at
+    → (code ≤ c) × IsScalar c × (chars_between code c ≡ [])
+    → true ≡ (is_le (nat_cmp a c) && cond spent (is_lt (nat_cmp c e)) (is_le (nat_cmp c e)))
     → chars_between (a + at) (cond spent e (e + 1)) ≡ c ∷ chars_between (a + (c - now + 1)) (cond spent e (e + 1))
 range_next a e at now code c spent n is first t =
     let past = cond spent e (e + 1) in
@@ -151,7 +157,9 @@ range_next a e at now code c spent n is first t =
     ∙ ap (λ k. c ∷ chars_between k past) next
 
 -- the first character from a number on is past the range
-pub range_ends : (a e at now code c : ℕ) (spent : Bool) → now ≡ a → code ≡ now + at → (code ≤ c) × IsScalar c × (chars_between code c ≡ []) → false ≡ (is_le (nat_cmp a c) && cond spent (is_lt (nat_cmp c e)) (is_le (nat_cmp c e)))
+pub range_ends : (a e at now code c : ℕ) (spent : Bool) → now ≡ a → code ≡ now + at
+    → (code ≤ c) × IsScalar c × (chars_between code c ≡ [])
+    → false ≡ (is_le (nat_cmp a c) && cond spent (is_lt (nat_cmp c e)) (is_le (nat_cmp c e)))
     → chars_between (a + at) (cond spent e (e + 1)) ≡ []
 range_ends a e at now code c spent n is first t =
     let past = cond spent e (e + 1) in

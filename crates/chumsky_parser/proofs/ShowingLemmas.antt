@@ -12,7 +12,9 @@ use Rattle.chumsky_parser.proofs.ChainedLemmas.{ran-weaker, ran-given}
 
 module _ {Tok Cx St Er V W : Type 0} {merged : Er → Er → Er} {safe : Type 0} {gives : GivesShown Tok Cx St V W} {wanted : Bool} where
   -- a call was shown the run, and left what it was lent but for the state
-  pub ran-shown : (from : ℕ) {v : V} {w : W} {mid new : Held Tok Cx St Er} → new ≡ record mid { state = new.state } → gives v (shown_from from mid) w new.state → Ran merged safe (GivenShown gives from (Some v)) wanted mid new (Ok (Some w))
+  pub ran-shown : (from : ℕ) {v : V} {w : W} {mid new : Held Tok Cx St Er} → new ≡ record mid { state = new.state }
+      → gives v (shown_from from mid) w new.state
+      → Ran merged safe (GivenShown gives from (Some v)) wanted mid new (Ok (Some w))
   ran-shown from {v} {w} {mid} {new} n g =
       record {
         outcome = record { verdict = Yes (Some w); end = mid.place; state = new.state; events = []; emitted = [] };

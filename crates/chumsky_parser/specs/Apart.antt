@@ -53,4 +53,6 @@ module _ {Tok Cx St Er V : Type 0} (merged : Er → Er → Er) (safe : Type 0) (
 module _ {I X Tok Sp Cu Er St Cx Mk V : Type 0} (source : input_trait.Ghosts I Cu Tok Sp) (errors : error_trait.Ghosts Er I Tok Sp) (states : inspector_trait.Ghosts St I Mk Tok Sp) where
   -- the run from `old` to `new` is a part run by itself, asked for a value or not, and what is handed out of one outcome of it
   abbrev pub RunsApart : Meaning Tok Cx states.Seen errors.Seen V → Bool → InputRef I X Cu Tok Sp Er St Cx Mk → InputRef I X Cu Tok Sp Er St Cx Mk → Result (Option V) (Failure errors.Seen) → Type 0
-  RunsApart meaning wanted old new result = RanApart errors.merged errors.takes_no_memory (final_error errors.expectation source.span_between) meaning wanted (held source errors states old) (held source errors states new) result
+  RunsApart meaning wanted old new result =
+      RanApart errors.merged errors.takes_no_memory (final_error errors.expectation source.span_between) meaning
+      wanted (held source errors states old) (held source errors states new) result

@@ -45,7 +45,8 @@ module _ {Tok Cx St Mk Er V : Type 0} (mark : St → Mk) (back : St → Mk → S
   else_by first second P Q x y b h k m o p (Clash s) e f g = rw (g, e) tt
 
   -- one alternative or the other, from here
-  pub or_else-here : (first second : Meaning Tok Cx St Er V) (P Q : V → Type 0) (x y : Ending (List Tok)) (b : Beginning Tok Cx St) → Here P first x b → ((s : St) → Here Q second y (record b { state = s }))
+  pub or_else-here : (first second : Meaning Tok Cx St Er V) (P Q : V → Type 0) (x y : Ending (List Tok)) (b : Beginning Tok Cx St)
+      → Here P first x b → ((s : St) → Here Q second y (record b { state = s }))
       → Here (λ v. ElseValue x (P v) (Q v)) (OrElse mark back safe first second) (or_else x y) b
   or_else-here first second P Q x y b h k o m = elim m.cases [
     | inl r ↦ refuses-by (λ v. ElseValue x (P v) (Q v)) (or_else x y) b.tokens.list o r

@@ -10,7 +10,11 @@ module _ {A B Tok Cx St Er V : Type 0} (left : A → Meaning Tok Cx St Er V) (ri
   either-ends f g (Right y) = g y
 
   module _ (steady_left : A → Type 0) (steady_right : B → Type 0) (same_left : A → V → V → Type 0) (same_right : B → V → V → Type 0) where
-    pub either-agrees : ((x : A) → steady_left x → Agreeing (same_left x) (left x) (left x)) → ((y : B) → steady_right y → Agreeing (same_right y) (right y) (right y)) → (p : Either A B) → MatchEither p steady_left steady_right
-        → Agreeing (λ v w. MatchEither p (λ x. same_left x v w) (λ y. same_right y v w)) (λ b o. MatchEither p (λ x. left x b o) (λ y. right y b o)) (λ b o. MatchEither p (λ x. left x b o) (λ y. right y b o))
+    pub either-agrees : ((x : A) → steady_left x → Agreeing (same_left x) (left x) (left x))
+        → ((y : B) → steady_right y → Agreeing (same_right y) (right y) (right y)) → (p : Either A B)
+        → MatchEither p steady_left steady_right
+        → Agreeing (λ v w. MatchEither p (λ x. same_left x v w) (λ y. same_right y v w))
+        (λ b o. MatchEither p (λ x. left x b o) (λ y. right y b o))
+        (λ b o. MatchEither p (λ x. left x b o) (λ y. right y b o))
     either-agrees f g (Left x) s = f x s
     either-agrees f g (Right y) s = g y s

@@ -107,7 +107,11 @@ module _ {Tok Cx St Er V : Type 0} (m : Meaning Tok Cx St Er V) (f : Ender Tok) 
 
   -- run for its value, or without
   pub asked-by : (wanted : Bool) → Reads (Asked wanted m) f va
-  asked-by wanted = record { here = λ b w. let ts : List Tok = drop b.start b.tokens.list in asked-here (va ts) b wanted m (f ts) (h.here (record b { wanted = wanted }) (record { start = w.start; few = w.few })) }
+  asked-by wanted =
+      record {
+        here = λ b w. let ts : List Tok = drop b.start b.tokens.list in asked-here (va ts) b wanted m (f ts)
+            (h.here (record b { wanted = wanted }) (record { start = w.start; few = w.few }));
+      }
 
 pub wanting_value : {V : Type 0} (P : V → Type 0) (v : V) → P v → (c : Bool) → IfValue P (wanting c v)
 wanting_value P v i true = i
@@ -132,7 +136,8 @@ copy-by Er copies safe = record {
       ];
 }
 
-module _ {Tok Cx St Er V W : Type 0} (part : Meaning Tok Cx St Er V) (next : Meaning Tok Cx St Er W) (f g : Ender Tok) (va : List Tok → V → Type 0) (vb : List Tok → W → Type 0) (h : Reads part f va) (k : Reads next g vb) where
+module _ {Tok Cx St Er V W : Type 0} (part : Meaning Tok Cx St Er V) (next : Meaning Tok Cx St Er W) (f g : Ender Tok)
+    (va : List Tok → V → Type 0) (vb : List Tok → W → Type 0) (h : Reads part f va) (k : Reads next g vb) where
   -- `first.then(second)`
   pub then-by : Reads (Sequence part next) (then_ends f g) (λ ts v. va ts v.0 × Ends (f ts) (λ rest. vb rest v.1))
   then-by = record {
@@ -169,7 +174,8 @@ module _ {Tok Cx St Er V W : Type 0} (part : Meaning Tok Cx St Er V) (next : Mea
         (λ v c y e i o m.
         let rest : List Tok = drop c.start c.tokens.list in
         let z : Answers (va ts) (and_then (λ us. At us) (g rest)) c.tokens.list o.verdict o.end =
-        chained-here (vb rest) (va ts) (Asked false next) (λ u. Given v) (g rest) (λ us. At us) c y (asked-here (vb rest) c false next (g rest) (k.here (record c { wanted = false }) (record { start = y.start; few = y.few })))
+        chained-here (vb rest) (va ts) (Asked false next) (λ u. Given v) (g rest) (λ us. At us) c y
+        (asked-here (vb rest) c false next (g rest) (k.here (record c { wanted = false }) (record { start = y.start; few = y.few })))
         (λ u d x e' j. given-here Er (va ts) d x v i) o m in
         subst (λ q. Answers (va ts) q c.tokens.list o.verdict o.end) (and_then_some (g rest)) z);
   }

@@ -9,13 +9,16 @@ module _ {V Er St : Type 0} (same : V → V → Type 0) where
   fails-answer : {e : Event Er} {end : ℕ} {s : St} {o : Outcome V Er St} → FailsAt e end s o → IsAnswer o.verdict → (o.verdict ≡ No) × (o.events ≡ e ∷ [])
   fails-answer m a = elim m.by [ inl h ↦ h | inr h ↦ absurd (subst IsAnswer h.0 a) ]
 
-  fails-agree : {e e' : Event Er} {end end' : ℕ} {s s' : St} {o q : Outcome V Er St} → e ≡ e' → end ≡ end' → s ≡ s' → FailsAt e end s o → FailsAt e' end' s' q → IsAnswer o.verdict → IsAnswer q.verdict → Agree same o q
+  fails-agree : {e e' : Event Er} {end end' : ℕ} {s s' : St} {o q : Outcome V Er St} → e ≡ e' → end ≡ end' → s ≡ s'
+      → FailsAt e end s o → FailsAt e' end' s' q → IsAnswer o.verdict → IsAnswer q.verdict → Agree same o q
   fails-agree x y w m n a z =
       let om = fails-answer m a in
       let qm = fails-answer n z in
       record { answer = rw (om.0, qm.0) tt; end = cc; state = cc; events = cc; emitted = cc }
 
-  pub misses-agree : {safe : Type 0} {e e' : Event Er} {end end' : ℕ} {s s' : St} {o q : Outcome V Er St} → e ≡ e' → end ≡ end' → s ≡ s' → Misses safe e end s o → Misses safe e' end' s' q → IsAnswer o.verdict → IsAnswer q.verdict → Agree same o q
+  pub misses-agree : {safe : Type 0} {e e' : Event Er} {end end' : ℕ} {s s' : St} {o q : Outcome V Er St} → e ≡ e'
+      → end ≡ end' → s ≡ s' → Misses safe e end s o → Misses safe e' end' s' q → IsAnswer o.verdict
+      → IsAnswer q.verdict → Agree same o q
   misses-agree x y w (inl r) n a z = absurd (subst IsAnswer r.1 a)
   misses-agree x y w (inr m) (inl r) a z = absurd (subst IsAnswer r.1 z)
   misses-agree x y w (inr m) (inr n) a z = fails-agree x y w m n a z

@@ -74,7 +74,8 @@ pub never-below : {Tok : Type 0} {f : Ender Tok} → NeverRefused f → NeverRef
 never-below h = λ ts i e. h ts e
 
 -- what is refused of no text that is so short, since its parts are not
-pub then-decided : {Tok : Type 0} (f g : Ender Tok) (P : List Tok → Type 0) → TakesOnly f P → (moves : Bool) → (moves ≡ true → EndsFurther f) → (a b : Option ℕ) → NeverRefusedBelow a f → NeverRefusedBelow b g
+pub then-decided : {Tok : Type 0} (f g : Ender Tok) (P : List Tok → Type 0) → TakesOnly f P → (moves : Bool)
+    → (moves ≡ true → EndsFurther f) → (a b : Option ℕ) → NeverRefusedBelow a f → NeverRefusedBelow b g
     → NeverRefusedBelow (sooner a (later b moves)) (then_ends f g)
 then-decided {Tok} f g P p moves m a b h k = λ ts i r. let n = sooner-below a (later b moves) (length ts) i in by_first ts n.0 n.1 (f ts) refl r
   where

@@ -25,7 +25,9 @@ module _ {Tok Cx St Er V : Type 0} (copies : V → Type 0) (safe : Type 0) where
         | inl r ↦ absurd (subst IsAnswer r.1 a)
         | inr h ↦ elim n.cases [
           | inl r ↦ absurd (subst IsAnswer r.1 z)
-          | inr k ↦ given-agrees (BothCopies copies) h.value k.value (wanted-same copies (BothCopies copies) (λ v w x y. (x, y)) b.wanted c.wanted h.value k.value h.is_value k.is_value) b c o q alike h.given k.given a z
+          | inr k ↦ given-agrees (BothCopies copies) h.value k.value
+              (wanted-same copies (BothCopies copies) (λ v w x y. (x, y)) b.wanted c.wanted h.value k.value h.is_value k.is_value)
+              b c o q alike h.given k.given a z
         ]
       ]
 
@@ -39,7 +41,8 @@ module _ {Tok Cx St Er V W : Type 0} (first : Meaning Tok Cx St Er V) (second : 
   pub ignoring_second-ends : EndsAfterStart first → EndsAfterStart second → EndsAfterStart (IgnoringSecond first second)
   ignoring_second-ends f s = chained-ends first _ f (λ v. chained-ends _ _ (asked-ends false second s) (λ _. given-ends v))
 
-  pub ignoring_second-agrees : (sv : V → V → Type 0) (sw : W → W → Type 0) → Agreeing sv first first → Agreeing sw second second → Agreeing sv (IgnoringSecond first second) (IgnoringSecond first second)
+  pub ignoring_second-agrees : (sv : V → V → Type 0) (sw : W → W → Type 0) → Agreeing sv first first
+      → Agreeing sw second second → Agreeing sv (IgnoringSecond first second) (IgnoringSecond first second)
   ignoring_second-agrees sv sw f s =
       chained-agrees first first _ _ sv sv f (λ v w e. chained-agrees _ _ _ _ sw sv (asked-agrees false second sw s) (λ _ _ _. given-agrees sv v w e))
 
@@ -47,5 +50,7 @@ module _ {Tok Cx St Er U V W : Type 0} (opening : Meaning Tok Cx St Er U) (part 
   pub between-ends : EndsAfterStart opening → EndsAfterStart part → EndsAfterStart closing → EndsAfterStart (Between opening part closing)
   between-ends o p c = ignoring_first-ends opening _ o (ignoring_second-ends part closing p c)
 
-  pub between-agrees : (su : U → U → Type 0) (sv : V → V → Type 0) (sw : W → W → Type 0) → Agreeing su opening opening → Agreeing sv part part → Agreeing sw closing closing → Agreeing sv (Between opening part closing) (Between opening part closing)
+  pub between-agrees : (su : U → U → Type 0) (sv : V → V → Type 0) (sw : W → W → Type 0) → Agreeing su opening opening
+      → Agreeing sv part part → Agreeing sw closing closing
+      → Agreeing sv (Between opening part closing) (Between opening part closing)
   between-agrees su sv sw o p c = ignoring_first-agrees opening _ su sv o (ignoring_second-agrees part closing sv sw p c)

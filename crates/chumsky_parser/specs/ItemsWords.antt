@@ -14,7 +14,9 @@ begins_both P Q ts mid rest b c =
     record { word = b.word ++ c.word; all = b.all ∙ ap (λ t. b.word ++ t) c.all ∙ e; is = record { first = b.word; second = c.word; all = refl; is_first = b.is; is_second = c.is } }
 
 module _ {Tok : Type 0} (next : ℕ → List Tok → Ending (Stepped Tok)) where
-  module _ (word last : ℕ → List Tok → Type 0) (one : (k : ℕ) (ts rest : List Tok) → next k ts ≡ At (One rest) → Begins (word k) ts rest) (over : (k : ℕ) (ts rest : List Tok) → next k ts ≡ At (Over rest) → Begins (last k) ts rest) where
+  module _ (word last : ℕ → List Tok → Type 0)
+      (one : (k : ℕ) (ts rest : List Tok) → next k ts ≡ At (One rest) → Begins (word k) ts rest)
+      (over : (k : ℕ) (ts rest : List Tok) → next k ts ≡ At (Over rest) → Begins (last k) ts rest) where
     ended_only : (k : ℕ) (ts rest : List Tok) → next k ts ≡ At (Over rest) → Begins (IsListFrom word last k) ts rest
     ended_only k ts rest e = let b = over k ts rest e in record { word = b.word; all = b.all; is = record { items = []; are = b.is } }
 
@@ -22,7 +24,15 @@ module _ {Tok : Type 0} (next : ℕ → List Tok → Ending (Stepped Tok)) where
     more_only k ts mid rest e c =
         let b = begins_both (word k) (IsListFrom word last (suc k)) ts mid rest (one k ts mid e) c in
         let j = b.is in
-        record { word = b.word; all = b.all; is = record { items = j.first ∷ j.is_second.items; are = record { first = j.first; second = j.second; all = j.all; is_first = j.is_first; is_second = j.is_second.are } } }
+        record {
+          word = b.word;
+          all = b.all;
+          is =
+              record {
+                items = j.first ∷ j.is_second.items;
+                are = record { first = j.first; second = j.second; all = j.all; is_first = j.is_first; is_second = j.is_second.are };
+              };
+        }
 
     step_only : (k : ℕ) (ts rest : List Tok) (more : List Tok → Ending (List Tok)) → ((mid : List Tok) → more mid ≡ At rest → Begins (IsListFrom word last (suc k)) mid rest)
         → (t : Ending (Stepped Tok)) → next k ts ≡ t → stepped_on more t ≡ At rest → Begins (IsListFrom word last k) ts rest
@@ -40,8 +50,12 @@ module _ {Tok : Type 0} (next : ℕ → List Tok → Ending (Stepped Tok)) where
     list-only = record { taken = λ ts rest e. until_only (length ts) 0 ts rest e }
 
   module _ {V : Type 0} (value : ℕ → List Tok → V → Type 0) (stands_for : ℕ → List Tok → V → Type 0) (last : ℕ → List Tok → Type 0)
-      (given : (k : ℕ) (ts rest : List Tok) (v : V) → next k ts ≡ At (One rest) → value k ts v → Begins (λ w. stands_for k w v) ts rest) (over : (k : ℕ) (ts rest : List Tok) → next k ts ≡ At (Over rest) → Begins (last k) ts rest) where
-    step_given : (k : ℕ) (ts rest : List Tok) (vs : List V) (more : List Tok → Ending (List Tok)) → ((mid : List Tok) (us : List V) → more mid ≡ At rest → GivesFrom next value (suc k) us mid → Begins (ListFrom stands_for last (suc k) us) mid rest)
+      (given : (k : ℕ) (ts rest : List Tok) (v : V) → next k ts ≡ At (One rest) → value k ts v → Begins (λ w. stands_for k w v) ts rest)
+      (over : (k : ℕ) (ts rest : List Tok) → next k ts ≡ At (Over rest) → Begins (last k) ts rest) where
+    step_given : (k : ℕ) (ts rest : List Tok) (vs : List V) (more : List Tok → Ending (List Tok))
+        →
+        ((mid : List Tok) (us : List V) → more mid ≡ At rest → GivesFrom next value (suc k) us mid
+        → Begins (ListFrom stands_for last (suc k) us) mid rest)
         → (t : Ending (Stepped Tok)) → next k ts ≡ t → stepped_on more t ≡ At rest → GivesFrom next value k vs ts → Begins (ListFrom stands_for last k vs) ts rest
     step_given k ts rest [] more h (At (One mid)) d e g = absurd (subst IsOver d g)
     step_given k ts rest (v ∷ vs) more h (At (One mid)) d e g =
@@ -61,7 +75,9 @@ module _ {Tok : Type 0} (next : ℕ → List Tok → Ending (Stepped Tok)) where
     list-given ts rest vs e g = until_given (length ts) 0 ts rest vs e g
 
   module _ (further : (k : ℕ) (ts rest : List Tok) → next k ts ≡ At (One rest) → length rest < length ts) where
-    module _ (word last : ℕ → List Tok → Type 0) (follow : List Tok → Type 0) (each : (k : ℕ) (w rest : List Tok) → word k w → GoesOn word last follow (suc k) rest → EndsOrRefused (next k (w ++ rest)) (One rest))
+    module _ (word last : ℕ → List Tok → Type 0) (follow : List Tok → Type 0)
+        (each : (k : ℕ) (w rest : List Tok) → word k w → GoesOn word last follow (suc k) rest
+        → EndsOrRefused (next k (w ++ rest)) (One rest))
         (ends : (k : ℕ) (w rest : List Tok) → last k w → follow rest → EndsOrRefused (next k (w ++ rest)) (Over rest)) where
       until_ended : (n k : ℕ) (ts rest : List Tok) → EndsOrRefused (next k ts) (Over rest) → EndsOrRefused (list_until next n k ts) rest
       until_ended zero k ts rest (inl e) = rw e (inl refl)
@@ -73,17 +89,27 @@ module _ {Tok : Type 0} (next : ℕ → List Tok → Ending (Stepped Tok)) where
       until_refused zero k ts e = rw e refl
       until_refused (suc n) k ts e = rw e refl
 
-      until_each : (n k : ℕ) (items : List (List Tok)) (w rest : List Tok) → length (w ++ rest) ≤ n → ListFrom (λ j u (v : List Tok). word j u) last k items w → follow rest → EndsOrRefused (list_until next n k (w ++ rest)) rest
+      until_each : (n k : ℕ) (items : List (List Tok)) (w rest : List Tok) → length (w ++ rest) ≤ n
+          → ListFrom (λ j u (v : List Tok). word j u) last k items w → follow rest
+          → EndsOrRefused (list_until next n k (w ++ rest)) rest
       until_each n k [] w rest l i f = until_ended n k (w ++ rest) rest (ends k w rest i f)
       until_each n k (v ∷ vs) w rest l i f =
           let z : w ++ rest ≡ i.first ++ (i.second ++ rest) = ap (λ u. u ++ rest) i.all ∙ append_assoc i.first i.second rest in
-          let d : EndsOrRefused (next k (i.first ++ (i.second ++ rest))) (One (i.second ++ rest)) = each k i.first (i.second ++ rest) i.is_first (record { words = i.second; rest = rest; all = refl; is = record { items = vs; are = i.is_second }; fits = f }) in
+          let d : EndsOrRefused (next k (i.first ++ (i.second ++ rest))) (One (i.second ++ rest)) =
+          each k i.first (i.second ++ rest) i.is_first
+          (record { words = i.second; rest = rest; all = refl; is = record { items = vs; are = i.is_second }; fits = f })
+          in
           elim d [
-            | inl x ↦ let e : next k (w ++ rest) ≡ At (One (i.second ++ rest)) = ap (next k) z ∙ x in by_room n l e (further k (w ++ rest) (i.second ++ rest) e) (λ m q. until_each m (suc k) vs i.second rest q i.is_second f)
+            | inl x ↦
+                let e : next k (w ++ rest) ≡ At (One (i.second ++ rest)) = ap (next k) z ∙ x in
+                by_room n l e (further k (w ++ rest) (i.second ++ rest) e) (λ m q. until_each m (suc k) vs i.second rest q i.is_second f)
             | inr x ↦ inr (until_refused n k (w ++ rest) (ap (next k) z ∙ x))
           ]
         where
-          by_room : {u : List Tok} (n : ℕ) → length (w ++ rest) ≤ n → next k (w ++ rest) ≡ At (One u) → length u < length (w ++ rest) → ((m : ℕ) → length u ≤ m → EndsOrRefused (list_until next m (suc k) u) rest) → EndsOrRefused (list_until next n k (w ++ rest)) rest
+          by_room : {u : List Tok} (n : ℕ) → length (w ++ rest) ≤ n → next k (w ++ rest) ≡ At (One u)
+              → length u < length (w ++ rest)
+              → ((m : ℕ) → length u ≤ m → EndsOrRefused (list_until next m (suc k) u) rest)
+              → EndsOrRefused (list_until next n k (w ++ rest)) rest
           by_room zero l e p h = absurd (omega (arith, l, p))
           by_room (suc n) l e p h = rw e (h n (omega (arith, l, p)))
 
@@ -92,7 +118,9 @@ module _ {Tok : Type 0} (next : ℕ → List Tok → Ending (Stepped Tok)) where
       list-each = record { each = λ w rest i f. until_each (length (w ++ rest)) 0 i.items w rest (omega arith) i.are f }
 
     module _ (bound : Option ℕ) (h : (k : ℕ) (ts : List Tok) → IsBelow bound (length ts) → next k ts ≡ Refused → ⊥) where
-      step_decided : (k : ℕ) (ts : List Tok) → IsBelow bound (length ts) → (more : List Tok → Ending (List Tok)) → ((rest : List Tok) → length rest < length ts → more rest ≡ Refused → ⊥) → (t : Ending (Stepped Tok)) → next k ts ≡ t → stepped_on more t ≡ Refused → ⊥
+      step_decided : (k : ℕ) (ts : List Tok) → IsBelow bound (length ts) → (more : List Tok → Ending (List Tok))
+          → ((rest : List Tok) → length rest < length ts → more rest ≡ Refused → ⊥) → (t : Ending (Stepped Tok))
+          → next k ts ≡ t → stepped_on more t ≡ Refused → ⊥
       step_decided k ts b more g (At (One rest)) d e = g rest (further k ts rest d) e
       step_decided k ts b more g (At (Over rest)) d e = cc e
       step_decided k ts b more g Nowhere d e = cc e
@@ -100,7 +128,11 @@ module _ {Tok : Type 0} (next : ℕ → List Tok → Ending (Stepped Tok)) where
 
       until_decided : (n k : ℕ) (ts : List Tok) → length ts ≤ n → IsBelow bound (length ts) → list_until next n k ts ≡ Refused → ⊥
       until_decided zero k ts l b e = step_decided k ts b _ (λ rest p z. omega (arith, p, l)) (next k ts) refl e
-      until_decided (suc n) k ts l b e = step_decided k ts b _ (λ rest p z. until_decided n (suc k) rest (omega (arith, p, l)) (fewer-below bound (length rest) (length ts) (omega (arith, p)) b) z) (next k ts) refl e
+      until_decided (suc n) k ts l b e =
+          step_decided k ts b _
+          (λ rest p z. until_decided n (suc k) rest (omega (arith, p, l))
+          (fewer-below bound (length rest) (length ts) (omega (arith, p)) b) z)
+          (next k ts) refl e
 
       -- where each step on so short a text is known to end or to fail, so is the list
       pub list-decided : NeverRefusedBelow bound (list_ends next)

@@ -4,7 +4,9 @@ use Rattle.chumsky_input.specs.Outcome.{Event, Meaning, Beginning, Outcome, Verd
 use Rattle.chumsky_parser.specs.Chained.{from, retold, after, both, Follows, Chained, Given, Asked, Sequence, SamePair}
 
 module _ {Tok Cx St Er V W : Type 0} (part : Meaning Tok Cx St Er V) (next : Option V → Meaning Tok Cx St Er W) where
-  chained_ends : EndsAfterStart part → ((v : Option V) → EndsAfterStart (next v)) → (b : Beginning Tok Cx St) (o : Outcome W Er St) (v : Verdict V Er) (end : ℕ) (state : St) (events : List (Event Er)) (emitted : List Er)
+  chained_ends : EndsAfterStart part → ((v : Option V) → EndsAfterStart (next v))
+      → (b : Beginning Tok Cx St) (o : Outcome W Er St) (v : Verdict V Er) (end : ℕ) (state : St)
+      (events : List (Event Er)) (emitted : List Er)
       → let p : Outcome V Er St = record { verdict = v; end = end; state = state; events = events; emitted = emitted } in
       part b p → Follows v next b p o → IsAnswer o.verdict → b.start ≤ o.end
   chained_ends hp hn b o (Yes v) end state events emitted m f a =
@@ -28,7 +30,8 @@ module _ {Tok Cx St Er V : Type 0} where
   pub given-ends : (v : Option V) → EndsAfterStart (Given {Tok = Tok} {Cx = Cx} {St = St} {Er = Er} v)
   given-ends v b o m a = omega (arith, ap (λ (x : Outcome V Er St). x.end) m)
 
-  pub given-agrees : (same : V → V → Type 0) (v w : Option V) → SameValue same v w → Agreeing same (Given {Tok = Tok} {Cx = Cx} {St = St} {Er = Er} v) (Given {Tok = Tok} {Cx = Cx} {St = St} {Er = Er} w)
+  pub given-agrees : (same : V → V → Type 0) (v w : Option V) → SameValue same v w
+      → Agreeing same (Given {Tok = Tok} {Cx = Cx} {St = St} {Er = Er} v) (Given {Tok = Tok} {Cx = Cx} {St = St} {Er = Er} w)
   given-agrees same v w s b c o q alike m n a z =
       let e : Outcome V Er St = record { verdict = Yes v; end = b.start; state = b.state; events = []; emitted = [] } in
       let f : Outcome V Er St = record { verdict = Yes w; end = c.start; state = c.state; events = []; emitted = [] } in
@@ -48,8 +51,19 @@ module _ {Tok Cx St Er V W : Type 0} (part part' : Meaning Tok Cx St Er V) (next
       let p' : Outcome V Er St = record { verdict = Yes w; end = end'; state = state'; events = events'; emitted = emitted' } in
       let first : Agree sv p p' = hp b c p p' alike m m' tt tt in
       let alike2 : Alike (from b p) (from c p') = record { tokens = alike.tokens; start = first.end; context = alike.context; state = first.state } in
-      let second : Agree sw f.0 f'.0 = hn v w first.answer (from b p) (from c p') f.0 f'.0 alike2 f.1 f'.1 (subst IsAnswer (ap (λ (x : Outcome W Er St). x.verdict) f.2) a) (subst IsAnswer (ap (λ (x : Outcome W Er St). x.verdict) f'.2) a') in
-      let joined : Agree sw (after p f.0) (after p' f'.0) = record { answer = second.answer; end = second.end; state = second.state; events = cc (first.events, second.events); emitted = cc (first.emitted, second.emitted) } in
+      let second : Agree sw f.0 f'.0 =
+      hn v w first.answer (from b p) (from c p') f.0 f'.0 alike2 f.1 f'.1
+      (subst IsAnswer (ap (λ (x : Outcome W Er St). x.verdict) f.2) a)
+      (subst IsAnswer (ap (λ (x : Outcome W Er St). x.verdict) f'.2) a') in
+      let joined : Agree sw (after p f.0) (after p' f'.0) =
+      record {
+        answer = second.answer;
+        end = second.end;
+        state = second.state;
+        events = cc (first.events, second.events);
+        emitted = cc (first.emitted, second.emitted);
+      }
+      in
       rw (f.2, f'.2) joined
   chained_agree hp hn b c o q alike (Yes v) end state events emitted No end' state' events' emitted' m m' f f' a a' = absurd (hp b c _ _ alike m m' tt tt).answer
   chained_agree hp hn b c o q alike (Yes v) end state events emitted (Halt s) end' state' events' emitted' m m' f f' a a' = absurd (subst IsAnswer (ap (λ (x : Outcome W Er St). x.verdict) f') a')
@@ -68,7 +82,9 @@ module _ {Tok Cx St Er V W : Type 0} (part part' : Meaning Tok Cx St Er V) (next
 
   pub chained-agrees : Agreeing sv part part' → ((v w : Option V) → SameValue sv v w → Agreeing sw (next v) (next' w)) → Agreeing sw (Chained part next) (Chained part' next')
   chained-agrees hp hn b c o q alike m n a a' =
-      chained_agree hp hn b c o q alike m.first.verdict m.first.end m.first.state m.first.events m.first.emitted n.first.verdict n.first.end n.first.state n.first.events n.first.emitted m.meant n.meant m.follows n.follows a a'
+      chained_agree hp hn b c o q alike m.first.verdict m.first.end m.first.state m.first.events m.first.emitted
+      n.first.verdict n.first.end n.first.state n.first.events n.first.emitted m.meant n.meant m.follows n.follows
+      a a'
 
 module _ {V W : Type 0} (sv : V → V → Type 0) (sw : W → W → Type 0) where
   pub both-same : (v v' : Option V) (w w' : Option W) → SameValue sv v v' → SameValue sw w w' → SameValue (SamePair sv sw) (both v w) (both v' w')
@@ -85,7 +101,9 @@ module _ {Tok Cx St Er V W : Type 0} (first : Meaning Tok Cx St Er V) (second : 
 
   pub sequence-agrees : (sv : V → V → Type 0) (sw : W → W → Type 0) → Agreeing sv first first → Agreeing sw second second → Agreeing (SamePair sv sw) (Sequence first second) (Sequence first second)
   sequence-agrees sv sw f s =
-      chained-agrees first first _ _ sv (SamePair sv sw) f (λ v v' e. chained-agrees second second _ _ sw (SamePair sv sw) s (λ w w' d. given-agrees (SamePair sv sw) (both v w) (both v' w') (both-same sv sw v v' w w' e d)))
+      chained-agrees first first _ _ sv (SamePair sv sw) f
+      (λ v v' e. chained-agrees second second _ _ sw (SamePair sv sw) s
+      (λ w w' d. given-agrees (SamePair sv sw) (both v w) (both v' w') (both-same sv sw v v' w w' e d)))
 
 module _ {Tok Cx St Er V : Type 0} (wanted : Bool) (part : Meaning Tok Cx St Er V) where
   pub asked-ends : EndsAfterStart part → EndsAfterStart (Asked wanted part)

@@ -41,7 +41,9 @@ module _ {Tok Cx St Er V : Type 0} where
   copy-spares copies safe x b o m = elim m.cases [ inl r ↦ absurd (r.0.1 x) | inr c ↦ rw (ap (λ (z : Outcome V Er St). z.verdict) c.given) tt ]
 
 module _ {Tok Cx St Er V W : Type 0} (part : Meaning Tok Cx St Er V) (next : Option V → Meaning Tok Cx St Er W) where
-  follows_spare : NeverOutOfMemory part → ((v : Option V) → NeverOutOfMemory (next v)) → (b : Beginning Tok Cx St) (o : Outcome W Er St) (p : Outcome V Er St) (u : Verdict V Er) → p.verdict ≡ u → part b p → Follows u next b p o → SparesMemory o.verdict
+  follows_spare : NeverOutOfMemory part → ((v : Option V) → NeverOutOfMemory (next v))
+      → (b : Beginning Tok Cx St) (o : Outcome W Er St) (p : Outcome V Er St) (u : Verdict V Er) → p.verdict ≡ u
+      → part b p → Follows u next b p o → SparesMemory o.verdict
   follows_spare hp hn b o p (Yes v) e m f = rw (ap (λ (x : Outcome W Er St). x.verdict) f.2) (hn v (from b p) f.0 f.1)
   follows_spare hp hn b o p No e m f = rw (ap (λ (x : Outcome W Er St). x.verdict) f) tt
   follows_spare hp hn b o p (Halt s) e m f =
@@ -68,7 +70,9 @@ module _ {Tok Cx St Er U V W : Type 0} (opening : Meaning Tok Cx St Er U) (part 
   between-spares ho hp hc = ignoring_first-spares opening (IgnoringSecond part closing) ho (ignoring_second-spares part closing hp hc)
 
 module _ {Tok Cx St Mk Er V : Type 0} (mark : St → Mk) (back : St → Mk → St) (safe : Type 0) (first second : Meaning Tok Cx St Er V) where
-  else_spares : safe → NeverOutOfMemory first → NeverOutOfMemory second → (m : Mk) (b : Beginning Tok Cx St) (o p : Outcome V Er St) (u : Verdict V Er) → first b p → ElseFrom back safe m u second b p o → SparesMemory o.verdict
+  else_spares : safe → NeverOutOfMemory first → NeverOutOfMemory second
+      → (m : Mk) (b : Beginning Tok Cx St) (o p : Outcome V Er St) (u : Verdict V Er) → first b p
+      → ElseFrom back safe m u second b p o → SparesMemory o.verdict
   else_spares x hf hs m b o p (Yes v) n f = rw (ap (λ (z : Outcome V Er St). z.verdict) f) (hf b p n)
   else_spares x hf hs m b o p No n (inl r) = absurd (r.0 x)
   else_spares x hf hs m b o p No n (inr g) = rw (ap (λ (z : Outcome V Er St). z.verdict) g.2) (hs (record b { state = back p.state m }) g.0 g.1)
@@ -87,5 +91,7 @@ module _ {Tok Cx St Er V : Type 0} (merged : Er → Er → Er) (safe : Type 0) w
   answer_spares x o old new (Clash e) h l = absurd (l.0 x)
 
   -- a call that shows an outcome of a meaning which is never refused for memory isn't either, where errors take none
-  pub run-spares : (meaning : Meaning Tok Cx St Er V) → NeverOutOfMemory meaning → safe → (wanted : Bool) (old new : Held Tok Cx St Er) (result : Result (Option V) Fault) → Ran merged safe meaning wanted old new result → AnswersWithoutMemory result
+  pub run-spares : (meaning : Meaning Tok Cx St Er V) → NeverOutOfMemory meaning → safe
+      → (wanted : Bool) (old new : Held Tok Cx St Er) (result : Result (Option V) Fault)
+      → Ran merged safe meaning wanted old new result → AnswersWithoutMemory result
   run-spares meaning h x wanted old new result r = rw r.answered (answer_spares x r.outcome old new r.outcome.verdict (h (begin wanted old) r.outcome r.meant) r.left)

@@ -47,7 +47,9 @@ module _ {Tok Cx St Er V : Type 0} where
   asked-moves wanted part h b o m y = h (record b { wanted = wanted }) o m.run y
 
 module _ {Tok Cx St Er V W : Type 0} (part : Meaning Tok Cx St Er V) (next : Option V → Meaning Tok Cx St Er W) where
-  first_moves : Moves part → ((v : Option V) → EndsAfterStart (next v)) → (b : Beginning Tok Cx St) (o : Outcome W Er St) (v : Verdict V Er) (end : ℕ) (state : St) (events : List (Event Er)) (emitted : List Er)
+  first_moves : Moves part → ((v : Option V) → EndsAfterStart (next v))
+      → (b : Beginning Tok Cx St) (o : Outcome W Er St) (v : Verdict V Er) (end : ℕ) (state : St)
+      (events : List (Event Er)) (emitted : List Er)
       → let p : Outcome V Er St = record { verdict = v; end = end; state = state; events = events; emitted = emitted } in
       part b p → Follows v next b p o → IsYes o.verdict → b.start < o.end
   first_moves hp hn b o (Yes v) end state events emitted m f y =
@@ -61,7 +63,10 @@ module _ {Tok Cx St Er V W : Type 0} (part : Meaning Tok Cx St Er V) (next : Opt
   first_moves hp hn b o (Halt s) end state events emitted m f y = absurd (subst IsYes (ap (λ (x : Outcome W Er St). x.verdict) f) y)
   first_moves hp hn b o (Clash e) end state events emitted m f y = absurd (subst IsYes (ap (λ (x : Outcome W Er St). x.verdict) f) y)
 
-  second_moves : EndsAfterStart part → ((b : Beginning Tok Cx St) (p : Outcome V Er St) (v : Option V) → part b p → p.verdict ≡ Yes v → Moves (next v)) → (b : Beginning Tok Cx St) (o : Outcome W Er St) (v : Verdict V Er) (end : ℕ) (state : St) (events : List (Event Er)) (emitted : List Er)
+  second_moves : EndsAfterStart part
+      → ((b : Beginning Tok Cx St) (p : Outcome V Er St) (v : Option V) → part b p → p.verdict ≡ Yes v → Moves (next v))
+      → (b : Beginning Tok Cx St) (o : Outcome W Er St) (v : Verdict V Er) (end : ℕ) (state : St)
+      (events : List (Event Er)) (emitted : List Er)
       → let p : Outcome V Er St = record { verdict = v; end = end; state = state; events = events; emitted = emitted } in
       part b p → Follows v next b p o → IsYes o.verdict → b.start < o.end
   second_moves hp hn b o (Yes v) end state events emitted m f y =
@@ -110,12 +115,15 @@ module _ {Tok Cx St Er V W : Type 0} (first : Meaning Tok Cx St Er V) (second : 
       ]
 
 module _ {Tok Cx St Er U V W : Type 0} (opening : Meaning Tok Cx St Er U) (part : Meaning Tok Cx St Er V) (closing : Meaning Tok Cx St Er W) where
-  pub between-moves : (a b c : Bool) → EndsAfterStart opening → EndsAfterStart part → EndsAfterStart closing → (a ≡ true → Moves opening) → (b ≡ true → Moves part) → (c ≡ true → Moves closing) → (a || (b || c)) ≡ true → Moves (Between opening part closing)
+  pub between-moves : (a b c : Bool) → EndsAfterStart opening → EndsAfterStart part → EndsAfterStart closing
+      → (a ≡ true → Moves opening) → (b ≡ true → Moves part) → (c ≡ true → Moves closing) → (a || (b || c)) ≡ true
+      → Moves (Between opening part closing)
   between-moves a b c eo ep ec ho hp hc e =
       ignoring_first-moves opening (IgnoringSecond part closing) a (b || c) eo (ignoring_second-ends part closing ep ec) ho (ignoring_second-moves part closing b c ep ec hp hc) e
 
 module _ {Tok Cx St Mk Er V : Type 0} (back : St → Mk → St) (safe : Type 0) (mark : Mk) (first second : Meaning Tok Cx St Er V) where
-  else_moves : Moves first → Moves second → (v : Verdict V Er) (b : Beginning Tok Cx St) (p o : Outcome V Er St) → first b p → ElseFrom back safe mark v second b p o → IsYes o.verdict → b.start < o.end
+  else_moves : Moves first → Moves second → (v : Verdict V Er) (b : Beginning Tok Cx St) (p o : Outcome V Er St)
+      → first b p → ElseFrom back safe mark v second b p o → IsYes o.verdict → b.start < o.end
   else_moves hf hs (Yes v) b p o m e y = hf b o (subst (first b) (sym e) m) y
   else_moves hf hs No b p o m (inl r) y = absurd (subst IsYes r.1 y)
   else_moves hf hs No b p o m (inr k) y =
@@ -128,7 +136,11 @@ module _ {Tok Cx St Mk Er V : Type 0} (back : St → Mk → St) (safe : Type 0) 
 
 module _ {Tok Cx St Mk Er V : Type 0} (mark : St → Mk) (back : St → Mk → St) (safe : Type 0) where
   pub or_else-moves : (first second : Meaning Tok Cx St Er V) → Moves first → Moves second → Moves (OrElse mark back safe first second)
-  or_else-moves first second hf hs b o m y = elim m.cases [ inl r ↦ absurd (subst IsYes r.1 y) | inr t ↦ else_moves back safe (mark b.state) first second hf hs t.attempt.verdict b t.attempt o t.meant t.then_else y ]
+  or_else-moves first second hf hs b o m y =
+      elim m.cases [
+        | inl r ↦ absurd (subst IsYes r.1 y)
+        | inr t ↦ else_moves back safe (mark b.state) first second hf hs t.attempt.verdict b t.attempt o t.meant t.then_else y
+      ]
 
   pub or-moves : (first second : Meaning Tok Cx St Er V) (a b : Bool) → (a ≡ true → Moves first) → (b ≡ true → Moves second) → (a && b) ≡ true → Moves (OrElse mark back safe first second)
   or-moves first second a b hf hs e = let t = both-true a b e in or_else-moves first second (hf t.0) (hs t.1)

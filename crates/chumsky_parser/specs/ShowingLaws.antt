@@ -14,7 +14,9 @@ module _ {Tok Cx St Er V W : Type 0} (gives : GivesShown Tok Cx St V W) where
   shown-ends from v b o m a = since-ends from v b o m.by_value a
 
   module _ (one : OnlyAnswers gives) (same : V → V → Type 0) (other : W → W → Type 0) (made : (w w' : W) → SameShown gives same w w' → other w w') where
-    since-agrees : (from : ℕ) (v v' : Option V) → SameValue same v v' → (b c : Beginning Tok Cx St) (o q : Outcome W Er St) → Alike b c → GivenSince gives from v b o → GivenSince gives from v' c q → IsAnswer o.verdict → IsAnswer q.verdict → Agree other o q
+    since-agrees : (from : ℕ) (v v' : Option V) → SameValue same v v'
+        → (b c : Beginning Tok Cx St) (o q : Outcome W Er St) → Alike b c → GivenSince gives from v b o
+        → GivenSince gives from v' c q → IsAnswer o.verdict → IsAnswer q.verdict → Agree other o q
     since-agrees from (Some v) (Some v') e b c o q alike m n a z =
         let x : Shown Tok Cx St = shown_since from b in
         let y : Shown Tok Cx St = shown_since from c in
@@ -33,5 +35,6 @@ module _ {Tok Cx St Er V W : Type 0} (gives : GivesShown Tok Cx St V W) where
     since-agrees from None None e b c o q alike m n a z = given-agrees other None None tt b c o q alike m n a z
 
     -- shown what ran since one place, two answers are as said
-    pub shown-agrees : (from from' : ℕ) → from ≡ from' → (v w : Option V) → SameValue same v w → Agreeing other (GivenShown {Tok = Tok} {Cx = Cx} {St = St} {Er = Er} gives from v) (GivenShown gives from' w)
+    pub shown-agrees : (from from' : ℕ) → from ≡ from' → (v w : Option V) → SameValue same v w
+        → Agreeing other (GivenShown {Tok = Tok} {Cx = Cx} {St = St} {Er = Er} gives from v) (GivenShown gives from' w)
     shown-agrees from from' d v w e b c o q alike m n a z = since-agrees from v w e b c o q alike m.by_value (subst (λ x. GivenSince gives x w c q) (sym d) n.by_value) a z

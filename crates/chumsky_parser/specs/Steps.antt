@@ -17,7 +17,8 @@ module _ {Tok Cx St Er S V A W : Type 0} (step : S → Meaning Tok Cx St Er (Nex
   closed room a s b o m = record { items = []; fit = omega arith; linked = tt; last = o; closes = m; whole = refl }
 
   -- an item, and then the rest
-  joined : (room : ℕ) (a : Option A) (s : S) (b : Beginning Tok Cx St) (o : Outcome W Er St) (x : Item Er St S V A) (q : Outcome W Er St) → IsItem step more a s b x → o ≡ after x.step (after x.making q)
+  joined : (room : ℕ) (a : Option A) (s : S) (b : Beginning Tok Cx St) (o : Outcome W Er St) (x : Item Er St S V A) (q : Outcome W Er St)
+      → IsItem step more a s b x → o ≡ after x.step (after x.making q)
       → AllItems step more ended room x.made x.next (past b x) q → AllItems step more ended (suc room) a s b o
   joined room a s b o x q i e l =
       record {
@@ -31,15 +32,22 @@ module _ {Tok Cx St Er S V A W : Type 0} (step : S → Meaning Tok Cx St Er (Nex
 
   module _ (room : ℕ) (a : Option A) (s : S) (b : Beginning Tok Cx St) (o : Outcome W Er St) (p : Outcome (Next S V) Er St) (m : step s b p) where
     -- nothing is made of an item
-    not_made : (v : Option V) (t : S) (q : Outcome W Er St) (r : Outcome A Er St) (w : Verdict A Er) → p.verdict ≡ Yes (Some (More v t)) → more a v (from b p) r → r.verdict ≡ w → Follows w (λ _ _ _. ⊥) (from b p) r q → o ≡ after p q → AllItems step more ended (suc room) a s b o
+    not_made : (v : Option V) (t : S) (q : Outcome W Er St) (r : Outcome A Er St) (w : Verdict A Er)
+        → p.verdict ≡ Yes (Some (More v t)) → more a v (from b p) r → r.verdict ≡ w
+        → Follows w (λ _ _ _. ⊥) (from b p) r q → o ≡ after p q → AllItems step more ended (suc room) a s b o
     not_made v t q r w e n d f z =
         let making : Chained (more a v) (λ _ _ _. ⊥) (from b p) q = record { first = r; meant = n; follows = subst (λ y. Follows y (λ _ _ _. ⊥) (from b p) r q) (sym d) f } in
         closed (suc room) a s b o (record { first = p; meant = m; follows = subst (λ y. Follows y (AfterStep (λ u _. Unmade (suc room) (more a u)) (ended a)) b p o) (sym e) (q, making, z) })
 
     module _ (rest : (c : Option A) (t : S) (d : Beginning Tok Cx St) (q : Outcome W Er St) → AllSteps room c t d q → AllItems step more ended room c t d q) where
-      by_making : (v : Option V) (t : S) (q : Outcome W Er St) (r : Outcome A Er St) (w : Verdict A Er) → p.verdict ≡ Yes (Some (More v t)) → more a v (from b p) r → r.verdict ≡ w → Follows w (λ c. AllSteps room c t) (from b p) r q → o ≡ after p q → AllItems step more ended (suc room) a s b o
+      by_making : (v : Option V) (t : S) (q : Outcome W Er St) (r : Outcome A Er St) (w : Verdict A Er)
+          → p.verdict ≡ Yes (Some (More v t)) → more a v (from b p) r → r.verdict ≡ w
+          → Follows w (λ c. AllSteps room c t) (from b p) r q → o ≡ after p q
+          → AllItems step more ended (suc room) a s b o
       by_making v t q r (Yes c) e n d f z =
-          joined room a s b o (record { value = v; next = t; made = c; step = p; making = r }) f.0 (record { steps = m; gives = e; makes = n; goes_on = d }) (z ∙ ap (after p) f.2) (rest c t (from (from b p) r) f.0 f.1)
+          joined room a s b o (record { value = v; next = t; made = c; step = p; making = r }) f.0
+          (record { steps = m; gives = e; makes = n; goes_on = d }) (z ∙ ap (after p) f.2)
+          (rest c t (from (from b p) r) f.0 f.1)
       by_making v t q r No e n d f z = not_made v t q r No e n d f z
       by_making v t q r (Halt h) e n d f z = not_made v t q r (Halt h) e n d f z
       by_making v t q r (Clash x) e n d f z = not_made v t q r (Clash x) e n d f z
@@ -60,7 +68,9 @@ module _ {Tok Cx St Er S V A W : Type 0} (step : S → Meaning Tok Cx St Er (Nex
   listed zero a s b o m = closed zero a s b o m
   listed (suc room) a s b o m = by_step room a s b o m.first m.meant (listed room) m.first.verdict refl m.follows
 
-  unmade_steps : (room : ℕ) (a : Option A) (t : S) (v : Option V) (b : Beginning Tok Cx St) (r : Outcome A Er St) (q : Outcome W Er St) (w : Verdict A Er) → Follows w (λ _ _ _. ⊥) b r q → Follows w (λ c. AllSteps room c t) b r q
+  unmade_steps : (room : ℕ) (a : Option A) (t : S) (v : Option V) (b : Beginning Tok Cx St) (r : Outcome A Er St)
+      (q : Outcome W Er St) (w : Verdict A Er)
+      → Follows w (λ _ _ _. ⊥) b r q → Follows w (λ c. AllSteps room c t) b r q
   unmade_steps room a t v b r q (Yes c) f = absurd f.1
   unmade_steps room a t v b r q No f = f
   unmade_steps room a t v b r q (Halt h) f = f
@@ -80,14 +90,31 @@ module _ {Tok Cx St Er S V A W : Type 0} (step : S → Meaning Tok Cx St Er (Nex
   of_list : (items : List (Item Er St S V A)) (room : ℕ) (a : Option A) (s : S) (b : Beginning Tok Cx St) (o last : Outcome W Er St) → length items ≤ room → Linked step more a s b items
       → Closes step more ended (room_after items room) (made_of a items) (next_after s items) (past_all b items) last → o ≡ after_all items last → AllSteps room a s b o
   of_list [] zero a s b o last fit l m e = subst (AllSteps zero a s b) (sym e) m
-  of_list [] (suc room) a s b o last fit l m e = subst (AllSteps (suc room) a s b) (sym e) (record { first = m.first; meant = m.meant; follows = closing_steps room a b m.first last m.first.verdict m.follows })
+  of_list [] (suc room) a s b o last fit l m e =
+      subst (AllSteps (suc room) a s b) (sym e)
+      (record { first = m.first; meant = m.meant; follows = closing_steps room a b m.first last m.first.verdict m.follows })
   of_list (x ∷ xs) zero a s b o last fit l m e = absurd (omega (arith, fit))
   of_list (x ∷ xs) (suc room) a s b o last fit l m e =
       let i = l.0 in
       let rest : AllSteps room x.made x.next (past b x) (after_all xs last) = of_list xs room x.made x.next (past b x) (after_all xs last) last (omega (arith, fit)) l.1 m refl in
       let making : Chained (more a x.value) (λ c. AllSteps room c x.next) (from b x.step) (after x.making (after_all xs last)) =
-      record { first = x.making; meant = i.makes; follows = subst (λ w. Follows w (λ c. AllSteps room c x.next) (from b x.step) x.making (after x.making (after_all xs last))) (sym i.goes_on) (after_all xs last, rest, refl) } in
-      record { first = x.step; meant = i.steps; follows = subst (λ w. Follows w (AfterStep (λ v t. Chained (more a v) (λ c. AllSteps room c t)) (ended a)) b x.step o) (sym i.gives) (after x.making (after_all xs last), making, e) }
+      record {
+        first = x.making;
+        meant = i.makes;
+        follows =
+            subst
+            (λ w. Follows w (λ c. AllSteps room c x.next) (from b x.step) x.making (after x.making (after_all xs last)))
+            (sym i.goes_on) (after_all xs last, rest, refl);
+      }
+      in
+      record {
+        first = x.step;
+        meant = i.steps;
+        follows =
+            subst
+            (λ w. Follows w (AfterStep (λ v t. Chained (more a v) (λ c. AllSteps room c t)) (ended a)) b x.step o)
+            (sym i.gives) (after x.making (after_all xs last), making, e);
+      }
 
   -- and the other way round
   pub unlisted : (room : ℕ) (a : Option A) (s : S) (b : Beginning Tok Cx St) (o : Outcome W Er St) → AllItems step more ended room a s b o → AllSteps room a s b o

@@ -132,7 +132,11 @@ whole-taken f P fits h ts p n = subst (λ q. EndsOrRefused (f q) []) (append-nil
 
 -- a parser that takes words gives no token back
 pub keeps_tokens : {Tok : Type 0} (f : Ender Tok) (P : List Tok → Type 0) → TakesOnly f P → (ts rest : List Tok) → f ts ≡ At rest → length rest ≤ length ts
-keeps_tokens f P h ts rest e = let b = h.taken ts rest e in let l : length ts ≡ length (b.word ++ rest) = ap length b.all in let k : length rest ≤ length (b.word ++ rest) = at_end b.word rest in omega (arith, l, k)
+keeps_tokens f P h ts rest e =
+    let b = h.taken ts rest e in
+    let l : length ts ≡ length (b.word ++ rest) = ap length b.all in
+    let k : length rest ≤ length (b.word ++ rest) = at_end b.word rest in
+    omega (arith, l, k)
   where
     at_end : {Tok : Type 0} (ws rest : List Tok) → length rest ≤ length (ws ++ rest)
     at_end [] rest = omega arith

@@ -1,5 +1,6 @@
 -- What an error says to people, of tokens that have a number and a text, and maybe a word for all from one to another.
-use Rattle.std.specs.Prelude.{ℕ, zero, suc, ◌^◌, ◌+◌, ◌-◌, Bool, false, ◌||◌, ◌&&◌, if◌then◌else◌, nat_le, List, [], ◌∷◌, ◌++◌, length, take, Option, Some, None, codes, string_bytes, ◌==◌, slice_index_or}
+use Rattle.std.specs.Prelude.{ℕ, zero, suc, ◌^◌, ◌+◌, ◌-◌, Bool, false, ◌||◌, ◌&&◌, if◌then◌else◌, nat_le, List, [], ◌∷◌, ◌++◌, length, take, Option}
+use Rattle.std.specs.Prelude.{Some, None, codes, string_bytes, ◌==◌, slice_index_or}
 use Rattle.std.specs.Char.{encode_utf8, is_control}
 use Rattle.std.specs.List.{list_any}
 use Rattle.std.specs.Option.{unwrap_or}

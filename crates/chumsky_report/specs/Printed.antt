@@ -4,7 +4,7 @@ use Rattle.std.specs.Fmt.{◌++?◌}
 use Rattle.chumsky_report.specs.Shown.{line_of, below_of}
 use Rattle.chumsky_report.specs.declared.line.Place.{Place}
 use Rattle.chumsky_report.specs.declared.report.Located.{Located}
-use Rattle.chumsky_report.specs.declared.report.Marks.{Marks}
+use Rattle.chumsky_report.specs.declared.report.Underline.{Underline}
 
 -- a name and a place
 abbrev pub named_text : List ℕ → Place → List ℕ
@@ -14,7 +14,7 @@ named_text name place = name ++ (codes ":" ++ (decimal place.line ++ (codes ":" 
 abbrev pub onward_of : ℕ → ℕ → List ℕ
 onward_of first last = if nat_le last first then [] else codes " to line " ++ decimal last
 
-abbrev pub marks_text : Marks → List ℕ
+abbrev pub marks_text : Underline → List ℕ
 marks_text m = below_of m.window ++ (replicate (max 1 m.marked) 94 ++ onward_of m.onward.0 m.onward.1)
 
 abbrev pub located_text : {M : Type 0} → (M → Option (List ℕ)) → Located M → Option (List ℕ)

@@ -231,9 +231,9 @@ fn skip_labelled<'a, T: Symbol>(
 
 /// The first and the last pattern of a run.
 #[derive_where(Clone, Copy)]
-struct Run<'a, T>(&'a RichPattern<T>, &'a RichPattern<T>);
+struct PatternRange<'a, T>(&'a RichPattern<T>, &'a RichPattern<T>);
 
-impl<T: Symbol> Display for Run<'_, T> {
+impl<T: Symbol> Display for PatternRange<'_, T> {
     ghost output = { λ p. Some (run_text T.number T.text T.word p.0.now p.1.now) };
 
     fn fmt<W: fmt::Write>(&self, f: &mut Formatter<W>) -> fmt::Result {
@@ -246,16 +246,16 @@ impl<T: Symbol> Display for Run<'_, T> {
 
 /// An item of what was expected.
 #[derive_where(Clone, Copy)]
-struct Item<'a, T>(&'a [RichPattern<T>]);
+struct PatternItem<'a, T>(&'a [RichPattern<T>]);
 
-impl<T: Symbol> Display for Item<'_, T> {
+impl<T: Symbol> Display for PatternItem<'_, T> {
     ghost output = { λ p. Some (item_text T.number T.text T.word p.0.now) };
 
     fn fmt<W: fmt::Write>(&self, f: &mut Formatter<W>) -> fmt::Result {
         match self.0 {
             [] => Ok(()),
             [only] => write!(f, "{}", Pattern(only)),
-            [first, .., last] => write!(f, "{}", Run(first, last)),
+            [first, .., last] => write!(f, "{}", PatternRange(first, last)),
         }
     }
 }
@@ -273,13 +273,13 @@ impl<T: Symbol> Display for Patterns<'_, T> {
             return write!(f, "something else");
         }
         let (item, later) = all.split_at(item_length(all));
-        write!(f, "{}", Item(item))?;
+        write!(f, "{}", PatternItem(item))?;
         let mut rest = skip_labelled(self.0, later);
         while !rest.is_empty() {
             let (item, later) = rest.split_at(item_length(rest));
             let later = skip_labelled(self.0, later);
             let separator = if later.is_empty() { " or " } else { ", " };
-            write!(f, "{separator}{}", Item(item))?;
+            write!(f, "{separator}{}", PatternItem(item))?;
             rest = later;
         }
         Ok(())

@@ -159,10 +159,10 @@ impl<M: Display + Copy> Display for Located<'_, M> {
         let place = Named(self.name, self.place);
         let message = self.message;
         let line = Line(self.window);
-        let marks = Marks {
+        let marks = Underline {
             window: self.window,
             marked: self.marked,
-            onward: Onward(self.place.line, self.last_line),
+            onward: MoreLines(self.place.line, self.last_line),
         };
         write!(f, "{place}: {message}\n{line}\n{marks}")
     }
@@ -183,14 +183,14 @@ impl Display for Named<'_> {
 
 /// What stands below the line.
 #[derive(Clone, Copy)]
-struct Marks<'a> {
+struct Underline<'a> {
     window: Window<'a>,
     /// How many of the characters that are shown belong to the span.
     marked: usize,
-    onward: Onward,
+    onward: MoreLines,
 }
 
-impl Display for Marks<'_> {
+impl Display for Underline<'_> {
     ghost output = { λ m. Some (marks_text m) };
 
     fn fmt<W: fmt::Write>(&self, f: &mut Formatter<W>) -> fmt::Result {
@@ -217,9 +217,9 @@ impl Display for Carets {
 
 /// To which line a span goes on, by its first line and its last, where these are two.
 #[derive(Clone, Copy)]
-struct Onward(usize, usize);
+struct MoreLines(usize, usize);
 
-impl Display for Onward {
+impl Display for MoreLines {
     ghost output = { λ o. Some (onward_of o.0 o.1) };
 
     fn fmt<W: fmt::Write>(&self, f: &mut Formatter<W>) -> fmt::Result {

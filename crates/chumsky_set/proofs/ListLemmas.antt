@@ -18,16 +18,26 @@ pub map_no_slots : {X R V : Type 0} (shown : R → Option V) (xs : List X) → m
 map_no_slots shown [] = refl
 map_no_slots shown (x ∷ xs) = ap (λ zs. None ∷ zs) (map_no_slots shown xs)
 
-module _ {X Tok Cx St Mk Er V W : Type 0} {merged : Er → Er → Er} {safe : Type 0} {mark : St → Mk} {back : St → Mk → St} {quiet : Type 0} {meaning : X → Meaning Tok Cx St Er V} {items : W → List V} {parts : List X} {wanted : Bool} {old : Held Tok Cx St Er} where
+module _ {X Tok Cx St Mk Er V W : Type 0} {merged : Er → Er → Er} {safe : Type 0} {mark : St → Mk}
+    {back : St → Mk → St} {quiet : Type 0} {meaning : X → Meaning Tok Cx St Er V} {items : W → List V}
+    {parts : List X} {wanted : Bool} {old : Held Tok Cx St Er} where
   -- want of memory for the slots
   pub ran_no_slots : {r : Result (Option W) Fault} → (length parts ≡ 0 → ⊥) → r ≡ Err (fault.Stop Memory) → Ran merged safe (SetEach mark back quiet meaning items parts) wanted old old r
   ran_no_slots {r} n e =
       rw e (ran-halts merged safe (SetEach mark back quiet meaning items parts) wanted old old (record { tokens = refl; context = refl }) refl (λ o v s. record { cases = inl (n, v, s) }))
 
-module _ {X Tok Cx St Mk Er V W : Type 0} {merged : Er → Er → Er} {safe : Type 0} {mark : St → Mk} {back : St → Mk → St} {quiet : Type 0} {meaning : X → Meaning Tok Cx St Er V} {items : W → List V} {parts : List X} {wanted : Bool} {old new : Held Tok Cx St Er} where
-  with_slots : {r : Result (Option W) Fault} → Ran merged safe (Chained (AnyOrder (each_part mark back quiet meaning parts) (map (λ _. None) parts)) (FormedAs items)) wanted old new r → Ran merged safe (SetEach mark back quiet meaning items parts) wanted old new r
+module _ {X Tok Cx St Mk Er V W : Type 0} {merged : Er → Er → Er} {safe : Type 0} {mark : St → Mk}
+    {back : St → Mk → St} {quiet : Type 0} {meaning : X → Meaning Tok Cx St Er V} {items : W → List V}
+    {parts : List X} {wanted : Bool} {old new : Held Tok Cx St Er} where
+  with_slots : {r : Result (Option W) Fault}
+      → Ran merged safe
+      (Chained (AnyOrder (each_part mark back quiet meaning parts) (map (λ _. None) parts)) (FormedAs items))
+      wanted old new r
+      → Ran merged safe (SetEach mark back quiet meaning items parts) wanted old new r
   with_slots {r} h =
-      ran-weaker merged safe (Chained (AnyOrder (each_part mark back quiet meaning parts) (map (λ _. None) parts)) (FormedAs items)) (SetEach mark back quiet meaning items parts) wanted old new r (λ o k. record { cases = inr k }) h
+      ran-weaker merged safe
+      (Chained (AnyOrder (each_part mark back quiet meaning parts) (map (λ _. None) parts)) (FormedAs items))
+      (SetEach mark back quiet meaning items parts) wanted old new r (λ o k. record { cases = inr k }) h
 
 module _ {Tok Cx St Er V W : Type 0} {merged : Er → Er → Er} {safe : Type 0} {part : Meaning Tok Cx St Er (List V)} (items : W → List V) {old new : Held Tok Cx St Er} where
   -- values, and then something that has them
@@ -35,7 +45,9 @@ module _ {Tok Cx St Er V W : Type 0} {merged : Er → Er → Er} {safe : Type 0}
   ran_formed (Ok w) h = chained h refl (ran-weaker merged safe (Given (Some w)) (FormedAs items (Some (items w))) true new new (Ok (Some w)) (λ o k. (w, refl, k)) ran-given)
   ran_formed (Err f) h = failed h refl refl
 
-module _ {X Tok Cx St Mk Er V W : Type 0} {merged : Er → Er → Er} {safe : Type 0} {mark : St → Mk} {back : St → Mk → St} {quiet : Type 0} {meaning : X → Meaning Tok Cx St Er V} (items : W → List V) {parts : List X} {slots : List (Slot V)} {old new : Held Tok Cx St Er} where
+module _ {X Tok Cx St Mk Er V W : Type 0} {merged : Er → Er → Er} {safe : Type 0} {mark : St → Mk}
+    {back : St → Mk → St} {quiet : Type 0} {meaning : X → Meaning Tok Cx St Er V} (items : W → List V)
+    {parts : List X} {slots : List (Slot V)} {old new : Held Tok Cx St Er} where
   -- the parts in any order, of slots with nothing yet, for their values and without
   pub ran_values : (x : Result W Fault) → slots ≡ map (λ _. None) parts → Ran merged safe (AnyOrder (each_part mark back quiet meaning parts) slots) true old new (shown_by (λ w. Some (items w)) x)
       → Ran merged safe (SetEach mark back quiet meaning items parts) true old new (with_value x)

@@ -39,13 +39,15 @@ module _ {Tok Cx St Er V : Type 0} {merged : Er → Er → Er} {safe : Type 0} {
   moving {r} h = ran-weaker merged safe (Chained part (Past old.place)) (Moving part) wanted old new r (λ o k. record { run = k }) h
 
   -- a part that said yes and has moved, one that has not, and one that did not say yes
-  pub moved : {x : Result (Option V) Fault} {v : Option V} → Ran merged safe part wanted old new x → x ≡ Ok v → old.place < new.place → Ran merged safe (Moving part) wanted old new (Ok (Some (Some v)))
+  pub moved : {x : Result (Option V) Fault} {v : Option V} → Ran merged safe part wanted old new x → x ≡ Ok v
+      → old.place < new.place → Ran merged safe (Moving part) wanted old new (Ok (Some (Some v)))
   moved h e l = moving (chained h e (ran_past l))
 
   pub stayed : {x : Result (Option V) Fault} {v : Option V} → Ran merged safe part wanted old new x → x ≡ Ok v → new.place ≤ old.place → Ran merged safe (Moving part) wanted old new (Err fault.Fail)
   stayed h e l = moving (chained h e (ran_stayed l))
 
-  pub unmoved : {x : Result (Option V) Fault} {y : Result (Option (Slot V)) Fault} {f : Fault} → Ran merged safe part wanted old new x → x ≡ Err f → y ≡ Err f → Ran merged safe (Moving part) wanted old new y
+  pub unmoved : {x : Result (Option V) Fault} {y : Result (Option (Slot V)) Fault} {f : Fault}
+      → Ran merged safe part wanted old new x → x ≡ Err f → y ≡ Err f → Ran merged safe (Moving part) wanted old new y
   unmoved h e d = moving (failed h e d)
 
 module _ {R V : Type 0} (shown : R → Option V) where
@@ -54,19 +56,23 @@ module _ {R V : Type 0} (shown : R → Option V) where
   lessened None (Some v) e = omega arith
   lessened None None e = refl
 
-module _ {Tok Cx St Mk Er R V : Type 0} {merged : Er → Er → Er} {safe : Type 0} (mark : St → Mk) (back : St → Mk → St) (quiet : Type 0) (part : Meaning Tok Cx St Er V) {wanted : Bool} {old : Held Tok Cx St Er} where
+module _ {Tok Cx St Mk Er R V : Type 0} {merged : Er → Er → Er} {safe : Type 0} (mark : St → Mk) (back : St → Mk → St)
+    (quiet : Type 0) (part : Meaning Tok Cx St Er V) {wanted : Bool} {old : Held Tok Cx St Er} where
   -- a part that is taken has no turn
   pub taken_before : (shown : R → Option V) (s : Option R) → is_some s ≡ true → Ran merged safe (Offered mark back quiet part (slot_of shown s)) wanted old old (Ok (Some (slot_of shown s)))
   taken_before shown (Some r) e = ran-given
   taken_before shown None e = cc
 
-module _ {Tok Cx St Mk Er R V : Type 0} {merged : Er → Er → Er} {safe : Type 0} {mark : St → Mk} {back : St → Mk → St} {quiet : Type 0} {part : Meaning Tok Cx St Er V} {wanted : Bool} {old new : Held Tok Cx St Er} where
+module _ {Tok Cx St Mk Er R V : Type 0} {merged : Er → Er → Er} {safe : Type 0} {mark : St → Mk} {back : St → Mk → St}
+    {quiet : Type 0} {part : Meaning Tok Cx St Er V} {wanted : Bool} {old new : Held Tok Cx St Er} where
   -- the turn of one that is not, and one that was refused
   pub turned : {r : Result (Option (Slot V)) Fault} (shown : R → Option V) (s : Option R) → is_some s ≡ false → Ran merged safe (Offered mark back quiet part None) wanted old new r
       → Ran merged safe (Offered mark back quiet part (slot_of shown s)) wanted old new r
   turned shown (Some v) e h = cc
   turned shown None e h = h
 
-  pub turn_failed : {x y : Result (Option (Slot V)) Fault} {f : Fault} (shown : R → Option V) (s : Option R) → is_some s ≡ false → Ran merged safe (Offered mark back quiet part None) wanted old new x → x ≡ Err f → y ≡ Err f
+  pub turn_failed : {x y : Result (Option (Slot V)) Fault} {f : Fault} (shown : R → Option V) (s : Option R)
+      → is_some s ≡ false → Ran merged safe (Offered mark back quiet part None) wanted old new x → x ≡ Err f
+      → y ≡ Err f
       → Ran merged safe (Offered mark back quiet part (slot_of shown s)) wanted old new y
   turn_failed {x} {y} {f} shown s e h a b = rw b (turned shown s e (rw a at h))

@@ -33,7 +33,9 @@ module _ {Tok Cx St Er T V : Type 0} {merged : Er → Er → Er} {safe : Type 0}
 
 module _ {Tok Cx St Er T V : Type 0} {merged : Er → Er → Er} {safe : Type 0} (row : Row Tok Cx St Er T V) {wanted : Bool} {t : T} {old new : Held Tok Cx St Er} where
   -- a round that was refused
-  refused : {x : Result (Option T) Fault} {y : Result (Option V) Fault} {f : Fault} → Ran merged safe (row.pass t) wanted old new x → x ≡ Err f → y ≡ Err f → Ran merged safe (AnyOrder row t) wanted old new y
+  refused : {x : Result (Option T) Fault} {y : Result (Option V) Fault} {f : Fault}
+      → Ran merged safe (row.pass t) wanted old new x → x ≡ Err f → y ≡ Err f
+      → Ran merged safe (AnyOrder row t) wanted old new y
   refused h e d = in_rounds row [] (failed h e d)
 
 module _ {Tok Cx St Er T V : Type 0} {merged : Er → Er → Er} {safe : Type 0} (row : Row Tok Cx St Er T V) {wanted : Bool} {start t u : T} {old mid next : Held Tok Cx St Er} where
@@ -41,12 +43,16 @@ module _ {Tok Cx St Er T V : Type 0} {merged : Er → Er → Er} {safe : Type 0}
       → Resumes merged safe row wanted start old u next
   rounds_go_on k h e l = λ new r m. k new r (again row h e l m)
 
-  pub rounds_end : {new : Held Tok Cx St Er} {x : Result (Option T) Fault} {r : Result (Option V) Fault} → Resumes merged safe row wanted start old t mid → Ran merged safe (row.pass t) wanted mid next x → x ≡ Ok (Some u) → row.left u ≡ row.left t
+  pub rounds_end : {new : Held Tok Cx St Er} {x : Result (Option T) Fault} {r : Result (Option V) Fault}
+      → Resumes merged safe row wanted start old t mid → Ran merged safe (row.pass t) wanted mid next x
+      → x ≡ Ok (Some u) → row.left u ≡ row.left t
       → Ran merged safe (row.last u) wanted next new r → Ran merged safe (AnyOrder row start) wanted old new r
   rounds_end {new} {x} {r} k h e l m = k new r (at_last row h e l m)
 
 module _ {Tok Cx St Er T V : Type 0} {merged : Er → Er → Er} {safe : Type 0} (row : Row Tok Cx St Er T V) {wanted : Bool} {start t : T} {old mid new : Held Tok Cx St Er} where
-  pub round_failed : {x : Result (Option T) Fault} {y : Result (Option V) Fault} {f : Fault} → Resumes merged safe row wanted start old t mid → Ran merged safe (row.pass t) wanted mid new x → x ≡ Err f → y ≡ Err f
+  pub round_failed : {x : Result (Option T) Fault} {y : Result (Option V) Fault} {f : Fault}
+      → Resumes merged safe row wanted start old t mid → Ran merged safe (row.pass t) wanted mid new x → x ≡ Err f
+      → y ≡ Err f
       → Ran merged safe (AnyOrder row start) wanted old new y
   round_failed {x} {y} k h e d = k new y (refused row h e d)
 

@@ -1,5 +1,6 @@
 -- What turns over a list of parts leave.
-use Rattle.std.proofs.Common.{◌≡◌, ℕ, zero, suc, ◌<◌, ◌≤◌, ◌+◌, ◌||◌, Bool, true, false, Option, Some, None, option_map, ◌⊎◌, subst, append_assoc, List, [], ◌∷◌, ◌++◌, refl, sym, ◌∙◌, ap, Result, Ok, Err, arith, inl, inr, map, length, take, drop}
+use Rattle.std.proofs.Common.{◌≡◌, ℕ, zero, suc, ◌<◌, ◌≤◌, ◌+◌, ◌||◌, Bool, true, false, Option, Some, None, option_map, ◌⊎◌, subst, append_assoc}
+use Rattle.std.proofs.Common.{List, [], ◌∷◌, ◌++◌, refl, sym, ◌∙◌, ap, Result, Ok, Err, arith, inl, inr, map, length, take, drop}
 use Rattle.std.proofs.Math.ListN.{get_or, set}
 use Rattle.std.proofs.lemmas.List.{append-nil, drop_all, length-map, take_all, drop_more, drop-set-lt, take_more_set, get_or-map}
 use Rattle.chumsky_input.specs.declared.stop.Fault.{Fault}
@@ -91,7 +92,9 @@ module _ {X Tok Cx St Er V Y : Type 0} (turn : X → Slot V → Meaning Tok Cx S
   none_given (x ∷ xs) [] b o w m e = absurd m
   none_given (x ∷ xs) (s ∷ ss) b o w m e = follows_part (Turns turn xs ss None) m.first.verdict b m.first o w (λ c q u k d. none_given xs ss c q u k d) m.follows e
 
-  begin_none : (parts : List X) (slots : List (Slot V)) (b : Beginning Tok Cx St) (o : Outcome (List Y) Er St) (r : Result (Option (List Y)) Fault) → Turns turn parts slots None b o → r ≡ answer o.verdict → onto None r ≡ r
+  begin_none : (parts : List X) (slots : List (Slot V)) (b : Beginning Tok Cx St) (o : Outcome (List Y) Er St)
+      (r : Result (Option (List Y)) Fault)
+      → Turns turn parts slots None b o → r ≡ answer o.verdict → onto None r ≡ r
   begin_none parts slots b o (Ok w) m e = ap Ok (sym (none_given parts slots b o w m (by_answer o.verdict w (sym e))))
     where
       by_answer : (v : Verdict (List Y) Er) (w : Option (List Y)) → answer v ≡ Ok w → v ≡ Yes w
@@ -103,38 +106,55 @@ module _ {X Tok Cx St Er V Y : Type 0} (turn : X → Slot V → Meaning Tok Cx S
 
 module _ {X Tok Cx St Er V Y : Type 0} (merged : Er → Er → Er) (safe : Type 0) (turn : X → Slot V → Meaning Tok Cx St Er Y) (wanted : Bool) where
   -- what a run of these turns from here gives comes after these values, in a run of the whole
-  pub record GoOn (all : List X) (first : List (Slot V)) (empty : Option (List Y)) (old : Held Tok Cx St Er) (parts : List X) (slots : List (Slot V)) (values : Option (List Y)) (mid : Held Tok Cx St Er) : Type 0 where
+  pub record GoOn (all : List X) (first : List (Slot V)) (empty : Option (List Y)) (old : Held Tok Cx St Er)
+      (parts : List X) (slots : List (Slot V)) (values : Option (List Y)) (mid : Held Tok Cx St Er) : Type 0 where
     pub nothing : Nothing empty values
-    pub on : (new : Held Tok Cx St Er) (r : Result (Option (List Y)) Fault) → Ran merged safe (Turns turn parts slots empty) wanted mid new r → Ran merged safe (Turns turn all first empty) wanted old new (onto values r)
+    pub on : (new : Held Tok Cx St Er) (r : Result (Option (List Y)) Fault)
+        → Ran merged safe (Turns turn parts slots empty) wanted mid new r
+        → Ran merged safe (Turns turn all first empty) wanted old new (onto values r)
 
-module _ {X Tok Cx St Er V Y : Type 0} (merged : Er → Er → Er) (safe : Type 0) (turn : X → Slot V → Meaning Tok Cx St Er Y) (wanted : Bool) (parts : List X) (slots : List (Slot V)) (empty : Option (List Y)) (y : Option Y) where
+module _ {X Tok Cx St Er V Y : Type 0} (merged : Er → Er → Er) (safe : Type 0)
+    (turn : X → Slot V → Meaning Tok Cx St Er Y) (wanted : Bool) (parts : List X) (slots : List (Slot V))
+    (empty : Option (List Y)) (y : Option Y) where
   put_first : (old new : Held Tok Cx St Er) (r : Result (Option (List Y)) Fault) → Ran merged safe (Turns turn parts slots empty) wanted old new r
       → Ran merged safe (Chained (Turns turn parts slots empty) (λ ys. Given (with_first y ys))) wanted old new (after_first y r)
   put_first old new (Ok ys) h = chained h refl ran-given
   put_first old new (Err f) h = failed h refl refl
 
-module _ {X Tok Cx St Er V Y : Type 0} {merged : Er → Er → Er} {safe : Type 0} {turn : X → Slot V → Meaning Tok Cx St Er Y} {wanted : Bool} {all : List X} {first : List (Slot V)} {empty : Option (List Y)} {old : Held Tok Cx St Er}
+module _ {X Tok Cx St Er V Y : Type 0} {merged : Er → Er → Er} {safe : Type 0}
+    {turn : X → Slot V → Meaning Tok Cx St Er Y} {wanted : Bool} {all : List X} {first : List (Slot V)}
+    {empty : Option (List Y)} {old : Held Tok Cx St Er}
     {others : List X} {rest : List (Slot V)} {values : Option (List Y)} {mid next : Held Tok Cx St Er} {part : X} {slot : Slot V} {x : Result (Option Y) Fault} where
   one_on : {y : Option Y} → GoOn merged safe turn wanted all first empty old (part ∷ others) (slot ∷ rest) values mid → Ran merged safe (turn part slot) wanted mid next x → x ≡ Ok y
       → GoOn merged safe turn wanted all first empty old others rest (one_more values y) next
   one_on {y} k h e =
       record {
         nothing = more_nothing empty values y k.nothing;
-        on = λ new r m. subst (λ z. Ran merged safe (Turns turn all first empty) wanted old new z) (more_onto values y r) (k.on new (after_first y r) (chained h e (put_first merged safe turn wanted others rest empty y next new r m)));
+        on =
+            λ new r m. subst (λ z. Ran merged safe (Turns turn all first empty) wanted old new z)
+            (more_onto values y r)
+            (k.on new (after_first y r) (chained h e (put_first merged safe turn wanted others rest empty y next new r m)));
       }
 
-module _ {X Tok Cx St Er V Y : Type 0} {merged : Er → Er → Er} {safe : Type 0} {turn : X → Slot V → Meaning Tok Cx St Er Y} {wanted : Bool} {all : List X} {first : List (Slot V)} {empty : Option (List Y)} {old : Held Tok Cx St Er}
+module _ {X Tok Cx St Er V Y : Type 0} {merged : Er → Er → Er} {safe : Type 0}
+    {turn : X → Slot V → Meaning Tok Cx St Er Y} {wanted : Bool} {all : List X} {first : List (Slot V)}
+    {empty : Option (List Y)} {old : Held Tok Cx St Er}
     {parts others : List X} {slots rest : List (Slot V)} {values : Option (List Y)} {mid next : Held Tok Cx St Er} {part : X} {slot : Slot V} {x : Result (Option Y) Fault} where
   -- one more turn, and one that was refused
-  pub turns_on : {y : Option Y} → GoOn merged safe turn wanted all first empty old parts slots values mid → parts ≡ part ∷ others → slots ≡ slot ∷ rest → Ran merged safe (turn part slot) wanted mid next x → x ≡ Ok y
+  pub turns_on : {y : Option Y} → GoOn merged safe turn wanted all first empty old parts slots values mid
+      → parts ≡ part ∷ others → slots ≡ slot ∷ rest → Ran merged safe (turn part slot) wanted mid next x → x ≡ Ok y
       → GoOn merged safe turn wanted all first empty old others rest (one_more values y) next
   turns_on {y} k p s h e = one_on (rw (p, s) at k) h e
 
-  pub turns_failed : {f : Fault} {y : Result (Option (List Y)) Fault} → GoOn merged safe turn wanted all first empty old parts slots values mid → parts ≡ part ∷ others → slots ≡ slot ∷ rest → Ran merged safe (turn part slot) wanted mid next x → x ≡ Err f → y ≡ Err f
+  pub turns_failed : {f : Fault} {y : Result (Option (List Y)) Fault}
+      → GoOn merged safe turn wanted all first empty old parts slots values mid → parts ≡ part ∷ others
+      → slots ≡ slot ∷ rest → Ran merged safe (turn part slot) wanted mid next x → x ≡ Err f → y ≡ Err f
       → Ran merged safe (Turns turn all first empty) wanted old next y
   turns_failed {f} {y} k p s h e d = rw d (k.on next (Err f) (rw (p, s) (failed h e refl)))
 
-module _ {X Tok Cx St Er V Y : Type 0} {merged : Er → Er → Er} {safe : Type 0} {turn : X → Slot V → Meaning Tok Cx St Er Y} {wanted : Bool} {all : List X} {first : List (Slot V)} {empty : Option (List Y)} {old : Held Tok Cx St Er}
+module _ {X Tok Cx St Er V Y : Type 0} {merged : Er → Er → Er} {safe : Type 0}
+    {turn : X → Slot V → Meaning Tok Cx St Er Y} {wanted : Bool} {all : List X} {first : List (Slot V)}
+    {empty : Option (List Y)} {old : Held Tok Cx St Er}
     {parts : List X} {slots : List (Slot V)} {values : Option (List Y)} {mid : Held Tok Cx St Er} where
   pub turns_end : GoOn merged safe turn wanted all first empty old parts slots values mid → parts ≡ [] → Ran merged safe (Turns turn all first empty) wanted old mid (Ok values)
   turns_end k p = subst (λ z. Ran merged safe (Turns turn all first empty) wanted old mid (Ok z)) (end_joined empty values k.nothing) (k.on mid (Ok empty) (rw p ran-given))
@@ -190,7 +210,8 @@ module _ {A V : Type 0} (h : A → Slot V) where
 
 module _ {X Tok Cx St Er V Y : Type 0} {merged : Er → Er → Er} {safe : Type 0} {turn : X → Slot V → Meaning Tok Cx St Er Y} {wanted : Bool} {old : Held Tok Cx St Er} where
   -- at the beginning, with no value yet, and where none is wanted
-  pub turns_begin : (all parts : List X) (first slots : List (Slot V)) (values : Option (List Y)) → all ≡ parts → first ≡ slots → values ≡ Some [] → GoOn merged safe turn wanted all first (Some []) old parts slots values old
+  pub turns_begin : (all parts : List X) (first slots : List (Slot V)) (values : Option (List Y)) → all ≡ parts
+      → first ≡ slots → values ≡ Some [] → GoOn merged safe turn wanted all first (Some []) old parts slots values old
   turns_begin all parts first slots values p s v =
       record { nothing = inl refl; on = λ new r m. rw v (subst (λ z. Ran merged safe (Turns turn all first (Some [])) wanted old new z) (sym (begin_onto r)) (rw (p, s) m)) }
 
@@ -201,14 +222,24 @@ module _ {X Tok Cx St Er V Y : Type 0} {merged : Er → Er → Er} {safe : Type 
         on = λ new r m. subst (λ z. Ran merged safe (Turns turn all first None) wanted old new z) (sym (begin_none turn parts slots (begin wanted old) m.outcome r m.meant m.answered)) (rw (p, s) m);
       }
 
-module _ {X Tok Cx St Mk Er V : Type 0} {merged : Er → Er → Er} {safe : Type 0} (mark : St → Mk) (back : St → Mk → St) (quiet : Type 0) (meaning : X → Meaning Tok Cx St Er V) (parts : List X) (slots : List (Slot V)) {wanted : Bool} {old new : Held Tok Cx St Er} where
+module _ {X Tok Cx St Mk Er V : Type 0} {merged : Er → Er → Er} {safe : Type 0} (mark : St → Mk) (back : St → Mk → St)
+    (quiet : Type 0) (meaning : X → Meaning Tok Cx St Er V) (parts : List X) (slots : List (Slot V)) {wanted : Bool}
+    {old new : Held Tok Cx St Er} where
   -- the last pass, with memory for its values and without
-  pub ran_last : {r : Result (Option (List V)) Fault} → Ran merged safe (Turns (λ x. Missing (meaning x)) parts slots (wanting wanted [])) wanted old new r → Ran merged safe ((each_part mark back quiet meaning parts).last slots) wanted old new r
+  pub ran_last : {r : Result (Option (List V)) Fault}
+      → Ran merged safe (Turns (λ x. Missing (meaning x)) parts slots (wanting wanted [])) wanted old new r
+      → Ran merged safe ((each_part mark back quiet meaning parts).last slots) wanted old new r
   ran_last {r} h = ran-weaker merged safe (Turns (λ x. Missing (meaning x)) parts slots (wanting wanted [])) ((each_part mark back quiet meaning parts).last slots) wanted old new r (λ o k. inr k) h
 
-module _ {X Tok Cx St Mk Er V : Type 0} {merged : Er → Er → Er} {safe : Type 0} (mark : St → Mk) (back : St → Mk → St) (quiet : Type 0) (meaning : X → Meaning Tok Cx St Er V) (parts : List X) (slots : List (Slot V)) {old : Held Tok Cx St Er} where
-  pub ran_last_short : {r : Result (Option (List V)) Fault} → (length parts ≡ 0 → ⊥) → r ≡ Err (fault.Stop Memory) → Ran merged safe ((each_part mark back quiet meaning parts).last slots) true old old r
-  ran_last_short {r} n e = rw e (ran-halts merged safe ((each_part mark back quiet meaning parts).last slots) true old old (record { tokens = refl; context = refl }) refl (λ o v s. inl ((refl, n), v, s)))
+module _ {X Tok Cx St Mk Er V : Type 0} {merged : Er → Er → Er} {safe : Type 0} (mark : St → Mk) (back : St → Mk → St)
+    (quiet : Type 0) (meaning : X → Meaning Tok Cx St Er V) (parts : List X) (slots : List (Slot V))
+    {old : Held Tok Cx St Er} where
+  pub ran_last_short : {r : Result (Option (List V)) Fault} → (length parts ≡ 0 → ⊥) → r ≡ Err (fault.Stop Memory)
+      → Ran merged safe ((each_part mark back quiet meaning parts).last slots) true old old r
+  ran_last_short {r} n e =
+      rw e
+      (ran-halts merged safe ((each_part mark back quiet meaning parts).last slots) true old old
+      (record { tokens = refl; context = refl }) refl (λ o v s. inl ((refl, n), v, s)))
 
 -- a list that is written whole
 pub written_whole : {X : Type 0} (xs ys : List X) (n : ℕ) → length ys ≡ length xs → n ≡ length xs → take n (ys ++ drop (length ys) xs) ≡ ys

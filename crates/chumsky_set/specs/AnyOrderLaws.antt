@@ -82,7 +82,9 @@ module _ {Tok Cx St Er V W : Type 0} (part part' : Meaning Tok Cx St Er V) (last
   -- two sequences whose parts agree
   pair-agrees : Agreeing sv part part' → Agreeing sw last last' → Agreeing (SamePair sv sw) (Sequence part last) (Sequence part' last')
   pair-agrees f s =
-      chained-agrees part part' _ _ sv (SamePair sv sw) f (λ v v' e. chained-agrees last last' _ _ sw (SamePair sv sw) s (λ w w' d. given-agrees (SamePair sv sw) (both v w) (both v' w') (pair-same v v' w w' e d)))
+      chained-agrees part part' _ _ sv (SamePair sv sw) f
+      (λ v v' e. chained-agrees last last' _ _ sw (SamePair sv sw) s
+      (λ w w' d. given-agrees (SamePair sv sw) (both v w) (both v' w') (pair-same v v' w w' e d)))
 
 module _ {Tok Cx St Er T V : Type 0} where
   -- no answer of a pass over a row ends before its start

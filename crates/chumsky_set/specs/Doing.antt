@@ -60,7 +60,8 @@ module _ {I Tok Sp Er St Mk Cx : Type 0} where
   abbrev pub DoesSet3 : {A B C : Type 0} → Does I Tok Sp Er St Mk Cx A → Does I Tok Sp Er St Mk Cx B → Does I Tok Sp Er St Mk Cx C → Does I Tok Sp Er St Mk Cx (A × B × C)
   DoesSet3 a b c errors states = Set3 states.mark states.back states.takes_no_memory (a errors states) (b errors states) (c errors states)
 
-  abbrev pub DoesSet4 : {A B C D : Type 0} → Does I Tok Sp Er St Mk Cx A → Does I Tok Sp Er St Mk Cx B → Does I Tok Sp Er St Mk Cx C → Does I Tok Sp Er St Mk Cx D → Does I Tok Sp Er St Mk Cx (A × B × C × D)
+  abbrev pub DoesSet4 : {A B C D : Type 0} → Does I Tok Sp Er St Mk Cx A → Does I Tok Sp Er St Mk Cx B
+      → Does I Tok Sp Er St Mk Cx C → Does I Tok Sp Er St Mk Cx D → Does I Tok Sp Er St Mk Cx (A × B × C × D)
   DoesSet4 a b c d errors states = Set4 states.mark states.back states.takes_no_memory (a errors states) (b errors states) (c errors states) (d errors states)
 
 module _ {I X Tok Sp Cu Er St Cx Mk : Type 0} (source : input_trait.Ghosts I Cu Tok Sp) (errors : error_trait.Ghosts Er I Tok Sp) (states : inspector_trait.Ghosts St I Mk Tok Sp) where
@@ -99,13 +100,20 @@ module _ {I Tok Sp Er St Mk Cx : Type 0} (errors : error_trait.Ghosts Er I Tok S
   abbrev pub Set3Within : {A B C : Type 0} → ℕ → Does I Tok Sp Er St Mk Cx A → Does I Tok Sp Er St Mk Cx B → Does I Tok Sp Er St Mk Cx C → Does I Tok Sp Er St Mk Cx (A × B × C) → Type 0
   Set3Within n a b c whole =
       let last = part_and states.mark states.back states.takes_no_memory (c errors states) no_part in
-      WithinRounds (part_and states.mark states.back states.takes_no_memory (a errors states) (part_and states.mark states.back states.takes_no_memory (b errors states) last)) n (None, (None, (None, tt)))
+      WithinRounds
+      (part_and states.mark states.back states.takes_no_memory (a errors states)
+      (part_and states.mark states.back states.takes_no_memory (b errors states) last))
+      n (None, (None, (None, tt)))
       (λ v. Given (option_map flat_three v)) (whole errors states)
 
-  abbrev pub Set4Within : {A B C D : Type 0} → ℕ → Does I Tok Sp Er St Mk Cx A → Does I Tok Sp Er St Mk Cx B → Does I Tok Sp Er St Mk Cx C → Does I Tok Sp Er St Mk Cx D → Does I Tok Sp Er St Mk Cx (A × B × C × D) → Type 0
+  abbrev pub Set4Within : {A B C D : Type 0} → ℕ → Does I Tok Sp Er St Mk Cx A → Does I Tok Sp Er St Mk Cx B
+      → Does I Tok Sp Er St Mk Cx C → Does I Tok Sp Er St Mk Cx D → Does I Tok Sp Er St Mk Cx (A × B × C × D) → Type 0
   Set4Within n a b c d whole =
       let last = part_and states.mark states.back states.takes_no_memory (c errors states) (part_and states.mark states.back states.takes_no_memory (d errors states) no_part) in
-      WithinRounds (part_and states.mark states.back states.takes_no_memory (a errors states) (part_and states.mark states.back states.takes_no_memory (b errors states) last)) n (None, (None, (None, (None, tt))))
+      WithinRounds
+      (part_and states.mark states.back states.takes_no_memory (a errors states)
+      (part_and states.mark states.back states.takes_no_memory (b errors states) last))
+      n (None, (None, (None, (None, tt))))
       (λ v. Given (option_map flat_four v)) (whole errors states)
 
   -- the same of the parts of a list, where there may be no memory for the slots, and of those of an array

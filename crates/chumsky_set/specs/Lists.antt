@@ -31,7 +31,9 @@ module _ {X Tok Cx St Mk Er V W : Type 0} (mark : St → Mk) (back : St → Mk �
   -- one that takes none among them
   abbrev pub WithinEach : List X → ℕ → Meaning Tok Cx St Er W → Type 0
   WithinEach parts n m = (b : Beginning Tok Cx St) (o : Outcome W Er St) → m b o
-      → Refuses (length parts ≡ 0 → ⊥) b.state o ⊎ (rounds : List (List (Slot V))) × (length rounds < n) × Chained (Rounds (each_part mark back safe meaning parts) rounds (map (λ _. None) parts)) (FormedAs items) b o
+      → Refuses (length parts ≡ 0 → ⊥) b.state o
+      ⊎ (rounds : List (List (Slot V))) × (length rounds < n)
+      × Chained (Rounds (each_part mark back safe meaning parts) rounds (map (λ _. None) parts)) (FormedAs items) b o
 
 -- the type of so many slots for values of a type
 abbrev pub slots_row : RattleType → ℕ → RattleType

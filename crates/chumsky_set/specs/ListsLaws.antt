@@ -11,7 +11,8 @@ use Rattle.chumsky_set.specs.AnyOrderLaws.{SameSlot, RowEnds, RowAgrees, offered
 use Rattle.chumsky_set.specs.Lists.{Each, FormedAs, SetEach, WithinEach, ForItsValue, SetStored, each_stored, only}
 
 module _ {X Y : Type 0} (same : X → Y → Y → Type 0) where
-  with_first-same : (x : X) (xs : List X) (y z : Option Y) (v w : Option (List Y)) → SameValue (same x) y z → SameValue (Each same xs) v w → SameValue (Each same (x ∷ xs)) (with_first y v) (with_first z w)
+  with_first-same : (x : X) (xs : List X) (y z : Option Y) (v w : Option (List Y)) → SameValue (same x) y z
+      → SameValue (Each same xs) v w → SameValue (Each same (x ∷ xs)) (with_first y v) (with_first z w)
   with_first-same x xs (Some y) (Some z) (Some v) (Some w) e d = (e, d)
   with_first-same x xs (Some y) (Some z) (Some v) None e d = tt
   with_first-same x xs (Some y) (Some z) None w e d = tt
@@ -35,7 +36,9 @@ module _ {X Tok Cx St Er V Y : Type 0} (turn : X → Slot V → Meaning Tok Cx S
     turns-agree (x ∷ xs) [] ts v w all e d b c o q alike m n a z = absurd m
     turns-agree (x ∷ xs) (s ∷ ss) [] v w all e d b c o q alike m n a z = absurd n
     turns-agree (x ∷ xs) (s ∷ ss) (t ∷ ts) v w all e d b c o q alike m n a z =
-        chained-agrees (turn x s) (turn x t) (λ y. Chained (Turns turn xs ss v) (λ ys. Given (with_first y ys))) (λ y. Chained (Turns turn xs ts w) (λ ys. Given (with_first y ys))) (sy x) (Each sy (x ∷ xs)) (h x s t (all 0 x (omega arith)) e.0)
+        chained-agrees (turn x s) (turn x t) (λ y. Chained (Turns turn xs ss v) (λ ys. Given (with_first y ys)))
+        (λ y. Chained (Turns turn xs ts w) (λ ys. Given (with_first y ys))) (sy x) (Each sy (x ∷ xs))
+        (h x s t (all 0 x (omega arith)) e.0)
         (λ y k f. chained-agrees (Turns turn xs ss v) (Turns turn xs ts w) (λ ys. Given (with_first y ys)) (λ ys. Given (with_first k ys)) (Each sy xs) (Each sy (x ∷ xs))
         (turns-agree xs ss ts v w (λ i u l. all (suc i) u (omega (arith, l))) e.1 d)
         (λ ys zs g. given-agrees (Each sy (x ∷ xs)) (with_first y ys) (with_first k zs) (with_first-same sy x xs y k ys zs f g)))
@@ -59,19 +62,30 @@ module _ {X Tok Cx St Mk Er V : Type 0} (mark : St → Mk) (back : St → Mk →
   each_part-ends h parts =
       record {
         pass = λ t. turns-ends (λ x. Offered mark back safe (meaning x)) (λ x s. offered-ends mark back safe (meaning x) s (h x)) parts t (Some []);
-        last = λ t b o m a. elim m [ inl r ↦ absurd (subst IsAnswer r.1 a) | inr k ↦ turns-ends (λ x. Missing (meaning x)) (λ x s. missing-ends (meaning x) s (h x)) parts t (wanting b.wanted []) b o k a ];
+        last =
+            λ t b o m a. elim m [
+              | inl r ↦ absurd (subst IsAnswer r.1 a)
+              | inr k ↦ turns-ends (λ x. Missing (meaning x)) (λ x s. missing-ends (meaning x) s (h x)) parts t
+                  (wanting b.wanted []) b o k a
+            ];
       }
 
   pub each_part-agrees : (steady : X → Type 0) (same : X → V → V → Type 0) → ((x : X) → steady x → Agreeing (same x) (meaning x) (meaning x)) → (parts : List X) → All steady parts
       → RowAgrees (each_part mark back safe meaning parts) (Each (λ x. SameSlot (same x)) parts) (Each same parts)
   each_part-agrees steady same h parts all =
       record {
-        pass = λ t u e. turns-agree (λ x. Offered mark back safe (meaning x)) steady same (λ x. SameSlot (same x)) (λ x s t k e. offered-agrees mark back safe (meaning x) (same x) s t (h x k) e) parts t u (Some []) (Some []) all e tt;
+        pass =
+            λ t u e. turns-agree (λ x. Offered mark back safe (meaning x)) steady same (λ x. SameSlot (same x))
+            (λ x s t k e. offered-agrees mark back safe (meaning x) (same x) s t (h x k) e) parts t u (Some [])
+            (Some []) all e tt;
         last = λ t u e b c o q alike m n a z. elim m [
           | inl r ↦ absurd (subst IsAnswer r.1 a)
           | inr k ↦ elim n [
             | inl r ↦ absurd (subst IsAnswer r.1 z)
-            | inr l ↦ turns-agree (λ x. Missing (meaning x)) steady same same (λ x s t k e. missing-agrees (meaning x) (same x) s t (h x k) e) parts t u (wanting b.wanted []) (wanting c.wanted []) all e (wanting-same (Each same []) b.wanted c.wanted [] tt) b c o q alike k l a z
+            | inr l ↦ turns-agree (λ x. Missing (meaning x)) steady same same
+                (λ x s t k e. missing-agrees (meaning x) (same x) s t (h x k) e) parts t u (wanting b.wanted [])
+                (wanting c.wanted []) all e (wanting-same (Each same []) b.wanted c.wanted [] tt) b c o q alike k l a
+                z
           ]
         ];
         left = λ t u e. all_still-same same parts t u e;
@@ -105,9 +119,13 @@ module _ {X Tok Cx St Mk Er V W : Type 0} (mark : St → Mk) (back : St → Mk �
         | inl r ↦ absurd (subst IsAnswer r.1 a)
         | inr k ↦ elim n.cases [
           | inl r ↦ absurd (subst IsAnswer r.1 z)
-          | inr l ↦ chained-agrees (AnyOrder (each_part mark back safe meaning parts) (map (λ _. None) parts)) (AnyOrder (each_part mark back safe meaning parts) (map (λ _. None) parts)) (FormedAs items) (FormedAs items)
+          | inr l ↦ chained-agrees (AnyOrder (each_part mark back safe meaning parts) (map (λ _. None) parts))
+              (AnyOrder (each_part mark back safe meaning parts) (map (λ _. None) parts)) (FormedAs items)
+              (FormedAs items)
               (Each same parts) (λ v w. Each same parts (items v) (items w))
-              (any_order-agrees (each_part mark back safe meaning parts) (Each (λ x. SameSlot (same x)) parts) (Each same parts) (each_part-agrees mark back safe meaning steady same h parts all) (map (λ _. None) parts) (none-same same parts))
+              (any_order-agrees (each_part mark back safe meaning parts) (Each (λ x. SameSlot (same x)) parts)
+              (Each same parts) (each_part-agrees mark back safe meaning steady same h parts all)
+              (map (λ _. None) parts) (none-same same parts))
               (formed-agree items (Each same parts)) b c o q alike k l a z
         ]
       ]
@@ -126,10 +144,15 @@ module _ {X Tok Cx St Mk Er V W : Type 0} (mark : St → Mk) (back : St → Mk �
       let count : suc (all_still none) ≡ length parts + 1 = omega (arith, left) in
       elim m.cases [
         | inl r ↦ inl r
-        | inr k ↦ inr (subst (λ n. (rounds : List (List (Slot V))) × (length rounds < n) × Chained (Rounds row rounds none) (FormedAs items) b o) count (any_order-within row none (FormedAs items) b o k))
+        | inr k ↦ inr
+            (subst
+            (λ n. (rounds : List (List (Slot V))) × (length rounds < n) × Chained (Rounds row rounds none) (FormedAs items) b o)
+            count (any_order-within row none (FormedAs items) b o k))
       ]
 
-  pub set_stored-rounds : (parts : List X) → WithinRounds (each_stored mark back safe meaning parts) (length parts + 1) (map (λ _. None) parts) (FormedAs items) (SetStored mark back safe meaning items parts)
+  pub set_stored-rounds : (parts : List X)
+      → WithinRounds (each_stored mark back safe meaning parts) (length parts + 1) (map (λ _. None) parts)
+      (FormedAs items) (SetStored mark back safe meaning items parts)
   set_stored-rounds parts =
       let row = each_stored mark back safe meaning parts in
       let none : List (Slot V) = map (λ _. None) parts in
@@ -172,7 +195,11 @@ module _ {X Tok Cx St Mk Er V : Type 0} (mark : St → Mk) (back : St → Mk →
       let r = each_part-agrees mark back safe meaning steady same h parts all in
       record {
         pass = λ t u e. asked-agree _ _ (Each (λ x. SameSlot (same x)) parts) (r.pass t u e);
-        last = λ t u e. for_its_value-agree _ _ (Each same parts) (turns-agree (λ x. Missing (meaning x)) steady same same (λ x s t k e. missing-agrees (meaning x) (same x) s t (h x k) e) parts t u (Some []) (Some []) all e tt);
+        last =
+            λ t u e. for_its_value-agree _ _ (Each same parts)
+            (turns-agree (λ x. Missing (meaning x)) steady same same
+            (λ x s t k e. missing-agrees (meaning x) (same x) s t (h x k) e) parts t u (Some []) (Some []) all
+            e tt);
         left = λ t u e. r.left t u e;
       }
 

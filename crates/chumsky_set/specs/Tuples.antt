@@ -49,7 +49,9 @@ module _ {Tok Cx St Mk Er A B C : Type 0} (mark : St → Mk) (back : St → Mk �
   abbrev pub Set3 : Meaning Tok Cx St Er (A × B × C)
   Set3 = SetOf (part_and mark back safe a (part_and mark back safe b (part_and mark back safe c no_part))) (None, (None, (None, tt))) flat_three
 
-module _ {Tok Cx St Mk Er A B C D : Type 0} (mark : St → Mk) (back : St → Mk → St) (safe : Type 0) (a : Meaning Tok Cx St Er A) (b : Meaning Tok Cx St Er B) (c : Meaning Tok Cx St Er C) (d : Meaning Tok Cx St Er D) where
+module _ {Tok Cx St Mk Er A B C D : Type 0} (mark : St → Mk) (back : St → Mk → St) (safe : Type 0)
+    (a : Meaning Tok Cx St Er A) (b : Meaning Tok Cx St Er B) (c : Meaning Tok Cx St Er C)
+    (d : Meaning Tok Cx St Er D) where
   -- four in any order
   abbrev pub Set4 : Meaning Tok Cx St Er (A × B × C × D)
   Set4 = SetOf (part_and mark back safe a (part_and mark back safe b (part_and mark back safe c (part_and mark back safe d no_part)))) (None, (None, (None, (None, tt)))) flat_four

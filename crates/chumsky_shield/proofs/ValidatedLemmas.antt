@@ -1,5 +1,5 @@
 -- What a part leaves whose value a validator looks at.
-use Rattle.std.proofs.Common.{◌≡◌, Bool, true, false, Option, Some, None, List, [], ◌++◌, refl, sym, ◌∙◌, ap, subst, Result, Ok, Err, map, inl, inr, option_to_list}
+use Rattle.std.proofs.Common.{◌≡◌, Bool, true, false, Option, Some, None, List, [], ◌++◌, refl, sym, ◌∙◌, ap, Result, Ok, Err, map, inl, inr, option_to_list}
 use Rattle.std.specs.Prelude.{◌⊎◌, MatchResult}
 use Rattle.std.proofs.lemmas.List.{append-nil}
 use Rattle.chumsky_input.specs.declared.stop.Stop.TheVariants.{Memory}
@@ -18,21 +18,33 @@ use Rattle.chumsky_parser.specs.Failure.{wanting, asked}
 use Rattle.chumsky_parser.proofs.ChainedLemmas.{ran-weaker, ran-asked, ran-chained, ran-chained_err, emit_err}
 use Rattle.chumsky_shield.specs.Validated.{Emits, Validated, MeansValidate, EmitsAfter, all_emitted, emitted_by}
 
-module _ {Tok Cx St Er V W : Type 0} (merged : Er → Er → Er) (safe : Type 0) (emits : Emits Tok Cx St Er V W) (part : Meaning Tok Cx St Er V) (w : Bool) (old mid : Held Tok Cx St Er) where
-  whole : (new : Held Tok Cx St Er) (r : Result (Option W) Fault) → Ran merged safe (Chained (Asked true part) (Validated emits old.place)) w old new r → Ran merged safe (MeansValidate emits part) w old new r
+module _ {Tok Cx St Er V W : Type 0} (merged : Er → Er → Er) (safe : Type 0) (emits : Emits Tok Cx St Er V W)
+    (part : Meaning Tok Cx St Er V) (w : Bool) (old mid : Held Tok Cx St Er) where
+  whole : (new : Held Tok Cx St Er) (r : Result (Option W) Fault)
+      → Ran merged safe (Chained (Asked true part) (Validated emits old.place)) w old new r
+      → Ran merged safe (MeansValidate emits part) w old new r
   whole new r h = ran-weaker merged safe _ _ w old new r (λ o k. record { run = k }) h
 
-  pub validate_fails : {f : Fault} {r : Result V Fault} {q : Result W Fault} → Ran merged safe part true old mid (with_value r) → r ≡ Err f → q ≡ Err f → Ran merged safe (MeansValidate emits part) w old mid (asked w q)
-  validate_fails {f} h e d = rw d (whole mid (Err f) (ran-chained_err merged safe (Asked true part) (Validated emits old.place) w old mid f (ran-asked (rw (emit_err e) at h))))
-
-  module _ (v : V) (h : Ran merged safe part true old mid (Ok (Some v))) (x : W) (here : Held Tok Cx St Er) (n : here ≡ record mid { state = here.state }) (r : Option (List Er)) (m : emits v (shown_from old.place mid) x here.state r) where
+  module _ (v : V) (h : Ran merged safe part true old mid (Ok (Some v))) (x : W) (here : Held Tok Cx St Er)
+      (n : here ≡ record mid { state = here.state }) (r : Option (List Er))
+      (m : emits v (shown_from old.place mid) x here.state r) where
     validated : (new : Held Tok Cx St Er) (q : Result (Option W) Fault) → Ran merged safe (Validated emits old.place (Some v)) w mid new q → Ran merged safe (MeansValidate emits part) w old new q
     validated new q k = whole new q (ran-chained merged safe (Asked true part) (Validated emits old.place) w old (Some v) mid new q (ran-asked h) k)
 
-    pub validate_yes : (new : Held Tok Cx St Er) → EmitsAfter r here new → Ran merged safe (MeansValidate emits part) w old new (Ok (wanting w x))
-    validate_yes new k =
+module _ {Tok Cx St Er V W : Type 0} {merged : Er → Er → Er} {safe : Type 0} {emits : Emits Tok Cx St Er V W}
+    {part : Meaning Tok Cx St Er V} {w : Bool} {old mid : Held Tok Cx St Er} where
+  pub validate_fails : {f : Fault} {r : Result V Fault} {q : Result W Fault}
+      → Ran merged safe part true old mid (with_value r) → r ≡ Err f → q ≡ Err f
+      → Ran merged safe (MeansValidate emits part) w old mid (asked w q)
+  validate_fails {f} h e d = rw d (whole merged safe emits part w old mid mid (Err f) (ran-chained_err merged safe (Asked true part) (Validated emits old.place) w old mid f (ran-asked (rw (emit_err e) at h))))
+
+  module _ {v : V} (h : Ran merged safe part true old mid (Ok (Some v))) (x : W) (here : Held Tok Cx St Er)
+      (n : here ≡ record mid { state = here.state }) (r : Option (List Er))
+      (m : emits v (shown_from old.place mid) x here.state r) where
+    pub validate_yes : {new : Held Tok Cx St Er} → EmitsAfter r here new → Ran merged safe (MeansValidate emits part) w old new (Ok (wanting w x))
+    validate_yes {new} k =
         let left : new ≡ record mid { state = here.state; emitted = mid.emitted ++ k.0 } = k.2 ∙ ap (λ (z : Held Tok Cx St Er). record z { emitted = z.emitted ++ k.0 }) n in
-        validated new _ (record {
+        validated merged safe emits part w old mid v h x here n r m new _ (record {
           outcome = record { verdict = Yes (wanting w x); end = mid.place; state = here.state; events = []; emitted = k.0 };
           meant = (x, here.state, r, m, inl (k.0, k.1, refl));
           answered = refl;
@@ -46,10 +58,12 @@ module _ {Tok Cx St Er V W : Type 0} (merged : Er → Er → Er) (safe : Type 0)
           same = record { tokens = ap (λ (z : Held Tok Cx St Er). z.tokens) left; context = ap (λ (z : Held Tok Cx St Er). z.context) left };
         })
 
-    pub validate_refused : (new : Held Tok Cx St Er) → {q : Result W Fault} → (r ≡ Some [] → ⊥) × SameButErrors here new → q ≡ Err (fault.Stop Memory) → Ran merged safe (MeansValidate emits part) w old new (asked w q)
-    validate_refused new k d =
+    pub validate_refused : {new : Held Tok Cx St Er} {q : Result W Fault}
+        → (r ≡ Some [] → ⊥) × SameButErrors here new → q ≡ Err (fault.Stop Memory)
+        → Ran merged safe (MeansValidate emits part) w old new (asked w q)
+    validate_refused {new} k d =
         let left : new ≡ record mid { state = here.state; kept = new.kept; emitted = new.emitted } = k.1 ∙ ap (λ (z : Held Tok Cx St Er). record z { kept = new.kept; emitted = new.emitted }) n in
-        rw d (validated new (Err (fault.Stop Memory)) (record {
+        rw d (validated merged safe emits part w old mid v h x here n r m new (Err (fault.Stop Memory)) (record {
           outcome = record { verdict = Halt Memory; end = mid.place; state = here.state; events = []; emitted = [] };
           meant = (x, here.state, r, m, inr (k.0, refl, refl));
           answered = refl;
@@ -74,7 +88,8 @@ module _ {Tok Cx St Er : Type 0} (old : Held Tok Cx St Er) (r : Option (List Er)
 
   -- the older errors are brought back before these
   pub emits_back : (merged : Er → Er → Er) (safe : Type 0) (new : Held Tok Cx St Er) {U A : Type 0} (q : Result U A)
-      → MatchResult q (λ _. new ≡ brought_back merged None old.emitted (record old { emitted = es })) (λ _. (ClashesWith safe None old.kept ⊎ (es ≡ [] → ⊥)) × SameButErrors (record old { emitted = es }) new)
+      → MatchResult q (λ _. new ≡ brought_back merged None old.emitted (record old { emitted = es }))
+      (λ _. (ClashesWith safe None old.kept ⊎ (es ≡ [] → ⊥)) × SameButErrors (record old { emitted = es }) new)
       → MatchResult q (λ _. EmitsAfter r old new) (λ _. (r ≡ Some [] → ⊥) × SameButErrors old new)
   emits_back merged safe new (Ok u) k =
       let one : primary merged (option_to_list old.kept) ≡ old.kept = sym (kept-same merged old.kept ∙ ap (primary merged) (append-nil (option_to_list old.kept))) in

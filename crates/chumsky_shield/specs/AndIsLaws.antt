@@ -15,7 +15,9 @@ use Rattle.chumsky_shield.specs.AndIs.{GivenAt, LooksFrom, MeansAndIs, at_start,
 use Rattle.chumsky_shield.specs.Compared.{YesStays}
 
 module _ {Tok Cx St Er V W : Type 0} (other : Meaning Tok Cx St Er W) where
-  looks_end : EndsAfterStart other → (place end : ℕ) → place ≤ end → (v : Option V) (b : Beginning Tok Cx St) (p : Outcome W Er St) (o : Outcome V Er St) (u : Verdict W Er) → p.verdict ≡ u → other (record b { wanted = false; start = place }) p
+  looks_end : EndsAfterStart other → (place end : ℕ) → place ≤ end
+      → (v : Option V) (b : Beginning Tok Cx St) (p : Outcome W Er St) (o : Outcome V Er St) (u : Verdict W Er)
+      → p.verdict ≡ u → other (record b { wanted = false; start = place }) p
       → Follows u (λ _. GivenAt v end) (record b { start = place }) p o → IsAnswer o.verdict → place ≤ o.end
   looks_end h place end l v b p o (Yes x) e m f a =
       let at_end : f.0.end ≡ end = ap (λ (z : Outcome V Er St). z.end) f.1 in
@@ -31,14 +33,20 @@ module _ {Tok Cx St Er V W : Type 0} (other : Meaning Tok Cx St Er W) where
   given_at-agrees : (same : V → V → Type 0) (v w : Option V) (end : ℕ) → SameValue same v w → Agreeing same (GivenAt {Tok = Tok} {Cx = Cx} {St = St} {Er = Er} v end) (GivenAt w end)
   given_at-agrees same v w end s b c o q alike m n a z = rw (m, n) (record { answer = s; end = refl; state = alike.state; events = refl; emitted = refl })
 
-  looks-agree : (sv : V → V → Type 0) (sw : W → W → Type 0) → Agreeing sw other other → (place : ℕ) (v w : Option V) → SameValue sv v w → Agreeing sv (LooksFrom place other v) (LooksFrom place other w)
+  looks-agree : (sv : V → V → Type 0) (sw : W → W → Type 0) → Agreeing sw other other → (place : ℕ) (v w : Option V)
+      → SameValue sv v w → Agreeing sv (LooksFrom place other v) (LooksFrom place other w)
   looks-agree sv sw h place v w s b c o q alike m n a z =
-      let n2 : Chained (Asked false other) (λ _. GivenAt w b.start) (record c { start = place }) q = subst (λ x. Chained (Asked false other) (λ _. GivenAt w x) (record c { start = place }) q) (sym alike.start) n in
+      let n2 : Chained (Asked false other) (λ _. GivenAt w b.start) (record c { start = place }) q =
+      subst (λ x. Chained (Asked false other) (λ _. GivenAt w x) (record c { start = place }) q) (sym alike.start)
+      n in
       chained-agrees (Asked false other) (Asked false other) (λ _. GivenAt v b.start) (λ _. GivenAt w b.start) sw sv (asked-agrees false other sw h) (λ _ _ _. given_at-agrees sv v w b.start s)
       (record b { start = place }) (record c { start = place }) o q (record { tokens = alike.tokens; start = refl; context = alike.context; state = alike.state }) m n2 a z
 
 module _ {Tok Cx St Mk Er V W : Type 0} (mark : St → Mk) (back : St → Mk → St) (safe : Type 0) (part : Meaning Tok Cx St Er V) (other : Meaning Tok Cx St Er W) where
-  and_is_ends : EndsAfterStart part → EndsAfterStart other → (b : Beginning Tok Cx St) (p o : Outcome V Er St) (u : Verdict V Er) → p.verdict ≡ u → OrElse mark back safe part SaysNo b p → Follows u (LooksFrom b.start other) b p o → IsAnswer o.verdict → b.start ≤ o.end
+  and_is_ends : EndsAfterStart part → EndsAfterStart other
+      → (b : Beginning Tok Cx St) (p o : Outcome V Er St) (u : Verdict V Er) → p.verdict ≡ u
+      → OrElse mark back safe part SaysNo b p → Follows u (LooksFrom b.start other) b p o → IsAnswer o.verdict
+      → b.start ≤ o.end
   and_is_ends h k b p o (Yes v) e m f a =
       let first : b.start ≤ p.end = or_else-ends mark back safe part SaysNo h no-ends b p m (rw e tt) in
       let looks = f.1 in
@@ -60,19 +68,24 @@ module _ {Tok Cx St Mk Er V W : Type 0} (mark : St → Mk) (back : St → Mk →
   either sv v w (inl s) = s
   either sv v w (inr s) = s
 
-  pub and_is-agrees : (sv : V → V → Type 0) (sw : W → W → Type 0) → Agreeing sv part part → Agreeing sw other other → Agreeing sv (MeansAndIs mark back safe part other) (MeansAndIs mark back safe part other)
+  pub and_is-agrees : (sv : V → V → Type 0) (sw : W → W → Type 0) → Agreeing sv part part → Agreeing sw other other
+      → Agreeing sv (MeansAndIs mark back safe part other) (MeansAndIs mark back safe part other)
   and_is-agrees sv sw h k b c o q alike m n a z =
       let first : Agreeing sv (OrElse mark back safe part SaysNo) (OrElse mark back safe part SaysNo) =
       λ b' c' o' q' alike' m' n' a' z'. agree-weaker (SameEither sv sv) sv (either sv) o' q' (or_else-agrees mark back safe part SaysNo sv sv h (no-agrees sv) b' c' o' q' alike' m' n' a' z') in
       let n2 : Chained (OrElse mark back safe part SaysNo) (LooksFrom b.start other) c q = subst (λ x. Chained (OrElse mark back safe part SaysNo) (LooksFrom x other) c q) (sym alike.start) n.run in
-      chained-agrees (OrElse mark back safe part SaysNo) (OrElse mark back safe part SaysNo) (LooksFrom b.start other) (LooksFrom b.start other) sv sv first (λ v w e. looks-agree other sv sw k b.start v w e) b c o q alike m.run n2 a z
+      chained-agrees (OrElse mark back safe part SaysNo) (OrElse mark back safe part SaysNo) (LooksFrom b.start other)
+      (LooksFrom b.start other) sv sv first (λ v w e. looks-agree other sv sw k b.start v w e) b c o q alike m.run
+      n2 a z
 
 module _ {Tok Cx St Er V : Type 0} (merged : Er → Er → Er) where
   rewinds-end : (b : Beginning Tok Cx St) (v : Option V) (p o : Outcome V Er St) → b.start ≤ p.end → Rewinds merged b v p o → IsAnswer o.verdict → b.start ≤ o.end
   rewinds-end b v p o l (inl h) a = let e = ap (λ (x : Outcome V Er St). x.end) (or_clash-whole h.1 a) in omega arith
   rewinds-end b v p o l (inr h) a = let e = ap (λ (x : Outcome V Er St). x.end) (or_clash-whole h.1 a) in omega arith
 
-  rewinds-agree : (sv : V → V → Type 0) (b c : Beginning Tok Cx St) (v v' : Option V) (p p' o q : Outcome V Er St) → Alike b c → SameValue sv v v' → Agree sv p p' → Rewinds merged b v p o → Rewinds merged c v' p' q → IsAnswer o.verdict → IsAnswer q.verdict → Agree sv o q
+  rewinds-agree : (sv : V → V → Type 0) (b c : Beginning Tok Cx St) (v v' : Option V) (p p' o q : Outcome V Er St)
+      → Alike b c → SameValue sv v v' → Agree sv p p' → Rewinds merged b v p o → Rewinds merged c v' p' q
+      → IsAnswer o.verdict → IsAnswer q.verdict → Agree sv o q
   rewinds-agree sv b c v v' p p' o q alike s g (inl h) (inl k) a z =
       rw (or_clash-whole h.1 a, or_clash-whole k.1 z) (record { answer = s; end = alike.start; state = g.state; events = refl; emitted = g.emitted })
   rewinds-agree sv b c v v' p p' o q alike s g (inr h) (inr k) a z =

@@ -88,7 +88,8 @@ abbrev pub try_map_of : {A O F U : Type 0} → A → F → TryMap A O F U
 try_map_of parser mapper = record { parser = parser; mapper = mapper; of = record {} }
 
 -- a fallible mapper that takes no notice of the run but for the span, and leaves the state: it answers as this one
-pub record TriesBlindly {I Cu Tok Sp Cx St Er V W : Type 0} (source : input_trait.Ghosts I Cu Tok Sp) (says : GivesShown Tok Cx St V (Result W Er)) (gives : V → Sp → Result W Er → Type 0) : Type 0 where
+pub record TriesBlindly {I Cu Tok Sp Cx St Er V W : Type 0} (source : input_trait.Ghosts I Cu Tok Sp)
+    (says : GivesShown Tok Cx St V (Result W Er)) (gives : V → Sp → Result W Er → Type 0) : Type 0 where
   pub sees : (v : V) (x : Shown Tok Cx St) (r : Result W Er) (s : St) → says v x r s → gives v (source.span_between x.tokens x.from x.to) r × (s ≡ x.state)
   pub answers : (v : V) (x : Shown Tok Cx St) (r : Result W Er) → gives v (source.span_between x.tokens x.from x.to) r → says v x r x.state
 
@@ -136,7 +137,11 @@ module _ {I Tok Sp Er St Mk Cx V : Type 0} (errors : error_trait.Ghosts Er I Tok
   abbrev pub SucceedsAs : Does I Tok Sp Er St Mk Cx V → Does I Tok Sp Er St Mk Cx V → Type 0
   SucceedsAs part whole = SucceedsAsPart errors.merged (part errors states) (whole errors states)
 
-module _ {I X Tok Sp Cu Er St Cx Mk V W A F G : Type 0} (source : input_trait.Ghosts I Cu Tok Sp) (errors : error_trait.Ghosts Er I Tok Sp) (states : inspector_trait.Ghosts St I Mk Tok Sp) (calls : Shared F (V × (MutBor (MapExtra I X Cu Tok Sp Er St Cx Mk) × Unit {0})) (Result W Er × (MutBor (MapExtra I X Cu Tok Sp Er St Cx Mk) × Unit {0}))) (gives : G → V → Sp → Result W Er → Type 0) where
+module _ {I X Tok Sp Cu Er St Cx Mk V W A F G : Type 0} (source : input_trait.Ghosts I Cu Tok Sp)
+    (errors : error_trait.Ghosts Er I Tok Sp) (states : inspector_trait.Ghosts St I Mk Tok Sp)
+    (calls : Shared F (V × (MutBor (MapExtra I X Cu Tok Sp Er St Cx Mk) × Unit {0}))
+    (Result W Er × (MutBor (MapExtra I X Cu Tok Sp Er St Cx Mk) × Unit {0})))
+    (gives : G → V → Sp → Result W Er → Type 0) where
   -- where the closure of a `try_map_with` takes no notice of the run but for the span, and answers as a mapper, it has the
   -- outcomes of `try_map_by` with that mapper; these are what the two do
   abbrev pub SameIfBlind : {O : Type 0} → (TryMapWith A V F W → Does I Tok Sp Er St Mk Cx O) → (TryMap A V G W → Does I Tok Sp Er St Mk Cx O) → TryMapWith A V F W → G → Type 0

@@ -16,8 +16,13 @@ use Rattle.chumsky_parser.specs.Failure.{SaysNo}
 use Rattle.chumsky_shield.specs.AndIs.{GivenAt, LooksFrom, MeansAndIs, Rewinds, MeansRewind}
 use Rattle.chumsky_shield.specs.Compared.{YesStays, YesEndsAs, AsPart, AnswersAsPart}
 
-module _ {I Tok Sp Cu Er St Mk Cx V : Type 0} (source : input_trait.Ghosts I Cu Tok Sp) (errors : error_trait.Ghosts Er I Tok Sp) (states : inspector_trait.Ghosts St I Mk Tok Sp) (part : Meaning Tok Cx states.Seen errors.Seen V) where
-  stays : (m : states.Marked) (v : Verdict V errors.Seen) (b : Beginning Tok Cx states.Seen) (p : Outcome V errors.Seen states.Seen) (o : Outcome (Unit {0}) errors.Seen states.Seen) (u : Option (Unit {0})) → ByVerdict v (Denies source errors states m) (Allows source errors states m) b p o → o.verdict ≡ Yes u → o.end ≡ b.start
+module _ {I Tok Sp Cu Er St Mk Cx V : Type 0} (source : input_trait.Ghosts I Cu Tok Sp)
+    (errors : error_trait.Ghosts Er I Tok Sp) (states : inspector_trait.Ghosts St I Mk Tok Sp)
+    (part : Meaning Tok Cx states.Seen errors.Seen V) where
+  stays : (m : states.Marked) (v : Verdict V errors.Seen) (b : Beginning Tok Cx states.Seen)
+      (p : Outcome V errors.Seen states.Seen) (o : Outcome (Unit {0}) errors.Seen states.Seen) (u : Option (Unit {0}))
+      → ByVerdict v (Denies source errors states m) (Allows source errors states m) b p o → o.verdict ≡ Yes u
+      → o.end ≡ b.start
   stays m (Yes v) b p o u (inl r) e = let k = r.1 in let no : ⊥ = cc in absurd no
   stays m (Yes v) b p o u (inr h) e =
       let a : IsAnswer o.verdict = rw e tt in
@@ -40,7 +45,9 @@ module _ {Tok Cx St Er V W : Type 0} (merged : Er → Er → Er) (free : Type 0)
   AcceptsAll = (b : Beginning Tok Cx St) (end : ℕ) (s t : St) (v : V) (r : Result W Er) → vets b end s v r t → (w : W) × (r ≡ Ok w) × (t ≡ s) × becomes b end v w
 
   module _ (all : AcceptsAll) (part : Meaning Tok Cx St Er V) where
-    accepted : (r : Result W Er) (t : St) (v : V) (w : W) (b : Beginning Tok Cx St) (p : Outcome V Er St) (o : Outcome W Er St) → part (record b { wanted = true }) p → p.verdict ≡ Yes (Some v) → r ≡ Ok w → t ≡ p.state → becomes b p.end v w → OnRuling merged free r t b p o → IsAnswer o.verdict → AsPart merged becomes part b o
+    accepted : (r : Result W Er) (t : St) (v : V) (w : W) (b : Beginning Tok Cx St) (p : Outcome V Er St) (o : Outcome W Er St)
+        → part (record b { wanted = true }) p → p.verdict ≡ Yes (Some v) → r ≡ Ok w → t ≡ p.state
+        → becomes b p.end v w → OnRuling merged free r t b p o → IsAnswer o.verdict → AsPart merged becomes part b o
     accepted (Ok x) t v w b p o m e k s h j a =
         let is = or_clash-whole j a in
         let x_is : x ≡ w = cc in
@@ -48,7 +55,10 @@ module _ {Tok Cx St Er V W : Type 0} (merged : Er → Er → Er) (free : Type 0)
         record { first = p; meant = m; verdict = rw e (w, h, verdict); rest = rw is (rw s refl) }
     accepted (Err d) t v w b p o m e k s h j a = let no : ⊥ = cc in absurd no
 
-    as_part : (v : Verdict V Er) (b : Beginning Tok Cx St) (p : Outcome V Er St) (o : Outcome W Er St) → part (record b { wanted = true }) p → p.verdict ≡ v → ByVerdict v (Vetting merged free vets) (NoAsOne merged) b p o → IsAnswer o.verdict → AsPart merged becomes part b o
+    as_part : (v : Verdict V Er) (b : Beginning Tok Cx St) (p : Outcome V Er St) (o : Outcome W Er St)
+        → part (record b { wanted = true }) p → p.verdict ≡ v
+        → ByVerdict v (Vetting merged free vets) (NoAsOne merged) b p o → IsAnswer o.verdict
+        → AsPart merged becomes part b o
     as_part (Yes (Some v)) b p o m e j a =
         let k = all b p.end p.state j.1 v j.0 j.2 in
         accepted j.0 j.1 v k.0 b p o m e k.1 k.2 k.3 j.3 a
@@ -62,20 +72,36 @@ module _ {Tok Cx St Er V W : Type 0} (merged : Er → Er → Er) (free : Type 0)
     pub vetted-as_part : AnswersAsPart merged becomes part (Vetted merged free vets part)
     vetted-as_part b o m a = as_part m.run.first.verdict b m.run.first o m.run.meant.run refl m.run.judges a
 
-module _ {I Tok Sp Cu Er St Cx V : Type 0} (source : input_trait.Ghosts I Cu Tok Sp) (errors : error_trait.Ghosts Er I Tok Sp) (free : Type 0) (tests : V → Bool → Type 0) (part : Meaning Tok Cx St errors.Seen V) where
+module _ {I Tok Sp Cu Er St Cx V : Type 0} (source : input_trait.Ghosts I Cu Tok Sp)
+    (errors : error_trait.Ghosts Er I Tok Sp) (free : Type 0) (tests : V → Bool → Type 0)
+    (part : Meaning Tok Cx St errors.Seen V) where
   pub filter-as_part : ((v : V) (x : Bool) → tests v x → x ≡ true) → AnswersAsPart errors.merged (λ b end v w. w ≡ v) part (Vetted errors.merged free (ByTest source errors tests) part)
   filter-as_part h =
       vetted-as_part errors.merged free (ByTest source errors tests) (λ b end v w. w ≡ v)
       (λ b end s t v r m. (v, m.answer ∙ ap (λ x. tested source errors tests x b end v) (h v m.passes m.says), m.keeps, refl)) part
 
-module _ {I Tok Sp Cu Er St Cx V W : Type 0} (source : input_trait.Ghosts I Cu Tok Sp) (errors : error_trait.Ghosts Er I Tok Sp) (free : Type 0) (gives : V → Sp → Result W Er → Type 0) (part : Meaning Tok Cx St errors.Seen V) where
-  pub try_map-as_part : ((v : V) (span : Sp) (r : Result W Er) → gives v span r → (w : W) × (r ≡ Ok w)) → AnswersAsPart errors.merged (λ b end v w. gives v (source.span_between b.tokens b.start end) (Ok w)) part (Vetted errors.merged free (ByTry source errors gives) part)
+module _ {I Tok Sp Cu Er St Cx V W : Type 0} (source : input_trait.Ghosts I Cu Tok Sp)
+    (errors : error_trait.Ghosts Er I Tok Sp) (free : Type 0) (gives : V → Sp → Result W Er → Type 0)
+    (part : Meaning Tok Cx St errors.Seen V) where
+  pub try_map-as_part : ((v : V) (span : Sp) (r : Result W Er) → gives v span r → (w : W) × (r ≡ Ok w))
+      → AnswersAsPart errors.merged (λ b end v w. gives v (source.span_between b.tokens b.start end) (Ok w)) part
+      (Vetted errors.merged free (ByTry source errors gives) part)
   try_map-as_part h =
       vetted-as_part errors.merged free (ByTry source errors gives) (λ b end v w. gives v (source.span_between b.tokens b.start end) (Ok w))
-      (λ b end s t v r m. let k = h v (source.span_between b.tokens b.start end) m.ruling m.says in (k.0, m.answer ∙ ap (ruling_seen errors.seen) k.1, m.keeps, subst (gives v (source.span_between b.tokens b.start end)) k.1 m.says)) part
+      (λ b end s t v r m. let k = h v (source.span_between b.tokens b.start end) m.ruling m.says
+      in (
+        k.0,
+        m.answer ∙ ap (ruling_seen errors.seen) k.1,
+        m.keeps,
+        subst (gives v (source.span_between b.tokens b.start end)) k.1 m.says,
+      ))
+      part
 
-module _ {I Tok Sp Cu Er St Cx V W : Type 0} (source : input_trait.Ghosts I Cu Tok Sp) (errors : error_trait.Ghosts Er I Tok Sp) (free : Type 0) (gives : V → Option W → Type 0) (part : Meaning Tok Cx St errors.Seen V) where
-  pub filter_map-as_part : ((v : V) (r : Option W) → gives v r → (w : W) × (r ≡ Some w)) → AnswersAsPart errors.merged (λ b end v w. gives v (Some w)) part (Vetted errors.merged free (ByPick source errors gives) part)
+module _ {I Tok Sp Cu Er St Cx V W : Type 0} (source : input_trait.Ghosts I Cu Tok Sp)
+    (errors : error_trait.Ghosts Er I Tok Sp) (free : Type 0) (gives : V → Option W → Type 0)
+    (part : Meaning Tok Cx St errors.Seen V) where
+  pub filter_map-as_part : ((v : V) (r : Option W) → gives v r → (w : W) × (r ≡ Some w))
+      → AnswersAsPart errors.merged (λ b end v w. gives v (Some w)) part (Vetted errors.merged free (ByPick source errors gives) part)
   filter_map-as_part h =
       vetted-as_part errors.merged free (ByPick source errors gives) (λ b end v w. gives v (Some w))
       (λ b end s t v r m. let k = h v m.pick m.says in (k.0, m.answer ∙ ap (λ x. picked source errors x b end) k.1, m.keeps, subst (gives v) k.1 m.says)) part
@@ -95,7 +121,8 @@ module _ {Tok Cx St Er V : Type 0} (merged : Er → Er → Er) (part : Meaning T
 
 module _ {Tok Cx St Mk Er V W : Type 0} (mark : St → Mk) (back : St → Mk → St) (safe : Type 0) (part : Meaning Tok Cx St Er V) (other : Meaning Tok Cx St Er W) where
   -- what follows a look-ahead: its yes stands where the part ended
-  looked : (end : ℕ) (v : Option V) (b : Beginning Tok Cx St) (p : Outcome W Er St) (o : Outcome V Er St) (u : Verdict W Er) (x : Option V) → Follows u (λ _. GivenAt v end) b p o → o.verdict ≡ Yes x → (x ≡ v) × (o.end ≡ end)
+  looked : (end : ℕ) (v : Option V) (b : Beginning Tok Cx St) (p : Outcome W Er St) (o : Outcome V Er St) (u : Verdict W Er) (x : Option V)
+      → Follows u (λ _. GivenAt v end) b p o → o.verdict ≡ Yes x → (x ≡ v) × (o.end ≡ end)
   looked end v b p o (Yes y) x f e =
       let given = f.1 in let whole = f.2 in
       let at_end : o.end ≡ end = cc in
@@ -120,7 +147,9 @@ module _ {Tok Cx St Mk Er V W : Type 0} (mark : St → Mk) (back : St → Mk →
         | inr h ↦ tried h.attempt.verdict b h.attempt o x h.meant h.then_else e
       ]
 
-  both_ends : (v : Verdict V Er) (b : Beginning Tok Cx St) (p o : Outcome V Er St) (x : Option V) → p.verdict ≡ v → OrElse mark back safe part SaysNo b p → Follows v (LooksFrom b.start other) b p o → o.verdict ≡ Yes x → (q : Outcome V Er St) × part b q × (q.verdict ≡ Yes x) × (o.end ≡ q.end)
+  both_ends : (v : Verdict V Er) (b : Beginning Tok Cx St) (p o : Outcome V Er St) (x : Option V) → p.verdict ≡ v
+      → OrElse mark back safe part SaysNo b p → Follows v (LooksFrom b.start other) b p o → o.verdict ≡ Yes x
+      → (q : Outcome V Er St) × part b q × (q.verdict ≡ Yes x) × (o.end ≡ q.end)
   both_ends (Yes v) b p o x is m f e =
       let whole = f.2 in
       let looks = f.1 in

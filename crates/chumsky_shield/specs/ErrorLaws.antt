@@ -25,7 +25,9 @@ module _ {Tok Cx St Er V : Type 0} (merged : Er → Er → Er) (maps : ErrMaps T
       let a : IsAnswer o.verdict = rw e tt in
       let x = ap (λ (z : Outcome V Er St). z.verdict) (or_clash-whole h.3 a) in cc
 
-  yes_of : (u : Verdict V Er) (b : Beginning Tok Cx St) (p o : Outcome V Er St) (v : Option V) → part b p → p.verdict ≡ u → ByVerdict u (YesAsOne merged) (NoMapped merged maps) b p o → o.verdict ≡ Yes v → (q : Outcome V Er St) × part b q × (o ≡ as_one merged q)
+  yes_of : (u : Verdict V Er) (b : Beginning Tok Cx St) (p o : Outcome V Er St) (v : Option V) → part b p
+      → p.verdict ≡ u → ByVerdict u (YesAsOne merged) (NoMapped merged maps) b p o → o.verdict ≡ Yes v
+      → (q : Outcome V Er St) × part b q × (o ≡ as_one merged q)
   yes_of (Yes w) b p o v m e j d =
       let a : IsAnswer o.verdict = rw d tt in
       (p, m, or_clash-whole j a ∙ retold-same (Yes w) (as_one merged p) e)
@@ -46,7 +48,8 @@ module _ {Tok Cx St Er V : Type 0} (merged : Er → Er → Er) (maps : ErrMaps T
   }
 
   module _ (itself : GivesBack maps) where
-    itself_of : (k : Option (Event Er)) (b : Beginning Tok Cx St) (p o : Outcome V Er St) → p.verdict ≡ No → primary merged p.events ≡ k → MappedAs merged maps k b p o → IsAnswer o.verdict → o ≡ as_one merged p
+    itself_of : (k : Option (Event Er)) (b : Beginning Tok Cx St) (p o : Outcome V Er St) → p.verdict ≡ No
+        → primary merged p.events ≡ k → MappedAs merged maps k b p o → IsAnswer o.verdict → o ≡ as_one merged p
     itself_of None b p o e is h a = h ∙ retold-same No (as_one merged p) e
     itself_of (Some k) b p o e is h a =
         let same = itself (shown_of b p.end p.state) k.error h.0 h.1 h.2 in
@@ -55,7 +58,9 @@ module _ {Tok Cx St Er V : Type 0} (merged : Er → Er → Er) (maps : ErrMaps T
         let state : h.1 ≡ p.state = same.1 in
         whole ∙ rw (error, state, e, is) refl
 
-    answer_of : (u : Verdict V Er) (b : Beginning Tok Cx St) (p o : Outcome V Er St) → part b p → p.verdict ≡ u → ByVerdict u (YesAsOne merged) (NoMapped merged maps) b p o → IsAnswer o.verdict → (q : Outcome V Er St) × part b q × (o ≡ as_one merged q)
+    answer_of : (u : Verdict V Er) (b : Beginning Tok Cx St) (p o : Outcome V Er St) → part b p → p.verdict ≡ u
+        → ByVerdict u (YesAsOne merged) (NoMapped merged maps) b p o → IsAnswer o.verdict
+        → (q : Outcome V Er St) × part b q × (o ≡ as_one merged q)
     answer_of (Yes w) b p o m e j a = (p, m, or_clash-whole j a ∙ retold-same (Yes w) (as_one merged p) e)
     answer_of No b p o m e j a = (p, m, itself_of (primary merged p.events) b p o e refl j a)
     answer_of (Halt s) b p o m e j a = absurd (subst IsAnswer (ap (λ (x : Outcome V Er St). x.verdict) j) a)
@@ -69,17 +74,22 @@ pub alone-itself : {Tok Cx St Er : Type 0} {maps : Er → Er → Type 0} → Giv
 alone-itself h x e r s m = (h e r m.0, m.1)
 
 -- one that is handed the span and the state
-pub spanned-itself : {Tok Cx St Er Sp : Type 0} (span : Layout Tok → ℕ → ℕ → Sp) {maps : Sp → St → Er → Er → St → Type 0} → GivesBackFrom maps → GivesBack {Tok = Tok} {Cx = Cx} (λ x. maps (span x.tokens x.from x.to) x.state)
+pub spanned-itself : {Tok Cx St Er Sp : Type 0} (span : Layout Tok → ℕ → ℕ → Sp) {maps : Sp → St → Er → Er → St → Type 0}
+    → GivesBackFrom maps → GivesBack {Tok = Tok} {Cx = Cx} (λ x. maps (span x.tokens x.from x.to) x.state)
 spanned-itself span h x e r s m = h (span x.tokens x.from x.to) x.state e r s m
 
 module _ {Tok Cx St Er V W : Type 0} (emits : Emits Tok Cx St Er V W) (nothing : EmitsNothing emits) (part : Meaning Tok Cx St Er V) where
-  given_all : (b : Beginning Tok Cx St) (p : Outcome V Er St) (v : V) (w : W) (s : St) (r : Option (List Er)) (o q : Outcome W Er St) → part (record b { wanted = true }) p → p.verdict ≡ Yes (Some v) → emits v (shown_of b p.end p.state) w s r → EmitsAll r w s (from b p) q → o ≡ after p q → IsAnswer o.verdict → JustAsPart (validated_quietly emits) part b o
+  given_all : (b : Beginning Tok Cx St) (p : Outcome V Er St) (v : V) (w : W) (s : St) (r : Option (List Er)) (o q : Outcome W Er St)
+      → part (record b { wanted = true }) p → p.verdict ≡ Yes (Some v) → emits v (shown_of b p.end p.state) w s r
+      → EmitsAll r w s (from b p) q → o ≡ after p q → IsAnswer o.verdict
+      → JustAsPart (validated_quietly emits) part b o
   given_all b p v w s r o q m e g (inl h) is a =
       let none = nothing v (shown_of b p.end p.state) w s r g in
       let errors : h.0 ≡ [] = (let x : Some h.0 ≡ Some [] = sym h.1 ∙ none.0 in cc) in
       let state : s ≡ p.state = none.1 in
       let whole : o ≡ record { verdict = Yes (wanting b.wanted w); end = p.end; state = s; events = p.events ++ []; emitted = p.emitted ++ h.0 } = is ∙ ap (after p) h.2 in
-      let told : o ≡ record { verdict = Yes (wanting b.wanted w); end = p.end; state = p.state; events = p.events; emitted = p.emitted } = whole ∙ rw (errors, state, append-nil p.events, append-nil p.emitted) refl in
+      let told : o ≡ record { verdict = Yes (wanting b.wanted w); end = p.end; state = p.state; events = p.events; emitted = p.emitted } =
+      whole ∙ rw (errors, state, append-nil p.events, append-nil p.emitted) refl in
       let verdict : o.verdict ≡ Yes (wanting b.wanted w) = ap (λ (z : Outcome W Er St). z.verdict) told in
       let gives : validated_quietly emits b p v w = subst (λ z. emits v (shown_of b p.end p.state) w p.state z) none.0 (subst (λ z. emits v (shown_of b p.end p.state) w z r) state g) in
       record { first = p; meant = m; verdict = rw e (w, gives, verdict); rest = told ∙ rw verdict refl }
@@ -87,7 +97,9 @@ module _ {Tok Cx St Er V W : Type 0} (emits : Emits Tok Cx St Er V W) (nothing :
       let x : q.verdict ≡ o.verdict = sym (ap (λ (z : Outcome W Er St). z.verdict) is) in
       absurd (subst IsAnswer h.1 (subst IsAnswer (sym x) a))
 
-  just_as : (u : Verdict V Er) (b : Beginning Tok Cx St) (p : Outcome V Er St) (o : Outcome W Er St) → part (record b { wanted = true }) p → p.verdict ≡ u → Follows u (Validated emits b.start) b p o → IsAnswer o.verdict → JustAsPart (validated_quietly emits) part b o
+  just_as : (u : Verdict V Er) (b : Beginning Tok Cx St) (p : Outcome V Er St) (o : Outcome W Er St)
+      → part (record b { wanted = true }) p → p.verdict ≡ u → Follows u (Validated emits b.start) b p o
+      → IsAnswer o.verdict → JustAsPart (validated_quietly emits) part b o
   just_as (Yes (Some v)) b p o m e f a = let n = f.1 in given_all b p v n.0 n.1 n.2 o f.0 m e n.3 n.4 f.2 a
   just_as (Yes None) b p o m e f a = absurd f.1
   just_as No b p o m e f a =

@@ -42,7 +42,9 @@ pub record MapsShown {Tok Cx St E S : Type 0} (seen : E → S) (says : E → Sho
   pub result_counts : seen result ≡ r
   pub answers : says error x result s
 
-module _ {I Tok Sp Er St Mk : Type 0} (errors : error_trait.Ghosts Er I Tok Sp) (states : inspector_trait.Ghosts St I Mk Tok Sp) {F : Type 0} (calls : Shared F (Er × (Sp × (MutBor St × Unit {0}))) (Er × (MutBor St × Unit {0}))) (f : F) where
+module _ {I Tok Sp Er St Mk : Type 0} (errors : error_trait.Ghosts Er I Tok Sp)
+    (states : inspector_trait.Ghosts St I Mk Tok Sp) {F : Type 0}
+    (calls : Shared F (Er × (Sp × (MutBor St × Unit {0}))) (Er × (MutBor St × Unit {0}))) (f : F) where
   -- what a mapper that is handed a span and the state makes of an error
   pub record MapsWithState (span : Sp) (from : states.Seen) (e r : errors.Seen) (s : states.Seen) : Type 0 where
     pub error : Er
@@ -80,9 +82,12 @@ module _ {Tok Cx St Er : Type 0} (merged : Er → Er → Er) (safe : Type 0) (ma
 
 module _ {I X Tok Sp Cu Er St Cx Mk : Type 0} (source : input_trait.Ghosts I Cu Tok Sp) (errors : error_trait.Ghosts Er I Tok Sp) (states : inspector_trait.Ghosts St I Mk Tok Sp) where
   -- the same of the error that a run kept, by a mapper that may look at what the run holds
-  abbrev pub MapsKeptOf : (Held Tok Cx states.Seen errors.Seen → errors.Seen → errors.Seen → states.Seen → Type 0) → Option (Located Er) → InputRef I X Cu Tok Sp Er St Cx Mk → InputRef I X Cu Tok Sp Er St Cx Mk → Fault → Type 0
+  abbrev pub MapsKeptOf : (Held Tok Cx states.Seen errors.Seen → errors.Seen → errors.Seen → states.Seen → Type 0)
+      → Option (Located Er) → InputRef I X Cu Tok Sp Er St Cx Mk → InputRef I X Cu Tok Sp Er St Cx Mk → Fault → Type 0
   MapsKeptOf maps older old new fault =
-      MapsKept errors.merged errors.takes_no_memory (maps (held source errors states old)) (held source errors states old).kept (option_map (located errors.seen) older) (held source errors states old) (held source errors states new) fault
+      MapsKept errors.merged errors.takes_no_memory (maps (held source errors states old))
+      (held source errors states old).kept (option_map (located errors.seen) older)
+      (held source errors states old) (held source errors states new) fault
 
 -- one result to each error
 abbrev pub MapsOnce : {S : Type 0} → (S → S → Type 0) → Type 0

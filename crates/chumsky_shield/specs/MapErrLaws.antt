@@ -14,7 +14,9 @@ pub alone-once : {Tok Cx St Er : Type 0} {maps : Er → Er → Type 0} → MapsO
 alone-once u x e r r' s t m n = (u e r r' m.0 n.0, m.1 ∙ sym n.1)
 
 -- so does one that is handed the span and the state answer alike, which is shown no more
-pub spanned-once : {Tok Cx St Er Sp : Type 0} (span : Layout Tok → ℕ → ℕ → Sp) {maps : Sp → St → Er → Er → St → Type 0} → ((p : Sp) → MapsOnceFrom (maps p)) → MapsOnceShown {Tok = Tok} {Cx = Cx} (λ x. maps (span x.tokens x.from x.to) x.state)
+pub spanned-once : {Tok Cx St Er Sp : Type 0} (span : Layout Tok → ℕ → ℕ → Sp) {maps : Sp → St → Er → Er → St → Type 0}
+    → ((p : Sp) → MapsOnceFrom (maps p))
+    → MapsOnceShown {Tok = Tok} {Cx = Cx} (λ x. maps (span x.tokens x.from x.to) x.state)
 spanned-once span u x e r r' s t m n = u (span x.tokens x.from x.to) x.state e r r' s t m n
 
 -- a success whose failures count as one
@@ -22,7 +24,9 @@ module _ {Tok Cx St Er V : Type 0} (merged : Er → Er → Er) where
   pub yes_as_one-ends : (b : Beginning Tok Cx St) (v : Option V) (p o : Outcome V Er St) → b.start ≤ p.end → YesAsOne {Tok = Tok} {Cx = Cx} merged b v p o → IsAnswer o.verdict → b.start ≤ o.end
   yes_as_one-ends b v p o l h a = let e = ap (λ (x : Outcome V Er St). x.end) (or_clash-whole h a) in omega arith
 
-  pub yes_as_one-agrees : (s : V → V → Type 0) (b c : Beginning Tok Cx St) (v w : Option V) (p r o q : Outcome V Er St) → Alike b c → SameValue s v w → Agree s p r → YesAsOne merged b v p o → YesAsOne merged c w r q → IsAnswer o.verdict → IsAnswer q.verdict → Agree s o q
+  pub yes_as_one-agrees : (s : V → V → Type 0) (b c : Beginning Tok Cx St) (v w : Option V) (p r o q : Outcome V Er St)
+      → Alike b c → SameValue s v w → Agree s p r → YesAsOne merged b v p o → YesAsOne merged c w r q
+      → IsAnswer o.verdict → IsAnswer q.verdict → Agree s o q
   yes_as_one-agrees s b c v w p r o q alike e g h k a z =
       rw (or_clash-whole h a, or_clash-whole k z) (record { answer = e; end = g.end; state = g.state; events = ap (λ es. option_to_list (primary merged es)) g.events; emitted = g.emitted })
 
@@ -35,9 +39,19 @@ module _ {Tok Cx St Er V : Type 0} (merged : Er → Er → Er) (maps : ErrMaps T
   map_err-ends h b o m a = shielded-ends part _ _ h (yes_as_one-ends merged) (λ b p o l j x. mapped-ends (primary merged p.events) b p o l j x) b o m.run a
 
   module _ (sv : V → V → Type 0) (once : MapsOnceShown maps) where
-    mapped-agree : (k : Option (Event Er)) (b c : Beginning Tok Cx St) (p p' o q : Outcome V Er St) → Alike b c → Agree sv p p' → MappedAs merged maps k b p o → MappedAs merged maps k c p' q → IsAnswer o.verdict → IsAnswer q.verdict → Agree sv o q
+    mapped-agree : (k : Option (Event Er)) (b c : Beginning Tok Cx St) (p p' o q : Outcome V Er St) → Alike b c
+        → Agree sv p p' → MappedAs merged maps k b p o → MappedAs merged maps k c p' q → IsAnswer o.verdict
+        → IsAnswer q.verdict → Agree sv o q
     mapped-agree None b c p p' o q alike g h k a z =
-        let told : Agree sv (retold No (as_one merged p)) (retold No (as_one merged p')) = record { answer = tt; end = g.end; state = g.state; events = ap (λ es. option_to_list (primary merged es)) g.events; emitted = g.emitted } in
+        let told : Agree sv (retold No (as_one merged p)) (retold No (as_one merged p')) =
+        record {
+          answer = tt;
+          end = g.end;
+          state = g.state;
+          events = ap (λ es. option_to_list (primary merged es)) g.events;
+          emitted = g.emitted;
+        }
+        in
         rw (h, k) told
     mapped-agree (Some e) b c p p' o q alike g h k a z =
         let there : shown_of c p'.end p'.state ≡ shown_of b p.end p.state = cc (alike.tokens, alike.start, alike.context, g.end, g.state) in

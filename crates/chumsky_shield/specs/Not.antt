@@ -12,7 +12,11 @@ use Rattle.chumsky_shield.specs.Shielded.{OrLacks, OfYes, OfNo, Shielded, someth
 module _ {I Tok Sp Cu Er St Mk Cx V : Type 0} (source : input_trait.Ghosts I Cu Tok Sp) (errors : error_trait.Ghosts Er I Tok Sp) (states : inspector_trait.Ghosts St I Mk Tok Sp) where
   -- a yes of the part is gone back from, and is a failure at the start, spanning what the part took
   abbrev pub Denies : states.Marked → OfYes Tok Cx states.Seen errors.Seen V (Unit {0})
-  Denies mark b v p o = Refuses (states.takes_no_memory → ⊥) p.state o ⊎ OrLacks errors.takes_no_memory (record { verdict = No; end = b.start; state = states.back p.state mark; events = something_else source errors b.tokens b.start p.end ∷ []; emitted = [] }) o
+  Denies mark b v p o =
+      Refuses (states.takes_no_memory → ⊥) p.state o
+      ⊎ OrLacks errors.takes_no_memory
+      (record { verdict = No; end = b.start; state = states.back p.state mark; events = something_else source errors b.tokens b.start p.end ∷ []; emitted = [] })
+      o
 
   -- a no of the part is gone back from, and is a yes
   abbrev pub Allows : states.Marked → OfNo Tok Cx states.Seen errors.Seen V (Unit {0})

@@ -12,12 +12,18 @@ use Rattle.chumsky_shield.specs.Shielded.{Shielded}
 use Rattle.chumsky_shield.specs.ShieldedLaws.{or_lacks-whole, shielded-ends, shielded-agrees}
 use Rattle.chumsky_shield.specs.Not.{Denies, Allows, MeansNot}
 
-module _ {I Tok Sp Cu Er St Mk Cx V : Type 0} (source : input_trait.Ghosts I Cu Tok Sp) (errors : error_trait.Ghosts Er I Tok Sp) (states : inspector_trait.Ghosts St I Mk Tok Sp) (part : Meaning Tok Cx states.Seen errors.Seen V) where
-  denies-ends : (m : states.Marked) (b : Beginning Tok Cx states.Seen) (v : Option V) (p : Outcome V errors.Seen states.Seen) (o : Outcome (Unit {0}) errors.Seen states.Seen) → b.start ≤ p.end → Denies source errors states m b v p o → IsAnswer o.verdict → b.start ≤ o.end
+module _ {I Tok Sp Cu Er St Mk Cx V : Type 0} (source : input_trait.Ghosts I Cu Tok Sp)
+    (errors : error_trait.Ghosts Er I Tok Sp) (states : inspector_trait.Ghosts St I Mk Tok Sp)
+    (part : Meaning Tok Cx states.Seen errors.Seen V) where
+  denies-ends : (m : states.Marked) (b : Beginning Tok Cx states.Seen) (v : Option V)
+      (p : Outcome V errors.Seen states.Seen) (o : Outcome (Unit {0}) errors.Seen states.Seen)
+      → b.start ≤ p.end → Denies source errors states m b v p o → IsAnswer o.verdict → b.start ≤ o.end
   denies-ends m b v p o l (inl r) a = absurd (subst IsAnswer r.1 a)
   denies-ends m b v p o l (inr h) a = let e = ap (λ (x : Outcome (Unit {0}) errors.Seen states.Seen). x.end) (or_lacks-whole h a) in omega arith
 
-  allows-ends : (m : states.Marked) (b : Beginning Tok Cx states.Seen) (p : Outcome V errors.Seen states.Seen) (o : Outcome (Unit {0}) errors.Seen states.Seen) → b.start ≤ p.end → Allows {Cx = Cx} source errors states m b p o → IsAnswer o.verdict → b.start ≤ o.end
+  allows-ends : (m : states.Marked) (b : Beginning Tok Cx states.Seen) (p : Outcome V errors.Seen states.Seen)
+      (o : Outcome (Unit {0}) errors.Seen states.Seen)
+      → b.start ≤ p.end → Allows {Cx = Cx} source errors states m b p o → IsAnswer o.verdict → b.start ≤ o.end
   allows-ends m b p o l (inl r) a = absurd (subst IsAnswer r.1 a)
   allows-ends m b p o l (inr h) a = let e = ap (λ (x : Outcome (Unit {0}) errors.Seen states.Seen). x.end) h in omega arith
 
@@ -29,13 +35,20 @@ module _ {I Tok Sp Cu Er St Mk Cx V : Type 0} (source : input_trait.Ghosts I Cu 
       ]
 
   module _ (same : V → V → Type 0) where
-    denies-agrees : (m : states.Marked) (b c : Beginning Tok Cx states.Seen) (v v' : Option V) (p p' : Outcome V errors.Seen states.Seen) (o q : Outcome (Unit {0}) errors.Seen states.Seen) → Alike b c → SameValue same v v' → Agree same p p' → Denies source errors states m b v p o → Denies source errors states m c v' p' q → IsAnswer o.verdict → IsAnswer q.verdict → Agree SameUnit o q
+    denies-agrees : (m : states.Marked) (b c : Beginning Tok Cx states.Seen) (v v' : Option V)
+        (p p' : Outcome V errors.Seen states.Seen) (o q : Outcome (Unit {0}) errors.Seen states.Seen)
+        → Alike b c → SameValue same v v' → Agree same p p' → Denies source errors states m b v p o
+        → Denies source errors states m c v' p' q → IsAnswer o.verdict → IsAnswer q.verdict → Agree SameUnit o q
     denies-agrees m b c v v' p p' o q alike s g (inl r) k a z = absurd (subst IsAnswer r.1 a)
     denies-agrees m b c v v' p p' o q alike s g (inr h) (inl r) a z = absurd (subst IsAnswer r.1 z)
     denies-agrees m b c v v' p p' o q alike s g (inr h) (inr k) a z =
-        rw (or_lacks-whole h a, or_lacks-whole k z) (record { answer = tt; end = alike.start; state = ap (λ x. states.back x m) g.state; events = cc (alike.tokens, alike.start, g.end); emitted = refl })
+        rw (or_lacks-whole h a, or_lacks-whole k z)
+        (record { answer = tt; end = alike.start; state = ap (λ x. states.back x m) g.state; events = cc (alike.tokens, alike.start, g.end); emitted = refl })
 
-    allows-agrees : (m : states.Marked) (b c : Beginning Tok Cx states.Seen) (p p' : Outcome V errors.Seen states.Seen) (o q : Outcome (Unit {0}) errors.Seen states.Seen) → Alike b c → Agree same p p' → Allows source errors states m b p o → Allows source errors states m c p' q → IsAnswer o.verdict → IsAnswer q.verdict → Agree SameUnit o q
+    allows-agrees : (m : states.Marked) (b c : Beginning Tok Cx states.Seen)
+        (p p' : Outcome V errors.Seen states.Seen) (o q : Outcome (Unit {0}) errors.Seen states.Seen)
+        → Alike b c → Agree same p p' → Allows source errors states m b p o → Allows source errors states m c p' q
+        → IsAnswer o.verdict → IsAnswer q.verdict → Agree SameUnit o q
     allows-agrees m b c p p' o q alike g (inl r) k a z = absurd (subst IsAnswer r.1 a)
     allows-agrees m b c p p' o q alike g (inr h) (inl r) a z = absurd (subst IsAnswer r.1 z)
     allows-agrees m b c p p' o q alike g (inr h) (inr k) a z =

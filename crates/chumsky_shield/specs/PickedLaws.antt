@@ -81,7 +81,9 @@ module _ {Tok U : Type 0} (picks : List Tok → Option U) where
             then_or_refused (λ r. if_picked (picks (taken_of (w ++ rest) r)) r) (f (w ++ rest)) rest rest (h.each w rest p.0 k) (inl d);
       }
 
-module _ {I Tok Sp Cu Er Cx St V U : Type 0} (source : input_trait.Ghosts I Cu Tok Sp) (errors : error_trait.Ghosts Er I Tok Sp) (part : Meaning Tok Cx St errors.Seen V) (gives : V → Option U → Type 0) (picks : List Tok → Option U) where
+module _ {I Tok Sp Cu Er Cx St V U : Type 0} (source : input_trait.Ghosts I Cu Tok Sp)
+    (errors : error_trait.Ghosts Er I Tok Sp) (part : Meaning Tok Cx St errors.Seen V) (gives : V → Option U → Type 0)
+    (picks : List Tok → Option U) where
   abbrev PickedOf : Meaning Tok Cx St errors.Seen U
   PickedOf = Vetted errors.merged errors.takes_no_memory (ByPick source errors gives) part
 
@@ -95,8 +97,11 @@ module _ {I Tok Sp Cu Er Cx St V U : Type 0} (source : input_trait.Ghosts I Cu T
         by_word b.word v x b.is g ∙ ap picks (sym (taken_word ts rest b.word b.all))
 
     -- the answer of what was picked
-    ruled : (b : Beginning Tok Cx St) (p : Outcome V errors.Seen St) (o : Outcome U errors.Seen St) (x : Option U) (s : St) → f (drop b.start b.tokens.list) ≡ At (drop p.end b.tokens.list) → p.end ≤ length b.tokens.list
-        → x ≡ picks (taken_of (drop b.start b.tokens.list) (drop p.end b.tokens.list)) → OnRuling errors.merged errors.takes_no_memory (picked source errors x b p.end) s b p o → Answers (Value (drop b.start b.tokens.list)) (picked_ends picks f (drop b.start b.tokens.list)) b.tokens.list o.verdict o.end
+    ruled : (b : Beginning Tok Cx St) (p : Outcome V errors.Seen St) (o : Outcome U errors.Seen St) (x : Option U) (s : St)
+        → f (drop b.start b.tokens.list) ≡ At (drop p.end b.tokens.list) → p.end ≤ length b.tokens.list
+        → x ≡ picks (taken_of (drop b.start b.tokens.list) (drop p.end b.tokens.list))
+        → OnRuling errors.merged errors.takes_no_memory (picked source errors x b p.end) s b p o
+        → Answers (Value (drop b.start b.tokens.list)) (picked_ends picks f (drop b.start b.tokens.list)) b.tokens.list o.verdict o.end
     ruled b p o (Some u) s e l q m =
         let ts : List Tok = drop b.start b.tokens.list in
         let rest : List Tok = drop p.end b.tokens.list in
@@ -111,8 +116,11 @@ module _ {I Tok Sp Cu Er Cx St V U : Type 0} (source : input_trait.Ghosts I Cu T
         let d : picked_ends picks f ts ≡ Nowhere = rw e n in
         or_lacks-by (Value ts) (picked_ends picks f ts) b.tokens.list _ o d m
 
-    judged : (b : Beginning Tok Cx St) (v : Option V) (p : Outcome V errors.Seen St) (o : Outcome U errors.Seen St) → f (drop b.start b.tokens.list) ≡ At (drop p.end b.tokens.list) → IfValue (va (drop b.start b.tokens.list)) v → p.end ≤ length b.tokens.list
-        → Vetting errors.merged errors.takes_no_memory (ByPick source errors gives) b v p o → Answers (Value (drop b.start b.tokens.list)) (picked_ends picks f (drop b.start b.tokens.list)) b.tokens.list o.verdict o.end
+    judged : (b : Beginning Tok Cx St) (v : Option V) (p : Outcome V errors.Seen St) (o : Outcome U errors.Seen St)
+        → f (drop b.start b.tokens.list) ≡ At (drop p.end b.tokens.list) → IfValue (va (drop b.start b.tokens.list)) v
+        → p.end ≤ length b.tokens.list
+        → Vetting errors.merged errors.takes_no_memory (ByPick source errors gives) b v p o
+        → Answers (Value (drop b.start b.tokens.list)) (picked_ends picks f (drop b.start b.tokens.list)) b.tokens.list o.verdict o.end
     judged b (Some v) p o e i l m =
         let n = m.2 in
         let r : OnRuling errors.merged errors.takes_no_memory (picked source errors n.pick b p.end) m.1 b p o = subst (λ y. OnRuling errors.merged errors.takes_no_memory y m.1 b p o) n.answer m.3 in
@@ -123,7 +131,9 @@ module _ {I Tok Sp Cu Er Cx St V U : Type 0} (source : input_trait.Ghosts I Cu T
     picked-by = record {
       here = λ b w o m.
           let ts : List Tok = drop b.start b.tokens.list in
-          shielded-here (va ts) (Value ts) (Asked true part) (Vetting errors.merged errors.takes_no_memory (ByPick source errors gives)) (NoAsOne errors.merged) (f ts) (picked_ends picks f ts) b (record {
+          shielded-here (va ts) (Value ts) (Asked true part)
+          (Vetting errors.merged errors.takes_no_memory (ByPick source errors gives)) (NoAsOne errors.merged)
+          (f ts) (picked_ends picks f ts) b (record {
             yes = λ v p q e i l j. judged b v p q e i l j;
             no = λ p q e j. let d : picked_ends picks f ts ≡ Nowhere = rw e refl in or_clash-by (Value ts) (picked_ends picks f ts) b.tokens.list _ q d j;
             refused = λ e. rw e refl;
@@ -131,7 +141,9 @@ module _ {I Tok Sp Cu Er Cx St V U : Type 0} (source : input_trait.Ghosts I Cu T
     }
 
   -- a part whose value is picked, as is known by the word
-  pub picked-accepts : {F : Language Tok V} {still : Type 0} → PicksByWord picks F.stands_for gives → let spare : Type 0 = errors.takes_no_memory × still in Accepts part F spare → Accepts PickedOf (picked_language picks F) spare
+  pub picked-accepts : {F : Language Tok V} {still : Type 0} → PicksByWord picks F.stands_for gives →
+      let spare : Type 0 = errors.takes_no_memory × still in
+      Accepts part F spare → Accepts PickedOf (picked_language picks F) spare
   picked-accepts {F} by_word h = record {
     described = λ s.
         let d = h.described s in

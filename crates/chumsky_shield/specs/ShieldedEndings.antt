@@ -30,7 +30,9 @@ module _ {Tok St Er W : Type 0} (Q : W → Type 0) (y : Ending (List Tok)) (ts :
   or_lacks-by whole o a (inl r) = refuses-by Q y ts o r
   or_lacks-by whole o a (inr c) = or_clash-by whole o a c
 
-module _ {Tok Cx St Er V W : Type 0} (P : V → Type 0) (Q : W → Type 0) (part : Meaning Tok Cx St Er V) (on_yes : OfYes Tok Cx St Er V W) (on_no : OfNo Tok Cx St Er V W) (x y : Ending (List Tok)) (b : Beginning Tok Cx St) where
+module _ {Tok Cx St Er V W : Type 0} (P : V → Type 0) (Q : W → Type 0) (part : Meaning Tok Cx St Er V)
+    (on_yes : OfYes Tok Cx St Er V W) (on_no : OfNo Tok Cx St Er V W) (x y : Ending (List Tok))
+    (b : Beginning Tok Cx St) where
   abbrev Answered : Outcome W Er St → Type 0
   Answered o = Answers Q y b.tokens.list o.verdict o.end
 
@@ -58,7 +60,8 @@ module _ {Tok Cx St Er V W : Type 0} (P : V → Type 0) (Q : W → Type 0) (part
   shielded-here so h o m = shielded_by so h o m.first m.first.verdict refl m.meant m.judges
 
 module _ {Tok Cx St Er V : Type 0} (merged : Er → Er → Er) (maps : ErrMaps Tok Cx St Er) (part : Meaning Tok Cx St Er V) (f : Ender Tok) (va : List Tok → V → Type 0) where
-  mapped_no : (ts : List Tok) (k : Option (Event Er)) (b : Beginning Tok Cx St) (p o : Outcome V Er St) → f ts ≡ Nowhere → MappedAs merged maps k b p o → Answers (va ts) (f ts) b.tokens.list o.verdict o.end
+  mapped_no : (ts : List Tok) (k : Option (Event Er)) (b : Beginning Tok Cx St) (p o : Outcome V Er St)
+      → f ts ≡ Nowhere → MappedAs merged maps k b p o → Answers (va ts) (f ts) b.tokens.list o.verdict o.end
   mapped_no ts None b p o e m = rw (m, e) refl
   mapped_no ts (Some k) b p o e m = or_clash-by (va ts) (f ts) b.tokens.list _ o e m.3
 
@@ -95,11 +98,16 @@ module _ {I Tok Sp Cu Er St Mk Cx V : Type 0} (source : input_trait.Ghosts I Cu 
   abbrev Fails : List Tok → Unit {0} → Type 0
   Fails ts u = f ts ≡ Nowhere
 
-  denied : (ts : List Tok) (mark : states.Marked) (b : Beginning Tok Cx states.Seen) (v : Option V) (p : Outcome V errors.Seen states.Seen) (o : Outcome (Unit {0}) errors.Seen states.Seen) → unless ts (f ts) ≡ Nowhere → Denies source errors states mark b v p o → Answers (Fails ts) (unless ts (f ts)) b.tokens.list o.verdict o.end
+  denied : (ts : List Tok) (mark : states.Marked) (b : Beginning Tok Cx states.Seen) (v : Option V)
+      (p : Outcome V errors.Seen states.Seen) (o : Outcome (Unit {0}) errors.Seen states.Seen)
+      → unless ts (f ts) ≡ Nowhere → Denies source errors states mark b v p o
+      → Answers (Fails ts) (unless ts (f ts)) b.tokens.list o.verdict o.end
   denied ts mark b v p o e (inl r) = refuses-by (Fails ts) (unless ts (f ts)) b.tokens.list o r
   denied ts mark b v p o e (inr k) = or_lacks-by (Fails ts) (unless ts (f ts)) b.tokens.list _ o e k
 
-  allowed : (mark : states.Marked) (b : Beginning Tok Cx states.Seen) → Within b → (p : Outcome V errors.Seen states.Seen) (o : Outcome (Unit {0}) errors.Seen states.Seen) → f (drop b.start b.tokens.list) ≡ Nowhere → Allows {Cx = Cx} source errors states mark b p o
+  allowed : (mark : states.Marked) (b : Beginning Tok Cx states.Seen) → Within b
+      → (p : Outcome V errors.Seen states.Seen) (o : Outcome (Unit {0}) errors.Seen states.Seen)
+      → f (drop b.start b.tokens.list) ≡ Nowhere → Allows {Cx = Cx} source errors states mark b p o
       → Answers (Fails (drop b.start b.tokens.list)) (unless (drop b.start b.tokens.list) (f (drop b.start b.tokens.list))) b.tokens.list o.verdict o.end
   allowed mark b w p o e (inl r) = refuses-by (Fails (drop b.start b.tokens.list)) (unless (drop b.start b.tokens.list) (f (drop b.start b.tokens.list))) b.tokens.list o r
   allowed mark b w p o e (inr k) =
@@ -115,15 +123,19 @@ module _ {I Tok Sp Cu Er St Mk Cx V : Type 0} (source : input_trait.Ghosts I Cu 
         let ts : List Tok = drop b.start b.tokens.list in
         elim m.cases [
           | inl r ↦ refuses-by (Fails ts) (unless ts (f ts)) b.tokens.list o r
-          | inr k ↦ shielded-here (va ts) (Fails ts) (Asked false part) (Denies source errors states (states.mark b.state)) (Allows source errors states (states.mark b.state)) (f ts) (unless ts (f ts)) b (record {
-            yes = λ v p o e i l j. denied ts (states.mark b.state) b v p o (rw e refl) j;
-            no = λ p o e j. allowed (states.mark b.state) b w p o e j;
-            refused = λ e. rw e refl;
-          }) (asked-here (va ts) b false part (f ts) (h.here (record b { wanted = false }) (record { start = w.start; few = w.few }))) o k
+          | inr k ↦ shielded-here (va ts) (Fails ts) (Asked false part)
+              (Denies source errors states (states.mark b.state)) (Allows source errors states (states.mark b.state))
+              (f ts) (unless ts (f ts)) b (record {
+                yes = λ v p o e i l j. denied ts (states.mark b.state) b v p o (rw e refl) j;
+                no = λ p o e j. allowed (states.mark b.state) b w p o e j;
+                refused = λ e. rw e refl;
+              }) (asked-here (va ts) b false part (f ts) (h.here (record b { wanted = false }) (record { start = w.start; few = w.few }))) o k
         ];
   }
 
-module _ {Tok Cx St Mk Er V W : Type 0} (mark : St → Mk) (goes_back : St → Mk → St) (safe : Type 0) (part : Meaning Tok Cx St Er V) (other : Meaning Tok Cx St Er W) (f g : Ender Tok) (va : List Tok → V → Type 0) (vb : List Tok → W → Type 0) (h : Reads part f va) (k : Reads other g vb) where
+module _ {Tok Cx St Mk Er V W : Type 0} (mark : St → Mk) (goes_back : St → Mk → St) (safe : Type 0)
+    (part : Meaning Tok Cx St Er V) (other : Meaning Tok Cx St Er W) (f g : Ender Tok) (va : List Tok → V → Type 0)
+    (vb : List Tok → W → Type 0) (h : Reads part f va) (k : Reads other g vb) where
   or_no : (x : Ending (List Tok)) → or_else x Nowhere ≡ x
   or_no (At rest) = refl
   or_no Nowhere = refl
@@ -140,15 +152,29 @@ module _ {Tok Cx St Mk Er V W : Type 0} (mark : St → Mk) (goes_back : St → M
       let ts : List Tok = drop b.start b.tokens.list in
       let E : V → Type 0 = λ v. ElseValue (f ts) (va ts v) ⊥ in
       let z : Answers E (or_else (f ts) Nowhere) b.tokens.list o.verdict o.end = or_else-here mark goes_back safe part SaysNo (va ts) (λ v. ⊥) (f ts) Nowhere b (h.here b w) (λ s p n. rw n refl) o m in
-      let y : Answers (va ts) (or_else (f ts) Nowhere) b.tokens.list o.verdict o.end = answers_weaker E (va ts) (λ v i. or_no_value (f ts) (va ts v) i) (or_else (f ts) Nowhere) b.tokens.list o.verdict o.end z in
+      let y : Answers (va ts) (or_else (f ts) Nowhere) b.tokens.list o.verdict o.end =
+      answers_weaker E (va ts) (λ v i. or_no_value (f ts) (va ts v) i) (or_else (f ts) Nowhere) b.tokens.list
+      o.verdict o.end z in
       subst (λ q. Answers (va ts) q b.tokens.list o.verdict o.end) (or_no (f ts)) y
 
   -- the other, from where the part began
-  looks_by : (ts : List Tok) (P : V → Type 0) (place : ℕ) (c : Beginning Tok Cx St) → Within c → drop place c.tokens.list ≡ ts → place ≤ length c.tokens.list → (v : Option V) → IfValue P v → (o : Outcome V Er St) (q : Outcome W Er St) (u : Verdict W Er) → q.verdict ≡ u
-      → other (record c { start = place; wanted = false }) q → Follows u (λ _. GivenAt v c.start) (record c { start = place }) q o → Answers P (there_too (g ts) (drop c.start c.tokens.list)) c.tokens.list o.verdict o.end
-  looks_by ts P place c y d l v i o q u e m s = by_verdict u (subst (λ us. Answers (vb us) (g us) c.tokens.list u q.end) d (subst (λ u. Answers (vb (drop place c.tokens.list)) (g (drop place c.tokens.list)) c.tokens.list u q.end) e (k.here (record c { start = place; wanted = false }) (record { start = l; few = y.few }) q m))) s
+  looks_by : (ts : List Tok) (P : V → Type 0) (place : ℕ) (c : Beginning Tok Cx St) → Within c
+      → drop place c.tokens.list ≡ ts → place ≤ length c.tokens.list → (v : Option V) → IfValue P v
+      → (o : Outcome V Er St) (q : Outcome W Er St) (u : Verdict W Er) → q.verdict ≡ u
+      → other (record c { start = place; wanted = false }) q
+      → Follows u (λ _. GivenAt v c.start) (record c { start = place }) q o
+      → Answers P (there_too (g ts) (drop c.start c.tokens.list)) c.tokens.list o.verdict o.end
+  looks_by ts P place c y d l v i o q u e m s =
+      by_verdict u
+      (subst (λ us. Answers (vb us) (g us) c.tokens.list u q.end) d
+      (subst
+      (λ u. Answers (vb (drop place c.tokens.list)) (g (drop place c.tokens.list)) c.tokens.list u q.end)
+      e (k.here (record c { start = place; wanted = false }) (record { start = l; few = y.few }) q m)))
+      s
     where
-      by_verdict : (u : Verdict W Er) → Answers (vb ts) (g ts) c.tokens.list u q.end → Follows u (λ _. GivenAt v c.start) (record c { start = place }) q o → Answers P (there_too (g ts) (drop c.start c.tokens.list)) c.tokens.list o.verdict o.end
+      by_verdict : (u : Verdict W Er) → Answers (vb ts) (g ts) c.tokens.list u q.end
+          → Follows u (λ _. GivenAt v c.start) (record c { start = place }) q o
+          → Answers P (there_too (g ts) (drop c.start c.tokens.list)) c.tokens.list o.verdict o.end
       by_verdict (Yes z) a s =
           let n : there_too (g ts) (drop c.start c.tokens.list) ≡ At (drop c.start c.tokens.list) = rw a.0 refl in
           rw (s.2, s.1) (n, i, y.start)

@@ -32,9 +32,16 @@ module _ {Tok Cx St Er V W : Type 0} (part : Meaning Tok Cx St Er V) (on_yes : O
 
   module _ (sv : V → V → Type 0) (sw : W → W → Type 0) where
     judges_agree : Agreeing sv part part
-        → ((b c : Beginning Tok Cx St) (v v' : Option V) (p p' : Outcome V Er St) (o q : Outcome W Er St) → Alike b c → SameValue sv v v' → Agree sv p p' → on_yes b v p o → on_yes c v' p' q → IsAnswer o.verdict → IsAnswer q.verdict → Agree sw o q)
-        → ((b c : Beginning Tok Cx St) (p p' : Outcome V Er St) (o q : Outcome W Er St) → Alike b c → Agree sv p p' → on_no b p o → on_no c p' q → IsAnswer o.verdict → IsAnswer q.verdict → Agree sw o q)
-        → (b c : Beginning Tok Cx St) (p p' : Outcome V Er St) (o q : Outcome W Er St) → Alike b c → part b p → part c p' → (v w : Verdict V Er) → p.verdict ≡ v → p'.verdict ≡ w → ByVerdict v on_yes on_no b p o → ByVerdict w on_yes on_no c p' q → IsAnswer o.verdict → IsAnswer q.verdict → Agree sw o q
+        →
+        ((b c : Beginning Tok Cx St) (v v' : Option V) (p p' : Outcome V Er St) (o q : Outcome W Er St)
+        → Alike b c → SameValue sv v v' → Agree sv p p' → on_yes b v p o → on_yes c v' p' q
+        → IsAnswer o.verdict → IsAnswer q.verdict → Agree sw o q)
+        →
+        ((b c : Beginning Tok Cx St) (p p' : Outcome V Er St) (o q : Outcome W Er St) → Alike b c → Agree sv p p'
+        → on_no b p o → on_no c p' q → IsAnswer o.verdict → IsAnswer q.verdict → Agree sw o q)
+        → (b c : Beginning Tok Cx St) (p p' : Outcome V Er St) (o q : Outcome W Er St) → Alike b c → part b p
+        → part c p' → (v w : Verdict V Er) → p.verdict ≡ v → p'.verdict ≡ w → ByVerdict v on_yes on_no b p o
+        → ByVerdict w on_yes on_no c p' q → IsAnswer o.verdict → IsAnswer q.verdict → Agree sw o q
     judges_agree h hy hn b c p p' o q alike m n (Yes v) (Yes w) e d j k a z =
         let g : Agree sv p p' = h b c p p' alike m n (rw e tt) (rw d tt) in
         let s : SameAnswer sv p.verdict p'.verdict = g.answer in
@@ -52,8 +59,13 @@ module _ {Tok Cx St Er V W : Type 0} (part : Meaning Tok Cx St Er V) (on_yes : O
     judges_agree h hy hn b c p p' o q alike m n (Clash s) w e d j k a z = absurd (subst IsAnswer (ap (λ (x : Outcome W Er St). x.verdict) j) a)
 
     pub shielded-agrees : Agreeing sv part part
-        → ((b c : Beginning Tok Cx St) (v v' : Option V) (p p' : Outcome V Er St) (o q : Outcome W Er St) → Alike b c → SameValue sv v v' → Agree sv p p' → on_yes b v p o → on_yes c v' p' q → IsAnswer o.verdict → IsAnswer q.verdict → Agree sw o q)
-        → ((b c : Beginning Tok Cx St) (p p' : Outcome V Er St) (o q : Outcome W Er St) → Alike b c → Agree sv p p' → on_no b p o → on_no c p' q → IsAnswer o.verdict → IsAnswer q.verdict → Agree sw o q)
+        →
+        ((b c : Beginning Tok Cx St) (v v' : Option V) (p p' : Outcome V Er St) (o q : Outcome W Er St)
+        → Alike b c → SameValue sv v v' → Agree sv p p' → on_yes b v p o → on_yes c v' p' q
+        → IsAnswer o.verdict → IsAnswer q.verdict → Agree sw o q)
+        →
+        ((b c : Beginning Tok Cx St) (p p' : Outcome V Er St) (o q : Outcome W Er St) → Alike b c → Agree sv p p'
+        → on_no b p o → on_no c p' q → IsAnswer o.verdict → IsAnswer q.verdict → Agree sw o q)
         → Agreeing sw (Shielded part on_yes on_no) (Shielded part on_yes on_no)
     shielded-agrees h hy hn b c o q alike m n a z = judges_agree h hy hn b c m.first n.first o q alike m.meant n.meant m.first.verdict n.first.verdict refl refl m.judges n.judges a z
 
@@ -62,7 +74,12 @@ module _ {Tok Cx St Er V W : Type 0} (merged : Er → Er → Er) where
   pub no_as_one-ends : (b : Beginning Tok Cx St) (p : Outcome V Er St) (o : Outcome W Er St) → b.start ≤ p.end → NoAsOne {Tok = Tok} {Cx = Cx} merged b p o → IsAnswer o.verdict → b.start ≤ o.end
   no_as_one-ends b p o l m a = let e = ap (λ (x : Outcome W Er St). x.end) (or_clash-whole m a) in omega arith
 
-  pub no_as_one-agrees : (sv : V → V → Type 0) (sw : W → W → Type 0) (b c : Beginning Tok Cx St) (p p' : Outcome V Er St) (o q : Outcome W Er St) → Alike b c → Agree sv p p' → NoAsOne {Tok = Tok} {Cx = Cx} merged b p o → NoAsOne {Tok = Tok} {Cx = Cx} merged c p' q → IsAnswer o.verdict → IsAnswer q.verdict → Agree sw o q
+  pub no_as_one-agrees : (sv : V → V → Type 0) (sw : W → W → Type 0) (b c : Beginning Tok Cx St)
+      (p p' : Outcome V Er St) (o q : Outcome W Er St)
+      → Alike b c → Agree sv p p' → NoAsOne {Tok = Tok} {Cx = Cx} merged b p o
+      → NoAsOne {Tok = Tok} {Cx = Cx} merged c p' q → IsAnswer o.verdict → IsAnswer q.verdict → Agree sw o q
   no_as_one-agrees sv sw b c p p' o q alike g m n a z =
-      let told : Agree sw (retold {W = W} No (as_one merged p)) (retold No (as_one merged p')) = record { answer = tt; end = g.end; state = g.state; events = let e = g.events in cc; emitted = g.emitted } in
+      let told : Agree sw (retold {W = W} No (as_one merged p)) (retold No (as_one merged p')) =
+      record { answer = tt; end = g.end; state = g.state; events = let e = g.events in cc; emitted = g.emitted }
+      in
       rw (or_clash-whole m a, or_clash-whole n z) told

@@ -78,7 +78,9 @@ module _ {Tok Cx St Er V W : Type 0} where
   looks_at end v b p o (Clash e) f y = absurd (subst IsYes (ap (λ (x : Outcome V Er St). x.verdict) f) y)
 
 module _ {Tok Cx St Mk Er V W : Type 0} (mark : St → Mk) (back : St → Mk → St) (safe : Type 0) (part : Meaning Tok Cx St Er V) (other : Meaning Tok Cx St Er W) where
-  both_move : Moves part → (b : Beginning Tok Cx St) (p o : Outcome V Er St) (u : Verdict V Er) → p.verdict ≡ u → OrElse mark back safe part SaysNo b p → Follows u (LooksFrom b.start other) b p o → IsYes o.verdict → b.start < o.end
+  both_move : Moves part → (b : Beginning Tok Cx St) (p o : Outcome V Er St) (u : Verdict V Er) → p.verdict ≡ u
+      → OrElse mark back safe part SaysNo b p → Follows u (LooksFrom b.start other) b p o → IsYes o.verdict
+      → b.start < o.end
   both_move h b p o (Yes v) e m f y =
       let first : b.start < p.end = or_else-moves mark back safe part SaysNo h no-moves b p m (rw e tt) in
       let looks = f.1 in

@@ -71,11 +71,15 @@ module _ {Tok Cx St Er V : Type 0} (merged : Er → Er → Er) where
 
 module _ {I Tok Sp Cu Er St Mk Cx V : Type 0} (source : input_trait.Ghosts I Cu Tok Sp) (errors : error_trait.Ghosts Er I Tok Sp) (states : inspector_trait.Ghosts St I Mk Tok Sp) where
   module _ (quiet : errors.takes_no_memory) (still : states.takes_no_memory) (part : Meaning Tok Cx states.Seen errors.Seen V) where
-    denies-spares : (m : states.Marked) (b : Beginning Tok Cx states.Seen) (v : Option V) (p : Outcome V errors.Seen states.Seen) (o : Outcome (Unit {0}) errors.Seen states.Seen) → Denies source errors states m b v p o → SparesMemory o.verdict
+    denies-spares : (m : states.Marked) (b : Beginning Tok Cx states.Seen) (v : Option V)
+        (p : Outcome V errors.Seen states.Seen) (o : Outcome (Unit {0}) errors.Seen states.Seen)
+        → Denies source errors states m b v p o → SparesMemory o.verdict
     denies-spares m b v p o (inl r) = absurd (r.0 still)
     denies-spares m b v p o (inr h) = or_lacks-spares quiet _ o tt h
 
-    allows-spares : (m : states.Marked) (b : Beginning Tok Cx states.Seen) (p : Outcome V errors.Seen states.Seen) (o : Outcome (Unit {0}) errors.Seen states.Seen) → Allows {Cx = Cx} source errors states m b p o → SparesMemory o.verdict
+    allows-spares : (m : states.Marked) (b : Beginning Tok Cx states.Seen) (p : Outcome V errors.Seen states.Seen)
+        (o : Outcome (Unit {0}) errors.Seen states.Seen)
+        → Allows {Cx = Cx} source errors states m b p o → SparesMemory o.verdict
     allows-spares m b p o (inl r) = absurd (r.0 still)
     allows-spares m b p o (inr h) = rw (ap (λ (x : Outcome (Unit {0}) errors.Seen states.Seen). x.verdict) h) tt
 
@@ -95,4 +99,6 @@ module _ {Tok Cx St Mk Er V W : Type 0} (mark : St → Mk) (back : St → Mk →
 
   -- two parts that both have to be there
   pub and_is-spares : safe → NeverOutOfMemory part → NeverOutOfMemory other → NeverOutOfMemory (MeansAndIs mark back safe part other)
-  and_is-spares x h k b o m = chained-spares (OrElse mark back safe part SaysNo) (LooksFrom b.start other) (or_else-spares mark back safe part SaysNo x h no-spares) (λ v. looks-spares k b.start v) b o m.run
+  and_is-spares x h k b o m =
+      chained-spares (OrElse mark back safe part SaysNo) (LooksFrom b.start other)
+      (or_else-spares mark back safe part SaysNo x h no-spares) (λ v. looks-spares k b.start v) b o m.run

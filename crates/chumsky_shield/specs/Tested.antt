@@ -74,7 +74,9 @@ module _ {Tok : Type 0} (tests : List Tok → Bool) where
     tested-takes_each : TakesEach f P follow → TakesEach (picked_ends passing f) (λ w. P w × (tests w ≡ true)) follow
     tested-takes_each h = record { each = λ w rest p k. (picked-takes_each passing f P follow h).each w rest (p.0, passes_is w p.1) k }
 
-module _ {I Tok Sp Cu Er Cx St V : Type 0} (source : input_trait.Ghosts I Cu Tok Sp) (errors : error_trait.Ghosts Er I Tok Sp) (part : Meaning Tok Cx St errors.Seen V) (gives : V → Bool → Type 0) (tests : List Tok → Bool) where
+module _ {I Tok Sp Cu Er Cx St V : Type 0} (source : input_trait.Ghosts I Cu Tok Sp)
+    (errors : error_trait.Ghosts Er I Tok Sp) (part : Meaning Tok Cx St errors.Seen V) (gives : V → Bool → Type 0)
+    (tests : List Tok → Bool) where
   abbrev TestedOf : Meaning Tok Cx St errors.Seen V
   TestedOf = Vetted errors.merged errors.takes_no_memory (ByTest source errors gives) part
 
@@ -88,8 +90,12 @@ module _ {I Tok Sp Cu Er Cx St V : Type 0} (source : input_trait.Ghosts I Cu Tok
         by_word b.word v x b.is g ∙ ap tests (sym (taken_word ts rest b.word b.all))
 
     -- the answer of what was tested
-    ruled : (b : Beginning Tok Cx St) (v : V) (p : Outcome V errors.Seen St) (o : Outcome V errors.Seen St) (x : Bool) (s : St) → f (drop b.start b.tokens.list) ≡ At (drop p.end b.tokens.list) → va (drop b.start b.tokens.list) v → p.end ≤ length b.tokens.list
-        → x ≡ tests (taken_of (drop b.start b.tokens.list) (drop p.end b.tokens.list)) → OnRuling errors.merged errors.takes_no_memory (tested source errors gives x b p.end v) s b p o → Answers (va (drop b.start b.tokens.list)) (ends (drop b.start b.tokens.list)) b.tokens.list o.verdict o.end
+    ruled : (b : Beginning Tok Cx St) (v : V) (p : Outcome V errors.Seen St) (o : Outcome V errors.Seen St) (x : Bool) (s : St)
+        → f (drop b.start b.tokens.list) ≡ At (drop p.end b.tokens.list) → va (drop b.start b.tokens.list) v
+        → p.end ≤ length b.tokens.list
+        → x ≡ tests (taken_of (drop b.start b.tokens.list) (drop p.end b.tokens.list))
+        → OnRuling errors.merged errors.takes_no_memory (tested source errors gives x b p.end v) s b p o
+        → Answers (va (drop b.start b.tokens.list)) (ends (drop b.start b.tokens.list)) b.tokens.list o.verdict o.end
     ruled b v p o true s e i l q m =
         let ts : List Tok = drop b.start b.tokens.list in
         let rest : List Tok = drop p.end b.tokens.list in
@@ -103,11 +109,15 @@ module _ {I Tok Sp Cu Er Cx St V : Type 0} (source : input_trait.Ghosts I Cu Tok
         let d : ends ts ≡ Nowhere = rw e n in
         or_lacks-by (va ts) (ends ts) b.tokens.list _ o d m
 
-    judged : (b : Beginning Tok Cx St) (v : Option V) (p : Outcome V errors.Seen St) (o : Outcome V errors.Seen St) → f (drop b.start b.tokens.list) ≡ At (drop p.end b.tokens.list) → IfValue (va (drop b.start b.tokens.list)) v → p.end ≤ length b.tokens.list
-        → Vetting errors.merged errors.takes_no_memory (ByTest source errors gives) b v p o → Answers (va (drop b.start b.tokens.list)) (ends (drop b.start b.tokens.list)) b.tokens.list o.verdict o.end
+    judged : (b : Beginning Tok Cx St) (v : Option V) (p : Outcome V errors.Seen St) (o : Outcome V errors.Seen St)
+        → f (drop b.start b.tokens.list) ≡ At (drop p.end b.tokens.list) → IfValue (va (drop b.start b.tokens.list)) v
+        → p.end ≤ length b.tokens.list
+        → Vetting errors.merged errors.takes_no_memory (ByTest source errors gives) b v p o
+        → Answers (va (drop b.start b.tokens.list)) (ends (drop b.start b.tokens.list)) b.tokens.list o.verdict o.end
     judged b (Some v) p o e i l m =
         let n = m.2 in
-        let r : OnRuling errors.merged errors.takes_no_memory (tested source errors gives n.passes b p.end v) m.1 b p o = subst (λ y. OnRuling errors.merged errors.takes_no_memory y m.1 b p o) n.answer m.3 in
+        let r : OnRuling errors.merged errors.takes_no_memory (tested source errors gives n.passes b p.end v) m.1 b p o =
+        subst (λ y. OnRuling errors.merged errors.takes_no_memory y m.1 b p o) n.answer m.3 in
         ruled b v p o n.passes m.1 e i l (tested_word (drop b.start b.tokens.list) (drop p.end b.tokens.list) v n.passes e i n.says) r
     judged b None p o e i l m = absurd m
 
@@ -123,7 +133,9 @@ module _ {I Tok Sp Cu Er Cx St V : Type 0} (source : input_trait.Ghosts I Cu Tok
     }
 
   -- a part whose value is tested, as is known by the word
-  pub tested-accepts : {F : Language Tok V} {still : Type 0} → TestsByWord tests F.stands_for gives → let spare : Type 0 = errors.takes_no_memory × still in Accepts part F spare → Accepts TestedOf (tested_language tests F) spare
+  pub tested-accepts : {F : Language Tok V} {still : Type 0} → TestsByWord tests F.stands_for gives →
+      let spare : Type 0 = errors.takes_no_memory × still in
+      Accepts part F spare → Accepts TestedOf (tested_language tests F) spare
   tested-accepts {F} by_word h = record {
     described = λ s.
         let d = h.described s in

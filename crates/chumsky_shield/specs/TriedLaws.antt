@@ -8,7 +8,9 @@ use Rattle.chumsky_shield.specs.Vetted.{SameRuling, VetsAlike}
 use Rattle.chumsky_shield.specs.Tried.{ruling_seen, ByTry, ByPick, picked, TriesAlike, SameTryMapped, SamePick, FilterMapsAlike, SameFilterMapped}
 
 module _ {V W Sp Er S : Type 0} (same : V → V → Type 0) (seen : Er → S) (gives : V → Sp → Result W Er → Type 0) where
-  tried-same : (v v' : V) (span : Sp) (x y : Result W Er) → same v v' → gives v span x → gives v' span y → SameRuling (λ _ _. ⊤) (ruling_seen seen x) (ruling_seen seen y) → SameRuling (SameTryMapped same seen gives) (ruling_seen seen x) (ruling_seen seen y)
+  tried-same : (v v' : V) (span : Sp) (x y : Result W Er) → same v v' → gives v span x → gives v' span y
+      → SameRuling (λ _ _. ⊤) (ruling_seen seen x) (ruling_seen seen y)
+      → SameRuling (SameTryMapped same seen gives) (ruling_seen seen x) (ruling_seen seen y)
   tried-same v v' span (Ok x) (Ok y) e m n s = record { first = v; second = v'; span = span; alike = e; from_first = m; from_second = n }
   tried-same v v' span (Ok x) (Err d) e m n s = s
   tried-same v v' span (Err d) (Ok y) e m n s = s
@@ -24,7 +26,9 @@ module _ {I Tok Sp Cu Er St Cx V W : Type 0} (source : input_trait.Ghosts I Cu T
         (rw (m.answer, n.answer) (tried-same same errors.seen gives v v' span m.ruling n.ruling e m.says says (u v v' span m.ruling n.ruling e m.says says)), m.keeps ∙ sym n.keeps)
 
   module _ (gives : V → Option W → Type 0) where
-    picked-same : (b c : Beginning Tok Cx St) (end : ℕ) (v v' : V) (x y : Option W) → Alike b c → same v v' → gives v x → gives v' y → SamePick (λ _ _. ⊤) x y → SameRuling (SameFilterMapped same gives) (picked source errors x b end) (picked source errors y c end)
+    picked-same : (b c : Beginning Tok Cx St) (end : ℕ) (v v' : V) (x y : Option W) → Alike b c → same v v'
+        → gives v x → gives v' y → SamePick (λ _ _. ⊤) x y
+        → SameRuling (SameFilterMapped same gives) (picked source errors x b end) (picked source errors y c end)
     picked-same b c end v v' (Some x) (Some y) alike e m n s = record { first = v; second = v'; alike = e; from_first = m; from_second = n }
     picked-same b c end v v' (Some x) None alike e m n s = absurd s
     picked-same b c end v v' None (Some y) alike e m n s = absurd s

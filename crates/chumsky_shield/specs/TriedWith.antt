@@ -20,7 +20,9 @@ module _ {Tok Cx St E Er V W : Type 0} (seen : E → Er) (says : GivesShown Tok 
   module _ (same : V → V → Type 0) where
     -- to values that are the same and one run, two values, or errors that count as one; and one state
     abbrev pub TriesWithAlike : Type 0
-    TriesWithAlike = (v w : V) (x : Shown Tok Cx St) (r r' : Result W E) (s t : St) → same v w → says v x r s → says w x r' t → SameRuling (λ _ _. ⊤) (ruling_seen seen r) (ruling_seen seen r') × (s ≡ t)
+    TriesWithAlike =
+        (v w : V) (x : Shown Tok Cx St) (r r' : Result W E) (s t : St) → same v w → says v x r s → says w x r' t
+        → SameRuling (λ _ _. ⊤) (ruling_seen seen r) (ruling_seen seen r') × (s ≡ t)
 
     -- two values that the closure made of values that are the same, shown one run
     pub record SameTriedWith (x y : W) : Type 0 where

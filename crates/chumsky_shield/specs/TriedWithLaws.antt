@@ -9,7 +9,9 @@ use Rattle.chumsky_shield.specs.Tried.{ruling_seen}
 use Rattle.chumsky_shield.specs.TriedWith.{shown_of, ByTryWith, TriesWithAlike, SameTriedWith}
 
 module _ {Tok Cx St E Er V W : Type 0} (seen : E → Er) (says : GivesShown Tok Cx St V (Result W E)) (same : V → V → Type 0) where
-  tried-same : (v v' : V) (z : Shown Tok Cx St) (s t : St) (x y : Result W E) → same v v' → says v z x s → says v' z y t → SameRuling (λ _ _. ⊤) (ruling_seen seen x) (ruling_seen seen y) → SameRuling (SameTriedWith seen says same) (ruling_seen seen x) (ruling_seen seen y)
+  tried-same : (v v' : V) (z : Shown Tok Cx St) (s t : St) (x y : Result W E) → same v v' → says v z x s
+      → says v' z y t → SameRuling (λ _ _. ⊤) (ruling_seen seen x) (ruling_seen seen y)
+      → SameRuling (SameTriedWith seen says same) (ruling_seen seen x) (ruling_seen seen y)
   tried-same v v' z s t (Ok x) (Ok y) e m n u = record { first = v; second = v'; shown = z; state = s; other_state = t; alike = e; from_first = m; from_second = n }
   tried-same v v' z s t (Ok x) (Err d) e m n u = u
   tried-same v v' z s t (Err d) (Ok y) e m n u = u

@@ -14,8 +14,12 @@ wanted-is : {V : Type 0} (w : Bool) (v x : V) → wanting w v ≡ Some x → x �
 wanted-is true v x e = cc
 wanted-is false v x e = let no : ⊥ = cc in absurd no
 
-module _ {I Tok Sp Cu Er St Cx V : Type 0} (source : input_trait.Ghosts I Cu Tok Sp) (errors : error_trait.Ghosts Er I Tok Sp) (free : Type 0) (tests : V → Bool → Type 0) (part : Meaning Tok Cx St errors.Seen V) where
-  ruled : (passes : Bool) (s : St) (v : V) (b : Beginning Tok Cx St) (p o : Outcome V errors.Seen St) (x : V) → tests v passes → OnRuling errors.merged free (tested source errors tests passes b p.end v) s b p o → o.verdict ≡ Yes (Some x) → tests x true
+module _ {I Tok Sp Cu Er St Cx V : Type 0} (source : input_trait.Ghosts I Cu Tok Sp)
+    (errors : error_trait.Ghosts Er I Tok Sp) (free : Type 0) (tests : V → Bool → Type 0)
+    (part : Meaning Tok Cx St errors.Seen V) where
+  ruled : (passes : Bool) (s : St) (v : V) (b : Beginning Tok Cx St) (p o : Outcome V errors.Seen St) (x : V)
+      → tests v passes → OnRuling errors.merged free (tested source errors tests passes b p.end v) s b p o
+      → o.verdict ≡ Yes (Some x) → tests x true
   ruled true s v b p o x says h e =
       let a : IsAnswer o.verdict = rw e tt in
       let verdict = sym (ap (λ (z : Outcome V errors.Seen St). z.verdict) (or_clash-whole h a)) ∙ e in
@@ -25,7 +29,9 @@ module _ {I Tok Sp Cu Er St Cx V : Type 0} (source : input_trait.Ghosts I Cu Tok
       let a : IsAnswer o.verdict = rw e tt in
       let verdict = ap (λ (z : Outcome V errors.Seen St). z.verdict) (or_lacks-whole h a) in let no : ⊥ = cc in absurd no
 
-  passed : (u : Verdict V errors.Seen) (b : Beginning Tok Cx St) (p o : Outcome V errors.Seen St) (x : V) → ByVerdict u (Vetting errors.merged free (ByTest source errors tests)) (NoAsOne errors.merged) b p o → o.verdict ≡ Yes (Some x) → tests x true
+  passed : (u : Verdict V errors.Seen) (b : Beginning Tok Cx St) (p o : Outcome V errors.Seen St) (x : V)
+      → ByVerdict u (Vetting errors.merged free (ByTest source errors tests)) (NoAsOne errors.merged) b p o
+      → o.verdict ≡ Yes (Some x) → tests x true
   passed (Yes (Some v)) b p o x j e =
       let m = j.2 in
       ruled m.passes j.1 v b p o x m.says (subst (λ z. OnRuling errors.merged free z j.1 b p o) m.answer j.3) e
@@ -39,8 +45,13 @@ module _ {I Tok Sp Cu Er St Cx V : Type 0} (source : input_trait.Ghosts I Cu Tok
   pub filter-gives : AlwaysGives (λ v. tests v true) (Vetted errors.merged free (ByTest source errors tests) part)
   filter-gives b o x m e = passed m.run.first.verdict b m.run.first o x m.run.judges e
 
-module _ {I Tok Sp Cu Er St Cx V W : Type 0} (source : input_trait.Ghosts I Cu Tok Sp) (errors : error_trait.Ghosts Er I Tok Sp) (free : Type 0) (gives : V → Option W → Type 0) (part : Meaning Tok Cx St errors.Seen V) where
-  chosen : (pick : Option W) (s : St) (v : V) (b : Beginning Tok Cx St) (p : Outcome V errors.Seen St) (o : Outcome W errors.Seen St) (x : W) → gives v pick → OnRuling errors.merged free (picked source errors pick b p.end) s b p o → o.verdict ≡ Yes (Some x) → (u : V) × gives u (Some x)
+module _ {I Tok Sp Cu Er St Cx V W : Type 0} (source : input_trait.Ghosts I Cu Tok Sp)
+    (errors : error_trait.Ghosts Er I Tok Sp) (free : Type 0) (gives : V → Option W → Type 0)
+    (part : Meaning Tok Cx St errors.Seen V) where
+  chosen : (pick : Option W) (s : St) (v : V) (b : Beginning Tok Cx St) (p : Outcome V errors.Seen St)
+      (o : Outcome W errors.Seen St) (x : W)
+      → gives v pick → OnRuling errors.merged free (picked source errors pick b p.end) s b p o
+      → o.verdict ≡ Yes (Some x) → (u : V) × gives u (Some x)
   chosen (Some w) s v b p o x says h e =
       let a : IsAnswer o.verdict = rw e tt in
       let verdict = sym (ap (λ (z : Outcome W errors.Seen St). z.verdict) (or_clash-whole h a)) ∙ e in
@@ -50,7 +61,9 @@ module _ {I Tok Sp Cu Er St Cx V W : Type 0} (source : input_trait.Ghosts I Cu T
       let a : IsAnswer o.verdict = rw e tt in
       let verdict = ap (λ (z : Outcome W errors.Seen St). z.verdict) (or_lacks-whole h a) in let no : ⊥ = cc in absurd no
 
-  taken : (u : Verdict V errors.Seen) (b : Beginning Tok Cx St) (p : Outcome V errors.Seen St) (o : Outcome W errors.Seen St) (x : W) → ByVerdict u (Vetting errors.merged free (ByPick source errors gives)) (NoAsOne errors.merged) b p o → o.verdict ≡ Yes (Some x) → (v : V) × gives v (Some x)
+  taken : (u : Verdict V errors.Seen) (b : Beginning Tok Cx St) (p : Outcome V errors.Seen St) (o : Outcome W errors.Seen St) (x : W)
+      → ByVerdict u (Vetting errors.merged free (ByPick source errors gives)) (NoAsOne errors.merged) b p o
+      → o.verdict ≡ Yes (Some x) → (v : V) × gives v (Some x)
   taken (Yes (Some v)) b p o x j e =
       let m = j.2 in
       chosen m.pick j.1 v b p o x m.says (subst (λ z. OnRuling errors.merged free z j.1 b p o) m.answer j.3) e

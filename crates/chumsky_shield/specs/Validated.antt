@@ -67,11 +67,17 @@ all_emitted seen false es = Some (map seen es)
 abbrev pub emitted_by : {E S : Type 0} → (E → S) → Emitter E → Option (List S)
 emitted_by seen e = all_emitted seen e.refused e.errors.items
 
-module _ {I X Cu Tok Sp Er St Cx Mk : Type 0} (source : input_trait.Ghosts I Cu Tok Sp) (states : inspector_trait.Ghosts St I Mk Tok Sp) {F V W : Type 0} (calls : Shared F (V × (MutBor (MapExtra I X Cu Tok Sp Er St Cx Mk) × (MutBor (Emitter Er) × Unit {0}))) (W × (MutBor (MapExtra I X Cu Tok Sp Er St Cx Mk) × (MutBor (Emitter Er) × Unit {0})))) (f : F) where
+module _ {I X Cu Tok Sp Er St Cx Mk : Type 0} (source : input_trait.Ghosts I Cu Tok Sp)
+    (states : inspector_trait.Ghosts St I Mk Tok Sp) {F V W : Type 0}
+    (calls : Shared F (V × (MutBor (MapExtra I X Cu Tok Sp Er St Cx Mk) × (MutBor (Emitter Er) × Unit {0})))
+    (W × (MutBor (MapExtra I X Cu Tok Sp Er St Cx Mk) × (MutBor (Emitter Er) × Unit {0}))))
+    (f : F) where
   -- f may be called with any value, any extra whose cursors are in order and any emitter, and keeps the reference to the state
   pub record MayValidate : Type 0 where
     pub may : (v : V) (x : MutBor (MapExtra I X Cu Tok Sp Er St Cx Mk)) (e : MutBor (Emitter Er)) → InOrder source states x.now → calls.pre f (v, (x, (e, tt)))
-    pub keeps : (v : V) (x left : MutBor (MapExtra I X Cu Tok Sp Er St Cx Mk)) (e after : MutBor (Emitter Er)) (w : W) → InOrder source states x.now → calls.post f (v, (x, (e, tt))) (w, (left, (after, tt))) → left.now.state.ghost_name ≡ x.now.state.ghost_name
+    pub keeps : (v : V) (x left : MutBor (MapExtra I X Cu Tok Sp Er St Cx Mk)) (e after : MutBor (Emitter Er)) (w : W)
+        → InOrder source states x.now → calls.post f (v, (x, (e, tt))) (w, (left, (after, tt)))
+        → left.now.state.ghost_name ≡ x.now.state.ghost_name
 
   -- f may answer w to v, an extra that shows x and an emitter that has emitted nothing, and leave the state s and the emitter so
   pub record Validates (v : V) (x : Shown Tok Cx states.Seen) (w : W) (s : states.Seen) (emitter : Emitter Er) : Type 0 where

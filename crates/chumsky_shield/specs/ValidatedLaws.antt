@@ -20,13 +20,28 @@ module _ {Tok Cx St Er V W : Type 0} (emits : Emits Tok Cx St Er V W) (part : Me
   validated-ends h b o m a = chained-ends (Asked true part) (Validated emits b.start) (asked-ends true part h) (each-ends b.start) b o m.run a
 
   module _ (sv : V → V → Type 0) where
-    given_alike : EmitsAlike emits sv → (v v' : V) (x : Shown Tok Cx St) (b c : Beginning Tok Cx St) (o q : Outcome W Er St) → sv v v' → Alike b c → (w w' : W) (s s' : St) (r r' : Option (List Er)) → emits v x w s r → emits v' x w' s' r'
+    given_alike : EmitsAlike emits sv
+        → (v v' : V) (x : Shown Tok Cx St) (b c : Beginning Tok Cx St) (o q : Outcome W Er St) → sv v v' → Alike b c
+        → (w w' : W) (s s' : St) (r r' : Option (List Er)) → emits v x w s r → emits v' x w' s' r'
         → EmitsAll r w s b o → EmitsAll r' w' s' c q → IsAnswer o.verdict → IsAnswer q.verdict → Agree (SameValidated emits sv) o q
     given_alike u v v' x b c o q e alike w w' s s' r r' m n (inl h) (inl k) a z =
         let first : emits v x w s (Some h.0) = subst (λ i. emits v x w s i) h.1 m in
         let second : emits v' x w' s' (Some k.0) = subst (λ i. emits v' x w' s' i) k.1 n in
         let both = u v v' x w w' s s' h.0 k.0 e first second in
-        let same : SameValidated emits sv w w' = record { first = v; second = v'; shown = x; state = s; other_state = s'; errors = h.0; other_errors = k.0; alike = e; from_first = first; from_second = second } in
+        let same : SameValidated emits sv w w' =
+        record {
+          first = v;
+          second = v';
+          shown = x;
+          state = s;
+          other_state = s';
+          errors = h.0;
+          other_errors = k.0;
+          alike = e;
+          from_first = first;
+          from_second = second;
+        }
+        in
         rw (h.2, k.2) (record { answer = wanting-alike (SameValidated emits sv) b.wanted c.wanted w w' same; end = alike.start; state = both.1; events = refl; emitted = both.0 })
     given_alike u v v' x b c o q e alike w w' s s' r r' m n (inl h) (inr k) a z = absurd (subst IsAnswer k.1 z)
     given_alike u v v' x b c o q e alike w w' s s' r r' m n (inr h) k a z = absurd (subst IsAnswer h.1 a)
@@ -43,4 +58,5 @@ module _ {Tok Cx St Er V W : Type 0} (emits : Emits Tok Cx St Er V W) (part : Me
     pub validated-agrees : Agreeing sv part part → EmitsAlike emits sv → Agreeing (SameValidated emits sv) (MeansValidate emits part) (MeansValidate emits part)
     validated-agrees h u b c o q alike m n a z =
         let n2 : Chained (Asked true part) (Validated emits b.start) c q = subst (λ x. Chained (Asked true part) (Validated emits x) c q) (sym alike.start) n.run in
-        chained-agrees (Asked true part) (Asked true part) (Validated emits b.start) (Validated emits b.start) sv (SameValidated emits sv) (asked-agrees true part sv h) (each-agrees u b.start) b c o q alike m.run n2 a z
+        chained-agrees (Asked true part) (Asked true part) (Validated emits b.start) (Validated emits b.start) sv
+        (SameValidated emits sv) (asked-agrees true part sv h) (each-agrees u b.start) b c o q alike m.run n2 a z

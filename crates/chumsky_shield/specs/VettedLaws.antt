@@ -31,15 +31,21 @@ module _ {Tok Cx St Er V W : Type 0} (merged : Er → Er → Er) (free : Type 0)
     vetted-ends h b o m a = shielded-ends (Asked true part) _ _ (asked-ends true part h) vetting-ends (no_as_one-ends merged) b o m.run a
 
     module _ (sv : V → V → Type 0) (sw : W → W → Type 0) where
-      rules-agree : (r r' : Result W Er) (s s' : St) (b c : Beginning Tok Cx St) (p p' : Outcome V Er St) (o q : Outcome W Er St) → Alike b c → SameRuling sw r r' → s ≡ s' → Agree sv p p' → OnRuling merged free r s b p o → OnRuling merged free r' s' c p' q → IsAnswer o.verdict → IsAnswer q.verdict → Agree sw o q
+      rules-agree : (r r' : Result W Er) (s s' : St) (b c : Beginning Tok Cx St) (p p' : Outcome V Er St) (o q : Outcome W Er St)
+          → Alike b c → SameRuling sw r r' → s ≡ s' → Agree sv p p' → OnRuling merged free r s b p o
+          → OnRuling merged free r' s' c p' q → IsAnswer o.verdict → IsAnswer q.verdict → Agree sw o q
       rules-agree (Ok w) (Ok x) s s' b c p p' o q alike e t g h k a z =
-          rw (or_clash-whole h a, or_clash-whole k z) (record { answer = wanting-alike sw b.wanted c.wanted w x e; end = g.end; state = t; events = ap (λ es. option_to_list (primary merged es)) g.events; emitted = g.emitted })
+          rw (or_clash-whole h a, or_clash-whole k z)
+          (record { answer = wanting-alike sw b.wanted c.wanted w x e; end = g.end; state = t; events = ap (λ es. option_to_list (primary merged es)) g.events; emitted = g.emitted })
       rules-agree (Ok w) (Err d) s s' b c p p' o q alike e t g h k a z = absurd e
       rules-agree (Err d) (Ok x) s s' b c p p' o q alike e t g h k a z = absurd e
       rules-agree (Err d) (Err d') s s' b c p p' o q alike e t g h k a z =
           rw (or_lacks-whole h a, or_lacks-whole k z) (record { answer = tt; end = g.end; state = t; events = cc (alike.start, e); emitted = g.emitted })
 
-      vetting-agrees : VetsAlike sv sw vets → (b c : Beginning Tok Cx St) (v v' : Option V) (p p' : Outcome V Er St) (o q : Outcome W Er St) → Alike b c → SameValue sv v v' → Agree sv p p' → Vetting merged free vets b v p o → Vetting merged free vets c v' p' q → IsAnswer o.verdict → IsAnswer q.verdict → Agree sw o q
+      vetting-agrees : VetsAlike sv sw vets
+          → (b c : Beginning Tok Cx St) (v v' : Option V) (p p' : Outcome V Er St) (o q : Outcome W Er St) → Alike b c
+          → SameValue sv v v' → Agree sv p p' → Vetting merged free vets b v p o → Vetting merged free vets c v' p' q
+          → IsAnswer o.verdict → IsAnswer q.verdict → Agree sw o q
       vetting-agrees u b c (Some v) (Some v') p p' o q alike e g h k a z =
           let k2 : vets c p.end p.state v' k.0 k.1 = rw (g.end, g.state) k.2 in
           let s = u b c p.end p.state h.1 k.1 v v' h.0 k.0 alike e h.2 k2 in

@@ -13,14 +13,23 @@ pub returns-in-None-clause-ran : goal.returns-in-None-clause-ran
 returns-in-None-clause-ran g c = passed-ended c.loop-collection.invariant.from c.step_inside.ensures.ran (emit_end _ c.in_ok-step_inside.was c.in-None.is)
 
 pub returns-in-Some-next-clause-ran : goal.returns-in-Some-next-clause-ran
-returns-in-Some-next-clause-ran g c = passed-first c.loop-collection.invariant.from c.step_inside.ensures.ran (emit_item _ c.in_ok-step_inside.was c.in-Some.is) c.into_iter-rest.ensures.into_iter_gives _ _ c.in-Some-next.is c.next.ensures.steps
+returns-in-Some-next-clause-ran g c =
+    passed-first c.loop-collection.invariant.from c.step_inside.ensures.ran
+    (emit_item _ c.in_ok-step_inside.was c.in-Some.is) c.into_iter-rest.ensures.into_iter_gives _ _
+    c.in-Some-next.is c.next.ensures.steps
 
 pub returns-then-passed-clause-ran : goal.returns-then-passed-clause-ran
-returns-then-passed-clause-ran g c = passed-full c.loop-collection.invariant.from c.step_inside.ensures.ran (emit_item _ c.in_ok-step_inside.was c.in-Some.is) c.into_iter-rest.ensures.into_iter_gives _ c.in-None-next.is c.next.ensures.steps (omega arith)
+returns-then-passed-clause-ran g c =
+    passed-full c.loop-collection.invariant.from c.step_inside.ensures.ran
+    (emit_item _ c.in_ok-step_inside.was c.in-Some.is) c.into_iter-rest.ensures.into_iter_gives _
+    c.in-None-next.is c.next.ensures.steps (omega arith)
 
 pub loop-collection-preserved : goal.loop-collection-preserved
 loop-collection-preserved g c = record {
-  from = passed-more c.loop-collection.invariant.from c.step_inside.ensures.ran (emit_item _ c.in_ok-step_inside.was c.in-Some.is) c.into_iter-rest.ensures.into_iter_gives _ c.in-None-next.is c.next.ensures.steps (λ z. omega (arith, z));
+  from =
+      passed-more c.loop-collection.invariant.from c.step_inside.ensures.ran
+      (emit_item _ c.in_ok-step_inside.was c.in-Some.is) c.into_iter-rest.ensures.into_iter_gives _
+      c.in-None-next.is c.next.ensures.steps (λ z. omega (arith, z));
   may = search rules;
   lent = search rules;
 }

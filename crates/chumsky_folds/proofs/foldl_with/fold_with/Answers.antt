@@ -34,7 +34,10 @@ pub loop-state-preserved : goal.loop-state-preserved
 loop-state-preserved g c =
     let moves = c.step_with-accumulator.ensures.moves in
     record {
-      so = steps-more c.loop-state.invariant.so c.next_item.ensures.ran (emit_item _ c.in_ok-next_item.was c.in-Some.is) (λ z. omega (arith, z)) (ran-shown _ moves c.step_with-accumulator.ensures.gives);
+      so =
+          steps-more c.loop-state.invariant.so c.next_item.ensures.ran
+          (emit_item _ c.in_ok-next_item.was c.in-Some.is) (λ z. omega (arith, z))
+          (ran-shown _ moves c.step_with-accumulator.ensures.gives);
       may = search rules;
       tokens = c.loop-state.invariant.tokens ∙ sym c.next_item.ensures.tokens ∙ sym (ap (λ z. z.tokens) moves);
       order = omega (arith, c.loop-state.invariant.order, c.in_ok-next_item.ensures.onward, ap (λ z. z.place) moves);

@@ -35,7 +35,9 @@ returns-then-count-clause-ran g c = steps-full c.loop-items.invariant.so.from (p
 pub returns-in-Err-clause-ran : goal.returns-in-Err-clause-ran
 returns-in-Err-clause-ran g c =
     let so = c.loop-items.invariant.so in
-    steps-refused so.from (placed-item c.next_item.ensures.ran (emit_item _ c.in_ok-next_item.was c.in-Some.is)) refl (λ z. omega (arith, z)) (ran-not_appended so.items (c.in-Some.item, (held g.I.Input g.E.Error.Error g.E.State.Inspector c.loop-items.inp).place) (λ no. no))
+    steps-refused so.from (placed-item c.next_item.ensures.ran (emit_item _ c.in_ok-next_item.was c.in-Some.is))
+    refl (λ z. omega (arith, z))
+    (ran-not_appended so.items (c.in-Some.item, (held g.I.Input g.E.Error.Error g.E.State.Inspector c.loop-items.inp).place) (λ no. no))
 
 pub loop-items-preserved : goal.loop-items-preserved
 loop-items-preserved g c =
@@ -46,7 +48,9 @@ loop-items-preserved g c =
       so = record {
         items = so.items ++ (c.in-Some.item, mid.place) ∷ [];
         held = places-pushed g.I.Input _ _ _ _ c.in-Ok.ensures.items so.held;
-        from = steps-more so.from (placed-item c.next_item.ensures.ran (emit_item _ c.in_ok-next_item.was c.in-Some.is)) refl (λ z. omega (arith, z)) (ran-appended so.items (c.in-Some.item, mid.place));
+        from =
+            steps-more so.from (placed-item c.next_item.ensures.ran (emit_item _ c.in_ok-next_item.was c.in-Some.is))
+            refl (λ z. omega (arith, z)) (ran-appended so.items (c.in-Some.item, mid.place));
       };
       within = starts-pushed g.I.Input mid new _ _ _ c.in-Ok.ensures.items refl refl c.next_item.ensures.tokens c.in_ok-next_item.ensures.onward c.loop-items.invariant.within;
       may = search rules;

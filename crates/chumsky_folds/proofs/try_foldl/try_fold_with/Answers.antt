@@ -23,7 +23,11 @@ loop-state-init g c =
     }
 
 pub returns-in_err-next_item-clause-ran : goal.returns-in_err-next_item-clause-ran
-returns-in_err-next_item-clause-ran g c = takes-all (steps-failed c.loop-state.invariant.so (placed-failed c.next_item.ensures.ran (emit_fault _ c.in_err-next_item.was)) refl (emit_err (search rules)))
+returns-in_err-next_item-clause-ran g c =
+    takes-all
+    (steps-failed c.loop-state.invariant.so
+    (placed-failed c.next_item.ensures.ran (emit_fault _ c.in_err-next_item.was))
+    refl (emit_err (search rules)))
 
 pub returns-in-None-clause-ran : goal.returns-in-None-clause-ran
 returns-in-None-clause-ran g c = takes-all (steps-ended c.loop-state.invariant.so (placed-ended c.next_item.ensures.ran (emit_end _ c.in_ok-next_item.was c.in-None.is)) refl ran-given)
@@ -33,13 +37,20 @@ returns-then-count-clause-ran g c = takes-all (steps-full c.loop-state.invariant
 
 pub returns-in-Err-clause-ran : goal.returns-in-Err-clause-ran
 returns-in-Err-clause-ran g c =
-    takes-all (steps-refused c.loop-state.invariant.so (placed-item c.next_item.ensures.ran (emit_item _ c.in_ok-next_item.was c.in-Some.is)) refl (λ z. omega (arith, z)) (ran-refused _ _ _ c.in-Err.ensures.moves c.in-Err.ensures.gives (rw c.place.ensures at c.add_event.ensures.adds)))
+    takes-all
+    (steps-refused c.loop-state.invariant.so
+    (placed-item c.next_item.ensures.ran (emit_item _ c.in_ok-next_item.was c.in-Some.is))
+    refl (λ z. omega (arith, z))
+    (ran-refused _ _ _ c.in-Err.ensures.moves c.in-Err.ensures.gives (rw c.place.ensures at c.add_event.ensures.adds)))
 
 pub loop-state-preserved : goal.loop-state-preserved
 loop-state-preserved g c =
     let moves = c.in-Ok.ensures.moves in
     record {
-      so = steps-more c.loop-state.invariant.so (placed-item c.next_item.ensures.ran (emit_item _ c.in_ok-next_item.was c.in-Some.is)) refl (λ z. omega (arith, z)) (ran-tried _ moves c.in-Ok.ensures.gives);
+      so =
+          steps-more c.loop-state.invariant.so
+          (placed-item c.next_item.ensures.ran (emit_item _ c.in_ok-next_item.was c.in-Some.is))
+          refl (λ z. omega (arith, z)) (ran-tried _ moves c.in-Ok.ensures.gives);
       may = search rules;
       tokens = c.loop-state.invariant.tokens ∙ sym c.next_item.ensures.tokens ∙ sym (ap (λ z. z.tokens) moves);
       order = omega (arith, c.loop-state.invariant.order, c.in_ok-next_item.ensures.onward, ap (λ z. z.place) moves);

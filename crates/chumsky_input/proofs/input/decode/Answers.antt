@@ -36,4 +36,6 @@ returns-in-None-clause-token c =
     sym e ∙ ap (slice_get (chars c.args.cursor.now.text.now)) (sym c.args.cursor.now.count)
 
 pub returns-in-Some-clause-token : goal.returns-in-Some-clause-token
-returns-in-Some-clause-token c = let d = (goal.at.returns-in-Some-clause-token c).After-len_utf8 in sym (text_token _ _ _ _ (stands d) (left d)) ∙ ap (slice_get (chars c.args.cursor.now.text.now)) (sym c.args.cursor.now.count)
+returns-in-Some-clause-token c =
+    let d = (goal.at.returns-in-Some-clause-token c).After-len_utf8 in
+    sym (text_token _ _ _ _ (stands d) (left d)) ∙ ap (slice_get (chars c.args.cursor.now.text.now)) (sym c.args.cursor.now.count)

@@ -7,4 +7,5 @@ pub returns-in-Some-clause-token : goal.returns-in-Some-clause-token
 returns-in-Some-clause-token g c =
     let cursor = c.args.cursor.now in
     let at = c.in-Some.ensures.lookup in
-    token_in g.M.TakesApart.apart cursor.elements.now cursor.place c.in-Some.element.now c.token.result.now (slice_get_read cursor.elements.now _ cursor.place c.in-Some.element.now refl at.3.0 at.1) c.token.ensures
+    token_in g.M.TakesApart.apart cursor.elements.now cursor.place c.in-Some.element.now c.token.result.now
+    (slice_get_read cursor.elements.now _ cursor.place c.in-Some.element.now refl at.3.0 at.1) c.token.ensures

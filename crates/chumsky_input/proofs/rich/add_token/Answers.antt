@@ -8,7 +8,9 @@ use Rattle.chumsky_input.proofs.rich.add_token.Goals as goal
 pub returns-in_ok-append-clause-adds : goal.returns-in_ok-append-clause-adds
 returns-in_ok-append-clause-adds g c =
     let none : list_any (λ x. pattern_same g.T.PartialEq.eq x (pattern.Token c.args.token.now)) c.args.patterns.now.items ≡ false = search rules in
-    token-added g.T.PartialEq.eq g.T.SameClone.same g.T.SameClone.seen g.met.T.SameClone.eq_same c.args.patterns.now.items _ c.args.token.now c.in_ok-own.own none c.in_ok-own.ensures.token c.in_ok-append.ensures.items
+    token-added g.T.PartialEq.eq g.T.SameClone.same g.T.SameClone.seen g.met.T.SameClone.eq_same
+    c.args.patterns.now.items _ c.args.token.now c.in_ok-own.own none c.in_ok-own.ensures.token
+    c.in_ok-append.ensures.items
 
 pub returns-else-not-is_named-clause-adds : goal.returns-else-not-is_named-clause-adds
 returns-else-not-is_named-clause-adds g c =

@@ -8,5 +8,6 @@ use Rattle.chumsky_input.proofs.rich.many_patterns_of.Given as goal
 -- the patterns so far, and that their keys are known
 abbrev pub invariant-loop-item : goal.invariant-loop-item
 invariant-loop-item g l =
-    (map (pattern_seen g.T.SameClone.seen) l.patterns.items ≡ add_new (wanted_same g.T.SameClone.same) [] (filter_map (wanted_pattern g.T.SameClone.seen) (map g.X.Item.Expectation.expectation l.yielded)))
+    (map (pattern_seen g.T.SameClone.seen) l.patterns.items ≡ add_new (wanted_same g.T.SameClone.same) []
+    (filter_map (wanted_pattern g.T.SameClone.seen) (map g.X.Item.Expectation.expectation l.yielded)))
     × HasKeys g.T.SameClone.bucket_of l.places l.patterns.items

@@ -7,7 +7,9 @@ use Rattle.chumsky_set.proofs.each.last_checks.Goals as goal
 
 pub returns-in_err-complete-clause-ran : goal.returns-in_err-complete-clause-ran
 returns-in_err-complete-clause-ran g c =
-    ran_last g.E.State.Inspector.mark g.E.State.Inspector.back g.E.State.Inspector.takes_no_memory (λ p. g.P.Parser.meaning p g.E.Error.Error g.E.State.Inspector) c.args.parts.now (map (slot_of (λ _. None)) c.args.slots.now)
+    ran_last g.E.State.Inspector.mark g.E.State.Inspector.back g.E.State.Inspector.takes_no_memory
+    (λ p. g.P.Parser.meaning p g.E.Error.Error g.E.State.Inspector) c.args.parts.now
+    (map (slot_of (λ _. None)) c.args.slots.now)
     (turns_failed c.loop-i.invariant.resumes (drop_at c.args.parts.now c.loop-i.i c.index-parts-i.result (search rules) c.index-parts-i.is)
     (drop_map (slot_of (λ _. None)) c.args.slots.now c.loop-i.i None (search rules))
     c.complete.ensures.ran (shown_err _ c.in_err-complete.was) (shown_err _ (search rules)))
@@ -27,4 +29,7 @@ loop-i-preserved g c =
 pub returns-clause-ran : goal.returns-clause-ran
 returns-clause-ran g c =
     let past : length c.args.parts.now ≤ c.loop-i.i = search rules in
-    ran_last g.E.State.Inspector.mark g.E.State.Inspector.back g.E.State.Inspector.takes_no_memory (λ p. g.P.Parser.meaning p g.E.Error.Error g.E.State.Inspector) c.args.parts.now (map (slot_of (λ _. None)) c.args.slots.now) (turns_end c.loop-i.invariant.resumes (drop_all c.loop-i.i c.args.parts.now past))
+    ran_last g.E.State.Inspector.mark g.E.State.Inspector.back g.E.State.Inspector.takes_no_memory
+    (λ p. g.P.Parser.meaning p g.E.Error.Error g.E.State.Inspector) c.args.parts.now
+    (map (slot_of (λ _. None)) c.args.slots.now)
+    (turns_end c.loop-i.invariant.resumes (drop_all c.loop-i.i c.args.parts.now past))

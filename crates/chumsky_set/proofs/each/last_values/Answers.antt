@@ -8,11 +8,15 @@ use Rattle.chumsky_set.proofs.each.last_values.Goals as goal
 pub returns-in_err-values-clause-ran : goal.returns-in_err-values-clause-ran
 returns-in_err-values-clause-ran g c =
     let some : length c.args.parts.now ≡ 0 → ⊥ = search rules in
-    ran_last_short g.E.State.Inspector.mark g.E.State.Inspector.back g.E.State.Inspector.takes_no_memory (λ p. g.P.Parser.meaning p g.E.Error.Error g.E.State.Inspector) c.args.parts.now (map (slot_of (λ v. Some v)) c.args.slots.now) some (shown_err _ (search rules))
+    ran_last_short g.E.State.Inspector.mark g.E.State.Inspector.back g.E.State.Inspector.takes_no_memory
+    (λ p. g.P.Parser.meaning p g.E.Error.Error g.E.State.Inspector) c.args.parts.now
+    (map (slot_of (λ v. Some v)) c.args.slots.now) some (shown_err _ (search rules))
 
 pub returns-in_err-value-clause-ran : goal.returns-in_err-value-clause-ran
 returns-in_err-value-clause-ran g c =
-    ran_last g.E.State.Inspector.mark g.E.State.Inspector.back g.E.State.Inspector.takes_no_memory (λ p. g.P.Parser.meaning p g.E.Error.Error g.E.State.Inspector) c.args.parts.now (map (slot_of (λ v. Some v)) c.args.slots.now)
+    ran_last g.E.State.Inspector.mark g.E.State.Inspector.back g.E.State.Inspector.takes_no_memory
+    (λ p. g.P.Parser.meaning p g.E.Error.Error g.E.State.Inspector) c.args.parts.now
+    (map (slot_of (λ v. Some v)) c.args.slots.now)
     (turns_failed c.loop-i.invariant.resumes (drop_at c.args.parts.now c.loop-i.i c.index-parts-i.result (search rules) c.index-parts-i.is)
     (drop_map (slot_of (λ v. Some v)) c.loop-i.slots c.loop-i.i c.index-slots-i.result (search rules))
     (rw c.take-slot.ensures.value at c.complete.ensures.ran) (shown_err _ c.in_err-value.was) (shown_err _ (search rules)))
@@ -44,4 +48,7 @@ loop-i-preserved g c =
 pub returns-clause-ran : goal.returns-clause-ran
 returns-clause-ran g c =
     let past : length c.args.parts.now ≤ c.loop-i.i = search rules in
-    ran_last g.E.State.Inspector.mark g.E.State.Inspector.back g.E.State.Inspector.takes_no_memory (λ p. g.P.Parser.meaning p g.E.Error.Error g.E.State.Inspector) c.args.parts.now (map (slot_of (λ v. Some v)) c.args.slots.now) (turns_end c.loop-i.invariant.resumes (drop_all c.loop-i.i c.args.parts.now past))
+    ran_last g.E.State.Inspector.mark g.E.State.Inspector.back g.E.State.Inspector.takes_no_memory
+    (λ p. g.P.Parser.meaning p g.E.Error.Error g.E.State.Inspector) c.args.parts.now
+    (map (slot_of (λ v. Some v)) c.args.slots.now)
+    (turns_end c.loop-i.invariant.resumes (drop_all c.loop-i.i c.args.parts.now past))

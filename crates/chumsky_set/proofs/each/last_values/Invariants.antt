@@ -8,7 +8,12 @@ use Rattle.chumsky_set.proofs.each.last_values.Given as goal
 abbrev pub invariant-loop-i : goal.invariant-loop-i
 invariant-loop-i g l =
     record {
-      resumes : GoOn g.E.Error.Error.merged g.E.Error.Error.takes_no_memory (λ p. Missing (g.P.Parser.meaning p g.E.Error.Error g.E.State.Inspector)) true l.parts (map (slot_of (λ v. Some v)) l.initial.slots) (Some []) (held g.I.Input g.E.Error.Error g.E.State.Inspector l.initial.inp) (drop l.i l.parts) (drop l.i (map (slot_of (λ v. Some v)) l.slots)) (Some l.values.items) (held g.I.Input g.E.Error.Error g.E.State.Inspector l.inp);
+      resumes : GoOn g.E.Error.Error.merged g.E.Error.Error.takes_no_memory
+          (λ p. Missing (g.P.Parser.meaning p g.E.Error.Error g.E.State.Inspector)) true l.parts
+          (map (slot_of (λ v. Some v)) l.initial.slots) (Some [])
+          (held g.I.Input g.E.Error.Error g.E.State.Inspector l.initial.inp) (drop l.i l.parts)
+          (drop l.i (map (slot_of (λ v. Some v)) l.slots)) (Some l.values.items)
+          (held g.I.Input g.E.Error.Error g.E.State.Inspector l.inp);
       filled : vec_len l.values ≡ l.i;
       room : length l.parts ≤ vec_capacity l.values;
       fits : length l.slots ≡ length l.parts;

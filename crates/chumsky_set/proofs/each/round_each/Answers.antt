@@ -22,7 +22,9 @@ loop-i-preserved g c =
           (turns_on c.loop-i.invariant.resumes (drop_at c.args.parts.now c.loop-i.i c.index-parts-i.result (search rules) c.index-parts-i.is)
           (drop_map (slot_of g.D.Runs.shown) c.loop-i.slots c.loop-i.i c.index-slots-i.result within)
           c.offer.ensures.ran (taken_ok _ c.in_ok-taken.was));
-      lessens = lessens_by_one (slot_of g.D.Runs.shown) _ c.loop-i.slots c.loop-i.i c.index-slots-i.result c.offer.new.slot c.loop-i.more c.in_ok-taken.taken within c.loop-i.invariant.lessens c.in_ok-taken.ensures.lessens;
+      lessens =
+          lessens_by_one (slot_of g.D.Runs.shown) _ c.loop-i.slots c.loop-i.i c.index-slots-i.result c.offer.new.slot
+          c.loop-i.more c.in_ok-taken.taken within c.loop-i.invariant.lessens c.in_ok-taken.ensures.lessens;
       fits = search rules;
       lent = c.offer.ensures.lent ∙ c.loop-i.invariant.lent;
     }

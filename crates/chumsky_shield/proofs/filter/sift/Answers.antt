@@ -1,30 +1,38 @@
-use Rattle.std.proofs.Common.{rules, ◌≡◌, Err, true, false, refl, ap, ◌∙◌}
+use Rattle.std.proofs.Common.{rules, ◌≡◌, Err, true, false, refl, ap}
 use Rattle.chumsky_input.specs.declared.stop.Fault.TheVariants as fault
 use Rattle.chumsky_input.specs.declared.stop.Stop.TheVariants.{Memory}
 use Rattle.chumsky_input.specs.Held.{held}
-use Rattle.chumsky_shield.specs.Vetted.{ByTest}
 use Rattle.chumsky_shield.proofs.VettedLemmas.{vetted_stops, vetted_no, vetted_yes, vetted_yes_refused, vetted_fails}
 use Rattle.chumsky_shield.proofs.filter.sift.Goals as goal
 
 pub returns-in_err-keep_before-in-Ok-clause-ran : goal.returns-in_err-keep_before-in-Ok-clause-ran
 returns-in_err-keep_before-in-Ok-clause-ran g c w =
     let e : c.from_residual.result ≡ Err (fault.Stop Memory) = search rules in
-    rw e (vetted_yes_refused g.E.Error.Error.merged g.E.Error.Error.takes_no_memory g.E.Error.Error.takes_no_memory (ByTest g.I.Input g.E.Error.Error (g.F.Tester.gives c.args.filter.now.tester)) (g.A.Parser.meaning c.args.filter.now.parser g.E.Error.Error g.E.State.Inspector) w (held g.I.Input g.E.Error.Error g.E.State.Inspector c.args.inp.now) (held g.I.Input g.E.Error.Error g.E.State.Inspector c.go_emit.new.inp) c.in-Ok.value (rw c.take_kept-older.ensures.leaves at c.in-Ok.ensures.ran) _ (held g.I.Input g.E.Error.Error g.E.State.Inspector c.go_emit.new.inp) refl c.in-Ok.value _ (record { passes = true; says = rw c.if-passes.true at c.passes.ensures; answer = refl; keeps = refl }) (rw c.take_kept-older.ensures.kept at c.in_err-keep_before-in-Ok.ensures.keeps))
+    rw e
+    (vetted_yes_refused (rw c.take_kept-older.ensures.leaves at c.in-Ok.ensures.ran) _
+    (held g.I.Input g.E.Error.Error g.E.State.Inspector c.go_emit.new.inp)
+    refl c.in-Ok.value (record { passes = true; says = rw c.if-passes.true at c.passes.ensures; answer = refl; keeps = refl })
+    (rw c.take_kept-older.ensures.kept at c.in_err-keep_before-in-Ok.ensures.keeps))
 
 pub returns-then-passes-clause-ran : goal.returns-then-passes-clause-ran
 returns-then-passes-clause-ran g c w =
-    vetted_yes g.E.Error.Error.merged g.E.Error.Error.takes_no_memory g.E.Error.Error.takes_no_memory (ByTest g.I.Input g.E.Error.Error (g.F.Tester.gives c.args.filter.now.tester)) (g.A.Parser.meaning c.args.filter.now.parser g.E.Error.Error g.E.State.Inspector) w (held g.I.Input g.E.Error.Error g.E.State.Inspector c.args.inp.now) (held g.I.Input g.E.Error.Error g.E.State.Inspector c.go_emit.new.inp) c.in-Ok.value (rw c.take_kept-older.ensures.leaves at c.in-Ok.ensures.ran) _ (held g.I.Input g.E.Error.Error g.E.State.Inspector c.go_emit.new.inp) refl c.in-Ok.value _ (record { passes = true; says = rw c.if-passes.true at c.passes.ensures; answer = refl; keeps = refl }) (rw c.take_kept-older.ensures.kept at c.in_ok-keep_before-in-Ok.ensures.keeps)
+    vetted_yes (rw c.take_kept-older.ensures.leaves at c.in-Ok.ensures.ran) _
+    (held g.I.Input g.E.Error.Error g.E.State.Inspector c.go_emit.new.inp)
+    refl c.in-Ok.value (record { passes = true; says = rw c.if-passes.true at c.passes.ensures; answer = refl; keeps = refl })
+    (rw c.take_kept-older.ensures.kept at c.in_ok-keep_before-in-Ok.ensures.keeps)
 
 pub returns-else-passes-clause-ran : goal.returns-else-passes-clause-ran
 returns-else-passes-clause-ran g c w =
     let ran = rw c.take_kept-older.ensures.leaves at c.in-Ok.ensures.ran in
     let kept = ap (λ k. record (held g.I.Input g.E.Error.Error g.E.State.Inspector c.go_emit.new.inp) { kept = k }) c.take_kept-older.ensures.kept in
-    vetted_fails g.E.Error.Error.merged g.E.Error.Error.takes_no_memory g.E.Error.Error.takes_no_memory (ByTest g.I.Input g.E.Error.Error (g.F.Tester.gives c.args.filter.now.tester)) (g.A.Parser.meaning c.args.filter.now.parser g.E.Error.Error g.E.State.Inspector) w (held g.I.Input g.E.Error.Error g.E.State.Inspector c.args.inp.now) (held g.I.Input g.E.Error.Error g.E.State.Inspector c.go_emit.new.inp) c.in-Ok.value ran _ (held g.I.Input g.E.Error.Error g.E.State.Inspector c.go_emit.new.inp) refl _ _ _ _ refl (record { passes = false; says = rw c.if-passes.false at c.passes.ensures; answer = refl; keeps = refl }) kept c.something_else.ensures.fails
+    vetted_fails ran _ (held g.I.Input g.E.Error.Error g.E.State.Inspector c.go_emit.new.inp)
+    refl _ refl (record { passes = false; says = rw c.if-passes.false at c.passes.ensures; answer = refl; keeps = refl })
+    kept c.something_else.ensures.fails
 
 pub returns-in-Err-Fail-clause-ran : goal.returns-in-Err-Fail-clause-ran
 returns-in-Err-Fail-clause-ran g c w =
-    vetted_no g.E.Error.Error.merged g.E.Error.Error.takes_no_memory g.E.Error.Error.takes_no_memory (ByTest g.I.Input g.E.Error.Error (g.F.Tester.gives c.args.filter.now.tester)) (g.A.Parser.meaning c.args.filter.now.parser g.E.Error.Error g.E.State.Inspector) w (held g.I.Input g.E.Error.Error g.E.State.Inspector c.args.inp.now) (held g.I.Input g.E.Error.Error g.E.State.Inspector c.go_emit.new.inp) _ _ (rw (c.take_kept-older.ensures.leaves, c.in-Err-Fail.field-0-is) at c.in-Err-Fail.ensures.ran) (rw c.take_kept-older.ensures.kept at c.fail_as_one.ensures.fails)
+    vetted_no (rw (c.take_kept-older.ensures.leaves, c.in-Err-Fail.field-0-is) at c.in-Err-Fail.ensures.ran) (rw c.take_kept-older.ensures.kept at c.fail_as_one.ensures.fails)
 
 pub returns-in-Err-Stop-clause-ran : goal.returns-in-Err-Stop-clause-ran
 returns-in-Err-Stop-clause-ran g c w =
-    rw c.in-Err-Stop.stop-is (vetted_stops g.E.Error.Error.merged g.E.Error.Error.takes_no_memory g.E.Error.Error.takes_no_memory (ByTest g.I.Input g.E.Error.Error (g.F.Tester.gives c.args.filter.now.tester)) (g.A.Parser.meaning c.args.filter.now.parser g.E.Error.Error g.E.State.Inspector) w (held g.I.Input g.E.Error.Error g.E.State.Inspector c.args.inp.now) (held g.I.Input g.E.Error.Error g.E.State.Inspector c.go_emit.new.inp) (rw (c.take_kept-older.ensures.leaves, c.in-Err-Stop.field-0-is) at c.in-Err-Stop.ensures.ran))
+    rw c.in-Err-Stop.stop-is (vetted_stops (rw (c.take_kept-older.ensures.leaves, c.in-Err-Stop.field-0-is) at c.in-Err-Stop.ensures.ran))

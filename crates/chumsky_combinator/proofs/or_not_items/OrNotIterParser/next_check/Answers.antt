@@ -17,14 +17,20 @@ pub returns-in-Ok-clause-ran : goal.returns-in-Ok-clause-ran
 returns-in-Ok-clause-ran g c = one-given g.E.State.Inspector.mark g.E.State.Inspector.back g.E.State.Inspector.takes_no_memory c.if-state.false c.go_check.ensures.ran (check_ok c.in-Ok.is)
 
 pub returns-in-Err-Stop-clause-ran : goal.returns-in-Err-Stop-clause-ran
-returns-in-Err-Stop-clause-ran g c = one-stopped g.E.State.Inspector.mark g.E.State.Inspector.back g.E.State.Inspector.takes_no_memory c.if-state.false c.go_check.ensures.ran (check_err (c.in-Err-Stop.is ∙ ap Err c.in-Err-Stop.field-0-is)) (λ z. cc) refl
+returns-in-Err-Stop-clause-ran g c =
+    one-stopped g.E.State.Inspector.mark g.E.State.Inspector.back g.E.State.Inspector.takes_no_memory c.if-state.false
+    c.go_check.ensures.ran (check_err (c.in-Err-Stop.is ∙ ap Err c.in-Err-Stop.field-0-is)) (λ z. cc) refl
 
 pub returns-in_err-rewind-in-Err-Fail-clause-ran : goal.returns-in_err-rewind-in-Err-Fail-clause-ran
 returns-in_err-rewind-in-Err-Fail-clause-ran g c =
     let e : c.from_residual-in_err-rewind-in-Err-Fail.result ≡ Err (fault.Stop Memory) = search rules in
     let h = c.in_err-rewind-in-Err-Fail.ensures.back in
-    one-unrestored g.E.State.Inspector.mark g.E.State.Inspector.back g.E.State.Inspector.takes_no_memory c.if-state.false c.go_check.ensures.ran (check_err (c.in-Err-Fail.is ∙ ap Err c.in-Err-Fail.field-0-is)) h.0 h.1 (no_item_err _ e)
+    one-unrestored g.E.State.Inspector.mark g.E.State.Inspector.back g.E.State.Inspector.takes_no_memory
+    c.if-state.false c.go_check.ensures.ran (check_err (c.in-Err-Fail.is ∙ ap Err c.in-Err-Fail.field-0-is)) h.0
+    h.1 (no_item_err _ e)
 
 pub returns-clause-ran : goal.returns-clause-ran
 returns-clause-ran g c =
-    one-absent g.E.State.Inspector.mark g.E.State.Inspector.back g.E.State.Inspector.takes_no_memory c.if-state.false c.go_check.ensures.ran (check_err (c.in-Err-Fail.is ∙ ap Err c.in-Err-Fail.field-0-is)) c.in_ok-before.ensures c.in_ok-rewind-in-Err-Fail.ensures.back
+    one-absent g.E.State.Inspector.mark g.E.State.Inspector.back g.E.State.Inspector.takes_no_memory c.if-state.false
+    c.go_check.ensures.ran (check_err (c.in-Err-Fail.is ∙ ap Err c.in-Err-Fail.field-0-is)) c.in_ok-before.ensures
+    c.in_ok-rewind-in-Err-Fail.ensures.back

@@ -8,7 +8,10 @@ pub returns-in_err-next_check-in-First-clause-ran : goal.returns-in_err-next_che
 returns-in_err-next_check-in-First-clause-ran g c = turn-failed c.in-First.is c.next_check-in-First.ensures.ran (check_fault _ c.in_err-next_check-in-First.was) (check_fault _ (search rules))
 
 pub returns-in_err-second-in-None-clause-ran : goal.returns-in_err-second-in-None-clause-ran
-returns-in_err-second-in-None-clause-ran g c = turn-unmade c.in-First.is c.next_check-in-First.ensures.ran (check_end _ c.in_ok-next_check-in-First.was c.in-None.is) c.make_iter.ensures.ran (emit_err c.in_err-second-in-None.was) (check_fault _ (search rules))
+returns-in_err-second-in-None-clause-ran g c =
+    turn-unmade c.in-First.is c.next_check-in-First.ensures.ran
+    (check_end _ c.in_ok-next_check-in-First.was c.in-None.is) c.make_iter.ensures.ran
+    (emit_err c.in_err-second-in-None.was) (check_fault _ (search rules))
 
 pub returns-in-Second-clause-ran : goal.returns-in-Second-clause-ran
 returns-in-Second-clause-ran g c = turn-second_check c.in-Second.is _ _ c.next_check.ensures.ran
@@ -18,4 +21,6 @@ returns-in-Some-clause-ran g c = turn-item c.in-First.is c.next_check-in-First.e
 
 pub returns-in_ok-second-in-None-clause-ran : goal.returns-in_ok-second-in-None-clause-ran
 returns-in_ok-second-in-None-clause-ran g c =
-    turn-made_check c.in-First.is c.next_check-in-First.ensures.ran (check_end _ c.in_ok-next_check-in-First.was c.in-None.is) c.make_iter.ensures.ran (emit_ok c.in_ok-second-in-None.was) _ _ c.next_check-item.ensures.ran
+    turn-made_check c.in-First.is c.next_check-in-First.ensures.ran
+    (check_end _ c.in_ok-next_check-in-First.was c.in-None.is) c.make_iter.ensures.ran
+    (emit_ok c.in_ok-second-in-None.was) _ _ c.next_check-item.ensures.ran

@@ -8,7 +8,9 @@ pub returns-in_err-item-in-First-clause-ran : goal.returns-in_err-item-in-First-
 returns-in_err-item-in-First-clause-ran g c = turn-failed c.in-First.is c.next_emit-in-First.ensures.ran (emit_fault _ c.in_err-item-in-First.was) (emit_fault _ (search rules))
 
 pub returns-in_err-second-in-None-clause-ran : goal.returns-in_err-second-in-None-clause-ran
-returns-in_err-second-in-None-clause-ran g c = turn-unmade c.in-First.is c.next_emit-in-First.ensures.ran (emit_end _ c.in_ok-item-in-First.was c.in-None.is) c.make_iter.ensures.ran (emit_err c.in_err-second-in-None.was) (emit_fault _ (search rules))
+returns-in_err-second-in-None-clause-ran g c =
+    turn-unmade c.in-First.is c.next_emit-in-First.ensures.ran (emit_end _ c.in_ok-item-in-First.was c.in-None.is)
+    c.make_iter.ensures.ran (emit_err c.in_err-second-in-None.was) (emit_fault _ (search rules))
 
 pub returns-in-Second-clause-ran : goal.returns-in-Second-clause-ran
 returns-in-Second-clause-ran g c = turn-second c.in-Second.is _ _ c.next_emit.ensures.ran
@@ -18,4 +20,5 @@ returns-in-Some-clause-ran g c = turn-item c.in-First.is c.next_emit-in-First.en
 
 pub returns-in_ok-second-in-None-clause-ran : goal.returns-in_ok-second-in-None-clause-ran
 returns-in_ok-second-in-None-clause-ran g c =
-    turn-made c.in-First.is c.next_emit-in-First.ensures.ran (emit_end _ c.in_ok-item-in-First.was c.in-None.is) c.make_iter.ensures.ran (emit_ok c.in_ok-second-in-None.was) _ _ c.next_emit-item.ensures.ran
+    turn-made c.in-First.is c.next_emit-in-First.ensures.ran (emit_end _ c.in_ok-item-in-First.was c.in-None.is)
+    c.make_iter.ensures.ran (emit_ok c.in_ok-second-in-None.was) _ _ c.next_emit-item.ensures.ran

@@ -11,4 +11,6 @@ returns-in_err-last-clause-ran g c = chained c.collect_placed.ensures.ran (emit_
 
 pub returns-clause-ran : goal.returns-clause-ran
 returns-clause-ran g c =
-    chained c.collect_placed.ensures.ran (emit_ok c.in_ok-items.was) (chained c.go_emit.ensures.ran (emit_ok c.in_ok-last.was) (ran-folded_back_shown _ refl c.fold_back_with.ensures.folds c.fold_back_with.ensures.moves))
+    chained c.collect_placed.ensures.ran (emit_ok c.in_ok-items.was)
+    (chained c.go_emit.ensures.ran (emit_ok c.in_ok-last.was)
+    (ran-folded_back_shown _ refl c.fold_back_with.ensures.folds c.fold_back_with.ensures.moves))

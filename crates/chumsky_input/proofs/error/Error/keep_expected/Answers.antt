@@ -31,4 +31,8 @@ returns-in_ok-error-in-Some g c =
     h.2
     ∙ ap (λ xs. g.Self.Error.expectation xs (option_map maybe_value c.lent.result) c.args.span) (drained_view _ _ h.0 _ h.1 ∙ c.as_expected.ensures)
     ∙ ap (λ f. g.Self.Error.expectation (sole_wanted c.args.expected.now) f c.args.span) c.lent.ensures in
-    record { keeps = keeps_here g.Self.Error.merged g.Self.Error.seen c.in-Some.ensures.value c.requires.near (search rules) (c.in_ok-error-in-Some.ensures.error ∙ ap (g.Self.Error.merged (g.Self.Error.seen c.in-Some.older.error)) shows) }
+    record {
+      keeps = keeps_here g.Self.Error.merged g.Self.Error.seen c.in-Some.ensures.value c.requires.near
+          (search rules)
+          (c.in_ok-error-in-Some.ensures.error ∙ ap (g.Self.Error.merged (g.Self.Error.seen c.in-Some.older.error)) shows);
+    }

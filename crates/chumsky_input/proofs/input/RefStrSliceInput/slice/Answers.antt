@@ -11,13 +11,15 @@ pub range-requires-clause-start_le_end : goal.range-requires-clause-start_le_end
 range-requires-clause-start_le_end c =
     let f = c.args.from.now in
     let t = c.args.to.now in
-    cursors_le f.text.now t.text.now f.at t.at f.place t.place (cursor_in_text _ _ f.utf8 f.boundary) f.count (cursor_in_text _ _ t.utf8 t.boundary) t.count (same_list c.requires.same) c.requires.order
+    cursors_le f.text.now t.text.now f.at t.at f.place t.place (cursor_in_text _ _ f.utf8 f.boundary) f.count
+    (cursor_in_text _ _ t.utf8 t.boundary) t.count (same_list c.requires.same) c.requires.order
 
 pub range-requires-clause-start_boundary : goal.range-requires-clause-start_boundary
 range-requires-clause-start_boundary c =
     let f = c.args.from.now in
     let t = c.args.to.now in
-    λ z. (cursor_there f.text.now t.text.now f.at t.at f.place t.place (cursor_in_text _ _ f.utf8 f.boundary) f.count (cursor_in_text _ _ t.utf8 t.boundary) t.count (same_list c.requires.same) c.requires.order).boundary
+    λ z. (cursor_there f.text.now t.text.now f.at t.at f.place t.place (cursor_in_text _ _ f.utf8 f.boundary) f.count
+    (cursor_in_text _ _ t.utf8 t.boundary) t.count (same_list c.requires.same) c.requires.order).boundary
 
 pub returns : goal.returns
 returns c =

@@ -13,4 +13,6 @@ pub returns-then-place-kept-clause-adds : goal.returns-then-place-kept-clause-ad
 returns-then-place-kept-clause-adds g c = adds_nearer _ g.E.Error.Error.seen (held g.I.Input g.E.Error.Error g.E.State.Inspector c.args.self.now) _ refl c.in-Some.ensures.value (search rules)
 
 pub returns-in-Ok-clause-adds : goal.returns-in-Ok-clause-adds
-returns-in-Ok-clause-adds g c = adds_here _ g.E.Error.Error.seen (held g.I.Input g.E.Error.Error g.E.State.Inspector c.args.self.now) _ refl c.in-Some.ensures.value (search rules) c.in-Ok.ensures.error
+returns-in-Ok-clause-adds g c =
+    adds_here _ g.E.Error.Error.seen (held g.I.Input g.E.Error.Error g.E.State.Inspector c.args.self.now) _
+    refl c.in-Some.ensures.value (search rules) c.in-Ok.ensures.error

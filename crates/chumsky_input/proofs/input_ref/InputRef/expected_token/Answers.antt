@@ -7,9 +7,16 @@ use Rattle.chumsky_input.proofs.KeepingLemmas.{fails_at}
 use Rattle.chumsky_input.proofs.input_ref.InputRef.expected_token.Goals as goal
 
 pub returns-then-keeps_past-clause-fails : goal.returns-then-keeps_past-clause-fails
-returns-then-keeps_past-clause-fails g c = inl (adds_nothing _ (held g.I.Input g.E.Error.Error g.E.State.Inspector c.args.self.now) _ (rw (sym c.place-place.ensures) (c.if-keeps_past.ensures.past refl)))
+returns-then-keeps_past-clause-fails g c =
+    inl
+    (adds_nothing _ (held g.I.Input g.E.Error.Error g.E.State.Inspector c.args.self.now) _
+    (rw (sym c.place-place.ensures) (c.if-keeps_past.ensures.past refl)))
 
 pub returns-clause-fails : goal.returns-clause-fails
 returns-clause-fails g c =
-    fails_at g.E.Error.Error.merged g.E.Error.Error.takes_no_memory (held g.I.Input g.E.Error.Error g.E.State.Inspector c.args.self.now) (held g.I.Input g.E.Error.Error g.E.State.Inspector c.keep_expected.new.self)
-    c.keep_expected.result c.place-place.ensures (ap (g.E.Error.Error.expectation (Token c.args.token.now ∷ []) (option_map maybe_value c.args.found)) c.span-span.ensures) c.keep_expected.ensures.fails
+    fails_at g.E.Error.Error.merged g.E.Error.Error.takes_no_memory
+    (held g.I.Input g.E.Error.Error g.E.State.Inspector c.args.self.now)
+    (held g.I.Input g.E.Error.Error g.E.State.Inspector c.keep_expected.new.self)
+    c.keep_expected.result c.place-place.ensures
+    (ap (g.E.Error.Error.expectation (Token c.args.token.now ∷ []) (option_map maybe_value c.args.found)) c.span-span.ensures)
+    c.keep_expected.ensures.fails

@@ -22,9 +22,13 @@ returns-in_err-character c =
 pub returns-then-contains : goal.returns-then-contains
 returns-then-contains c =
     let r = c.args.self.now in
-    range_next (range_inclusive_start r) (range_inclusive_end r) c.args.at c.start.result.now c.in_ok-checked_add.field-0 c.in_ok-character.character (range_inclusive_exhausted r) c.start.ensures (c.in_ok-checked_add.ensures).1 c.in_ok-character.ensures c.if-contains.ensures.value
+    range_next (range_inclusive_start r) (range_inclusive_end r) c.args.at c.start.result.now
+    c.in_ok-checked_add.field-0 c.in_ok-character.character (range_inclusive_exhausted r) c.start.ensures
+    (c.in_ok-checked_add.ensures).1 c.in_ok-character.ensures c.if-contains.ensures.value
 
 pub returns-else-contains : goal.returns-else-contains
 returns-else-contains c =
     let r = c.args.self.now in
-    range_ends (range_inclusive_start r) (range_inclusive_end r) c.args.at c.start.result.now c.in_ok-checked_add.field-0 c.in_ok-character.character (range_inclusive_exhausted r) c.start.ensures (c.in_ok-checked_add.ensures).1 c.in_ok-character.ensures c.if-contains.ensures.value
+    range_ends (range_inclusive_start r) (range_inclusive_end r) c.args.at c.start.result.now
+    c.in_ok-checked_add.field-0 c.in_ok-character.character (range_inclusive_exhausted r) c.start.ensures
+    (c.in_ok-checked_add.ensures).1 c.in_ok-character.ensures c.if-contains.ensures.value

@@ -12,6 +12,8 @@ loop-kind-preserved c =
     let next : suc i ≡ i + 1 = omega arith in
     subst (λ n. LeastBelow nodes c.args.leaves n c.match-kind.least) next
     (elim c.match-kind.branch [
-      | in-Leaf w ↦ subst (LeastBelow nodes c.args.leaves (suc i)) (sym w.least-is) (past_leaf _ _ _ _ _ _ (item ∙ ap Some w.in-Leaf.is) c.loop-kind.invariant w.lesser-least.ensures.none w.lesser-least.ensures.some)
+      | in-Leaf w ↦ subst (LeastBelow nodes c.args.leaves (suc i)) (sym w.least-is)
+          (past_leaf _ _ _ _ _ _ (item ∙ ap Some w.in-Leaf.is) c.loop-kind.invariant w.lesser-least.ensures.none
+          w.lesser-least.ensures.some)
       | in_default w ↦ subst (LeastBelow nodes c.args.leaves (suc i)) (sym w.least-is) (past_other _ _ _ _ (no_leaf _ _ item w.in_default.not-Leaf) c.loop-kind.invariant)
     ])

@@ -10,7 +10,9 @@ pub rounds-init : goal.rounds-init
 rounds-init g c =
     let fresh = c.default-slots.ensures in
     let sized = c.slice_of-parts.ensures.sized in
-    let none : map (slot_of (λ v. Some v)) c.default-slots.result ≡ map (λ _. None) c.slice_of-parts.result.now = fresh_slots (λ v. Some v) c.slice_of-parts.result.now c.default-slots.result (omega (arith, sized, fresh.long)) (λ i d l. fresh.at i d (omega (arith, l, fresh.long))) in
+    let none : map (slot_of (λ v. Some v)) c.default-slots.result ≡ map (λ _. None) c.slice_of-parts.result.now =
+    fresh_slots (λ v. Some v) c.slice_of-parts.result.now c.default-slots.result
+    (omega (arith, sized, fresh.long)) (λ i d l. fresh.at i d (omega (arith, l, fresh.long))) in
     record { resumes = rw none (λ new r m. m); fits = omega (arith, sized, fresh.long); sized = sized; lent = refl }
 
 pub returns-in_err-more-clause-ran : goal.returns-in_err-more-clause-ran

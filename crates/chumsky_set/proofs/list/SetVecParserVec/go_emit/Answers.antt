@@ -14,4 +14,7 @@ returns-in_err-slots-clause-ran g c =
 
 pub returns-clause-ran : goal.returns-clause-ran
 returns-clause-ran g c =
-    rw⁻¹ c.as_slice-parts.ensures.value (ran_values (λ v. v.items) c.in_any_order.result (ap (map (slot_of (λ v. Some v))) c.in_ok-slots.ensures.items ∙ map_no_slots (λ v. Some v) c.as_slice-parts.result.now) c.in_any_order.ensures.ran)
+    rw⁻¹ c.as_slice-parts.ensures.value
+    (ran_values (λ v. v.items) c.in_any_order.result
+    (ap (map (slot_of (λ v. Some v))) c.in_ok-slots.ensures.items ∙ map_no_slots (λ v. Some v) c.as_slice-parts.result.now)
+    c.in_any_order.ensures.ran)

@@ -1,7 +1,7 @@
 //! What is reported of an answer.
 ghost use Rattle.std.specs.Prelude.{◌≡◌};
 ghost use Rattle.chumsky_input.specs.Held.{held};
-ghost use Rattle.chumsky_parse_iter.specs.Settled.{SettlesAs};
+ghost use Rattle.chumsky_parser.specs.Settled.{SettlesAs};
 
 use chumsky_input::extra::ParserExtra;
 use chumsky_input::input::Input;
