@@ -57,6 +57,7 @@ module _ {Tok V : Type 0} (F : Language Tok V) where
     follow = λ rest. F.follow rest × DoesNotEnd (F.ends rest);
     unambiguous = F.unambiguous;
     refused_from = F.refused_from;
+    moves = false;
     takes_no_memory = F.takes_no_memory;
   }
 
@@ -153,6 +154,7 @@ module _ {Tok Cx St Mk Er V : Type 0} (mark : St → Mk) (back : St → Mk → S
     each = each;
     ends = ends;
     decided = decided;
+    never_empty = λ e. absurd (cc e);
   }
     where
       further : (k : ℕ) (ts rest : List Tok) → at_most_one F k ts ≡ At (One rest) → length rest < length ts
@@ -188,5 +190,6 @@ module _ {Tok Cx St Mk Er V : Type 0} (mark : St → Mk) (back : St → Mk → S
   pub at_most_one-accepts : Accepts part F spare → AcceptsItems (Given (Some false)) (AtMostOne mark back safe part) (at_most_one_language F) spare
   at_most_one-accepts h = record {
     described = λ e. let t = both-true F.said F.moves e in once_described (h.described t.0) t.1;
+    moving = λ e. absurd (cc e);
     sparing = λ q t. record { begin = given-spares (Some false); step = λ s b o m. once_spares mark back safe part (still q) (h.sparing q t) s b o m.step };
   }

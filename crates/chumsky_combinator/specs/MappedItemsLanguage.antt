@@ -12,6 +12,7 @@ use Rattle.chumsky_parser.specs.MemoryLaws.{chained-spares, given-spares}
 use Rattle.chumsky_parser.specs.Showing.{GivesShown, GivenShown}
 use Rattle.chumsky_combinator.specs.Mapped.{GivenBy}
 use Rattle.chumsky_combinator.specs.MappedItems.{Remade, MapsItem, MapsItemWith}
+use Rattle.chumsky_combinator.specs.MappedItemsLaws.{maps_item-end, maps_item-move, maps_item_with-end, maps_item_with-move}
 use Rattle.chumsky_combinator.specs.MappedLanguage.{MapsSome, given_by-here}
 use Rattle.chumsky_combinator.specs.MappedLaws.{given_by-spares}
 use Rattle.chumsky_combinator.specs.MappedWithLanguage.{GivesSince, GivesOver, given_shown-here, gives_over}
@@ -30,6 +31,7 @@ with_items L value stands_for = record {
   follow = L.follow;
   unambiguous = L.unambiguous;
   refused_from = L.refused_from;
+  moves = L.moves;
   takes_no_memory = L.takes_no_memory;
 }
 
@@ -112,7 +114,9 @@ module _ {Tok Cx St Er S V W : Type 0} (begins : Meaning Tok Cx St Er S) (gives 
           each = d.each;
           ends = d.ends;
           decided = d.decided;
+          never_empty = d.never_empty;
         };
+    moving = λ e. let p = h.moving e in (maps_item-end maps begins gives p.0, maps_item-move maps begins gives p.1);
     sparing = λ q t. let n = h.sparing q t in record { begin = n.begin; step = λ s b o m. remade-spares (GivenBy maps) (gives s) (given_by-spares maps) (n.step s) b o m.remade };
   }
 
@@ -134,6 +138,8 @@ module _ {Tok Cx St Er S V W : Type 0} (begins : Meaning Tok Cx St Er S) (gives 
           each = d.each;
           ends = d.ends;
           decided = d.decided;
+          never_empty = d.never_empty;
         };
+    moving = λ e. let p = h.moving e in (maps_item_with-end maps begins gives p.0, maps_item_with-move maps begins gives p.1);
     sparing = λ q t. let n = h.sparing q t in record { begin = n.begin; step = λ s b o m. remade-spares (GivenShown maps b.start) (gives s) (given_shown-spares maps b.start) (n.step s) b o m.remade };
   }

@@ -1,10 +1,12 @@
--- The laws of items of which something else is made.
+-- The laws of items of which something else is made; they move where the items do.
 use Rattle.std.proofs.Common.{Option, Some}
 use Rattle.chumsky_input.specs.Outcome.{Meaning, SameValue, EndsAfterStart, Agreeing}
 use Rattle.chumsky_parser.specs.Chained.{Chained, Given}
 use Rattle.chumsky_parser.specs.Laws.{chained-ends, chained-agrees, given-ends, given-agrees}
 use Rattle.chumsky_parser.specs.Items.{Next, More, End, SameNext, ItemsEnd, ItemsAgree}
 use Rattle.chumsky_parser.specs.ItemsLaws.{after_step-ends, after_step-agrees}
+use Rattle.chumsky_parser.specs.Progress.{Moves, ItemsMove}
+use Rattle.chumsky_parser.specs.ProgressLaws.{chained-first, remade-items}
 use Rattle.chumsky_parser.specs.Showing.{GivesShown, OnlyAnswers, SameShown, GivenShown}
 use Rattle.chumsky_parser.specs.ShowingLaws.{shown-ends, shown-agrees}
 use Rattle.chumsky_combinator.specs.Mapped.{GivenBy, SameMapped}
@@ -18,6 +20,10 @@ module _ {Tok Cx St Er S V W : Type 0} where
       chained-ends step _ hs
       (after_step-ends (λ v s. Chained (made v) (λ w. Given (Some (More w s)))) (Given (Some End))
       (λ v s. chained-ends (made v) _ (hm v) (λ w. given-ends (Some (More w s)))) (given-ends (Some End)))
+
+  pub remade-moves : (made : Option V → Meaning Tok Cx St Er W) (step : Meaning Tok Cx St Er (Next S V)) → ((v : Option V) → EndsAfterStart (made v)) → Moves step → Moves (Remade made step)
+  remade-moves made step hm h =
+      chained-first step _ h (after_step-ends (λ v s. Chained (made v) (λ w. Given (Some (More w s)))) (Given (Some End)) (λ v s. chained-ends (made v) _ (hm v) (λ w. given-ends (Some (More w s)))) (given-ends (Some End)))
 
   module _ (same : V → V → Type 0) (other : W → W → Type 0) (alike : S → S → Type 0) where
     pub remade-agrees : (made made' : Option V → Meaning Tok Cx St Er W) (step step' : Meaning Tok Cx St Er (Next S V))
@@ -34,6 +40,9 @@ module _ {Tok Cx St Er S V W : Type 0} (maps : V → W → Type 0) (begins : Mea
   pub maps_item-end : ItemsEnd begins gives → ItemsEnd begins (λ s. MapsItem maps (gives s))
   maps_item-end h = record { begin = h.begin; step = λ s b o m a. remade-ends (GivenBy maps) (gives s) (given_by-ends maps) (h.step s) b o m.remade a }
 
+  pub maps_item-move : ItemsMove begins gives → ItemsMove begins (λ s. MapsItem maps (gives s))
+  maps_item-move h = remade-items (λ s k b o m y. remade-moves (GivenBy maps) (gives s) (given_by-ends maps) k b o m.remade y) h
+
   pub maps_item-agree : (same : V → V → Type 0) (alike : S → S → Type 0) → ItemsAgree same alike begins gives → ItemsAgree (SameMapped same maps) alike begins (λ s. MapsItem maps (gives s))
   maps_item-agree same alike h =
       record {
@@ -46,6 +55,9 @@ module _ {Tok Cx St Er S V W : Type 0} (maps : V → W → Type 0) (begins : Mea
 module _ {Tok Cx St Er S V W : Type 0} (maps : GivesShown Tok Cx St V W) (begins : Meaning Tok Cx St Er S) (gives : S → Meaning Tok Cx St Er (Next S V)) where
   pub maps_item_with-end : ItemsEnd begins gives → ItemsEnd begins (λ s. MapsItemWith maps (gives s))
   maps_item_with-end h = record { begin = h.begin; step = λ s b o m a. remade-ends (GivenShown maps b.start) (gives s) (shown-ends maps b.start) (h.step s) b o m.remade a }
+
+  pub maps_item_with-move : ItemsMove begins gives → ItemsMove begins (λ s. MapsItemWith maps (gives s))
+  maps_item_with-move h = remade-items (λ s k b o m y. remade-moves (GivenShown maps b.start) (gives s) (shown-ends maps b.start) k b o m.remade y) h
 
   pub maps_item_with-agree : OnlyAnswers maps → (same : V → V → Type 0) (alike : S → S → Type 0)
       → ItemsAgree same alike begins gives

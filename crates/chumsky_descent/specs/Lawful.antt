@@ -118,7 +118,7 @@ module _ {Tok Cx St Mk Er X safe : Type 0} {mark : St → Mk} {back : St → Mk 
     repeated-lawful {C} {free} {least} {most} {holds} {quiet} = record {
       ends = collects-ends _ _ holds quiet (repeats-end mark back safe part free least most p.ends);
       agrees = loosely (SameContents AnyTwo holds) (collects-agree _ _ holds quiet AnyTwo SameCount (repeats-agree mark back safe part free least most AnyTwo p.agrees));
-      accepts = collects-accepts _ _ (repeated_language F least most) holds quiet (repeated-accepts mark back safe part free least most F p.accepts);
+      accepts = collects-accepts _ _ (repeated_language F least most) holds quiet (repeated-accepts mark back safe part free least most F p.ends p.accepts);
     }
 
     -- `part.or(second)`
@@ -135,7 +135,7 @@ module _ {Tok Cx St Mk Er X safe : Type 0} {mark : St → Mk} {back : St → Mk 
     separated-lawful {U} {C} {separator} {G} {d} {holds} {quiet} s = record {
       ends = collects-ends _ _ holds quiet (separates-end mark back safe separator part d s.ends p.ends);
       agrees = loosely (SameContents AnyTwo holds) (collects-agree _ _ holds quiet AnyTwo SameCount (separates-agree mark back safe separator part d AnyTwo AnyTwo s.agrees p.agrees));
-      accepts = collects-accepts _ _ (separated_language G F d) holds quiet (separated-accepts mark back safe separator part d G F s.accepts p.accepts);
+      accepts = collects-accepts _ _ (separated_language G F d) holds quiet (separated-accepts mark back safe separator part d G F s.ends p.ends s.accepts p.accepts);
     }
 
 -- `just(value)`, of these members

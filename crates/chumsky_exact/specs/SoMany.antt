@@ -38,7 +38,12 @@ module _ {Tok Cx St Er C : Type 0} (number : Cx → ℕ) (list : ℕ → Meaning
   pub so_many-accepts : {V : Type 0} (F : Language Tok V) (holds : List V → C → Type 0) (quiet : Type 0) {spare : Type 0} → ((n : ℕ) → Accepts (list n) (collected_language (repeated_language F n (Some n)) holds quiet) spare)
       → AcceptsUnder (Configured (AsksFor number) list) (so_many_language number F holds quiet) spare
   so_many-accepts F holds quiet h c =
-      fewer-accepts (OnlyUnder c (Configured (AsksFor number) list)) (list (number c)) (λ b o m. subst (λ n. list n b o) (m.1.made ∙ ap number m.0) m.1.runs) (collected_language (repeated_language F (number c) (Some (number c))) holds quiet) (h (number c))
+      let e = fewer-accepts (OnlyUnder c (Configured (AsksFor number) list)) (list (number c)) (λ b o m. subst (λ n. list n b o) (m.1.made ∙ ap number m.0) m.1.runs) (collected_language (repeated_language F (number c) (Some (number c))) holds quiet) (h (number c)) in
+      record {
+        described = λ s. let d = e.described s in record { reads = d.reads; only = d.only; given = d.given; each = d.each; decided = d.decided; further = λ m. absurd (cc m) };
+        moving = λ m. absurd (cc m);
+        sparing = e.sparing;
+      }
 
 module _ {Tok V : Type 0} (word : V → List Tok) (Good : V → Type 0) (count : ℕ) where
   from_written : (of : List Tok → V → Type 0) → ((w : List Tok) (v : V) → of w v → (w ≡ word v) × Good v) → (k : ℕ) (vs : List V) (w : List Tok) → k ≤ count → ListFrom (λ j u v. RepeatedWord (Some count) (λ z. of z v) j u) (RepeatedEnd count (Some count)) k vs w

@@ -141,5 +141,5 @@ where
     ghost language_under = { λ p. so_many_language E.Context.number (P.language p.item) C.holds C.takes_no_memory };
 
     ghost accepts_under = { λ p. so_many-accepts E.Context.number _ (P.language p.item) C.holds C.takes_no_memory
-        (λ n. collects-accepts _ _ (repeated_language (P.language p.item) n (Some n)) C.holds C.takes_no_memory (repeated-accepts _ _ _ _ false n (Some n) (P.language p.item) (P.accepts p.item))) };
+        (λ n. collects-accepts _ _ (repeated_language (P.language p.item) n (Some n)) C.holds C.takes_no_memory (repeated-accepts _ _ _ _ false n (Some n) (P.language p.item) (P.ends_after_start p.item) (P.accepts p.item))) };
 }

@@ -13,6 +13,7 @@ use Rattle.chumsky_parser.specs.MemoryLaws.{given-spares, stops-spares, chained-
 use Rattle.chumsky_parser.specs.ItemsLanguage.{Stepped, One, Over, place, IsStepped, ItemsLanguage, ItemsDescribed, AcceptsItems}
 use Rattle.chumsky_items.specs.Repeating.{fits}
 use Rattle.chumsky_folds.specs.Enumerating.{BeginsAtZero, Numbered, Enumerates}
+use Rattle.chumsky_folds.specs.EnumeratingLaws.{enumerates-end, enumerates-move}
 
 -- an item with its number, which is how many came before it
 abbrev pub enumerated_language : {Tok S V : Type 0} → ItemsLanguage Tok S V → ItemsLanguage Tok (ℕ × S) (ℕ × V)
@@ -27,6 +28,7 @@ enumerated_language l = record {
   follow = l.follow;
   unambiguous = l.unambiguous;
   refused_from = l.refused_from;
+  moves = l.moves;
   takes_no_memory = l.takes_no_memory;
 }
 
@@ -90,7 +92,9 @@ module _ {Tok Cx St Er S V : Type 0} (begins : Meaning Tok Cx St Er S) (gives : 
           each = d.each;
           ends = d.ends;
           decided = d.decided;
+          never_empty = d.never_empty;
         };
+    moving = λ e. let p = h.moving e in (enumerates-end gives begins p.0, enumerates-move gives begins p.1);
     sparing = λ q t.
         let n = h.sparing q t in
         record {

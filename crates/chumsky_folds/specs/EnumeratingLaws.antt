@@ -7,6 +7,8 @@ use Rattle.chumsky_parser.specs.FailureLaws.{stops-ends, stops-agrees}
 use Rattle.chumsky_parser.specs.Laws.{chained-ends, chained-agrees, given-ends, given-agrees}
 use Rattle.chumsky_parser.specs.Items.{Next, More, End, SameNext, ItemsEnd, ItemsAgree}
 use Rattle.chumsky_parser.specs.ItemsLaws.{after_step-ends, after_step-agrees}
+use Rattle.chumsky_parser.specs.Progress.{ItemsMove}
+use Rattle.chumsky_parser.specs.ProgressLaws.{chained-first, held-items}
 use Rattle.chumsky_items.specs.Repeating.{fits}
 use Rattle.chumsky_folds.specs.Enumerating.{BeginsAtZero, Numbered, Enumerates, SameNumbered, AlikeNumbered}
 
@@ -42,6 +44,11 @@ module _ {Tok Cx St Er S V : Type 0} (gives : S → Meaning Tok Cx St Er (Next S
 
   pub enumerates-end : ItemsEnd begins gives → ItemsEnd (BeginsAtZero begins) (Enumerates gives)
   enumerates-end h = record { begin = chained-ends begins _ h.begin (λ s. given-ends (option_map (λ t. (0, t)) s)); step = step-ends h.step }
+
+  -- they move where the items do
+  pub enumerates-move : ItemsMove begins gives → ItemsMove (BeginsAtZero begins) (Enumerates gives)
+  enumerates-move h =
+      held-items (λ t. (0, t)) begins gives (Enumerates gives) (λ s k b o m y. chained-first (gives s) _ k (after_step-ends (Numbered (fits 0) 0) (Given (Some End)) (numbered-ends (fits 0) 0) (given-ends (Some End))) b o m.step y) h
 
   module _ (same : V → V → Type 0) (alike : S → S → Type 0) where
     step-agrees : ((s t : S) → alike s t → Agreeing (SameNext same alike) (gives s) (gives t)) → (n : ℕ) (s t : S) → alike s t

@@ -1,11 +1,12 @@
 -- The language of folds: the words of a list, after or before those of a part, with what is folded of their values.
 -- Main words: fold_language, foldl_language, foldr_language. Laws: fold-accepts, foldl-accepts, foldr-accepts. Read first: ListLanguage.antt of the lists, Folding.antt, FoldingBack.antt.
-use Rattle.std.proofs.Common.{◌≡◌, false, Option, Some, None, List, drop, subst, inl, inr}
+use Rattle.std.proofs.Common.{◌≡◌, Option, Some, None, List, drop, subst, inl, inr}
 use Rattle.std.specs.Prelude.{⊤}
 use Rattle.chumsky_input.specs.Outcome.{Meaning, EndsAfterStart}
 use Rattle.chumsky_parser.specs.Chained.{Chained}
 use Rattle.chumsky_parser.specs.Copied.{GivesCopy}
-use Rattle.chumsky_parser.specs.Laws.{given-ends}
+use Rattle.chumsky_parser.specs.IgnoringLaws.{copy-ends}
+use Rattle.chumsky_parser.specs.Laws.{chained-ends, given-ends}
 use Rattle.chumsky_parser.specs.Items.{Next, ItemsEnd}
 use Rattle.chumsky_parser.specs.Ending.{At, Ends, IfValue, Answers, and_then}
 use Rattle.chumsky_parser.specs.EndingLaws.{chained-here, given-here, weaker-here, copy-by, ends_there, and_then_some}
@@ -73,9 +74,9 @@ module _ {Tok Cx St Er S V A : Type 0} (gives : S → Meaning Tok Cx St Er (Next
           };
           each = d.each;
           decided = d.decided;
-          further = λ e. absurd (cc e);
+          further = d.further;
         };
-    moving = λ e. absurd (cc e);
+    moving = λ e. chained-second (GivesCopy copies safe) (FoldsItems gives begins steps) (copy-ends copies safe) (λ a. (folds-accept a).moving e);
     sparing = λ q t. chained-spares (GivesCopy copies safe) (FoldsItems gives begins steps) (copy-spares copies safe t.1) (λ a. (folds-accept a).sparing q (t.0, tt));
   }
 
@@ -111,11 +112,11 @@ module _ {Tok Cx St Er S V A : Type 0} (gives : S → Meaning Tok Cx St Er (Next
           };
           each = λ u. then-takes_each F.ends (list_ends l.next) F.word _ F.follow l.follow (f.each u.0) (d.each u.1) u.2;
           decided = then-decided F.ends (list_ends l.next) F.word f.only F.moves f.further F.refused_from l.refused_from f.decided d.decided;
-          further = then-further F.ends (list_ends l.next) F.word _ f.only d.only F.moves false f.further (λ e. absurd (cc e));
+          further = then-further F.ends (list_ends l.next) F.word _ f.only d.only F.moves l.moves f.further d.further;
         };
-    moving = λ e. elim (either-true F.moves false e) [
+    moving = λ e. elim (either-true F.moves l.moves e) [
       | inl x ↦ chained-first part (FoldsItems gives begins steps) (k.moving x) (folds-ends gives begins steps ends)
-      | inr x ↦ absurd (cc x)
+      | inr x ↦ chained-second part (FoldsItems gives begins steps) ep (λ a. (folds-accept a).moving x)
     ];
     sparing = λ q t. chained-spares part (FoldsItems gives begins steps) (k.sparing q t.0) (λ a. (folds-accept a).sparing q t.1);
   }
@@ -141,8 +142,8 @@ module _ {Tok Cx St Er S V C A : Type 0} (gives : S → Meaning Tok Cx St Er (Ne
   folded_there ts rest e c a None i j k = tt
 
   -- `foldr`
-  pub foldr-accepts : {spare : Type 0} → ItemsEnd begins gives → AcceptsItems begins gives l spare → Accepts part F spare → Accepts (FoldsBack gives begins holds quiet part steps) (foldr_language l steps quiet F) spare
-  foldr-accepts ends h k =
+  pub foldr-accepts : {spare : Type 0} → ItemsEnd begins gives → EndsAfterStart part → AcceptsItems begins gives l spare → Accepts part F spare → Accepts (FoldsBack gives begins holds quiet part steps) (foldr_language l steps quiet F) spare
+  foldr-accepts ends ep h k =
       let collects = collects-accepts gives begins l holds quiet h in
       record {
         described = λ s.
@@ -169,11 +170,11 @@ module _ {Tok Cx St Er S V C A : Type 0} (gives : S → Meaning Tok Cx St Er (Ne
                     record { word = b.word; all = b.all; is = (i.0, i.1, i.2, b.is) };
               };
               each = λ u. then-takes_each (list_ends l.next) F.ends _ F.word l.follow F.follow (d.each u.0) (f.each u.1) u.2;
-              decided = then-decided (list_ends l.next) F.ends _ d.only false (λ e. absurd (cc e)) l.refused_from F.refused_from d.decided f.decided;
-              further = then-further (list_ends l.next) F.ends _ F.word d.only f.only false F.moves (λ e. absurd (cc e)) f.further;
+              decided = then-decided (list_ends l.next) F.ends _ d.only l.moves d.further l.refused_from F.refused_from d.decided f.decided;
+              further = then-further (list_ends l.next) F.ends _ F.word d.only f.only l.moves F.moves d.further f.further;
             };
-        moving = λ e. elim (either-true false F.moves e) [
-          | inl x ↦ absurd (cc x)
+        moving = λ e. elim (either-true l.moves F.moves e) [
+          | inl x ↦ chained-first (Collects gives begins holds quiet) _ (collects.moving x) (λ c. chained-ends part _ ep (λ a b o m z. given-ends m.value b o m.given z))
           | inr x ↦ chained-second (Collects gives begins holds quiet) _ (collects-ends gives begins holds quiet ends) (λ c. chained-first part _ (k.moving x) (λ a b o m z. given-ends m.value b o m.given z))
         ];
         sparing = λ q t. chained-spares (Collects gives begins holds quiet) _ (collects.sparing q t.0) (λ c. chained-spares part _ (k.sparing q t.1) (λ a b o m. given-spares m.value b o m.given));

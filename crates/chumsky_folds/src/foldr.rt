@@ -55,7 +55,7 @@ impl<
 
     ghost language = { λ p. foldr_language (A.language p.items.parser) (F.gives p.folder) ⟦<Vec<O> as Container<O>>⟧.takes_no_memory (B.language p.parser) };
 
-    ghost accepts = { λ p. foldr-accepts _ _ ⟦<Vec<O> as Container<O>>⟧.holds ⟦<Vec<O> as Container<O>>⟧.takes_no_memory _ (F.gives p.folder) (A.language p.items.parser) (B.language p.parser) (λ xs ys v e d. sym e ∙ d) (A.ends_after_start p.items.parser (record { nonconsumption_is_ok = false })) (A.accepts p.items.parser (record { nonconsumption_is_ok = false })) (B.accepts p.parser) };
+    ghost accepts = { λ p. foldr-accepts _ _ ⟦<Vec<O> as Container<O>>⟧.holds ⟦<Vec<O> as Container<O>>⟧.takes_no_memory _ (F.gives p.folder) (A.language p.items.parser) (B.language p.parser) (λ xs ys v e d. sym e ∙ d) (A.ends_after_start p.items.parser (record { nonconsumption_is_ok = false })) (B.ends_after_start p.parser) (A.accepts p.items.parser (record { nonconsumption_is_ok = false })) (B.accepts p.parser) };
 
     #[inline(always)]
     fn go_emit(&self, inp: &mut InputRef<'src, '_, I, E>) -> PResult<U> {

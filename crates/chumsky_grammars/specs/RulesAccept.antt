@@ -169,12 +169,12 @@ module _ {I Tok Sp Cu Er St Mk Cx V : Type 0} (source : input_trait.Ghosts I Cu 
         kind_accepts (kind.Repeated n least most) d =
             let step = Repeats states.mark states.back states.takes_no_memory (part n) false least most in
             made-accepts a.lists (Values step) (collects-accepts step (Given (Some 0)) (repeated_language (of (sub n)) least most) AreThose ⊥
-            (repeated-accepts states.mark states.back states.takes_no_memory (part n) false least most (of (sub n)) (parts n d)))
+            (repeated-accepts states.mark states.back states.takes_no_memory (part n) false least most (of (sub n)) (part_ends n) (parts n d)))
         kind_accepts (kind.SeparatedBy n m config) d =
             let step = Separates states.mark states.back states.takes_no_memory (part m) (part n) (bounds_of config) in
             let t = two_parts n m (Separated (sub n) (sub m) config) refl d in
             made-accepts a.lists (Values step) (collects-accepts step (Given (Some 0)) (separated_language (of (sub m)) (of (sub n)) (bounds_of config)) AreThose ⊥
-            (separated-accepts states.mark states.back states.takes_no_memory (part m) (part n) (bounds_of config) (of (sub m)) (of (sub n)) (parts m t.1) (parts n t.0)))
+            (separated-accepts states.mark states.back states.takes_no_memory (part m) (part n) (bounds_of config) (of (sub m)) (of (sub n)) (part_ends m) (part_ends n) (parts m t.1) (parts n t.0)))
         kind_accepts (kind.OrNot n) d =
             made-accepts a.options (OrNone states.mark states.back states.takes_no_memory (part n)) (or_not-accepts states.mark states.back (λ q. q.1) (part n) (parts n d))
         kind_accepts (kind.Not n) d = made-accepts a.units (MeansNot source errors states (part n)) (not-accepts source errors states (part n) (parts n d))

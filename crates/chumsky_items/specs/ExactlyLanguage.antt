@@ -1,6 +1,6 @@
 -- The language of just so many items, collected: as many words of items, before what may go on with the list.
 -- Main words: exact_items. Main law: exactly-accepts. Read first: ListLanguage.antt, Exactly.antt.
-use Rattle.std.proofs.Common.{◌≡◌, ℕ, zero, suc, ◌+◌, ◌-◌, ◌^◌, ◌≤◌, ◌<◌, nat_le, Bool, true, false, cond, Option, Some, None, List, [], ◌∷◌, ◌++◌, length, drop, refl, sym, ◌∙◌, ap, subst, arith, append_assoc, inl, inr}
+use Rattle.std.proofs.Common.{◌≡◌, ℕ, zero, suc, ◌+◌, ◌-◌, ◌^◌, ◌≤◌, ◌<◌, nat_le, nat_lt, Bool, true, false, ◌&&◌, cond, Option, Some, None, List, [], ◌∷◌, ◌++◌, length, drop, refl, sym, ◌∙◌, ap, subst, arith, append_assoc, inl, inr}
 use Rattle.std.specs.Prelude.{⊤}
 use Rattle.std.proofs.lemmas.List.{length-drop}
 use Rattle.std.proofs.lemmas.Bool.Decides.{nat_tests}
@@ -14,9 +14,11 @@ use Rattle.chumsky_parser.specs.Language.{Accepts, Begins}
 use Rattle.chumsky_parser.specs.Memory.{NeverOutOfMemory}
 use Rattle.chumsky_parser.specs.MemoryLaws.{given-spares, no-spares, asked-spares, chained-spares}
 use Rattle.chumsky_parser.specs.ItemsLanguage.{Stepped, One, Over, place, IsStepped, stepped_on, list_until, list_ends, GivesFrom, ListFrom, GoesOn, ItemsLanguage, ItemsDescribed, AcceptsItems}
-use Rattle.chumsky_parser.specs.ItemsWords.{list-only, list-given, list-each, list-decided}
+use Rattle.chumsky_parser.specs.ProgressLaws.{both-true}
+use Rattle.chumsky_parser.specs.ItemsWords.{list-only, list-further, list-given, list-each, list-decided}
 use Rattle.chumsky_items.specs.Consumers.{Collected}
 use Rattle.chumsky_items.specs.Exactly.{and_one, JustSo, JustSoMade, CollectsExactly}
+use Rattle.chumsky_items.specs.ItemsMove.{exactly-moves}
 use Rattle.chumsky_items.specs.ListLanguage.{Holding, collected_language, Before, one_before, collection_holds}
 
 -- a step that has to have an item
@@ -42,6 +44,7 @@ exact_items l n = record {
   follow = GoesOn l.word l.last l.follow n;
   unambiguous = l.unambiguous;
   refused_from = l.refused_from;
+  moves = nat_lt 0 n && l.moves;
   takes_no_memory = l.takes_no_memory;
 }
 
@@ -53,6 +56,9 @@ is_below n k l = grind (arith, nat_tests)
 
 enough : (n k : ℕ) → nat_le n k ≡ true → n ≤ k
 enough n k e = grind (arith, nat_tests)
+
+none_wanted : (n : ℕ) → nat_lt 0 n ≡ true → nat_le n 0 ≡ true → ⊥
+none_wanted n l m = grind (arith, nat_tests)
 
 is_enough : (n k : ℕ) → n ≤ k → nat_le n k ≡ true
 is_enough n k l = grind (arith, nat_tests)
@@ -104,6 +110,9 @@ module _ {Tok Cx St Er S V C : Type 0} (gives : S → Meaning Tok Cx St Er (Next
 
   over : (k : ℕ) (ts rest : List Tok) → Exact.next k ts ≡ At (Over rest) → Begins (Exact.last k) ts rest
   over k ts rest e = let i = exact_over (nat_le n k) (l.next k ts) ts rest e in record { word = []; all = i.1; is = (enough n k i.0, refl) }
+
+  never_empty : nat_lt 0 n ≡ true → (ts rest : List Tok) → Exact.next 0 ts ≡ At (Over rest) → ⊥
+  never_empty z ts rest e = let i = exact_over (nat_le n 0) (l.next 0 ts) ts rest e in none_wanted n z i.0
 
   goes_on : (k : ℕ) (items : List (List Tok)) (w rest : List Tok) → k ≤ n → ListFrom (λ j u (v : List Tok). Exact.word j u) Exact.last k items w → GoesOn l.word l.last l.follow n rest → GoesOn l.word l.last l.follow k (w ++ rest)
   goes_on k [] w rest m i g =
@@ -251,8 +260,8 @@ module _ {Tok Cx St Er S V C : Type 0} (gives : S → Meaning Tok Cx St Er (Next
           };
           each = λ u. list-each Exact.next (further d) Exact.word Exact.last Exact.follow (each d u) ends;
           decided = list-decided Exact.next (further d) l.refused_from (λ k ts i e. exact_refused (nat_le n k) (l.next k ts) ts (d.decided k ts i) e);
-          further = λ e. absurd (cc e);
+          further = λ e. let t = both-true (nat_lt 0 n) l.moves e in list-further Exact.next Exact.word Exact.last (one d) over (further d) (never_empty t.0);
         };
-    moving = λ e. absurd (cc e);
+    moving = λ e. let t = both-true (nat_lt 0 n) l.moves e in let p = h.moving t.1 in exactly-moves gives holds p.0.step begins n t.0 p.0.begin p.1;
     sparing = λ q t b o m. chained-spares (Asked true begins) _ (asked-spares true begins (h.sparing q t.0).begin) (made-spares (h.sparing q t.0).step (wanting b.wanted [])) b o m.run;
   }

@@ -6,7 +6,8 @@ use Rattle.std.proofs.lemmas.List.{append-nil}
 use Rattle.chumsky_input.specs.Outcome.{Meaning, Beginning}
 use Rattle.chumsky_parser.specs.Chained.{Given, Asked}
 use Rattle.chumsky_parser.specs.Ignoring.{Gives, IgnoringFirst}
-use Rattle.chumsky_parser.specs.Items.{Next, More, End}
+use Rattle.chumsky_parser.specs.IgnoringLaws.{gives-ends}
+use Rattle.chumsky_parser.specs.Items.{Next, More, End, ItemsEnd}
 use Rattle.chumsky_parser.specs.Ending.{Ending, At, Nowhere, Refused, Within, IfValue, Here, Reads}
 use Rattle.chumsky_parser.specs.EndingLaws.{given-here, asked-here, weaker-here, refuses-by, gives-by, then_given-by}
 use Rattle.chumsky_parser.specs.Language.{Language, Accepts, GivesOnly}
@@ -14,8 +15,11 @@ use Rattle.chumsky_parser.specs.Memory.{NeverOutOfMemory}
 use Rattle.chumsky_parser.specs.MemoryLaws.{given-spares, gives-spares, ignoring_first-spares}
 use Rattle.chumsky_parser.specs.ItemsLanguage.{Stepped, One, Over, place, IsStepped, list_ends, OfOne, IsOver, GivesFrom, ListFrom, IsListFrom, ItemsLanguage, ItemsDescribed, AcceptsItems}
 use Rattle.chumsky_parser.specs.ItemsEndings.{items-here}
-use Rattle.chumsky_parser.specs.ItemsWords.{list-only, list-given, list-each, list-decided}
+use Rattle.chumsky_parser.specs.Progress.{Moves, ItemsMove}
+use Rattle.chumsky_parser.specs.ProgressLaws.{asked-moves, chained-first}
+use Rattle.chumsky_parser.specs.ItemsWords.{list-only, list-further, list-given, list-each, list-decided}
 use Rattle.chumsky_items.specs.Consumers.{Skips, CountsUp, Appends, HoldsAll, Collected, Passes, Counts, Collects}
+use Rattle.chumsky_items.specs.ItemsMove.{passes-move, counts-move, collects-move}
 use Rattle.chumsky_items.specs.ItemsSpare.{items-spare, passes-spare, counts-spare}
 
 -- something that holds items which are so
@@ -35,7 +39,7 @@ list_language l value stands_for quiet = record {
   follow = l.follow;
   unambiguous = l.unambiguous;
   refused_from = l.refused_from;
-  moves = false;
+  moves = l.moves;
   takes_no_memory = l.takes_no_memory × quiet;
 }
 
@@ -68,8 +72,8 @@ module _ {Tok Cx St Er S V : Type 0} (gives : S → Meaning Tok Cx St Er (Next S
   -- what is made of the items, where it reads so, and is given so
   listed : {C : Type 0} (m : Meaning Tok Cx St Er C) (value stands_for : List Tok → C → Type 0) (quiet : Type 0) {spare : Type 0} → AcceptsItems begins gives l spare
       → (ItemsDescribed begins gives l → Reads m (list_ends l.next) value) → (ItemsDescribed begins gives l → GivesOnly (list_ends l.next) value stands_for) → (spare → l.takes_no_memory × quiet → NeverOutOfMemory m)
-      → Accepts m (list_language l value stands_for quiet) spare
-  listed m value stands_for quiet h reads given spares = record {
+      → (ItemsEnd begins gives → ItemsMove begins gives → Moves m) → Accepts m (list_language l value stands_for quiet) spare
+  listed m value stands_for quiet h reads given spares moves = record {
     described = λ s.
         let d = h.described s in
         record {
@@ -78,9 +82,9 @@ module _ {Tok Cx St Er S V : Type 0} (gives : S → Meaning Tok Cx St Er (Next S
           given = given d;
           each = λ u. list-each l.next d.further l.word l.last l.follow (d.each u) (d.ends u);
           decided = list-decided l.next d.further l.refused_from d.decided;
-          further = λ e. absurd (cc e);
+          further = λ e. list-further l.next l.word l.last d.one d.over d.further (d.never_empty e);
         };
-    moving = λ e. absurd (cc e);
+    moving = λ e. let p = h.moving e in moves p.0 p.1;
     sparing = spares;
   }
 
@@ -130,6 +134,7 @@ module _ {Tok Cx St Er S V : Type 0} (gives : S → Meaning Tok Cx St Er (Next S
         listed (Collects gives begins holds quiet) (Holding (GivesFrom l.next l.value 0) holds) (Holding (ListFrom l.stands_for l.last 0) holds) quiet h collects-reads
         (λ d. record { given = λ ts rest c e i. let b = list-given l.next l.value l.stands_for l.last d.given d.over ts rest i.items e i.is in record { word = b.word; all = b.all; is = record { items = i.items; is = b.is; held = i.held } } })
         (λ q t. let n = h.sparing q t.0 in items-spare gives (Appends quiet) (Collected holds) n.step (appends-spare t.1) (λ a b o m. given-spares m.value b o m.given) begins [] n.begin)
+        (λ e m. collects-move gives begins e m holds quiet)
 
   -- `count`
   abbrev CountBefore : List Tok → ℕ → List Tok → ℕ → Type 0
@@ -184,6 +189,7 @@ module _ {Tok Cx St Er S V : Type 0} (gives : S → Meaning Tok Cx St Er (Next S
             record { word = b.word; all = b.all; is = record { items = i.items; is = b.is; held = i.held } };
       })
       (λ q t. counts-spare gives begins (h.sparing q t.0))
+      (counts-move gives begins)
 
   -- a list whose items are let go
   passes-reads : {W : Type 0} → ItemsDescribed begins gives l → Reads (Passes gives begins W) (list_ends l.next) (λ ts v. ⊤)
@@ -199,3 +205,4 @@ module _ {Tok Cx St Er S V : Type 0} (gives : S → Meaning Tok Cx St Er (Next S
       (λ d. then_given-by (Passes gives begins (Unit {0})) (Gives (tt {0})) (list_ends l.next) (λ ts v. ⊤) (λ (v : Unit {0}). ⊤) (passes-reads d) (gives-by Er (λ (v : Unit {0}). ⊤) (tt {0}) tt))
       (λ d. record { given = λ ts rest v e i. (list-only l.next l.word l.last d.one d.over).taken ts rest e })
       (λ q t. ignoring_first-spares _ _ (passes-spare gives begins (h.sparing q t.0)) (gives-spares (tt {0})))
+      (λ e m. chained-first _ _ (asked-moves false _ (passes-move gives begins e m (Unit {0}))) (λ _. gives-ends (tt {0})))

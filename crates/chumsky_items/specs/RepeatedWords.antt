@@ -1,11 +1,12 @@
 -- Which words `repeated` takes, by those of its items.
--- Main laws: repeated-one, repeated-given, repeated-over, repeated-each, repeated-ends. Read first: ListWords.antt.
-use Rattle.std.proofs.Common.{◌≡◌, ℕ, suc, ◌≤◌, ◌<◌, nat_lt, Bool, true, false, cond, Option, Some, None, List, [], ◌∷◌, ◌++◌, length, refl, sym, ◌∙◌, ap, subst, arith, append_assoc, ◌⊎◌, inl, inr}
+-- Main laws: repeated-one, repeated-given, repeated-over, repeated-never_empty, repeated-each, repeated-ends. Read first: ListWords.antt.
+use Rattle.std.proofs.Common.{◌≡◌, ℕ, suc, ◌≤◌, ◌<◌, nat_lt, Bool, true, false, not, cond, Option, Some, None, List, [], ◌∷◌, ◌++◌, length, refl, sym, ◌∙◌, ap, subst, arith, append_assoc, ◌⊎◌, inl, inr}
 use Rattle.std.proofs.lemmas.Bool.Decides.{nat_tests}
 use Rattle.chumsky_parser.specs.Ending.{Ending, At, Nowhere, Refused, Ender, EndsOrRefused, DoesNotEnd}
 use Rattle.chumsky_parser.specs.Language.{Begins, TakesOnly, GivesOnly, TakesEach, EndsFurther}
 use Rattle.chumsky_parser.specs.ItemsLanguage.{One, Over, ListFrom, GoesOn}
-use Rattle.chumsky_items.specs.Repeating.{at_cap}
+use Rattle.chumsky_parser.specs.ProgressLaws.{both-true}
+use Rattle.chumsky_items.specs.Repeating.{at_cap, has_an_item}
 use Rattle.chumsky_items.specs.ListWords.{overs, one_or, unless_few, repeated_next, Under, Enough, IsExact, RepeatedWord, RepeatedEnd, RepeatedFollow}
 
 pub under-cap : (most : Option ℕ) (k : ℕ) → at_cap most k ≡ false → Under most k
@@ -114,6 +115,15 @@ module _ {Tok : Type 0} (f : Ender Tok) (least : ℕ) (most : Option ℕ) where
     | inl i ↦ let z : ts ≡ rest = cc i.1 in record { word = []; all = z; is = (cap-enough least most k i.0, refl) }
     | inr i ↦ let j = few_at (nat_lt k least) ts rest i.1 in record { word = []; all = j.1; is = (least-enough least most k j.0, refl) }
   ]
+
+  -- a list with an item at least is not over at once
+  pub repeated-never_empty : has_an_item least most ≡ true → (ts rest : List Tok) → repeated_next f least most 0 ts ≡ At (Over rest) → ⊥
+  repeated-never_empty h ts rest e =
+      let t = both-true (nat_lt 0 least) (not (at_cap most 0)) h in
+      elim (over_is (at_cap most 0) (At ts) (f ts) (unless_few (nat_lt 0 least) ts) rest e) [
+        | inl i ↦ let z : false ≡ true = subst (λ c. not c ≡ true) i.0 t.1 in cc z
+        | inr i ↦ let j = few_at (nat_lt 0 least) ts rest i.1 in cc (t.0, j.0)
+      ]
 
   pub repeated-decided : (k : ℕ) (ts : List Tok) → (f ts ≡ Refused → ⊥) → repeated_next f least most k ts ≡ Refused → ⊥
   repeated-decided k ts h e = refused_is (at_cap most k) (At ts) (f ts) (unless_few (nat_lt k least) ts) (λ z. cc z) h (few_not_refused (nat_lt k least) ts) e

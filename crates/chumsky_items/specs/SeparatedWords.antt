@@ -1,12 +1,14 @@
 -- Which words `separated_by` takes, by those of its items and separators.
--- Main laws: separated-one, separated-given, separated-over, separated-each, separated-ends. Read first: ListWords.antt, RepeatedWords.antt.
-use Rattle.std.proofs.Common.{◌≡◌, ℕ, zero, suc, ◌≤◌, ◌<◌, nat_lt, nat_le, Bool, true, false, ◌&&◌, cond, Option, Some, None, List, [], ◌∷◌, ◌++◌, length, refl, sym, ◌∙◌, ap, subst, arith, append_assoc, ◌⊎◌, inl, inr}
+-- Main laws: separated-one, separated-given, separated-over, separated-never_empty, separated-each, separated-ends. Read first: ListWords.antt, RepeatedWords.antt.
+use Rattle.std.proofs.Common.{◌≡◌, ℕ, zero, suc, ◌≤◌, ◌<◌, nat_lt, nat_le, Bool, true, false, not, ◌&&◌, cond, Option, Some, None, List, [], ◌∷◌, ◌++◌, length, refl, sym, ◌∙◌, ap, subst, arith, append_assoc, ◌⊎◌, inl, inr}
 use Rattle.std.proofs.lemmas.Bool.Decides.{nat_tests}
 use Rattle.chumsky_parser.specs.Ending.{Ending, At, Nowhere, Refused, Ender, and_then, or_else, Ends, EndsOrRefused, DoesNotEnd}
 use Rattle.chumsky_parser.specs.Language.{Begins, TakesOnly, GivesOnly, TakesEach, EndsFurther}
 use Rattle.chumsky_parser.specs.Words.{Joined}
 use Rattle.chumsky_parser.specs.ItemsLanguage.{Stepped, One, Over, ListFrom, GoesOn}
-use Rattle.chumsky_items.specs.Repeating.{at_cap}
+use Rattle.chumsky_parser.specs.ProgressLaws.{both-true}
+use Rattle.chumsky_items.specs.ItemsMove.{none-stays}
+use Rattle.chumsky_items.specs.Repeating.{at_cap, has_an_item}
 use Rattle.chumsky_parser.specs.WordsLaws.{then_or_refused, first_or_refused, second_or_refused}
 use Rattle.chumsky_items.specs.ListWords.{overs, one_or, unless_few, lead_at, full_at, stands, stay_or, none_at, separated_next, Enough, Led, SeparatedWord, MayTrail, SeparatedEnd, SeparatedFollow}
 use Rattle.chumsky_items.specs.RepeatedWords.{under-cap, cap-under, cap-enough, least-enough, enough-least, one_is, over_is, refused_is, one_each, overs_each, over_each, few_at, few_not_refused}
@@ -63,6 +65,18 @@ module _ {Tok : Type 0} (f separator : Ender Tok) where
         by_lead (At mid) g d = let l : length mid ≤ length ts = g mid refl in let m : length rest < length mid = h mid rest d in omega (arith, l, m)
         by_lead Nowhere g d = absurd (cc d)
         by_lead Refused g d = absurd (cc d)
+
+    -- a list with an item at least is not over at once
+    pub separated-never_empty : has_an_item least most ≡ true → (ts rest : List Tok) → next 0 ts ≡ At (Over rest) → ⊥
+    separated-never_empty h ts rest e =
+        let t = both-true (nat_lt 0 least) (not (at_cap most 0)) h in
+        elim (over_is (at_cap most 0) (full_at separator trailing 0 ts) (and_then f (lead_at separator leading 0 ts)) (none_at separator leading trailing least 0 ts) rest e) [
+          | inl i ↦ let z : false ≡ true = subst (λ c. not c ≡ true) i.0 t.1 in cc z
+          | inr i ↦
+              let z : unless_few (nat_lt 0 least) ts ≡ At rest = subst (λ s. stay_or s (lead_at separator leading 0 ts) (unless_few (nat_lt 0 least) ts) ≡ At rest) (none-stays least leading t.0) i.1 in
+              let j = few_at (nat_lt 0 least) ts rest z in
+              cc (t.0, j.0)
+        ]
 
     pub separated-one : (P S : List Tok → Type 0) → TakesOnly f P → TakesOnly separator S → (k : ℕ) (ts rest : List Tok) → next k ts ≡ At (One rest) → Begins (SeparatedWord S leading most P k) ts rest
     separated-one P S h hs k ts rest e =

@@ -1,24 +1,19 @@
 -- Items of which others are made, and folds, move where what they are made of does.
 -- Main laws: fold-moves, foldl-moves, foldr-moves, and those of folds that are shown the run. Read first: Moves.antt, ItemsMove.antt.
-use Rattle.std.proofs.Common.{◌≡◌, ℕ, ◌<◌, ◌≤◌, Bool, true, false, ◌||◌, Option, Some, None, option_map, List, Result, Ok, Err, ap, arith, inl, inr}
+use Rattle.std.proofs.Common.{◌≡◌, ℕ, ◌<◌, ◌≤◌, Bool, true, ◌||◌, Option, Some, None, option_map, List, Result, Ok, Err, ap, arith, inl, inr}
 use Rattle.std.specs.Prelude.{⊤}
 use Rattle.chumsky_input.specs.Outcome.{Meaning, Beginning, Outcome, IsAnswer, EndsAfterStart}
 use Rattle.chumsky_parser.specs.Chained.{Chained, Given, Asked, both}
-use Rattle.chumsky_input.specs.declared.stop.Stop.TheVariants.{CountTooLarge}
-use Rattle.chumsky_parser.specs.FailureLaws.{misses-ends, stops-ends}
+use Rattle.chumsky_parser.specs.FailureLaws.{misses-ends}
 use Rattle.chumsky_parser.specs.IgnoringLaws.{copy-ends}
 use Rattle.chumsky_parser.specs.Laws.{chained-ends, given-ends, asked-ends}
 use Rattle.chumsky_parser.specs.Items.{Next, More, End, ItemsEnd}
 use Rattle.chumsky_parser.specs.ItemsLaws.{after_step-ends}
-use Rattle.chumsky_parser.specs.Showing.{GivesShown, GivenShown}
+use Rattle.chumsky_parser.specs.Showing.{GivesShown}
 use Rattle.chumsky_parser.specs.ShowingLaws.{shown-ends}
-use Rattle.chumsky_combinator.specs.Mapped.{GivenBy}
-use Rattle.chumsky_combinator.specs.MappedLaws.{given_by-ends}
-use Rattle.chumsky_combinator.specs.MappedItems.{Remade, MapsItem, MapsItemWith}
 use Rattle.chumsky_combinator.specs.ThenItems.{BeginsFirst, FirstOfSecond, GivesInTurn}
 use Rattle.chumsky_combinator.specs.declared.then_items.Stage.TheVariants.{First, Second}
 use Rattle.chumsky_flatten.specs.IntoItems.{IteratorOf, BeginsOver}
-use Rattle.chumsky_folds.specs.Enumerating.{BeginsAtZero, Numbered, Enumerates}
 use Rattle.chumsky_folds.specs.Folding.{FoldsFrom, FoldsFromCopy, FoldsFromPart}
 use Rattle.chumsky_folds.specs.FoldingBack.{FoldsBack, FoldedBack}
 use Rattle.chumsky_folds.specs.FoldingBackShown.{GivenBack, FoldedBackShown, FoldsBackShown}
@@ -29,23 +24,9 @@ use Rattle.chumsky_folds.specs.FoldingTried.{TakenOrRefused, TriesSince, TakesTr
 use Rattle.chumsky_folds.specs.Placed.{PairedWith, Placed}
 use Rattle.chumsky_folds.specs.PlacedLaws.{placed-end}
 use Rattle.chumsky_items.specs.ConsumersLaws.{collects-ends}
-use Rattle.chumsky_items.specs.Repeating.{fits}
-use Rattle.chumsky_moves.specs.Moves.{ItemsMove}
-use Rattle.chumsky_parser.specs.Progress.{Moves}
-use Rattle.chumsky_parser.specs.ProgressLaws.{either-true, asked-moves, chained-first, chained-second}
-use Rattle.chumsky_moves.specs.ItemsMove.{remade-items, held-items, made-move, collects-move}
-
-module _ {Tok Cx St Er S V W : Type 0} where
-  remade-moves : (made : Option V → Meaning Tok Cx St Er W) (step : Meaning Tok Cx St Er (Next S V)) → ((v : Option V) → EndsAfterStart (made v)) → Moves step → Moves (Remade made step)
-  remade-moves made step hm h =
-      chained-first step _ h (after_step-ends (λ v s. Chained (made v) (λ w. Given (Some (More w s)))) (Given (Some End)) (λ v s. chained-ends (made v) _ (hm v) (λ w. given-ends (Some (More w s)))) (given-ends (Some End)))
-
-  module _ {begins : Meaning Tok Cx St Er S} {gives : S → Meaning Tok Cx St Er (Next S V)} where
-    pub maps_item-move : (maps : V → W → Type 0) → ItemsMove begins gives → ItemsMove begins (λ s. MapsItem maps (gives s))
-    maps_item-move maps h = remade-items (λ s k b o m y. remade-moves (GivenBy maps) (gives s) (given_by-ends maps) k b o m.remade y) h
-
-    pub maps_item_with-move : (maps : GivesShown Tok Cx St V W) → ItemsMove begins gives → ItemsMove begins (λ s. MapsItemWith maps (gives s))
-    maps_item_with-move maps h = remade-items (λ s k b o m y. remade-moves (GivenShown maps b.start) (gives s) (shown-ends maps b.start) k b o m.remade y) h
+use Rattle.chumsky_items.specs.ItemsMove.{made-move, collects-move}
+use Rattle.chumsky_parser.specs.Progress.{Moves, ItemsMove}
+use Rattle.chumsky_parser.specs.ProgressLaws.{either-true, asked-moves, chained-first, chained-second, remade-items, held-items}
 
 module _ {Tok Cx St Er S T V : Type 0} (before : Meaning Tok Cx St Er S) (firsts : S → Meaning Tok Cx St Er (Next S V)) (begins : Meaning Tok Cx St Er T) (seconds : T → Meaning Tok Cx St Er (Next T V)) (ends : ItemsEnd begins seconds) where
   second-ends : (t : Option T) → EndsAfterStart (FirstOfSecond firsts begins seconds t)
@@ -61,14 +42,6 @@ module _ {Tok Cx St Er S T V : Type 0} (before : Meaning Tok Cx St Er S) (firsts
   in_turn-move h = held-items First before firsts (GivesInTurn firsts begins seconds) first-moves h
 
 module _ {Tok Cx St Er S V : Type 0} (begins : Meaning Tok Cx St Er S) (gives : S → Meaning Tok Cx St Er (Next S V)) where
-  numbered-ends : (fit : Bool) (n : ℕ) (v : Option V) (t : S) → EndsAfterStart (Numbered {Tok = Tok} {Cx = Cx} {St = St} {Er = Er} fit n v t)
-  numbered-ends true n v t = given-ends _
-  numbered-ends false n v t = stops-ends CountTooLarge
-
-  pub enumerates-move : ItemsMove begins gives → ItemsMove (BeginsAtZero begins) (Enumerates gives)
-  enumerates-move h =
-      held-items (λ t. (0, t)) begins gives (Enumerates gives) (λ s k b o m y. chained-first (gives s) _ k (after_step-ends (Numbered (fits 0) 0) (Given (Some End)) (numbered-ends (fits 0) 0) (given-ends (Some End))) b o m.step y) h
-
   placed-move : ItemsMove begins gives → ItemsMove begins (λ s. Placed (gives s))
   placed-move h =
       remade-items (λ s k b o m y. chained-first (gives s) _ k (after_step-ends (PairedWith b.start) (Given (Some End)) (λ v t. given-ends (Some (More (option_map (λ x. (x, b.start)) v) t))) (given-ends (Some End))) b o m.run y) h

@@ -1,6 +1,5 @@
 pub mod Moves
 pub mod ChoicesMove
 pub mod PartsMove
-pub mod ItemsMove
 pub mod FoldsMove
 pub mod TakenMove

@@ -1,6 +1,6 @@
 //! Items whose first step moves, and parsers made of items, which move where that step does.
 ghost use Rattle.std.specs.Prelude.{◌≡◌, true, false, ◌&&◌};
-ghost use Rattle.chumsky_moves.specs.Moves.{has_an_item};
+ghost use Rattle.chumsky_items.specs.Repeating.{has_an_item};
 ghost use Rattle.chumsky_parser.specs.ProgressLaws.{both-true};
 
 use crate::moving::{Moving, MovingItems};
@@ -34,7 +34,7 @@ impl<'src, I: Input<'src>, O: Drop, E: ParserExtra<I>, A: Moving<'src, I, O, E>>
     O,
     E,
 > for Repeated<A, O, I, E> {
-    ghost use Rattle.chumsky_moves.specs.ItemsMove.{repeats-move};
+    ghost use Rattle.chumsky_items.specs.ItemsMove.{repeats-move};
 
     ghost first_moves = { λ p. has_an_item p.at_least p.at_most && A.moves p.parser };
 
@@ -54,7 +54,7 @@ impl<
     A: Moving<'src, I, O, E>,
     B: Parser<'src, I, U, E>,
 > MovingItems<'src, I, O, E> for SeparatedBy<A, B, O, U, I, E> {
-    ghost use Rattle.chumsky_moves.specs.ItemsMove.{separates-move};
+    ghost use Rattle.chumsky_items.specs.ItemsMove.{separates-move};
 
     ghost first_moves = { λ p. has_an_item p.at_least p.at_most && A.moves p.parser };
 
@@ -74,11 +74,11 @@ impl<
     A: MovingItems<'src, I, O, E>,
     F: Mapper<O, U>,
 > MovingItems<'src, I, U, E> for Map<A, O, F, U> {
-    ghost use Rattle.chumsky_moves.specs.FoldsMove.{maps_item-move};
+    ghost use Rattle.chumsky_combinator.specs.MappedItemsLaws.{maps_item-move};
 
     ghost first_moves = { λ p. A.first_moves p.parser };
 
-    ghost first_moved = { λ p e d. maps_item-move (F.gives p.mapper) (A.first_moved p.parser e d) };
+    ghost first_moved = { λ p e d. maps_item-move (F.gives p.mapper) _ _ (A.first_moved p.parser e d) };
 
     fn first_always_moves(&self) -> bool {
         self.parser.first_always_moves()
@@ -94,11 +94,11 @@ impl<
     A: MovingItems<'src, I, O, E>,
     F: MapperWith<'src, I, O, U, E>,
 > MovingItems<'src, I, U, E> for MapWith<A, O, F, U> {
-    ghost use Rattle.chumsky_moves.specs.FoldsMove.{maps_item_with-move};
+    ghost use Rattle.chumsky_combinator.specs.MappedItemsLaws.{maps_item_with-move};
 
     ghost first_moves = { λ p. A.first_moves p.parser };
 
-    ghost first_moved = { λ p e d. maps_item_with-move _ (A.first_moved p.parser e d) };
+    ghost first_moved = { λ p e d. maps_item_with-move _ _ _ (A.first_moved p.parser e d) };
 
     fn first_always_moves(&self) -> bool {
         self.parser.first_always_moves()
@@ -133,7 +133,7 @@ impl<'src, I: Input<'src>, O: Drop, E: ParserExtra<I>, A: MovingItems<'src, I, O
     (usize, O),
     E,
 > for Enumerate<A, O> {
-    ghost use Rattle.chumsky_moves.specs.FoldsMove.{enumerates-move};
+    ghost use Rattle.chumsky_folds.specs.EnumeratingLaws.{enumerates-move};
 
     ghost first_moves = { λ p. A.first_moves p.parser };
 
@@ -191,7 +191,7 @@ impl<'src, I: Input<'src>, O: Drop, E: ParserExtra<I>, A: Moving<'src, I, O, E>>
 > for Repeated<A, O, I, E> {
     ghost use Rattle.chumsky_parser.specs.IgnoringLaws.{gives-ends};
     ghost use Rattle.chumsky_items.specs.RepeatingLaws.{repeats-end};
-    ghost use Rattle.chumsky_moves.specs.ItemsMove.{repeats-move, passes-move};
+    ghost use Rattle.chumsky_items.specs.ItemsMove.{repeats-move, passes-move};
     ghost use Rattle.chumsky_parser.specs.ProgressLaws.{chained-first, asked-moves};
 
     ghost moves = { λ p. has_an_item p.at_least p.at_most && A.moves p.parser };
@@ -215,7 +215,7 @@ impl<
 > Moving<'src, I, (), E> for SeparatedBy<A, B, O, U, I, E> {
     ghost use Rattle.chumsky_parser.specs.IgnoringLaws.{gives-ends};
     ghost use Rattle.chumsky_items.specs.SeparatingLaws.{separates-end};
-    ghost use Rattle.chumsky_moves.specs.ItemsMove.{separates-move, passes-move};
+    ghost use Rattle.chumsky_items.specs.ItemsMove.{separates-move, passes-move};
     ghost use Rattle.chumsky_parser.specs.ProgressLaws.{chained-first, asked-moves};
 
     ghost moves = { λ p. has_an_item p.at_least p.at_most && A.moves p.parser };
@@ -235,7 +235,7 @@ impl<
     A: MovingItems<'src, I, O, E>,
     C: Container<O> + Drop,
 > Moving<'src, I, C, E> for Collect<A, O, C> {
-    ghost use Rattle.chumsky_moves.specs.ItemsMove.{collects-move};
+    ghost use Rattle.chumsky_items.specs.ItemsMove.{collects-move};
 
     ghost moves = { λ p. A.first_moves p.parser };
 
@@ -252,7 +252,7 @@ impl<'src, I: Input<'src>, O, E: ParserExtra<I>, A: MovingItems<'src, I, O, E>> 
     usize,
     E,
 > for Count<A, O> {
-    ghost use Rattle.chumsky_moves.specs.ItemsMove.{counts-move};
+    ghost use Rattle.chumsky_items.specs.ItemsMove.{counts-move};
 
     ghost moves = { λ p. A.first_moves p.parser };
 
@@ -273,7 +273,7 @@ impl<
     C: ContainerExactly<O> + Drop,
 > Moving<'src, I, C, E> for CollectExactly<A, O, C> {
     ghost use Rattle.std.specs.Prelude.{nat_lt};
-    ghost use Rattle.chumsky_moves.specs.ItemsMove.{exactly-moves};
+    ghost use Rattle.chumsky_items.specs.ItemsMove.{exactly-moves};
 
     ghost moves = { λ p. nat_lt 0 C.LEN && A.first_moves p.parser };
 

@@ -43,7 +43,7 @@ pub trait MovingPart<'src, I: Input<'src>, O, E: ParserExtra<I>>: Part<'src, I, 
 /// Whether the first step of each iteration moves wherever it succeeds: that of `just("a").repeated().at_least(1)` does, and
 /// that of `just("a").repeated()` does not, since it may give no item. Of items that answer no, nothing is known.
 pub trait MovingItems<'src, I: Input<'src>, O, E: ParserExtra<I>>: IterParser<'src, I, O, E> {
-    ghost use Rattle.chumsky_moves.specs.Moves.{ItemsMove};
+    ghost use Rattle.chumsky_parser.specs.Progress.{ItemsMove};
     ghost use Rattle.chumsky_parser.specs.declared.iter.IterParserDebug.{IterParserDebug};
 
     /// That each first step that succeeds ends past its start.

@@ -1,5 +1,5 @@
 -- The language of a choice: a word of one alternative, which those before it leave.
--- Main words: or_language, FailsOn. Laws: or-accepts, last-accepts, next-accepts. Read first: Language.antt, Words.antt, Choice.antt.
+-- Main words: or_language, FailsOn. Laws: either-accepts, or-accepts, last-accepts, next-accepts. Read first: Language.antt, Words.antt, Choice.antt.
 use Rattle.std.proofs.Common.{◌≡◌, ℕ, zero, suc, true, ◌&&◌, List, [], ◌∷◌, ◌++◌, ◌⊎◌, inl, inr, refl, sym, subst}
 use Rattle.chumsky_input.specs.Outcome.{Meaning, Beginning, Outcome, Verdict, Yes, No, Halt, Clash}
 use Rattle.chumsky_parser.specs.Choice.{GoneOn, ElseFrom, AttemptFrom, Stands, FirstFrom, OrElse, FirstOf}
@@ -36,12 +36,12 @@ or_language F G = record {
 
 module _ {Tok Cx St Er V : Type 0} (first second m : Meaning Tok Cx St Er V) (F G : Language Tok V) where
   -- that what tries one part and then another ends where they do, and moves and takes memory only as they do
-  record IsEither (safe : Type 0) : Type 0 where
-    reads : Reads first F.ends F.value → Reads second G.ends G.value → Reads m (either_ends F.ends G.ends) (λ ts v. ElseValue (F.ends ts) (F.value ts v) (G.value ts v))
-    moving : (F.moves ≡ true → Moves first) → (G.moves ≡ true → Moves second) → (F.moves && G.moves) ≡ true → Moves m
-    sparing : safe → NeverOutOfMemory first → NeverOutOfMemory second → NeverOutOfMemory m
+  pub record IsEither (safe : Type 0) : Type 0 where
+    pub reads : Reads first F.ends F.value → Reads second G.ends G.value → Reads m (either_ends F.ends G.ends) (λ ts v. ElseValue (F.ends ts) (F.value ts v) (G.value ts v))
+    pub moving : (F.moves ≡ true → Moves first) → (G.moves ≡ true → Moves second) → (F.moves && G.moves) ≡ true → Moves m
+    pub sparing : safe → NeverOutOfMemory first → NeverOutOfMemory second → NeverOutOfMemory m
 
-  either-accepts : {safe spare : Type 0} → (spare → safe) → IsEither safe → Accepts first F spare → Accepts second G spare → Accepts m (or_language F G) spare
+  pub either-accepts : {safe spare : Type 0} → (spare → safe) → IsEither safe → Accepts first F spare → Accepts second G spare → Accepts m (or_language F G) spare
   either-accepts still i h k = record {
     described = λ s.
         let t = both-true F.said G.said s in

@@ -3,11 +3,12 @@
 -- Main words: ItemsLanguage, AcceptsItems. Laws: ItemsEndings.antt. Read first: Ending.antt, Language.antt, Items.antt.
 use Rattle.std.specs.Prelude.{◌≡◌, ℕ, zero, suc, ◌+◌, ◌^◌, ◌<◌, Bool, true, false, Option, Some, List, [], ◌∷◌, ◌++◌, length, drop, ⊤}
 use Rattle.chumsky_input.specs.Outcome.{Meaning, Beginning}
-use Rattle.chumsky_parser.specs.Items.{Next, More, End}
+use Rattle.chumsky_parser.specs.Items.{Next, More, End, ItemsEnd}
 use Rattle.chumsky_parser.specs.Ending.{Ending, At, Nowhere, Refused, Within, IfValue, Here, Reads, EndsOrRefused}
 use Rattle.chumsky_parser.specs.Language.{Begins, IsBelow}
 use Rattle.chumsky_parser.specs.Words.{Joined}
 use Rattle.chumsky_parser.specs.Memory.{ItemsNeverOutOfMemory}
+use Rattle.chumsky_parser.specs.Progress.{ItemsMove}
 
 -- where a step ends: one more item ends here, or the list does
 pub data Stepped (Tok : Type 0) : Type 0 where
@@ -106,6 +107,8 @@ pub record ItemsLanguage (Tok S V : Type 0) : Type 1 where
   pub unambiguous : Type 0
   -- how many tokens a text has at least that is refused for something else than memory
   pub refused_from : Option ℕ
+  -- that there is an item wherever the list succeeds, so that it takes a token
+  pub moves : Bool
   -- what has to take no memory, besides errors and states
   pub takes_no_memory : Type 0
 
@@ -130,15 +133,17 @@ module _ {Tok Cx St Er S V : Type 0} (begins : Meaning Tok Cx St Er S) (gives : 
     pub each : l.unambiguous → (k : ℕ) (w rest : List Tok) → l.word k w → GoesOn l.word l.last l.follow (suc k) rest → EndsOrRefused (l.next k (w ++ rest)) (One rest)
     pub ends : l.unambiguous → (k : ℕ) (w rest : List Tok) → l.last k w → l.follow rest → EndsOrRefused (l.next k (w ++ rest)) (Over rest)
     pub decided : (k : ℕ) (ts : List Tok) → IsBelow l.refused_from (length ts) → l.next k ts ≡ Refused → ⊥
+    pub never_empty : l.moves ≡ true → (ts rest : List Tok) → l.next 0 ts ≡ At (Over rest) → ⊥
 
   -- what is said of a parser of items holds, where errors and states take no memory if this does
   pub record AcceptsItems (spare : Type 0) : Type 0 where
     pub described : l.said ≡ true → ItemsDescribed
+    pub moving : l.moves ≡ true → ItemsEnd begins gives × ItemsMove begins gives
     pub sparing : spare → l.takes_no_memory → ItemsNeverOutOfMemory begins gives
 
 -- nothing is said
 abbrev pub unsaid_items : {Tok S V : Type 0} → ItemsLanguage Tok S V
-unsaid_items = record { said = false; has_given = λ _ _. ⊤; next = λ _ _. Refused; value = λ _ _ _. ⊤; word = λ _ _. ⊤; stands_for = λ _ _ _. ⊤; last = λ _ _. ⊤; follow = λ _. ⊥; unambiguous = ⊥; refused_from = Some zero; takes_no_memory = ⊥ }
+unsaid_items = record { said = false; has_given = λ _ _. ⊤; next = λ _ _. Refused; value = λ _ _ _. ⊤; word = λ _ _. ⊤; stands_for = λ _ _ _. ⊤; last = λ _ _. ⊤; follow = λ _. ⊥; unambiguous = ⊥; refused_from = Some zero; moves = false; takes_no_memory = ⊥ }
 
 pub of_unsaid_items : {Tok Cx St Er S V : Type 0} {begins : Meaning Tok Cx St Er S} {gives : S → Meaning Tok Cx St Er (Next S V)} {spare : Type 0} → AcceptsItems begins gives unsaid_items spare
-of_unsaid_items = record { described = λ s. absurd (cc s); sparing = λ _ x. absurd x }
+of_unsaid_items = record { described = λ s. absurd (cc s); moving = λ s. absurd (cc s); sparing = λ _ x. absurd x }

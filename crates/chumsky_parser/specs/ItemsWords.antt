@@ -1,11 +1,12 @@
 -- Which words a list takes, and with which items, by which its steps do.
--- Main laws: list-only, list-given, list-each, list-decided. Read first: ItemsLanguage.antt.
+-- Main laws: list-only, list-further, list-given, list-each, list-decided. Read first: ItemsLanguage.antt.
 use Rattle.std.proofs.Common.{◌≡◌, ℕ, zero, suc, ◌≤◌, ◌<◌, Option, List, [], ◌∷◌, ◌++◌, length, refl, sym, ◌∙◌, ap, subst, arith, append_assoc, inl, inr}
 use Rattle.std.specs.Prelude.{⊤}
 use Rattle.chumsky_parser.specs.Ending.{Ending, At, Nowhere, Refused, EndsOrRefused}
 use Rattle.chumsky_parser.specs.FurtherLaws.{fewer-below}
-use Rattle.chumsky_parser.specs.Language.{Begins, TakesOnly, TakesEach, NeverRefusedBelow, IsBelow}
+use Rattle.chumsky_parser.specs.Language.{Begins, TakesOnly, EndsFurther, TakesEach, NeverRefusedBelow, IsBelow}
 use Rattle.chumsky_parser.specs.Words.{Joined}
+use Rattle.chumsky_parser.specs.WordsLaws.{keeps_tokens}
 use Rattle.chumsky_parser.specs.ItemsLanguage.{Stepped, One, Over, stepped_on, list_until, list_ends, OfOne, IsOver, GivesFrom, ListFrom, IsListFrom, GoesOn}
 
 begins_both : {Tok : Type 0} (P Q : List Tok → Type 0) (ts mid rest : List Tok) → Begins P ts mid → Begins Q mid rest → Begins (Joined P Q) ts rest
@@ -48,6 +49,23 @@ module _ {Tok : Type 0} (next : ℕ → List Tok → Ending (Stepped Tok)) where
     -- where a list ends, it took words of its items and of its end
     pub list-only : TakesOnly (list_ends next) (IsListFrom word last 0)
     list-only = record { taken = λ ts rest e. until_only (length ts) 0 ts rest e }
+
+    module _ (further : (k : ℕ) (ts rest : List Tok) → next k ts ≡ At (One rest) → length rest < length ts) (never_empty : (ts rest : List Tok) → next 0 ts ≡ At (Over rest) → ⊥) where
+      first_further : (ts rest : List Tok) (more : List Tok → Ending (List Tok)) → ((mid : List Tok) → more mid ≡ At rest → length rest ≤ length mid)
+          → (t : Ending (Stepped Tok)) → next 0 ts ≡ t → stepped_on more t ≡ At rest → length rest < length ts
+      first_further ts rest more h (At (One mid)) d e = let a : length mid < length ts = further 0 ts mid d in let b : length rest ≤ length mid = h mid e in omega (arith, a, b)
+      first_further ts rest more h (At (Over mid)) d e = absurd (never_empty ts mid d)
+      first_further ts rest more h Nowhere d e = absurd (cc e)
+      first_further ts rest more h Refused d e = absurd (cc e)
+
+      until_further : (n : ℕ) (ts rest : List Tok) → list_until next n 0 ts ≡ At rest → length rest < length ts
+      until_further zero ts rest e = first_further ts rest _ (λ mid z. absurd (cc z)) (next 0 ts) refl e
+      until_further (suc n) ts rest e =
+          first_further ts rest _ (λ mid z. keeps_tokens (list_until next n 1) (IsListFrom word last 1) (record { taken = λ us r. until_only n 1 us r }) mid rest z) (next 0 ts) refl e
+
+      -- a list that has an item wherever it ends takes a token there
+      pub list-further : EndsFurther (list_ends next)
+      list-further = λ ts rest e. until_further (length ts) ts rest e
 
   module _ {V : Type 0} (value : ℕ → List Tok → V → Type 0) (stands_for : ℕ → List Tok → V → Type 0) (last : ℕ → List Tok → Type 0)
       (given : (k : ℕ) (ts rest : List Tok) (v : V) → next k ts ≡ At (One rest) → value k ts v → Begins (λ w. stands_for k w v) ts rest)

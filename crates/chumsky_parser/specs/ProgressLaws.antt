@@ -1,15 +1,15 @@
 -- What moves where it succeeds: parts one after another, since one part does, and one part or another, since both do.
--- Main laws: chained-first, chained-second, sequence-moves, or-moves. Read first: Progress.antt.
-use Rattle.std.proofs.Common.{◌≡◌, ℕ, ◌≤◌, ◌<◌, Bool, true, false, ◌&&◌, ◌||◌, Option, List, ◌⊎◌, inl, inr, refl, sym, ap, subst, arith}
+-- Main laws: chained-first, chained-second, sequence-moves, or-moves; of items given-items, remade-items, held-items. Read first: Progress.antt.
+use Rattle.std.proofs.Common.{◌≡◌, ℕ, ◌≤◌, ◌<◌, Bool, true, false, ◌&&◌, ◌||◌, Option, Some, None, option_map, List, ◌⊎◌, inl, inr, refl, sym, ap, subst, arith}
 use Rattle.chumsky_input.specs.Outcome.{Event, Meaning, Beginning, Outcome, Verdict, Yes, No, Halt, Clash, IsAnswer, EndsAfterStart}
-use Rattle.chumsky_parser.specs.Chained.{from, Follows, Chained, Asked, Sequence, both}
+use Rattle.chumsky_parser.specs.Chained.{from, Follows, Chained, Given, Asked, Sequence, both}
 use Rattle.chumsky_parser.specs.Choice.{ElseFrom, OrElse}
 use Rattle.chumsky_parser.specs.Failure.{FailsAt, Misses, SaysNo}
 use Rattle.chumsky_parser.specs.Ignoring.{IgnoringFirst, IgnoringSecond, Between}
 use Rattle.chumsky_parser.specs.IgnoringLaws.{ignoring_second-ends}
 use Rattle.chumsky_parser.specs.Laws.{chained-ends, given-ends, asked-ends}
-use Rattle.chumsky_parser.specs.Progress.{IsYes}
-use Rattle.chumsky_parser.specs.Progress.{Moves}
+use Rattle.chumsky_parser.specs.Items.{Next}
+use Rattle.chumsky_parser.specs.Progress.{IsYes, Moves, ItemsMove}
 
 -- what says nothing promises nothing
 pub never : {P : Type 0} → false ≡ true → P
@@ -144,3 +144,45 @@ module _ {Tok Cx St Mk Er V : Type 0} (mark : St → Mk) (back : St → Mk → S
 
   pub or-moves : (first second : Meaning Tok Cx St Er V) (a b : Bool) → (a ≡ true → Moves first) → (b ≡ true → Moves second) → (a && b) ≡ true → Moves (OrElse mark back safe first second)
   or-moves first second a b hf hs e = let t = both-true a b e in or_else-moves first second (hf t.0) (hs t.1)
+
+module _ {Tok Cx St Er S V : Type 0} where
+  -- the one iteration that is made has a first step that moves
+  pub given-items : (s : S) (gives : S → Meaning Tok Cx St Er (Next S V)) → Moves (gives s) → ItemsMove (Given {Tok = Tok} {Cx = Cx} {St = St} {Er = Er} (Some s)) gives
+  given-items s gives h =
+      record {
+        by = inr (λ b p t m e.
+            let one : p.verdict ≡ Yes (Some s) = ap (λ (x : Outcome S Er St). x.verdict) m in
+            let same : s ≡ t = cc (one, e) in
+            subst (λ x. Moves (gives x)) same h);
+      }
+
+  -- other steps, each of which moves where its own does
+  pub remade-items : {U : Type 0} {begins : Meaning Tok Cx St Er S} {gives : S → Meaning Tok Cx St Er (Next S V)} {other : S → Meaning Tok Cx St Er (Next S U)} → ((s : S) → Moves (gives s) → Moves (other s)) → ItemsMove begins gives → ItemsMove begins other
+  remade-items h k = record { by = elim k.by [ inl x ↦ inl x | inr x ↦ inr (λ b p s m e. h s (x b p s m e)) ] }
+
+module _ {Tok Cx St Er S R V W : Type 0} (f : S → R) (begins : Meaning Tok Cx St Er S) (gives : S → Meaning Tok Cx St Er (Next S V)) (other : R → Meaning Tok Cx St Er (Next R W)) (h : (s : S) → Moves (gives s) → Moves (other (f s))) where
+  unwrapped : ((b : Beginning Tok Cx St) (p : Outcome S Er St) (s : S) → begins b p → p.verdict ≡ Yes (Some s) → Moves (gives s))
+      → (b : Beginning Tok Cx St) (q : Outcome S Er St) (p : Outcome R Er St) (v : Verdict S Er) → begins b q → q.verdict ≡ v → Follows v (λ s. Given (option_map f s)) b q p → (r : R) → p.verdict ≡ Yes (Some r) → Moves (other r)
+  unwrapped x b q p (Yes (Some s)) m d k r e =
+      let whole : p.verdict ≡ k.0.verdict = ap (λ (z : Outcome R Er St). z.verdict) k.2 in
+      let one : k.0.verdict ≡ Yes (Some (f s)) = ap (λ (z : Outcome R Er St). z.verdict) k.1 in
+      let same : f s ≡ r = cc (whole, one, e) in
+      subst (λ z. Moves (other z)) same (h s (x b q s m d))
+  unwrapped x b q p (Yes None) m d k r e =
+      let whole : p.verdict ≡ k.0.verdict = ap (λ (z : Outcome R Er St). z.verdict) k.2 in
+      let one : k.0.verdict ≡ Yes None = ap (λ (z : Outcome R Er St). z.verdict) k.1 in
+      let no : ⊥ = cc (whole, one, e) in
+      absurd no
+  unwrapped x b q p No m d k r e = let whole : p.verdict ≡ No = ap (λ (z : Outcome R Er St). z.verdict) k in let no : ⊥ = cc (whole, e) in absurd no
+  unwrapped x b q p (Halt s) m d k r e = let whole : p.verdict ≡ Halt s = ap (λ (z : Outcome R Er St). z.verdict) k in let no : ⊥ = cc (whole, e) in absurd no
+  unwrapped x b q p (Clash s) m d k r e = let whole : p.verdict ≡ Clash s = ap (λ (z : Outcome R Er St). z.verdict) k in let no : ⊥ = cc (whole, e) in absurd no
+
+  -- an iteration that holds another
+  pub held-items : ItemsMove begins gives → ItemsMove (Chained begins (λ s. Given (option_map f s))) other
+  held-items k =
+      record {
+        by = elim k.by [
+          | inl x ↦ inl (chained-first begins _ x (λ s. given-ends (option_map f s)))
+          | inr x ↦ inr (λ b p r m e. unwrapped x b m.first p m.first.verdict m.meant refl m.follows r e)
+        ];
+      }

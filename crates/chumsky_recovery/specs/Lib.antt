@@ -13,3 +13,4 @@ pub mod Nested
 pub mod NestedLaws
 pub mod RecoveryMoves
 pub mod RecoverySpares
+pub mod RecoveredLanguage

@@ -40,10 +40,10 @@ where
     A: Parser<'src, I, O, E>,
     S: Strategy<'src, I, O, E, A>,
 {
-    ghost use Rattle.chumsky_parser.specs.Language.{of_unsaid};
     ghost use Rattle.chumsky_input.specs.Run.{final_error};
     ghost use Rattle.chumsky_parser.specs.Choice.{SameEither};
     ghost use Rattle.chumsky_recovery.specs.Recovered.{MeansRecovered};
+    ghost use Rattle.chumsky_recovery.specs.RecoveredLanguage.{recovered_language, recovered-accepts};
     ghost use Rattle.chumsky_recovery.specs.RecoveredLaws.{recovered-ends, recovered-agrees};
     ghost use Rattle.chumsky_recovery.specs.StrategyLaws.{agreeing-either, agreeing-or};
 
@@ -55,11 +55,13 @@ where
 
     ghost same = { λ p. SameEither (A.same p.parser) (S.same p.strategy p.parser) };
 
+    ghost language = { λ p. recovered_language (A.language p.parser) (S.language p.strategy p.parser) };
+
     ghost ends_after_start = { λ p. recovered-ends _ _ _ _ _ _ _ (A.ends_after_start p.parser) (S.ends_after_start p.strategy p.parser) };
 
     ghost agrees = { λ p s. recovered-agrees _ _ _ _ _ _ _ (SameEither (A.same p.parser) (S.same p.strategy p.parser)) (agreeing-either (A.same p.parser) (S.same p.strategy p.parser) _ (A.agrees p.parser s.0)) (agreeing-or (A.same p.parser) (S.same p.strategy p.parser) _ (S.agrees p.strategy p.parser s.1)) };
 
-    ghost accepts = { λ _. of_unsaid };
+    ghost accepts = { λ p. recovered-accepts _ _ _ _ _ _ _ (A.accepts p.parser) (S.accepts p.strategy p.parser) };
 
     #[inline]
     fn go_emit(&self, inp: &mut InputRef<'src, '_, I, E>) -> PResult<O> {

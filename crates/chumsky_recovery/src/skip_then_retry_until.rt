@@ -47,6 +47,7 @@ where
     S: Parser<'src, I, (), E>,
     U: Parser<'src, I, (), E>,
 {
+    ghost use Rattle.chumsky_parser.specs.Language.{of_unsaid};
     ghost use Rattle.chumsky_recovery.specs.Seeking.{MeansSkipThenRetry};
     ghost use Rattle.chumsky_recovery.specs.SeekingLaws.{skip_then_retry-ends, skip_then_retry-agrees};
 
@@ -61,6 +62,8 @@ where
     ghost ends_after_start = { λ s a. skip_then_retry-ends _ _ _ _ _ _ (U.ends_after_start s.until) (S.ends_after_start s.skip) (A.ends_after_start a) };
 
     ghost agrees = { λ s a t. skip_then_retry-agrees _ _ _ _ _ _ (U.same s.until) (S.same s.skip) (A.same a) (U.agrees s.until t.1) (S.agrees s.skip t.0) (A.agrees a t.2) };
+
+    ghost accepts = { λ _ _. of_unsaid };
 
     #[inline]
     fn recover_emit(&self, parser: &A, inp: &mut InputRef<'src, '_, I, E>) -> PResult<O> {

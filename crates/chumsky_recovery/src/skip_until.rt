@@ -75,6 +75,7 @@ where
     U: Parser<'src, I, (), E>,
     F: Fallback<O>,
 {
+    ghost use Rattle.chumsky_parser.specs.Language.{of_unsaid};
     ghost use Rattle.chumsky_recovery.specs.Seeking.{MeansSkipUntil};
     ghost use Rattle.chumsky_recovery.specs.SeekingLaws.{BothGiven, skip_until-ends, skip_until-agrees};
 
@@ -89,6 +90,8 @@ where
     ghost ends_after_start = { λ s a. skip_until-ends _ _ _ _ _ (F.gives s.fallback) (U.ends_after_start s.until) (S.ends_after_start s.skip) };
 
     ghost agrees = { λ s a t. skip_until-agrees _ _ _ _ _ (F.gives s.fallback) (U.same s.until) (S.same s.skip) (U.agrees s.until t.1) (S.agrees s.skip t.0) };
+
+    ghost accepts = { λ _ _. of_unsaid };
 
     #[inline]
     fn recover_emit(&self, parser: &A, inp: &mut InputRef<'src, '_, I, E>) -> PResult<O> {

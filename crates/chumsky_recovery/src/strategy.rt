@@ -19,6 +19,7 @@ pub trait IsStrategy<I, O, E> {}
 pub trait Strategy<'src, I: Input<'src>, O, E: ParserExtra<I>, A> {
     ghost use Rattle.chumsky_input.specs.Words.{Does};
     ghost use Rattle.chumsky_input.specs.Outcome.{EndsAfterStart, Agreeing};
+    ghost use Rattle.chumsky_parser.specs.Language.{Language, Accepts, unsaid};
 
     /// That the strategy may be run for a parser: its closures may be called, and that parser, if it runs it.
     ghost ready: { Self → A → Type 0 };
@@ -28,6 +29,8 @@ pub trait Strategy<'src, I: Input<'src>, O, E: ParserExtra<I>, A> {
     ghost steady: { Self → A → Type 0 };
     /// Which outputs count as the same.
     ghost same: { Self → A → O → O → Type 0 };
+    /// Which texts it accepts, and with which values; by default nothing is said.
+    ghost language: { Self → A → Language I.Token O } = { λ _ _. unsaid };
 
     /// Gives an output in place of the parser's, which failed here.
     fn recover_emit(&self, parser: &A, inp: &mut InputRef<'src, '_, I, E>) -> PResult<O>
@@ -51,4 +54,7 @@ pub trait Strategy<'src, I: Input<'src>, O, E: ParserExtra<I>, A> {
     /// Two answers of a steady strategy agree, with an output or without.
     ghost agrees: { (s : Self) (a : A) → steady s a → Agreeing (same s a) (helps s a E.Error.Error E.State.Inspector)
         (helps s a E.Error.Error E.State.Inspector) };
+
+    /// What is said of its language holds. Where nothing is said: `ghost accepts = { λ _ _. of_unsaid };`.
+    ghost accepts: { (s : Self) (a : A) → Accepts (helps s a E.Error.Error E.State.Inspector) (language s a) (E.Error.takes_no_memory × E.State.takes_no_memory) };
 }

@@ -40,9 +40,13 @@ impl<'src, I: Input<'src>, O, E: ParserExtra<I>, A, P: Parser<'src, I, O, E>> St
 
     ghost same = { λ s a. P.same s.parser };
 
+    ghost language = { λ s a. P.language s.parser };
+
     ghost ends_after_start = { λ s a. P.ends_after_start s.parser };
 
     ghost agrees = { λ s a t. P.agrees s.parser t };
+
+    ghost accepts = { λ s a. P.accepts s.parser };
 
     #[inline]
     fn recover_emit(&self, parser: &A, inp: &mut InputRef<'src, '_, I, E>) -> PResult<O> {

@@ -17,10 +17,10 @@ use Rattle.exact.specs.Bits.{IsBit, IsBits}
 abbrev pub is_bit : ℕ → Bool
 is_bit = among nat_eq (codes "01")
 
-bit-is : (c : ℕ) → is_bit c ≡ true → IsBit c
+pub bit-is : (c : ℕ) → is_bit c ≡ true → IsBit c
 bit-is c e = grind (arith, nat_tests)
 
-is-bit : (c : ℕ) → IsBit c → is_bit c ≡ true
+pub is-bit : (c : ℕ) → IsBit c → is_bit c ≡ true
 is-bit c (inl e) = rw e refl
 is-bit c (inr e) = rw e refl
 

@@ -314,7 +314,7 @@ impl<'src, P: Parser<'src, &'src str, Json, EmptyText>> Parser<
         (collects-ends _ _ _ _ (separates-end _ _ _ _ _ _ (mark-lawful 44).ends (P.ends_after_start p.value)))
         (mark-lawful 93).ends
         (letter-lawful 91).accepts
-        (collects-accepts _ _ _ _ _ (separated-accepts _ _ _ _ _ _ _ _ (mark-lawful 44).accepts (P.accepts p.value)))
+        (collects-accepts _ _ _ _ _ (separated-accepts _ _ _ _ _ _ _ _ (mark-lawful 44).ends (P.ends_after_start p.value) (mark-lawful 44).accepts (P.accepts p.value)))
         (mark-lawful 93).accepts };
 
     fn go_emit(&self, inp: &mut TextRef<'src, '_, EmptyText>) -> PResult<Vec<Json>> {
@@ -399,7 +399,7 @@ impl<'src, P: Parser<'src, &'src str, (String, Json), EmptyText>> Parser<
         (collects-ends _ _ _ _ (separates-end _ _ _ _ _ _ (mark-lawful 44).ends (P.ends_after_start p.member)))
         (mark-lawful 125).ends
         (letter-lawful 123).accepts
-        (collects-accepts _ _ _ _ _ (separated-accepts _ _ _ _ _ _ _ _ (mark-lawful 44).accepts (P.accepts p.member)))
+        (collects-accepts _ _ _ _ _ (separated-accepts _ _ _ _ _ _ _ _ (mark-lawful 44).ends (P.ends_after_start p.member) (mark-lawful 44).accepts (P.accepts p.member)))
         (mark-lawful 125).accepts };
 
     fn go_emit(&self, inp: &mut TextRef<'src, '_, EmptyText>) -> PResult<Vec<(String, Json)>> {

@@ -556,7 +556,7 @@ impl<'src, C: Parser<'src, &'src str, char, EmptyText>> Parser<'src, &'src str, 
     ghost agrees = { λ _ never. absurd never };
 
     ghost accepts = { λ p. between-accepts _ _ _ (letter-lawful 34).ends (collects-ends _ _ _ _ (repeats-end _ _ _ _ _ _ _ (C.ends_after_start p.piece))) (letter-lawful 34).ends
-        (letter-lawful 34).accepts (collects-accepts _ _ _ _ _ (repeated-accepts _ _ _ _ _ _ _ _ (C.accepts p.piece))) (letter-lawful 34).accepts };
+        (letter-lawful 34).accepts (collects-accepts _ _ _ _ _ (repeated-accepts _ _ _ _ _ _ _ _ (C.ends_after_start p.piece) (C.accepts p.piece))) (letter-lawful 34).accepts };
 
     fn go_emit(&self, inp: &mut TextRef<'src, '_, EmptyText>) -> PResult<String> {
         quoted(&self.piece).go_emit(inp)

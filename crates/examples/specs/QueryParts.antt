@@ -142,7 +142,7 @@ module _ {I Sp Cu Er St Mk : Type 0} (source : input_trait.Ghosts I Cu ℕ Sp) (
       let o = one-lawful {Cx = ℕ} in
       record {
         ends = collects-ends _ _ Holds quiet (repeats-end states.mark states.back states.takes_no_memory (One ℕ) false n (Some n) o.ends);
-        accept = collects-accepts _ _ (repeated_language (OneLanguage safe) n (Some n)) Holds quiet (repeated-accepts states.mark states.back states.takes_no_memory (One ℕ) false n (Some n) (OneLanguage safe) o.accept);
+        accept = collects-accepts _ _ (repeated_language (OneLanguage safe) n (Some n)) Holds quiet (repeated-accepts states.mark states.back states.takes_no_memory (One ℕ) false n (Some n) (OneLanguage safe) o.ends o.accept);
       }
 
   -- labels and a zero
@@ -171,7 +171,7 @@ module _ {I Sp Cu Er St Mk : Type 0} (source : input_trait.Ghosts I Cu ℕ Sp) (
           record {
             ends = ignoring_second-ends _ _ list_ends zero_ends;
             accept = then_ignore-accepts _ _ list_ends zero_ends
-                (collects-accepts _ _ (repeated_language (LabelLanguage safe quiet) 0 None) Holds free (repeated-accepts states.mark states.back states.takes_no_memory (MeansLabel quiet) false 0 None (LabelLanguage safe quiet) l.accept))
+                (collects-accepts _ _ (repeated_language (LabelLanguage safe quiet) 0 None) Holds free (repeated-accepts states.mark states.back states.takes_no_memory (MeansLabel quiet) false 0 None (LabelLanguage safe quiet) l.ends l.accept))
                 (just-accepts source nat_eq errors states copies unrefused (0 ∷ []));
           }
 

@@ -27,7 +27,7 @@ use Rattle.chumsky_items.specs.ListLanguage.{collected_language}
 use Rattle.chumsky_items.specs.RepeatedLanguage.{repeated_language}
 use Rattle.chumsky_items.specs.Repeating.{Repeats}
 use Rattle.chumsky_items.specs.RepeatingLaws.{repeats-end}
-use Rattle.chumsky_moves.specs.ItemsMove.{repeats-move, collects-move}
+use Rattle.chumsky_items.specs.ItemsMove.{repeats-move, collects-move}
 use Rattle.chumsky_shield.specs.Tried.{ByPick, SamePick}
 use Rattle.chumsky_shield.specs.Vetted.{Vetted}
 use Rattle.chumsky_text.specs.TextLanguage.{run_language}

@@ -100,7 +100,7 @@ impl<'src, P: Parser<'src, &'src str, Expression, EmptyText>> Parser<
         (collects-ends _ _ _ _ (repeats-end _ _ _ _ _ _ _ (P.ends_after_start p.item)))
         (ignoring_first-ends _ _ gap-lawful.ends (fixed-lawful 41).ends)
         (fixed-lawful 40).accepts
-        (collects-accepts _ _ _ _ _ (repeated-accepts _ _ _ _ _ _ _ _ (P.accepts p.item)))
+        (collects-accepts _ _ _ _ _ (repeated-accepts _ _ _ _ _ _ _ _ (P.ends_after_start p.item) (P.accepts p.item)))
         (ignore_then-accepts _ _ gap-lawful.ends (fixed-lawful 41).ends gap-lawful.accepts (fixed-lawful 41).accepts)) };
 
     fn go_emit(&self, inp: &mut TextRef<'src, '_, EmptyText>) -> PResult<Expression> {
@@ -176,7 +176,7 @@ impl<'src, P: Parser<'src, &'src str, Expression, EmptyText>> Parser<
     ghost accepts = { λ p. ignore_then-accepts _ _ (fixed-lawful 39).ends
         (mapped-ends _ _ (collects-ends _ _ _ _ (repeats-end _ _ _ _ _ _ _ (P.ends_after_start p.item))))
         (fixed-lawful 39).accepts
-        (map-accepts _ _ (collects-accepts _ _ _ _ _ (repeated-accepts _ _ _ _ _ _ _ _ (P.accepts p.item)))) };
+        (map-accepts _ _ (collects-accepts _ _ _ _ _ (repeated-accepts _ _ _ _ _ _ _ _ (P.ends_after_start p.item) (P.accepts p.item)))) };
 
     fn go_emit(&self, inp: &mut TextRef<'src, '_, EmptyText>) -> PResult<Expression> {
         quote_of(&self.item).go_emit(inp)

@@ -1,10 +1,10 @@
 -- Items whose first step moves, and what is made of all of them.
--- Main laws: repeats-move, separates-move, made-move, items-move. Read first: Moves.antt, MovesLaws.antt.
-use Rattle.std.proofs.Common.{◌≡◌, ℕ, zero, suc, ◌+◌, ◌<◌, Bool, true, false, not, ◌&&◌, Option, Some, None, option_map, List, [], ◌∷◌, ◌++◌, nat_eq, nat_lt, nat_le, refl, ap, subst, inl, inr}
+-- Main laws: repeats-move, separates-move, made-move, items-move. Read first: Progress.antt of the parsers.
+use Rattle.std.proofs.Common.{◌≡◌, ℕ, zero, suc, ◌+◌, ◌<◌, Bool, true, false, not, ◌&&◌, Option, Some, None, option_map, List, [], ◌∷◌, ◌++◌, nat_eq, nat_lt, nat_le, refl, subst, inl, inr}
 use Rattle.std.proofs.Math.Dec.{leb-suc-zero}
 use Rattle.chumsky_input.specs.declared.stop.Stop.TheVariants.{NoProgress, CountTooLarge}
-use Rattle.chumsky_input.specs.Outcome.{Meaning, Beginning, Outcome, Verdict, Yes, No, Halt, Clash, IsAnswer, EndsAfterStart}
-use Rattle.chumsky_parser.specs.Chained.{Chained, Follows, Given, Asked}
+use Rattle.chumsky_input.specs.Outcome.{Meaning, Beginning, Outcome, Yes, IsAnswer, EndsAfterStart}
+use Rattle.chumsky_parser.specs.Chained.{Chained, Given, Asked}
 use Rattle.chumsky_parser.specs.ChoiceLaws.{or_else-ends}
 use Rattle.chumsky_parser.specs.Failure.{SaysNo, Stops, wanting}
 use Rattle.chumsky_parser.specs.FailureLaws.{stops-ends, no-ends}
@@ -14,58 +14,14 @@ use Rattle.chumsky_parser.specs.ItemsLaws.{after_step-ends, from_made-ends}
 use Rattle.chumsky_parser.specs.Steps.{AllSteps, listed, unlisted}
 use Rattle.chumsky_items.specs.Consumers.{Skips, CountsUp, Appends, Collected, Passes, Counts, Collects}
 use Rattle.chumsky_items.specs.Exactly.{and_one, JustSo, JustSoMade, CollectsExactly}
-use Rattle.chumsky_items.specs.Repeating.{Settled, Settles, Counted, Uncapped, Repeats, asks, at_cap, is_stuck, fits}
+use Rattle.chumsky_items.specs.Repeating.{Settled, Settles, Counted, Uncapped, Repeats, asks, at_cap, has_an_item, is_stuck, fits}
 use Rattle.chumsky_items.specs.Separating.{Bounds, asks_after, stays, Lead, Staying, Round, Unfilled, Separates}
-use Rattle.chumsky_moves.specs.Moves.{ItemsMove, has_an_item}
-use Rattle.chumsky_parser.specs.Progress.{Moves}
-use Rattle.chumsky_parser.specs.ProgressLaws.{both-true, no-moves, asked-moves, chained-first, chained-second, chained-after}
-use Rattle.chumsky_parser.specs.ProgressLaws.{or_else-moves}
+use Rattle.chumsky_parser.specs.Progress.{Moves, ItemsMove}
+use Rattle.chumsky_parser.specs.ProgressLaws.{both-true, no-moves, asked-moves, chained-first, chained-second, chained-after, or_else-moves, given-items, remade-items}
 
 not-true : (b : Bool) → not b ≡ true → b ≡ false
 not-true true e = absurd (cc)
 not-true false e = refl
-
-module _ {Tok Cx St Er S V : Type 0} where
-  -- the one iteration that is made has a first step that moves
-  pub given-items : (s : S) (gives : S → Meaning Tok Cx St Er (Next S V)) → Moves (gives s) → ItemsMove (Given {Tok = Tok} {Cx = Cx} {St = St} {Er = Er} (Some s)) gives
-  given-items s gives h =
-      record {
-        by = inr (λ b p t m e.
-            let one : p.verdict ≡ Yes (Some s) = ap (λ (x : Outcome S Er St). x.verdict) m in
-            let same : s ≡ t = cc (one, e) in
-            subst (λ x. Moves (gives x)) same h);
-      }
-
-  -- other steps, each of which moves where its own does
-  pub remade-items : {U : Type 0} {begins : Meaning Tok Cx St Er S} {gives : S → Meaning Tok Cx St Er (Next S V)} {other : S → Meaning Tok Cx St Er (Next S U)} → ((s : S) → Moves (gives s) → Moves (other s)) → ItemsMove begins gives → ItemsMove begins other
-  remade-items h k = record { by = elim k.by [ inl x ↦ inl x | inr x ↦ inr (λ b p s m e. h s (x b p s m e)) ] }
-
-module _ {Tok Cx St Er S R V W : Type 0} (f : S → R) (begins : Meaning Tok Cx St Er S) (gives : S → Meaning Tok Cx St Er (Next S V)) (other : R → Meaning Tok Cx St Er (Next R W)) (h : (s : S) → Moves (gives s) → Moves (other (f s))) where
-  unwrapped : ((b : Beginning Tok Cx St) (p : Outcome S Er St) (s : S) → begins b p → p.verdict ≡ Yes (Some s) → Moves (gives s))
-      → (b : Beginning Tok Cx St) (q : Outcome S Er St) (p : Outcome R Er St) (v : Verdict S Er) → begins b q → q.verdict ≡ v → Follows v (λ s. Given (option_map f s)) b q p → (r : R) → p.verdict ≡ Yes (Some r) → Moves (other r)
-  unwrapped x b q p (Yes (Some s)) m d k r e =
-      let whole : p.verdict ≡ k.0.verdict = ap (λ (z : Outcome R Er St). z.verdict) k.2 in
-      let one : k.0.verdict ≡ Yes (Some (f s)) = ap (λ (z : Outcome R Er St). z.verdict) k.1 in
-      let same : f s ≡ r = cc (whole, one, e) in
-      subst (λ z. Moves (other z)) same (h s (x b q s m d))
-  unwrapped x b q p (Yes None) m d k r e =
-      let whole : p.verdict ≡ k.0.verdict = ap (λ (z : Outcome R Er St). z.verdict) k.2 in
-      let one : k.0.verdict ≡ Yes None = ap (λ (z : Outcome R Er St). z.verdict) k.1 in
-      let no : ⊥ = cc (whole, one, e) in
-      absurd no
-  unwrapped x b q p No m d k r e = let whole : p.verdict ≡ No = ap (λ (z : Outcome R Er St). z.verdict) k in let no : ⊥ = cc (whole, e) in absurd no
-  unwrapped x b q p (Halt s) m d k r e = let whole : p.verdict ≡ Halt s = ap (λ (z : Outcome R Er St). z.verdict) k in let no : ⊥ = cc (whole, e) in absurd no
-  unwrapped x b q p (Clash s) m d k r e = let whole : p.verdict ≡ Clash s = ap (λ (z : Outcome R Er St). z.verdict) k in let no : ⊥ = cc (whole, e) in absurd no
-
-  -- an iteration that holds another
-  pub held-items : ItemsMove begins gives → ItemsMove (Chained begins (λ s. Given (option_map f s))) other
-  held-items k =
-      record {
-        by = elim k.by [
-          | inl x ↦ inl (chained-first begins _ x (λ s. given-ends (option_map f s)))
-          | inr x ↦ inr (λ b p r m e. unwrapped x b m.first p m.first.verdict m.meant refl m.follows r e)
-        ];
-      }
 
 module _ {Tok Cx St Er V : Type 0} where
   settled-ends : (stuck fit : Bool) (k : ℕ) (v : Option V) → EndsAfterStart (Settled {Tok = Tok} {Cx = Cx} {St = St} {Er = Er} stuck fit k v)
@@ -94,7 +50,7 @@ module _ {Tok Cx St Mk Er U : Type 0} (mark : St → Mk) (back : St → Mk → S
   lead-ends h true false = given-ends None
 
 -- where items are wanted, no separator stays before the first
-none-stays : (least : ℕ) (may : Bool) → nat_lt 0 least ≡ true → (may && nat_le least 0) ≡ false
+pub none-stays : (least : ℕ) (may : Bool) → nat_lt 0 least ≡ true → (may && nat_le least 0) ≡ false
 none-stays zero may e = absurd (cc)
 none-stays (suc n) true e = leb-suc-zero n
 none-stays (suc n) false e = refl
