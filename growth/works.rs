@@ -4,6 +4,7 @@ use chumsky::Stop;
 use chumsky::extra::{EmptyText, RichText};
 use chumsky::pratt::{infix, prefix, right};
 use chumsky::prelude::*;
+use chumsky::recursive::{Leaves, RecursiveError, SimpleValues, Simply};
 use chumsky::report::Report;
 use console::run::run;
 use examples::statements::parse_statements;
@@ -21,6 +22,8 @@ pub enum Work {
     DeepSettings,
     /// `chk parse settings` on lists that each hold a name before the next.
     LongSettings,
+    /// Brackets within one another, after each of which an `x` may stand, by a rule that reads a pair once.
+    Factored,
     /// The error of a set of tokens that are not ASCII.
     WideSet,
     /// The error of a choice among such tokens.
@@ -41,11 +44,12 @@ const SQUARE: u128 = 300;
 
 /// Each work, its name, how many lines, characters, lists, tokens, operators or statements the smaller of its inputs has, and how
 /// many times as long the larger may take.
-pub const WORKS: [(Work, &str, usize, u128); 9] = [
+pub const WORKS: [(Work, &str, usize, u128); 10] = [
     (Work::WrongLines, "wrong_lines", 2_000, LINEAR),
     (Work::LongLine, "long_line", 100_000, LINEAR),
     (Work::DeepSettings, "deep_settings", 500, LINEAR),
     (Work::LongSettings, "long_settings", 500, LINEAR),
+    (Work::Factored, "factored", 2_000, LINEAR),
     (Work::WideSet, "wide_set", 1_000, LINEAR),
     (Work::WideChoice, "wide_choice", 1_000, SQUARE),
     (Work::DeepPrefixes, "deep_prefixes", 100_000, LINEAR),
@@ -60,6 +64,7 @@ pub fn run_work(alloc: Global, work: Work, size: usize) -> Result<bool, AllocErr
         Work::LongLine => long_line(alloc, size),
         Work::DeepSettings => nested_settings(alloc, "[", size),
         Work::LongSettings => nested_settings(alloc, "[x,", size),
+        Work::Factored => factored(alloc, size),
         Work::WideSet => wide_set(alloc, size),
         Work::WideChoice => wide_choice(alloc, size),
         Work::DeepPrefixes => deep_prefixes(alloc, size),
@@ -124,6 +129,72 @@ fn nested_settings(alloc: Global, opening: &str, lists: usize) -> Result<bool, A
     let (mut out, mut err) = (Vec::new(alloc), Vec::new(alloc));
     let ended = run_chk(alloc, words.as_slice(), &mut input, &mut out, &mut err);
     Ok(ended.status == 0 && out.len() > lists)
+}
+
+/// Values are numbers of pairs: of two parts their sum, and a mapper counts one more.
+#[derive(Drop)]
+struct Pairs;
+
+impl SimpleValues<SimpleSpan, EmptyErr> for Pairs {
+    type Value = usize;
+
+    fn unit(&self, _alloc: Global) -> Result<usize, AllocError> {
+        Ok(0)
+    }
+
+    fn pair(&self, _alloc: Global, a: usize, b: usize) -> Result<usize, AllocError> {
+        Ok(a.wrapping_add(b))
+    }
+
+    fn list(&self, _alloc: Global, _items: Vec<usize>) -> Result<usize, AllocError> {
+        Ok(0)
+    }
+
+    fn map(&self, _alloc: Global, _mapper: usize, inside: usize) -> Result<usize, AllocError> {
+        Ok(inside.wrapping_add(1))
+    }
+}
+
+/// `E = ( E ) x? | a`, whose beginning two alternatives, one with the `x` and one without, would have in common. By `x?` it is
+/// read once.
+fn pair_rule(rules: &mut Rules) -> Result<Recursive, RecursiveError> {
+    rules.recursive(|rules, pair| {
+        let inside = rules.rule(pair)?;
+        let closing = rules.leaf(1)?;
+        let mark = rules.leaf(2)?;
+        let marked = rules.or_not(mark)?;
+        let closed = rules.then(closing, marked)?;
+        let rest = rules.then(inside, closed)?;
+        let opening = rules.leaf(0)?;
+        let whole = rules.then(opening, rest)?;
+        let counted = rules.map(whole, 0)?;
+        let atom = rules.leaf(3)?;
+        rules.choice(&[counted, atom])
+    })
+}
+
+fn factored(alloc: Global, pairs: usize) -> Result<bool, AllocError> {
+    let opened = "(".repeat(alloc, pairs)?;
+    let closed = ")x".repeat(alloc, pairs)?;
+    let text = format!(in alloc; "{opened}a{closed}")?;
+    let mut rules = Rules::new(alloc);
+    let Ok(start) = pair_rule(&mut rules) else {
+        return Ok(false);
+    };
+    let leaves = [
+        just::<_, &str, EmptyText>("(").to(0usize),
+        just(")").to(0),
+        just("x").to(0),
+        just("a").to(0),
+    ];
+    let actions = Leaves {
+        leaves: &leaves,
+        values: Simply(Pairs),
+    };
+    match close_founded(&rules, start, &actions, text.len()) {
+        Ok(grammar) => Ok(gives(grammar.parse(alloc, text.as_str()), pairs)),
+        Err(_) => Ok(false),
+    }
 }
 
 /// So many characters, of which none is ASCII.

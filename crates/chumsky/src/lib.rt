@@ -361,7 +361,7 @@ pub mod recovery_laws {
 }
 
 /// Laws of parsers, each the contract of a function that does nothing: which of them mean the same, and which are ready and
-/// steady. Those of groups speak of any `primitive::Parts`.
+/// steady.
 pub mod laws {
     pub use crate::steady::{from_str_is_steady, lazy_is_steady};
     pub use chumsky_choice::alternatives::Alternatives;

@@ -1,16 +1,11 @@
 -- The parts of a group, each in the words of its errors and of its states.
--- Main words: Part, AllHold, StopsOnlyByAny. Laws: PartsLaws.antt. Read first: Regrouped.antt.
-use Rattle.std.specs.Prelude.{◌≡◌, List, [], ◌∷◌, ◌⊎◌, ⊤}
+-- Main words: Part, StopsOnlyByAny. Laws: PartsLaws.antt. Read first: Regrouped.antt.
+use Rattle.std.specs.Prelude.{◌≡◌, List, [], ◌∷◌, ◌⊎◌}
 use Rattle.chumsky_input.specs.declared.error.Error as error_trait
 use Rattle.chumsky_input.specs.declared.inspector.Inspector as inspector_trait
 use Rattle.chumsky_input.specs.declared.stop.Stop.{Stop}
 use Rattle.chumsky_input.specs.Outcome.{Meaning, Beginning, Outcome, Halt}
 use Rattle.chumsky_input.specs.Words.{Does}
-
--- each of these holds
-abbrev pub AllHold : List (Type 0) → Type 0
-AllHold [] = ⊤
-AllHold (P ∷ Ps) = P × AllHold Ps
 
 -- what a part does, whose outputs are of its own type
 pub record Part (I Tok Sp Er St Mk Cx : Type 0) : Type 1 where

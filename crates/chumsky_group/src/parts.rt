@@ -4,30 +4,14 @@ use chumsky_input::extra::ParserExtra;
 use chumsky_input::input::Input;
 use chumsky_parser::parser::Parser;
 
-/// A group of the parsers of a tuple: what each of its parts does, when it is ready and when it is steady, and what it calls
-/// the same of two outputs, in their order; and what is known of the group by them. The functions of `laws` and of `steady`
-/// say it of any such group.
+/// A group of the parsers of a tuple: what each of its parts does, in their order, and what is known of the group by them. So one
+/// law says of a group of any width that it is never refused for memory.
 pub trait Parts<'src, I: Input<'src>, O, E: ParserExtra<I>>: Parser<'src, I, O, E> {
     ghost use Rattle.std.specs.Prelude.{List};
-    ghost use Rattle.chumsky_group.specs.Parts.{Part, AllHold, StopsOnlyByAny};
+    ghost use Rattle.chumsky_group.specs.Parts.{Part, StopsOnlyByAny};
 
     /// What each part does.
     ghost parts: { Self → List (Part I I.Token I.Span E.Error E.State E.State.Mark E.Context) };
-    /// Which of them are ready.
-    ghost each_ready: { Self → List (Type 0) };
-    /// Which of them are steady.
-    ghost each_steady: { Self → List (Type 0) };
-    /// Which of them call their outputs the same, of these two.
-    ghost each_same: { Self → O → O → List (Type 0) };
-
-    /// The group is ready where each of its parts is.
-    ghost is_ready: { (p : Self) → AllHold (each_ready p) → Self.ready p };
-
-    /// It is steady where each of its parts is.
-    ghost is_steady: { (p : Self) → AllHold (each_steady p) → Self.steady p };
-
-    /// Two outputs that it calls the same are the same by each of its parts.
-    ghost are_same: { (p : Self) (x y : O) → Self.same p x y → AllHold (each_same p x y) };
 
     /// It stops only where one of its parts does, and for the same reason.
     ghost stops_only_by_any: { (p : Self) → StopsOnlyByAny E.Error.Error E.State.Inspector (Self.meaning p) (parts p) };
@@ -45,18 +29,6 @@ impl<'src, I: Input<'src>, OA, E: ParserExtra<I>, A: Parser<'src, I, OA, E>> Par
     ghost use Rattle.chumsky_group.specs.PartsLaws.{grouped-stops};
 
     ghost parts = { λ p. let t = p.parsers in part (A.meaning t.0) ∷ [] };
-
-    ghost each_ready = { λ p. let t = p.parsers in A.ready t.0 ∷ [] };
-
-    ghost each_steady = { λ p. let t = p.parsers in A.steady t.0 ∷ [] };
-
-    ghost each_same = { λ p v w. let t = p.parsers in A.same t.0 v.0 w.0 ∷ [] };
-
-    ghost is_ready = { λ _ h. h.0 };
-
-    ghost is_steady = { λ _ h. h.0 };
-
-    ghost are_same = { λ _ _ _ h. (h, tt) };
 
     ghost stops_only_by_any = { λ _ s h. inl (grouped-stops s _ _ h) };
 }
@@ -77,19 +49,6 @@ impl<
 
     ghost parts = { λ p. let t = p.parsers in
         part (A.meaning t.0) ∷ part (B.meaning t.1) ∷ [] };
-
-    ghost each_ready = { λ p. let t = p.parsers in A.ready t.0 ∷ B.ready t.1 ∷ [] };
-
-    ghost each_steady = { λ p. let t = p.parsers in A.steady t.0 ∷ B.steady t.1 ∷ [] };
-
-    ghost each_same = { λ p v w. let t = p.parsers in
-        A.same t.0 v.0 w.0 ∷ B.same t.1 v.1 w.1 ∷ [] };
-
-    ghost is_ready = { λ _ h. (h.0, h.1.0) };
-
-    ghost is_steady = { λ _ h. (h.0, h.1.0) };
-
-    ghost are_same = { λ _ _ _ h. (h.0, (h.1, tt)) };
 
     ghost stops_only_by_any = { λ _ s h. and-stops s _ _ inl (λ x. inr (inl x)) h };
 }
@@ -112,20 +71,6 @@ impl<
 
     ghost parts = { λ p. let t = p.parsers in
         part (A.meaning t.0) ∷ part (B.meaning t.1) ∷ part (C.meaning t.2) ∷ [] };
-
-    ghost each_ready = { λ p. let t = p.parsers in A.ready t.0 ∷ B.ready t.1 ∷ C.ready t.2 ∷ [] };
-
-    ghost each_steady = { λ p. let t = p.parsers in
-        A.steady t.0 ∷ B.steady t.1 ∷ C.steady t.2 ∷ [] };
-
-    ghost each_same = { λ p v w. let t = p.parsers in
-        A.same t.0 v.0 w.0 ∷ B.same t.1 v.1 w.1 ∷ C.same t.2 v.2 w.2 ∷ [] };
-
-    ghost is_ready = { λ _ h. (h.0, h.1.0, h.1.1.0) };
-
-    ghost is_steady = { λ _ h. (h.0, h.1.0, h.1.1.0) };
-
-    ghost are_same = { λ _ _ _ h. (h.0, (h.1, (h.2, tt))) };
 
     ghost stops_only_by_any = { λ _ s h.
         and-stops s _ _ (and-stops s _ _ inl (λ x. inr (inl x))) (λ x. inr (inr (inl x)))
@@ -153,21 +98,6 @@ impl<
     ghost parts = { λ p. let t = p.parsers in
         part (A.meaning t.0) ∷ part (B.meaning t.1) ∷ part (C.meaning t.2) ∷ part
         (D.meaning t.3) ∷ [] };
-
-    ghost each_ready = { λ p. let t = p.parsers in
-        A.ready t.0 ∷ B.ready t.1 ∷ C.ready t.2 ∷ D.ready t.3 ∷ [] };
-
-    ghost each_steady = { λ p. let t = p.parsers in
-        A.steady t.0 ∷ B.steady t.1 ∷ C.steady t.2 ∷ D.steady t.3 ∷ [] };
-
-    ghost each_same = { λ p v w. let t = p.parsers in
-        A.same t.0 v.0 w.0 ∷ B.same t.1 v.1 w.1 ∷ C.same t.2 v.2 w.2 ∷ D.same t.3 v.3 w.3 ∷ [] };
-
-    ghost is_ready = { λ _ h. (h.0, h.1.0, h.1.1.0, h.1.1.1.0) };
-
-    ghost is_steady = { λ _ h. (h.0, h.1.0, h.1.1.0, h.1.1.1.0) };
-
-    ghost are_same = { λ _ _ _ h. (h.0, (h.1, (h.2, (h.3, tt)))) };
 
     ghost stops_only_by_any = { λ _ s h.
         and-stops s _ _ (and-stops s _ _ (and-stops s _ _ inl (λ x. inr (inl x))) (λ x. inr (inr
@@ -197,22 +127,6 @@ impl<
     ghost parts = { λ p. let t = p.parsers in
         part (A.meaning t.0) ∷ part (B.meaning t.1) ∷ part (C.meaning t.2) ∷ part
         (D.meaning t.3) ∷ part (F.meaning t.4) ∷ [] };
-
-    ghost each_ready = { λ p. let t = p.parsers in
-        A.ready t.0 ∷ B.ready t.1 ∷ C.ready t.2 ∷ D.ready t.3 ∷ F.ready t.4 ∷ [] };
-
-    ghost each_steady = { λ p. let t = p.parsers in
-        A.steady t.0 ∷ B.steady t.1 ∷ C.steady t.2 ∷ D.steady t.3 ∷ F.steady t.4 ∷ [] };
-
-    ghost each_same = { λ p v w. let t = p.parsers in
-        A.same t.0 v.0 w.0 ∷ B.same t.1 v.1 w.1 ∷ C.same t.2 v.2 w.2 ∷ D.same t.3 v.3 w.3 ∷ F.same
-        t.4 v.4 w.4 ∷ [] };
-
-    ghost is_ready = { λ _ h. (h.0, h.1.0, h.1.1.0, h.1.1.1.0, h.1.1.1.1.0) };
-
-    ghost is_steady = { λ _ h. (h.0, h.1.0, h.1.1.0, h.1.1.1.0, h.1.1.1.1.0) };
-
-    ghost are_same = { λ _ _ _ h. (h.0, (h.1, (h.2, (h.3, (h.4, tt))))) };
 
     ghost stops_only_by_any = { λ _ s h.
         and-stops s _ _ (and-stops s _ _ (and-stops s _ _ (and-stops s _ _ inl (λ x. inr (inl x)))
@@ -245,23 +159,6 @@ impl<
     ghost parts = { λ p. let t = p.parsers in
         part (A.meaning t.0) ∷ part (B.meaning t.1) ∷ part (C.meaning t.2) ∷ part
         (D.meaning t.3) ∷ part (F.meaning t.4) ∷ part (G.meaning t.5) ∷ [] };
-
-    ghost each_ready = { λ p. let t = p.parsers in
-        A.ready t.0 ∷ B.ready t.1 ∷ C.ready t.2 ∷ D.ready t.3 ∷ F.ready t.4 ∷ G.ready t.5 ∷ [] };
-
-    ghost each_steady = { λ p. let t = p.parsers in
-        A.steady t.0 ∷ B.steady t.1 ∷ C.steady t.2 ∷ D.steady t.3 ∷ F.steady t.4 ∷ G.steady t.5 ∷
-        [] };
-
-    ghost each_same = { λ p v w. let t = p.parsers in
-        A.same t.0 v.0 w.0 ∷ B.same t.1 v.1 w.1 ∷ C.same t.2 v.2 w.2 ∷ D.same t.3 v.3 w.3 ∷ F.same
-        t.4 v.4 w.4 ∷ G.same t.5 v.5 w.5 ∷ [] };
-
-    ghost is_ready = { λ _ h. (h.0, h.1.0, h.1.1.0, h.1.1.1.0, h.1.1.1.1.0, h.1.1.1.1.1.0) };
-
-    ghost is_steady = { λ _ h. (h.0, h.1.0, h.1.1.0, h.1.1.1.0, h.1.1.1.1.0, h.1.1.1.1.1.0) };
-
-    ghost are_same = { λ _ _ _ h. (h.0, (h.1, (h.2, (h.3, (h.4, (h.5, tt)))))) };
 
     ghost stops_only_by_any = { λ _ s h.
         and-stops s _ _ (and-stops s _ _ (and-stops s _ _ (and-stops s _ _ (and-stops s _ _ inl (λ
@@ -297,26 +194,6 @@ impl<
         part (A.meaning t.0) ∷ part (B.meaning t.1) ∷ part (C.meaning t.2) ∷ part
         (D.meaning t.3) ∷ part (F.meaning t.4) ∷ part (G.meaning t.5) ∷ part (H.meaning t.6)
         ∷ [] };
-
-    ghost each_ready = { λ p. let t = p.parsers in
-        A.ready t.0 ∷ B.ready t.1 ∷ C.ready t.2 ∷ D.ready t.3 ∷ F.ready t.4 ∷ G.ready t.5 ∷
-        H.ready t.6 ∷ [] };
-
-    ghost each_steady = { λ p. let t = p.parsers in
-        A.steady t.0 ∷ B.steady t.1 ∷ C.steady t.2 ∷ D.steady t.3 ∷ F.steady t.4 ∷ G.steady t.5 ∷
-        H.steady t.6 ∷ [] };
-
-    ghost each_same = { λ p v w. let t = p.parsers in
-        A.same t.0 v.0 w.0 ∷ B.same t.1 v.1 w.1 ∷ C.same t.2 v.2 w.2 ∷ D.same t.3 v.3 w.3 ∷ F.same
-        t.4 v.4 w.4 ∷ G.same t.5 v.5 w.5 ∷ H.same t.6 v.6 w.6 ∷ [] };
-
-    ghost is_ready = { λ _ h.
-        (h.0, h.1.0, h.1.1.0, h.1.1.1.0, h.1.1.1.1.0, h.1.1.1.1.1.0, h.1.1.1.1.1.1.0) };
-
-    ghost is_steady = { λ _ h.
-        (h.0, h.1.0, h.1.1.0, h.1.1.1.0, h.1.1.1.1.0, h.1.1.1.1.1.0, h.1.1.1.1.1.1.0) };
-
-    ghost are_same = { λ _ _ _ h. (h.0, (h.1, (h.2, (h.3, (h.4, (h.5, (h.6, tt))))))) };
 
     ghost stops_only_by_any = { λ _ s h.
         and-stops s _ _ (and-stops s _ _ (and-stops s _ _ (and-stops s _ _ (and-stops s _ _
@@ -355,42 +232,6 @@ impl<
         part (A.meaning t.0) ∷ part (B.meaning t.1) ∷ part (C.meaning t.2) ∷ part
         (D.meaning t.3) ∷ part (F.meaning t.4) ∷ part (G.meaning t.5) ∷ part (H.meaning t.6)
         ∷ part (J.meaning t.7) ∷ [] };
-
-    ghost each_ready = { λ p. let t = p.parsers in
-        A.ready t.0 ∷ B.ready t.1 ∷ C.ready t.2 ∷ D.ready t.3 ∷ F.ready t.4 ∷ G.ready t.5 ∷
-        H.ready t.6 ∷ J.ready t.7 ∷ [] };
-
-    ghost each_steady = { λ p. let t = p.parsers in
-        A.steady t.0 ∷ B.steady t.1 ∷ C.steady t.2 ∷ D.steady t.3 ∷ F.steady t.4 ∷ G.steady t.5 ∷
-        H.steady t.6 ∷ J.steady t.7 ∷ [] };
-
-    ghost each_same = { λ p v w. let t = p.parsers in
-        A.same t.0 v.0 w.0 ∷ B.same t.1 v.1 w.1 ∷ C.same t.2 v.2 w.2 ∷ D.same t.3 v.3 w.3 ∷ F.same
-        t.4 v.4 w.4 ∷ G.same t.5 v.5 w.5 ∷ H.same t.6 v.6 w.6 ∷ J.same t.7 v.7 w.7 ∷ [] };
-
-    ghost is_ready = { λ _ h. (
-      h.0,
-      h.1.0,
-      h.1.1.0,
-      h.1.1.1.0,
-      h.1.1.1.1.0,
-      h.1.1.1.1.1.0,
-      h.1.1.1.1.1.1.0,
-      h.1.1.1.1.1.1.1.0,
-    ) };
-
-    ghost is_steady = { λ _ h. (
-      h.0,
-      h.1.0,
-      h.1.1.0,
-      h.1.1.1.0,
-      h.1.1.1.1.0,
-      h.1.1.1.1.1.0,
-      h.1.1.1.1.1.1.0,
-      h.1.1.1.1.1.1.1.0,
-    ) };
-
-    ghost are_same = { λ _ _ _ h. (h.0, (h.1, (h.2, (h.3, (h.4, (h.5, (h.6, (h.7, tt)))))))) };
 
     ghost stops_only_by_any = { λ _ s h.
         and-stops s _ _ (and-stops s _ _ (and-stops s _ _ (and-stops s _ _ (and-stops s _ _
