@@ -52,20 +52,31 @@ module _ {I Tok Sp Cu Er St Mk Cx V : Type 0} (source : input_trait.Ghosts I Cu 
   WholeAs ts (Halt s) = (s ≡ Memory) ⊎ (l.ends ts ≡ Refused)
   WholeAs ts (Clash e) = ⊤
 
-  end_by : (ts : List Tok) (b : Beginning Tok Cx states.Seen) → Within b → l.ends ts ≡ At (drop b.start b.tokens.list) → (v : Option V) → IfValue (l.value ts) v → (q : Outcome V errors.Seen states.Seen) (r : Outcome (Unit {0}) errors.Seen states.Seen) (u : Verdict (Unit {0}) errors.Seen)
+  end_by : (ts : List Tok) (b : Beginning Tok Cx states.Seen) → Within b → l.ends ts ≡ At (drop b.start b.tokens.list)
+      → (v : Option V) → IfValue (l.value ts) v
+      → (q : Outcome V errors.Seen states.Seen) (r : Outcome (Unit {0}) errors.Seen states.Seen) (u : Verdict (Unit {0}) errors.Seen)
       → r.verdict ≡ u → MeansEnd source errors states (record b { wanted = false }) r → Follows u (λ _. Given v) b r q → WholeAs ts q.verdict
   end_by ts b w e v i q r (Yes z) g m k =
       let rest : List Tok = drop b.start b.tokens.list in
-      let a : AnswersAt (λ (z : Unit {0}). ⊤) {Er = errors.Seen} (end_ends rest) b.tokens.list (Yes z) r.end = subst (λ u. AnswersAt (λ (z : Unit {0}). ⊤) {Er = errors.Seen} (end_ends rest) b.tokens.list u r.end) g ((end-reads source errors states).here (record b { wanted = false }) (record { start = w.start; few = w.few }) r m) in
+      let a : AnswersAt (λ (z : Unit {0}). ⊤) {Er = errors.Seen} (end_ends rest) b.tokens.list (Yes z) r.end =
+      subst (λ u. AnswersAt (λ (z : Unit {0}). ⊤) {Er = errors.Seen} (end_ends rest) b.tokens.list u r.end) g
+      ((end-reads source errors states).here (record b { wanted = false }) (record { start = w.start; few = w.few }) r m)
+      in
       let e2 : l.ends ts ≡ At [] = e ∙ ap At (ends_empty rest (drop r.end b.tokens.list) a.0) in
       rw (k.2, k.1) (e2, i)
   end_by ts b w e v i q r No g m k =
       let rest : List Tok = drop b.start b.tokens.list in
-      let a : end_ends rest ≡ Nowhere = subst (λ u. AnswersAt (λ (z : Unit {0}). ⊤) {Er = errors.Seen} (end_ends rest) b.tokens.list u r.end) g ((end-reads source errors states).here (record b { wanted = false }) (record { start = w.start; few = w.few }) r m) in
+      let a : end_ends rest ≡ Nowhere =
+      subst (λ u. AnswersAt (λ (z : Unit {0}). ⊤) {Er = errors.Seen} (end_ends rest) b.tokens.list u r.end) g
+      ((end-reads source errors states).here (record b { wanted = false }) (record { start = w.start; few = w.few }) r m)
+      in
       rw (k, e) (falls_short rest (ends_not rest a))
   end_by ts b w e v i q r (Halt s) g m k =
       let rest : List Tok = drop b.start b.tokens.list in
-      let a : (s ≡ Memory) ⊎ (end_ends rest ≡ Refused) = subst (λ u. AnswersAt (λ (z : Unit {0}). ⊤) {Er = errors.Seen} (end_ends rest) b.tokens.list u r.end) g ((end-reads source errors states).here (record b { wanted = false }) (record { start = w.start; few = w.few }) r m) in
+      let a : (s ≡ Memory) ⊎ (end_ends rest ≡ Refused) =
+      subst (λ u. AnswersAt (λ (z : Unit {0}). ⊤) {Er = errors.Seen} (end_ends rest) b.tokens.list u r.end) g
+      ((end-reads source errors states).here (record b { wanted = false }) (record { start = w.start; few = w.few }) r m)
+      in
       rw k (elim a [ inl y ↦ inl y | inr y ↦ absurd (never_refused rest y) ])
   end_by ts b w e v i q r (Clash c) g m k = rw k tt
 
@@ -73,7 +84,9 @@ module _ {I Tok Sp Cu Er St Mk Cx V : Type 0} (source : input_trait.Ghosts I Cu 
       → Follows u (λ v. Chained (Asked false (MeansEnd source errors states)) (λ _. Given v)) b p o → WholeAs (drop b.start b.tokens.list) o.verdict
   whole_by b w o p (Yes v) e m g =
       let ts : List Tok = drop b.start b.tokens.list in
-      let a : AnswersAt (l.value ts) {Er = errors.Seen} (l.ends ts) b.tokens.list (Yes v) p.end = subst (λ u. AnswersAt (l.value ts) {Er = errors.Seen} (l.ends ts) b.tokens.list u p.end) e (h.reads.here b w p m) in
+      let a : AnswersAt (l.value ts) {Er = errors.Seen} (l.ends ts) b.tokens.list (Yes v) p.end =
+      subst (λ u. AnswersAt (l.value ts) {Er = errors.Seen} (l.ends ts) b.tokens.list u p.end) e
+      (h.reads.here b w p m) in
       let c : Beginning Tok Cx states.Seen = from b p in
       let z : WholeAs ts g.0.verdict = end_by ts c (record { start = a.2; few = w.few }) a.0 v a.1 g.0 g.1.first g.1.first.verdict refl g.1.meant.run g.1.follows in
       rw g.2 z
@@ -107,12 +120,16 @@ module _ {I Tok Sp Cu Er St Mk Cx V : Type 0} (source : input_trait.Ghosts I Cu 
     refused_by o s (Halt z) (inr a) r = inr a
     refused_by o s (Clash c) a r = inl r.0
 
-    answer_by : (all : Layout Tok) (o : Outcome V errors.Seen states.Seen) (result : Result (ParseResult W Er) Stop) → WholeAs ts o.verdict → Answers source errors (λ v w. v ≡ gives w) all o result → IsAnswerOf gives l ts result
+    answer_by : (all : Layout Tok) (o : Outcome V errors.Seen states.Seen) (result : Result (ParseResult W Er) Stop)
+        → WholeAs ts o.verdict → Answers source errors (λ v w. v ≡ gives w) all o result
+        → IsAnswerOf gives l ts result
     answer_by all o (Ok parsed) a x = output_by o.verdict parsed.output a x.output
     answer_by all o (Err s) a x = refused_by o s o.verdict a x
 
     -- where nothing takes memory, what is refused was not taken whole
-    sure_by : errors.takes_no_memory → states.takes_no_memory → NeverOutOfMemory part → (all : Layout Tok) (b : Beginning Tok Cx states.Seen) (o : Outcome V errors.Seen states.Seen) → WholeRun source errors states part b o → WholeAs ts o.verdict → l.ends ts ≡ At []
+    sure_by : errors.takes_no_memory → states.takes_no_memory → NeverOutOfMemory part
+        → (all : Layout Tok) (b : Beginning Tok Cx states.Seen) (o : Outcome V errors.Seen states.Seen)
+        → WholeRun source errors states part b o → WholeAs ts o.verdict → l.ends ts ≡ At []
         → (result : Result (ParseResult W Er) Stop) → IsAnswerOf gives l ts result → Answers source errors (λ v w. v ≡ gives w) all o result → IsOk result
     sure_by quiet still never all b o m a t (Ok parsed) r x = refl
     sure_by quiet still never all b o m a t (Err s) (inr r) x = absurd (cc (r, t))
@@ -124,8 +141,11 @@ module _ {I Tok Sp Cu Er St Mk Cx V : Type 0} (source : input_trait.Ghosts I Cu 
 
 module _ {I Tok Sp Cu Er St Mk Cx V W : Type 0} (source : input_trait.Ghosts I Cu Tok Sp) (errors : error_trait.Ghosts Er I Tok Sp) (states : inspector_trait.Ghosts St I Mk Tok Sp) where
   -- what is answered of a run from the start of the tokens is so of the text
-  pub answers-text : {part : Meaning Tok Cx states.Seen errors.Seen V} {l : Language Tok V} (gives : W → Option V) (ts : Layout Tok) → length ts.list < 2 ^ 64 → Accepts part l (errors.takes_no_memory × states.takes_no_memory) → (wanted : Bool) (context : Cx) (old : states.Seen) (o : Outcome V errors.Seen states.Seen)
-      → WholeRun source errors states part (record { wanted = wanted; tokens = ts; start = 0; context = context; state = old }) o → (result : Result (ParseResult W Er) Stop) → Answers source errors (λ v w. v ≡ gives w) ts o result
+  pub answers-text : {part : Meaning Tok Cx states.Seen errors.Seen V} {l : Language Tok V} (gives : W → Option V) (ts : Layout Tok)
+      → length ts.list < 2 ^ 64 → Accepts part l (errors.takes_no_memory × states.takes_no_memory)
+      → (wanted : Bool) (context : Cx) (old : states.Seen) (o : Outcome V errors.Seen states.Seen)
+      → WholeRun source errors states part (record { wanted = wanted; tokens = ts; start = 0; context = context; state = old }) o
+      → (result : Result (ParseResult W Er) Stop) → Answers source errors (λ v w. v ≡ gives w) ts o result
       → l.said ≡ true → AnswersText gives l ts.list (errors.takes_no_memory × states.takes_no_memory) result
   answers-text {part} {l} gives ts few accepts wanted context old o m result x s =
       let h : Described part l = accepts.described s in

@@ -33,13 +33,17 @@ pub told-without : {V : Type 0} (a : Result (Unit {0}) Fault) → without_value 
 told-without (Ok v) = refl
 told-without (Err f) = refl
 
-module _ {I Tok Sp Cu Er St Mk Cx V W : Type 0} (source : input_trait.Ghosts I Cu Tok Sp) (errors : error_trait.Ghosts Er I Tok Sp) (states : inspector_trait.Ghosts St I Mk Tok Sp) (gives : W → Option V) (ts : Layout Tok) (before mid after : Held Tok Cx states.Seen errors.Seen) where
+module _ {I Tok Sp Cu Er St Mk Cx V W : Type 0} (source : input_trait.Ghosts I Cu Tok Sp)
+    (errors : error_trait.Ghosts Er I Tok Sp) (states : inspector_trait.Ghosts St I Mk Tok Sp) (gives : W → Option V)
+    (ts : Layout Tok) (before mid after : Held Tok Cx states.Seen errors.Seen) where
   -- what is made of what is settled
   abbrev pub Replies : Result (Option W) Stop → Result (ParseResult W Er) Stop → Type 0
   Replies (Ok out) r = (parsed : ParseResult W Er) × (r ≡ Ok parsed) × (parsed.output ≡ out) × (map errors.seen parsed.errors.items ≡ after.emitted)
   Replies (Err e) r = r ≡ Err e
 
-  reports : (v : Verdict V errors.Seen) (end : ℕ) (state : states.Seen) (events : List (Event errors.Seen)) (emitted : List errors.Seen) (a : Result W Fault) (s : Result (Option W) Stop) (r : Result (ParseResult W Er) Stop)
+  reports : (v : Verdict V errors.Seen) (end : ℕ) (state : states.Seen) (events : List (Event errors.Seen))
+      (emitted : List errors.Seen) (a : Result W Fault) (s : Result (Option W) Stop)
+      (r : Result (ParseResult W Er) Stop)
       → let o : Outcome V errors.Seen states.Seen = record { verdict = v; end = end; state = state; events = events; emitted = emitted } in
       told gives a ≡ answer v → LeavesBy errors.merged errors.takes_no_memory v o before mid → SettlesAs errors.expectation source.span_between a mid after s → Replies s r
       → before.kept ≡ None → before.emitted ≡ [] → mid.tokens ≡ ts → Answers source errors (λ v w. v ≡ gives w) ts o r
@@ -50,11 +54,17 @@ module _ {I Tok Sp Cu Er St Mk Cx V W : Type 0} (source : input_trait.Ghosts I C
   reports No end state events emitted (Ok x) s r a l t p k e i = let no : ⊥ = cc in absurd no
   reports No end state events emitted (Err fault.Fail) s r a l (inl t) p k e i =
       let kept : mid.kept ≡ primary errors.merged events = l.kept ∙ ap (λ z. primary errors.merged (option_to_list z ++ events)) k in
-      let last : final_error errors.expectation source.span_between mid.kept mid.tokens mid.place ≡ final_error errors.expectation source.span_between (primary errors.merged events) ts end = cc (kept, i, l.end) in
+      let last : final_error errors.expectation source.span_between mid.kept mid.tokens mid.place
+      ≡ final_error errors.expectation source.span_between (primary errors.merged events) ts end =
+      cc (kept, i, l.end) in
       let q = rw t.0 at p in
       rw q.1 (record {
         output = rw q.2 tt;
-        errors_are = q.3 ∙ ap (λ (h : Held Tok Cx states.Seen errors.Seen). h.emitted) t.1 ∙ ap (λ z. z ++ final_error errors.expectation source.span_between mid.kept mid.tokens mid.place ∷ []) (l.emitted ∙ ap (λ z. z ++ emitted) e) ∙ ap (λ z. emitted ++ z ∷ []) last;
+        errors_are =
+            q.3 ∙ ap (λ (h : Held Tok Cx states.Seen errors.Seen). h.emitted) t.1
+            ∙ ap (λ z. z ++ final_error errors.expectation source.span_between mid.kept mid.tokens mid.place ∷ [])
+            (l.emitted ∙ ap (λ z. z ++ emitted) e)
+            ∙ ap (λ z. emitted ++ z ∷ []) last;
       })
   reports No end state events emitted (Err fault.Fail) s r a l (inr t) p k e i = rw (rw t.0 at p) refl
   reports No end state events emitted (Err (fault.Stop z)) s r a l t p k e i = let no : ⊥ = cc in absurd no
@@ -95,7 +105,9 @@ module _ {V W : Type 0} (same : V → V → Type 0) (gives : W → Option V) whe
 
 module _ {I Tok Sp Cu Er St V W : Type 0} (source : input_trait.Ghosts I Cu Tok Sp) (errors : error_trait.Ghosts Er I Tok Sp) (same : V → V → Type 0) (gives : W → Option V) (ts : Layout Tok) where
   -- what is reported of an outcome is reported of one that agrees
-  errors_same : (u v : Verdict V errors.Seen) (other o : Outcome V errors.Seen St) (out : Option W) → SameAnswer same u v → IsAnswer u → IsOutput (λ v w. v ≡ gives w) v out → other.end ≡ o.end → other.events ≡ o.events → other.emitted ≡ o.emitted
+  errors_same : (u v : Verdict V errors.Seen) (other o : Outcome V errors.Seen St) (out : Option W)
+      → SameAnswer same u v → IsAnswer u → IsOutput (λ v w. v ≡ gives w) v out → other.end ≡ o.end
+      → other.events ≡ o.events → other.emitted ≡ o.emitted
       → reported errors.expectation source.span_between v ts o errors.merged ≡ reported errors.expectation source.span_between u ts other errors.merged
   errors_same (Yes u) (Yes v) other o out s a i e d m = sym m
   errors_same (Yes u) No other o out s a i e d m = absurd s
@@ -108,7 +120,9 @@ module _ {I Tok Sp Cu Er St V W : Type 0} (source : input_trait.Ghosts I Cu Tok 
   errors_same (Halt z) v other o out s a i e d m = absurd a
   errors_same (Clash z) v other o out s a i e d m = absurd a
 
-  pub reports_same : (other o : Outcome V errors.Seen St) (new : St) (r : Result (ParseResult W Er) Stop) → (IsAnswer o.verdict → Agree same other o) → IsAnswer other.verdict → new ≡ o.state → Answers source errors (λ v w. v ≡ gives w) ts o r
+  pub reports_same : (other o : Outcome V errors.Seen St) (new : St) (r : Result (ParseResult W Er) Stop)
+      → (IsAnswer o.verdict → Agree same other o) → IsAnswer other.verdict → new ≡ o.state
+      → Answers source errors (λ v w. v ≡ gives w) ts o r
       → IfOk r (λ parsed. Reports source errors (λ v w. SameValue same v (gives w)) ts other parsed × (new ≡ other.state))
   reports_same other o new (Ok parsed) h a n p =
       let g = h (answers_output same gives o.verdict parsed.output p.output) in (
@@ -120,12 +134,21 @@ module _ {I Tok Sp Cu Er St V W : Type 0} (source : input_trait.Ghosts I Cu Tok 
       )
   reports_same other o new (Err e) h a n p = tt
 
-module _ {I Tok Sp Cu Er St Mk Cx V W : Type 0} (source : input_trait.Ghosts I Cu Tok Sp) (errors : error_trait.Ghosts Er I Tok Sp) (states : inspector_trait.Ghosts St I Mk Tok Sp) (gives : W → Option V) (ts : Layout Tok) (before mid after : Held Tok Cx states.Seen errors.Seen) where
-  pub parses : {is_default : Cx → Type 0} {steady : Type 0} {same : V → V → Type 0} {language : Language Tok V} {meaning : Meaning Tok Cx states.Seen errors.Seen V} {wanted : Bool} {context : Cx} {old new : states.Seen} (a : Result W Fault) {x : Result (Option V) Fault} (s : Result (Option W) Stop) {r : Result (ParseResult W Er) Stop}
+module _ {I Tok Sp Cu Er St Mk Cx V W : Type 0} (source : input_trait.Ghosts I Cu Tok Sp)
+    (errors : error_trait.Ghosts Er I Tok Sp) (states : inspector_trait.Ghosts St I Mk Tok Sp) (gives : W → Option V)
+    (ts : Layout Tok) (before mid after : Held Tok Cx states.Seen errors.Seen) where
+  pub parses : {is_default : Cx → Type 0} {steady : Type 0} {same : V → V → Type 0} {language : Language Tok V}
+      {meaning : Meaning Tok Cx states.Seen errors.Seen V} {wanted : Bool} {context : Cx} {old new : states.Seen}
+      (a : Result W Fault) {x : Result (Option V) Fault} (s : Result (Option W) Stop)
+      {r : Result (ParseResult W Er) Stop}
       → before ≡ record { tokens = ts; place = 0; context = context; state = old; kept = None; emitted = []; stopped = None } → is_default context
       → Ran errors.merged errors.takes_no_memory meaning wanted before mid x → x ≡ told gives a → SettlesAs errors.expectation source.span_between a mid after s → new ≡ after.state
       → Replies source errors states gives ts before mid after s r → (steady → Agreeing same meaning meaning)
-      → ((o : Outcome V errors.Seen states.Seen) → meaning (record { wanted = wanted; tokens = ts; start = 0; context = context; state = old }) o → Answers source errors (λ v w. v ≡ gives w) ts o r → language.said ≡ true → AnswersText gives language ts.list (errors.takes_no_memory × states.takes_no_memory) r)
+      →
+      ((o : Outcome V errors.Seen states.Seen)
+      → meaning (record { wanted = wanted; tokens = ts; start = 0; context = context; state = old }) o
+      → Answers source errors (λ v w. v ≡ gives w) ts o r → language.said ≡ true
+      → AnswersText gives language ts.list (errors.takes_no_memory × states.takes_no_memory) r)
       → Parses source errors states is_default steady same language gives meaning wanted ts old new r
   parses {is_default} {steady} {same} {language} {meaning} {wanted} {context} {old} {new} a {x} s {r} b d h e t n p ag reads =
       let o = h.outcome in
@@ -134,7 +157,9 @@ module _ {I Tok Sp Cu Er St Mk Cx V W : Type 0} (source : input_trait.Ghosts I C
       let state : new ≡ o.state = n ∙ settled_state source errors states gives ts before mid after a s t ∙ h.state in
       let answered : Answers source errors (λ v w. v ≡ gives w) ts o r =
       reports source errors states gives ts before mid after o.verdict o.end o.state o.events o.emitted a s r (sym e ∙ h.answered) h.left t p
-      (ap (λ (z : Held Tok Cx states.Seen errors.Seen). z.kept) b) (ap (λ (z : Held Tok Cx states.Seen errors.Seen). z.emitted) b) (h.same.tokens ∙ ap (λ (z : Held Tok Cx states.Seen errors.Seen). z.tokens) b) in
+      (ap (λ (z : Held Tok Cx states.Seen errors.Seen). z.kept) b)
+      (ap (λ (z : Held Tok Cx states.Seen errors.Seen). z.emitted) b)
+      (h.same.tokens ∙ ap (λ (z : Held Tok Cx states.Seen errors.Seen). z.tokens) b) in
       record {
         context = context;
         context_is = d;
@@ -143,9 +168,17 @@ module _ {I Tok Sp Cu Er St Mk Cx V W : Type 0} (source : input_trait.Ghosts I C
         state = state;
         answered = answered;
         reads = reads o meant answered;
-        agreed = λ y w other m z. reports_same source errors same gives ts other o new r (λ q. ag y _ _ other o (record { tokens = refl; start = refl; context = refl; state = refl }) m meant z q) z state answered;
+        agreed =
+            λ y w other m z. reports_same source errors same gives ts other o new r
+            (λ q. ag y _ _ other o (record { tokens = refl; start = refl; context = refl; state = refl }) m meant z q)
+            z state answered;
       }
 
 module _ {I Tok Sp Cu Er St Mk Cx : Type 0} (source : input_trait.Ghosts I Cu Tok Sp) (errors : error_trait.Ghosts Er I Tok Sp) (states : inspector_trait.Ghosts St I Mk Tok Sp) where
-  pub whole-agrees : {V : Type 0} (same : V → V → Type 0) (part : Meaning Tok Cx states.Seen errors.Seen V) → Agreeing same part part → Agreeing same (WholeRun source errors states part) (WholeRun source errors states part)
-  whole-agrees {V} same part h = chained-agrees part part _ _ same same h (λ v w e. chained-agrees _ _ _ _ SameUnit same (asked-agrees false _ SameUnit (end-agrees source errors states)) (λ _ _ _. given-agrees same v w e))
+  pub whole-agrees : {V : Type 0} (same : V → V → Type 0) (part : Meaning Tok Cx states.Seen errors.Seen V)
+      → Agreeing same part part
+      → Agreeing same (WholeRun source errors states part) (WholeRun source errors states part)
+  whole-agrees {V} same part h =
+      chained-agrees part part _ _ same same h
+      (λ v w e. chained-agrees _ _ _ _ SameUnit same
+      (asked-agrees false _ SameUnit (end-agrees source errors states)) (λ _ _ _. given-agrees same v w e))

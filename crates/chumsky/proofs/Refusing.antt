@@ -64,7 +64,8 @@ module _ {V Er St : Type 0} where
   verdict_of e = ap (λ (x : Outcome V Er St). x.verdict) e
 
 module _ {I Tok Sp Cu Er St Mk Cx : Type 0} (source : input_trait.Ghosts I Cu Tok Sp) (errors : error_trait.Ghosts Er I Tok Sp) (states : inspector_trait.Ghosts St I Mk Tok Sp) where
-  end_at-memory : (t : Option Tok) (b : Beginning Tok Cx states.Seen) (o : Outcome (Unit {0}) errors.Seen states.Seen) (s : Stop) → o.verdict ≡ Halt s → MeansEndAt source errors states t b o → s ≡ Memory
+  end_at-memory : (t : Option Tok) (b : Beginning Tok Cx states.Seen) (o : Outcome (Unit {0}) errors.Seen states.Seen) (s : Stop)
+      → o.verdict ≡ Halt s → MeansEndAt source errors states t b o → s ≡ Memory
   end_at-memory None b o s h m = absurd (halts-not o.verdict (Yes _) s h (verdict_of m))
   end_at-memory (Some t) b o s h (inl r) = refuses-memory o s h _ _ r
   end_at-memory (Some t) b o s h (inr m) = misses-memory o s h _ _ _ _ m
@@ -74,7 +75,9 @@ module _ {I Tok Sp Cu Er St Mk Cx : Type 0} (source : input_trait.Ghosts I Cu To
   end-memory b o s h m = elim m.by_token [ inl r ↦ refuses-memory o s h _ _ r | inr k ↦ end_at-memory (slice_get b.tokens.list b.start) b o s h k ]
 
   module _ {V : Type 0} where
-    rest_memory : (v : Option V) (b : Beginning Tok Cx states.Seen) (q : Outcome V errors.Seen states.Seen) (s : Stop) → q.verdict ≡ Halt s → (p : Outcome (Unit {0}) errors.Seen states.Seen) → Asked false (MeansEnd source errors states) b p
+    rest_memory : (v : Option V) (b : Beginning Tok Cx states.Seen) (q : Outcome V errors.Seen states.Seen) (s : Stop)
+        → q.verdict ≡ Halt s → (p : Outcome (Unit {0}) errors.Seen states.Seen)
+        → Asked false (MeansEnd source errors states) b p
         → (x : Verdict (Unit {0}) errors.Seen) → p.verdict ≡ x → Follows x (λ _. Given v) b p q → s ≡ Memory
     rest_memory v b q s h p m (Yes u) e f = absurd (halts-not q.verdict (Yes v) s h (verdict_of f.2 ∙ verdict_of f.1))
     rest_memory v b q s h p m No e f = absurd (halts-not q.verdict No s h (verdict_of f))
@@ -92,12 +95,17 @@ module _ {I Tok Sp Cu Er St Mk Cx : Type 0} (source : input_trait.Ghosts I Cu To
 module _ {I Tok Sp Cu Er St Mk Cx V W : Type 0} (source : input_trait.Ghosts I Cu Tok Sp) (errors : error_trait.Ghosts Er I Tok Sp) (states : inspector_trait.Ghosts St I Mk Tok Sp) where
   -- where `parse` or `check` of well-founded rules is refused, that is for memory, or as a leaf is
   pub parses-refused : (leaf : ℕ → Meaning Tok Cx states.Seen errors.Seen V) (g : Tables) (tokens : ℕ) (m : Meaning Tok Cx states.Seen errors.Seen V) → IsRefusedAsLeaves leaf g tokens m
-      → (is_default : Cx → Type 0) (steady : Type 0) (same : V → V → Type 0) (language : Language Tok V) (gives : W → Option V) (wanted : Bool) (ts : Layout Tok) (old new : states.Seen) (result : Result (ParseResult W Er) Stop) → length ts.list ≤ tokens
+      → (is_default : Cx → Type 0) (steady : Type 0) (same : V → V → Type 0) (language : Language Tok V)
+      (gives : W → Option V) (wanted : Bool) (ts : Layout Tok) (old new : states.Seen)
+      (result : Result (ParseResult W Er) Stop)
+      → length ts.list ≤ tokens
       → Parses source errors states is_default steady same language gives (WholeRun source errors states m) wanted ts old new result → IfErr result (RefusesAsLeaves leaf g ts)
   parses-refused leaf g tokens m k is_default steady same language gives wanted ts old new (Ok parsed) few p = tt
   parses-refused leaf g tokens m k is_default steady same language gives wanted ts old new (Err s) few p =
       let b : Beginning Tok Cx states.Seen = record { wanted = wanted; tokens = ts; start = 0; context = p.context; state = old } in
       elim (by_verdict errors.takes_no_memory p.outcome.verdict p.outcome s p.answered) [
         | inl e ↦ inl e
-        | inr h ↦ elim (whole_refused source errors states b p.outcome s h p.meant.first p.meant.first.verdict refl p.meant.follows) [ inl e ↦ inl e | inr w ↦ k.refused b p.meant.first few (omega arith) p.meant.meant s w ]
+        | inr h
+            ↦ elim (whole_refused source errors states b p.outcome s h p.meant.first p.meant.first.verdict refl p.meant.follows)
+            [ inl e ↦ inl e | inr w ↦ k.refused b p.meant.first few (omega arith) p.meant.meant s w ]
       ]

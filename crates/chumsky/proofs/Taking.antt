@@ -9,7 +9,8 @@ use Rattle.chumsky_parser.specs.Progress.{Moves}
 use Rattle.chumsky.specs.Values.{Taking}
 
 module _ {Tok Cx St Er V : Type 0} (merged : Er → Er → Er) (safe : Type 0) (m : Meaning Tok Cx St Er V) where
-  pub ran-taking : {wanted : Bool} {old new : Held Tok Cx St Er} {result : Result (Option V) Fault} → Moves m → Ran merged safe (Onward m) wanted old new result → Ran merged safe (Onward (Taking m)) wanted old new result
+  pub ran-taking : {wanted : Bool} {old new : Held Tok Cx St Er} {result : Result (Option V) Fault} → Moves m
+      → Ran merged safe (Onward m) wanted old new result → Ran merged safe (Onward (Taking m)) wanted old new result
   ran-taking moves r = record {
     outcome = r.outcome;
     meant = record {

@@ -62,7 +62,9 @@ module _ {V Tok Er : Type 0} {l : Language Tok V} {ts : List Tok} {spare : Type 
   pub unless-by_ends : {too_deep : Type 0} → (l.ends ts ≡ Refused → too_deep) → Sound → ((v : V) → P ts v → l.ends ts ≡ At []) → ExactlyUnless P ts too_deep result
   unless-by_ends n sound complete = exact_answer sound (λ v p. inl (complete v p)) n result a.output
 
-  pub unless-by_words : {too_deep : Type 0} → (l.ends ts ≡ Refused → too_deep) → l.unambiguous → l.follow [] → ((v : V) → l.word ts → l.stands_for ts v → P ts v) → ((v : V) → P ts v → l.word ts) → ExactlyUnless P ts too_deep result
+  pub unless-by_words : {too_deep : Type 0} → (l.ends ts ≡ Refused → too_deep) → l.unambiguous → l.follow []
+      → ((v : V) → l.word ts → l.stands_for ts v → P ts v) → ((v : V) → P ts v → l.word ts)
+      → ExactlyUnless P ts too_deep result
   unless-by_words n u f sound complete = exact_answer (λ v e w x s. sound v w s) (λ v p. a.accepted u f (complete v p)) n result a.output
 
   pub never_refuses-by_ends : spare → l.takes_no_memory → ((v : V) → P ts v → l.ends ts ≡ At []) → NeverRefuses P ts result

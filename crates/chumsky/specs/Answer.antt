@@ -49,7 +49,9 @@ module _ {I Tok Sp Cu Er St Mk Cx V W : Type 0} (source : input_trait.Ghosts I C
   -- one run from the start of the tokens in that state, under a context that `default` gives: it answers an outcome of the meaning,
   -- and what the parser's language says of the tokens; and for a steady parser what it reports is reported of every answer from
   -- there, whether a value is wanted or not
-  pub record Parses (is_default : Cx → Type 0) (steady : Type 0) (same : V → V → Type 0) (language : Language Tok V) (gives : W → Option V) (meaning : Meaning Tok Cx states.Seen errors.Seen V) (wanted : Bool) (ts : Layout Tok) (old new : states.Seen) (result : Result (ParseResult W Er) Stop) : Type 0 where
+  pub record Parses (is_default : Cx → Type 0) (steady : Type 0) (same : V → V → Type 0) (language : Language Tok V)
+      (gives : W → Option V) (meaning : Meaning Tok Cx states.Seen errors.Seen V) (wanted : Bool) (ts : Layout Tok)
+      (old new : states.Seen) (result : Result (ParseResult W Er) Stop) : Type 0 where
     pub context : Cx
     pub context_is : is_default context
     pub outcome : Outcome V errors.Seen states.Seen
@@ -57,17 +59,25 @@ module _ {I Tok Sp Cu Er St Mk Cx V W : Type 0} (source : input_trait.Ghosts I C
     pub state : new ≡ outcome.state
     pub answered : Answers source errors (λ v w. v ≡ gives w) ts outcome result
     pub reads : language.said ≡ true → AnswersText gives language ts.list (errors.takes_no_memory × states.takes_no_memory) result
-    pub agreed : steady → (w : Bool) (other : Outcome V errors.Seen states.Seen) → meaning (record { wanted = w; tokens = ts; start = 0; context = context; state = old }) other → IsAnswer other.verdict
+    pub agreed : steady → (w : Bool) (other : Outcome V errors.Seen states.Seen)
+        → meaning (record { wanted = w; tokens = ts; start = 0; context = context; state = old }) other
+        → IsAnswer other.verdict
         → IfOk result (λ parsed. Reports source errors (λ v w. SameValue same v (gives w)) ts other parsed × (new ≡ other.state))
 
-module _ {P I V X Cu Tok Sp Er St Cx Mk : Type 0} (source : input_trait.Ghosts I Cu Tok Sp) (errors : error_trait.Ghosts Er I Tok Sp) (states : inspector_trait.Ghosts St I Mk Tok Sp) (is_default : Cx → Type 0) (parsers : parser_trait.Ghosts P I V X Cu Tok Sp Er St Cx Mk) (parser : P) where
+module _ {P I V X Cu Tok Sp Er St Cx Mk : Type 0} (source : input_trait.Ghosts I Cu Tok Sp)
+    (errors : error_trait.Ghosts Er I Tok Sp) (states : inspector_trait.Ghosts St I Mk Tok Sp)
+    (is_default : Cx → Type 0) (parsers : parser_trait.Ghosts P I V X Cu Tok Sp Er St Cx Mk) (parser : P) where
   -- `parse` runs the parser and then the end of input, for a value: what it answers of these tokens, from one state to another
   abbrev pub ParseGives : Layout Tok → states.Seen → states.Seen → Result (ParseResult V Er) Stop → Type 0
-  ParseGives ts old new result = Parses source errors states is_default (parsers.steady parser) (parsers.same parser) (parsers.language parser) Some (WholeRun source errors states (parsers.meaning parser errors states)) true ts old new result
+  ParseGives ts old new result =
+      Parses source errors states is_default (parsers.steady parser) (parsers.same parser) (parsers.language parser)
+      Some (WholeRun source errors states (parsers.meaning parser errors states)) true ts old new result
 
   -- `check` runs both for no value
   abbrev pub CheckGives : Layout Tok → states.Seen → states.Seen → Result (ParseResult (Unit {0}) Er) Stop → Type 0
-  CheckGives ts old new result = Parses source errors states is_default (parsers.steady parser) (parsers.same parser) (parsers.language parser) (λ _. None) (WholeRun source errors states (parsers.meaning parser errors states)) false ts old new result
+  CheckGives ts old new result =
+      Parses source errors states is_default (parsers.steady parser) (parsers.same parser) (parsers.language parser)
+      (λ _. None) (WholeRun source errors states (parsers.meaning parser errors states)) false ts old new result
 
 -- a run from a default state to some other
 abbrev pub FromDefault : {St Seen : Type 0} → (St → Type 0) → (St → Seen) → (Seen → Seen → Type 0) → Type 0
@@ -81,9 +91,14 @@ module _ {I Tok Sp Cu Er St Mk Cx V : Type 0} (source : input_trait.Ghosts I Cu 
   -- where a parser and then the end of input is refused for memory, that run failed
   abbrev pub LacksMemoryOnlyOfNo : Does I Tok Sp Er St Mk Cx V → Type 0
   LacksMemoryOnlyOfNo part =
-      (b : Beginning Tok Cx states.Seen) (o : Outcome V errors.Seen states.Seen) (s : Stop) → WholeRun source errors states (part errors states) b o → RefusesBy errors.takes_no_memory o.verdict o s → s ≡ Memory → o.verdict ≡ No
+      (b : Beginning Tok Cx states.Seen) (o : Outcome V errors.Seen states.Seen) (s : Stop)
+      → WholeRun source errors states (part errors states) b o → RefusesBy errors.takes_no_memory o.verdict o s
+      → s ≡ Memory → o.verdict ≡ No
 
-module _ {A I X V Cu Tok Sp Er St Cx Mk : Type 0} (source : input_trait.Ghosts I Cu Tok Sp) (errors : error_trait.Ghosts Er I Tok Sp) (states : inspector_trait.Ghosts St I Mk Tok Sp) (is_default : Cx → Type 0) (actions : actions_trait.Ghosts A I X V Cu Tok Sp Er St Cx Mk) (parsers : parser_trait.Ghosts (Grammar A) I V X Cu Tok Sp Er St Cx Mk) (grammar : Grammar A) where
+module _ {A I X V Cu Tok Sp Er St Cx Mk : Type 0} (source : input_trait.Ghosts I Cu Tok Sp)
+    (errors : error_trait.Ghosts Er I Tok Sp) (states : inspector_trait.Ghosts St I Mk Tok Sp)
+    (is_default : Cx → Type 0) (actions : actions_trait.Ghosts A I X V Cu Tok Sp Er St Cx Mk)
+    (parsers : parser_trait.Ghosts (Grammar A) I V X Cu Tok Sp Er St Cx Mk) (grammar : Grammar A) where
   -- what stops a run over at most so many tokens, of which this is known, is for memory, or as a leaf of the grammar is on these tokens
   abbrev StopsAsLeaves : {R : Type 0} → ℕ → (Layout Tok → states.Seen → states.Seen → Result R Stop → Type 0) → Type 0
   StopsAsLeaves many gives = StopsOnlyAs many (RefusesAsLeaves (λ n. actions.leaf_meaning grammar.actions.now n errors states) grammar.rules.rules.now) gives

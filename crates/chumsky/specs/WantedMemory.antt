@@ -25,12 +25,17 @@ module _ {V Er St : Type 0} (quiet : Type 0) (x : quiet) where
       absurd no
   only_no (Clash d) o s h r e = absurd (r.1 x)
 
-module _ {I Tok Sp Cu Er St Mk Cx V : Type 0} (source : input_trait.Ghosts I Cu Tok Sp) (errors : error_trait.Ghosts Er I Tok Sp) (states : inspector_trait.Ghosts St I Mk Tok Sp) (quiet : errors.takes_no_memory) (still : states.takes_no_memory) (part : Meaning Tok Cx states.Seen errors.Seen V) (h : NeverOutOfMemory part) where
+module _ {I Tok Sp Cu Er St Mk Cx V : Type 0} (source : input_trait.Ghosts I Cu Tok Sp)
+    (errors : error_trait.Ghosts Er I Tok Sp) (states : inspector_trait.Ghosts St I Mk Tok Sp)
+    (quiet : errors.takes_no_memory) (still : states.takes_no_memory)
+    (part : Meaning Tok Cx states.Seen errors.Seen V) (h : NeverOutOfMemory part) where
   -- the parser, and then the end of input
   whole-spares : NeverOutOfMemory (WholeRun source errors states part)
   whole-spares =
       chained-spares part _ h (λ v. chained-spares (Asked false (MeansEnd source errors states)) _ (asked-spares false _ (end-spares source errors states quiet still)) (λ _. given-spares v))
 
   -- a refusal for memory is that of a failure
-  pub wanted-for_errors : (b : Beginning Tok Cx states.Seen) (o : Outcome V errors.Seen states.Seen) (s : Stop) → WholeRun source errors states part b o → RefusesBy errors.takes_no_memory o.verdict o s → s ≡ Memory → o.verdict ≡ No
+  pub wanted-for_errors : (b : Beginning Tok Cx states.Seen) (o : Outcome V errors.Seen states.Seen) (s : Stop)
+      → WholeRun source errors states part b o → RefusesBy errors.takes_no_memory o.verdict o s → s ≡ Memory
+      → o.verdict ≡ No
   wanted-for_errors b o s m r e = only_no errors.takes_no_memory quiet o.verdict o s (whole-spares b o m) r e

@@ -38,7 +38,9 @@ module _ {Tok Cx St Mk Er V : Type 0} {merged : Er → Er → Er} {safe : Type 0
 
   -- two that are tried in turn
   tries-both : (a b : Meaning Tok Cx St Er V) (old mid new : Held Tok Cx St Er) (t u r : Result (Option V) Fault) → (t ≡ Err fault.Fail → StandsAt m (gone_back back old m))
-      → GoesToNext merged safe back quiet m a wanted old mid t u → GoesToNext merged safe back quiet m b wanted mid new u r → GoesToNext merged safe back quiet m (AttemptFrom back quiet m.mark a b) wanted old new t r
+      → GoesToNext merged safe back quiet m a wanted old mid t u
+      → GoesToNext merged safe back quiet m b wanted mid new u r
+      → GoesToNext merged safe back quiet m (AttemptFrom back quiet m.mark a b) wanted old new t r
   tries-both a b old mid new (Ok v) u r at h k =
       let j = subst (λ x. GoesToNext merged safe back quiet m b wanted mid new x r) h.after.0 k in
       record { after = (j.after.0, j.after.1 ∙ h.after.1) }
@@ -64,11 +66,16 @@ module _ {Tok Cx St Mk Er V : Type 0} {merged : Er → Er → Er} {safe : Type 0
         | inr l ↦ stands_at-back merged safe back quiet m a wanted (gone_back back old m) new (at refl) l
       ]
 
-module _ {Tok Cx St Mk Er V : Type 0} (merged : Er → Er → Er) (safe : Type 0) (back : St → Mk → St) (quiet : Type 0) (m : Marks Tok Mk) (whole : Meaning Tok Cx St Er V) (wanted : Bool) (old new : Held Tok Cx St Er) (r : Result (Option V) Fault) where
+module _ {Tok Cx St Mk Er V : Type 0} (merged : Er → Er → Er) (safe : Type 0) (back : St → Mk → St) (quiet : Type 0)
+    (m : Marks Tok Mk) (whole : Meaning Tok Cx St Er V) (wanted : Bool) (old new : Held Tok Cx St Er)
+    (r : Result (Option V) Fault) where
   -- the run of the whole, once the alternatives that are left are tried in turn
   abbrev Completes : List (Meaning Tok Cx St Er V) → Type 0
   Completes [] = Ran merged safe whole wanted old new r
-  Completes (next ∷ others) = (end : Held Tok Cx St Er) (s : Result (Option V) Fault) → GoesToNext merged safe back quiet m (FirstFrom back quiet m.mark next others) wanted new end r s → Ran merged safe whole wanted old end s
+  Completes (next ∷ others) =
+      (end : Held Tok Cx St Er) (s : Result (Option V) Fault)
+      → GoesToNext merged safe back quiet m (FirstFrom back quiet m.mark next others) wanted new end r s
+      → Ran merged safe whole wanted old end s
 
   -- some alternatives are tried, of which these are left
   pub record Tried (left : List (Meaning Tok Cx St Er V)) : Type 0 where
@@ -77,7 +84,9 @@ module _ {Tok Cx St Mk Er V : Type 0} (merged : Er → Er → Er) (safe : Type 0
 
 module _ {Tok Cx St Mk Er V : Type 0} {merged : Er → Er → Er} {safe : Type 0} {back : St → Mk → St} {quiet : Type 0} {m : Marks Tok Mk} {whole : Meaning Tok Cx St Er V} {wanted : Bool} where
   next_completes : (next : Meaning Tok Cx St Er V) (others : List (Meaning Tok Cx St Er V)) (old mid new : Held Tok Cx St Er) (t r : Result (Option V) Fault)
-      → Tried merged safe back quiet m whole wanted old mid t (next ∷ others) → GoesToNext merged safe back quiet m next wanted mid new t r → Completes merged safe back quiet m whole wanted old new r others
+      → Tried merged safe back quiet m whole wanted old mid t (next ∷ others)
+      → GoesToNext merged safe back quiet m next wanted mid new t r
+      → Completes merged safe back quiet m whole wanted old new r others
   next_completes next [] old mid new t r h k = h.completes new r (tries-weaker next (FirstFrom back quiet m.mark next []) (λ s o z. record { k = 0; stands = (z, λ e. refl) }) mid new t r k)
   next_completes next (other ∷ others) old mid new t r h k = λ end s l.
       h.completes end s
@@ -85,7 +94,9 @@ module _ {Tok Cx St Mk Er V : Type 0} {merged : Er → Er → Er} {safe : Type 0
       (tries-both next (FirstFrom back quiet m.mark other others) mid new end t r s h.at k l))
 
   pub tried-next : {next : Meaning Tok Cx St Er V} {others : List (Meaning Tok Cx St Er V)} {old mid new : Held Tok Cx St Er} {t r : Result (Option V) Fault}
-      → Tried merged safe back quiet m whole wanted old mid t (next ∷ others) → GoesToNext merged safe back quiet m next wanted mid new t r → Tried merged safe back quiet m whole wanted old new r others
+      → Tried merged safe back quiet m whole wanted old mid t (next ∷ others)
+      → GoesToNext merged safe back quiet m next wanted mid new t r
+      → Tried merged safe back quiet m whole wanted old new r others
   tried-next {next} {others} {old} {mid} {new} {t} {r} h k =
       record {
         at = λ e. back_again next mid new t h.at (subst (λ x. GoesToNext merged safe back quiet m next wanted mid new t x) e k);
@@ -93,16 +104,22 @@ module _ {Tok Cx St Mk Er V : Type 0} {merged : Er → Er → Er} {safe : Type 0
       }
 
   -- an answer that is no failure stands, whatever alternatives are left
-  pub tried-stands : (left : List (Meaning Tok Cx St Er V)) {old new : Held Tok Cx St Er} {r : Result (Option V) Fault} → (r ≡ Err fault.Fail → ⊥) → Tried merged safe back quiet m whole wanted old new r left → Ran merged safe whole wanted old new r
+  pub tried-stands : (left : List (Meaning Tok Cx St Er V)) {old new : Held Tok Cx St Er} {r : Result (Option V) Fault}
+      → (r ≡ Err fault.Fail → ⊥) → Tried merged safe back quiet m whole wanted old new r left
+      → Ran merged safe whole wanted old new r
   tried-stands [] n h = h.completes
   tried-stands (next ∷ others) {old} {new} {r} n h = h.completes new r (tries-stand (FirstFrom back quiet m.mark next others) new r n)
 
 module _ {Tok Cx St Mk Er V : Type 0} (merged : Er → Er → Er) (safe : Type 0) (back : St → Mk → St) (quiet : Type 0) (m : Marks Tok Mk) (wanted : Bool) where
-  first_completes : (first : Meaning Tok Cx St Er V) (others : List (Meaning Tok Cx St Er V)) (old new : Held Tok Cx St Er) (r : Result (Option V) Fault) → StandsAt m old → Ran merged safe first wanted old new r
+  first_completes : (first : Meaning Tok Cx St Er V) (others : List (Meaning Tok Cx St Er V))
+      (old new : Held Tok Cx St Er) (r : Result (Option V) Fault)
+      → StandsAt m old → Ran merged safe first wanted old new r
       → Completes merged safe back quiet m (FirstFrom back quiet m.mark first others) wanted old new r others
   first_completes first [] old new r at h = ran-weaker merged safe first (FirstFrom back quiet m.mark first []) wanted old new r (λ o z. record { k = 0; stands = (z, λ e. refl) }) h
   first_completes first (next ∷ others) old new r at h = λ end s k.
-      ran-weaker merged safe (AttemptFrom back quiet m.mark first (FirstFrom back quiet m.mark next others)) (FirstFrom back quiet m.mark first (next ∷ others)) wanted old end s (λ o z. attempts-first_from back quiet m.mark first next others _ o z)
+      ran-weaker merged safe (AttemptFrom back quiet m.mark first (FirstFrom back quiet m.mark next others))
+      (FirstFrom back quiet m.mark first (next ∷ others)) wanted old end s
+      (λ o z. attempts-first_from back quiet m.mark first next others _ o z)
       (after_tried first (FirstFrom back quiet m.mark next others) old new end r s at h k)
 
 module _ {Tok Cx St Mk Er V : Type 0} {merged : Er → Er → Er} {safe : Type 0} (mark : St → Mk) {back : St → Mk → St} {quiet : Type 0} {m : Marks Tok Mk} {wanted : Bool} where
@@ -116,9 +133,13 @@ module _ {Tok Cx St Mk Er V : Type 0} {merged : Er → Er → Er} {safe : Type 0
         completes = first_completes merged safe back quiet m wanted first others old new r at h;
       }
 
-module _ {Tok Cx St Mk Er V : Type 0} {merged : Er → Er → Er} {safe : Type 0} {mark : St → Mk} {back : St → Mk → St} {quiet : Type 0} {first next : Meaning Tok Cx St Er V} {others : List (Meaning Tok Cx St Er V)} {wanted : Bool} where
+module _ {Tok Cx St Mk Er V : Type 0} {merged : Er → Er → Er} {safe : Type 0} {mark : St → Mk} {back : St → Mk → St}
+    {quiet : Type 0} {first next : Meaning Tok Cx St Er V} {others : List (Meaning Tok Cx St Er V)}
+    {wanted : Bool} where
   -- the first that does not fail, by the mark, of two or more
-  pub first_of-marked : {m : Marks Tok Mk} {old new : Held Tok Cx St Er} {r : Result (Option V) Fault} → m ≡ marked_here mark old → Ran merged safe (FirstFrom back quiet m.mark first (next ∷ others)) wanted old new r
+  pub first_of-marked : {m : Marks Tok Mk} {old new : Held Tok Cx St Er} {r : Result (Option V) Fault}
+      → m ≡ marked_here mark old
+      → Ran merged safe (FirstFrom back quiet m.mark first (next ∷ others)) wanted old new r
       → Ran merged safe (FirstOf mark back quiet first (next ∷ others)) wanted old new r
   first_of-marked {m} {old} {new} {r} e h =
       let by = ran-marked merged safe mark quiet (λ x. FirstFrom back quiet x first (next ∷ others)) wanted old m new r e h in
@@ -126,7 +147,9 @@ module _ {Tok Cx St Mk Er V : Type 0} {merged : Er → Er → Er} {safe : Type 0
 
   -- all of them are tried
   pub tried-all : {m : Marks Tok Mk} {old new : Held Tok Cx St Er} {r : Result (Option V) Fault}
-      → m ≡ marked_here mark old → Tried merged safe back quiet m (FirstFrom back quiet m.mark first (next ∷ others)) wanted old new r [] → Ran merged safe (FirstOf mark back quiet first (next ∷ others)) wanted old new r
+      → m ≡ marked_here mark old
+      → Tried merged safe back quiet m (FirstFrom back quiet m.mark first (next ∷ others)) wanted old new r []
+      → Ran merged safe (FirstOf mark back quiet first (next ∷ others)) wanted old new r
   tried-all e h = first_of-marked e h.completes
 
   -- want of memory for the mark

@@ -20,7 +20,8 @@ module _ {I Tok Sp Er St Mk Cx V : Type 0} (errors : error_trait.Ghosts Er I Tok
   abbrev pub TriesInOrder : Does I Tok Sp Er St Mk Cx V → List (Does I Tok Sp Er St Mk Cx V) → Type 0
   TriesInOrder whole [] = ⊥
   TriesInOrder whole (first ∷ others) =
-      (b : Beginning Tok Cx states.Seen) (o : Outcome V errors.Seen states.Seen) → whole errors states b o → FirstOf states.mark states.back states.takes_no_memory (first errors states) (each_meant errors states others) b o
+      (b : Beginning Tok Cx states.Seen) (o : Outcome V errors.Seen states.Seen) → whole errors states b o
+      → FirstOf states.mark states.back states.takes_no_memory (first errors states) (each_meant errors states others) b o
 
   -- in each answer of the whole one of its alternatives stands; where it has none, the answer is no
   abbrev pub StandsByOneIn : Does I Tok Sp Er St Mk Cx V → List (Does I Tok Sp Er St Mk Cx V) → Type 0

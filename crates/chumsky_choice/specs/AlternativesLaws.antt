@@ -16,6 +16,7 @@ module _ {Tok Cx St Mk Er V : Type 0} (mark : St → Mk) (back : St → Mk → S
 
 module _ {I Tok Sp Er St Mk Cx V : Type 0} (errors : error_trait.Ghosts Er I Tok Sp) (states : inspector_trait.Ghosts St I Mk Tok Sp) where
   -- one of alternatives that are tried in order stands
-  pub in_order-stands : (whole : Does I Tok Sp Er St Mk Cx V) (alternatives : List (Does I Tok Sp Er St Mk Cx V)) → TriesInOrder errors states whole alternatives → StandsByOneIn errors states whole alternatives
+  pub in_order-stands : (whole : Does I Tok Sp Er St Mk Cx V) (alternatives : List (Does I Tok Sp Er St Mk Cx V))
+      → TriesInOrder errors states whole alternatives → StandsByOneIn errors states whole alternatives
   in_order-stands whole [] h = absurd h
   in_order-stands whole (first ∷ others) h = λ b o m a. first_of-stands states.mark states.back states.takes_no_memory (first errors states) (each_meant errors states others) b o (h b o m) a

@@ -59,11 +59,18 @@ module _ {I Tok Sp Cu Er St Mk Cx V : Type 0} (source : input_trait.Ghosts I Cu 
     sparing = λ q t b o m. misses-spares q.0 m.cases;
   }
 
-  module _ {X : Type 0} (meaning : X → Meaning Tok Cx states.Seen errors.Seen V) (language : X → Language Tok V) (h : (x : X) → Accepts (meaning x) (language x) (errors.takes_no_memory × states.takes_no_memory)) where
-    one_of-accept : (x : X) (xs : List X) → AcceptInOrder states.mark states.back {safe = states.takes_no_memory} {spare = errors.takes_no_memory × states.takes_no_memory} (λ q. q.1) (meaning x) (map meaning xs) (one_of_language language x xs)
+  module _ {X : Type 0} (meaning : X → Meaning Tok Cx states.Seen errors.Seen V) (language : X → Language Tok V)
+      (h : (x : X) → Accepts (meaning x) (language x) (errors.takes_no_memory × states.takes_no_memory)) where
+    one_of-accept : (x : X) (xs : List X)
+        → AcceptInOrder states.mark states.back {safe = states.takes_no_memory}
+        {spare = errors.takes_no_memory × states.takes_no_memory} (λ q. q.1) (meaning x) (map meaning xs)
+        (one_of_language language x xs)
     one_of-accept x [] = last-accepts states.mark states.back (λ q. q.1) (meaning x) (h x)
     one_of-accept x (y ∷ ys) = next-accepts states.mark states.back (λ q. q.1) (meaning x) (h x) (meaning y) (map meaning ys) (one_of-accept y ys)
 
     pub among-accepts : (xs : List X) → Accepts (FirstAmong source errors states (map meaning xs)) (among_language language xs) (errors.takes_no_memory × states.takes_no_memory)
     among-accepts [] = none-accepts
-    among-accepts (x ∷ xs) = fewer-accepts (FirstAmong source errors states (map meaning (x ∷ xs))) (FirstOf states.mark states.back states.takes_no_memory (meaning x) (map meaning xs)) (λ b o m. m.cases) (one_of_language language x xs) (one_of-accept x xs).first_of
+    among-accepts (x ∷ xs) =
+        fewer-accepts (FirstAmong source errors states (map meaning (x ∷ xs)))
+        (FirstOf states.mark states.back states.takes_no_memory (meaning x) (map meaning xs)) (λ b o m. m.cases)
+        (one_of_language language x xs) (one_of-accept x xs).first_of

@@ -7,7 +7,11 @@ module _ {Tok Cx St Mk Er V : Type 0} (back : St → Mk → St) (mark : Mk) wher
   -- one of those after it stands, with the failures of both
   abbrev pub OneStands : Meaning Tok Cx St Er V → List (Meaning Tok Cx St Er V) → Meaning Tok Cx St Er V
   OneStands first [] b o = first b o
-  OneStands first (next ∷ others) b o = (first b o × (o.verdict ≡ No → ⊥)) ⊎ ((p : Outcome V Er St) × (q : Outcome V Er St) × first b p × (p.verdict ≡ No) × OneStands next others (record b { state = back p.state mark }) q × (o ≡ record q { events = p.events ++ q.events }))
+  OneStands first (next ∷ others) b o =
+      (first b o × (o.verdict ≡ No → ⊥))
+      ⊎
+      ((p : Outcome V Er St) × (q : Outcome V Er St) × first b p × (p.verdict ≡ No) × OneStands next others
+      (record b { state = back p.state mark }) q × (o ≡ record q { events = p.events ++ q.events }))
 
 module _ {Tok Cx St Mk Er V : Type 0} (mark : St → Mk) (back : St → Mk → St) where
   -- a list that has one

@@ -12,7 +12,9 @@ use Rattle.chumsky_choice.specs.Among.{FirstAmong}
 use Rattle.chumsky_choice.specs.InOrder.{OneStands, StandsByOne, StandsByOneIfAny}
 
 module _ {Tok Cx St Mk Er V : Type 0} (back : St → Mk → St) (safe : Type 0) (mark : Mk) where
-  one_stands : (k : ℕ) (first : Meaning Tok Cx St Er V) (others : List (Meaning Tok Cx St Er V)) (b : Beginning Tok Cx St) (o : Outcome V Er St) → IsAnswer o.verdict → Stands back safe mark k first others b o → OneStands back mark first others b o
+  one_stands : (k : ℕ) (first : Meaning Tok Cx St Er V) (others : List (Meaning Tok Cx St Er V))
+      (b : Beginning Tok Cx St) (o : Outcome V Er St)
+      → IsAnswer o.verdict → Stands back safe mark k first others b o → OneStands back mark first others b o
   one_stands zero first [] b o a h = h.0
   one_stands (suc k) first [] b o a h = absurd h
   one_stands zero first (next ∷ others) b o a h = inl (h.0, λ e. absurd (omega (arith, h.1 e)))
@@ -32,7 +34,9 @@ module _ {I Tok Sp Cu Er St Mk Cx V : Type 0} (source : input_trait.Ghosts I Cu 
   first_among-stands [] = λ b o h a. elim h.cases [ inl r ↦ absurd (subst IsAnswer r.1 a) | inr f ↦ elim f.by [ inl y ↦ y.0 | inr k ↦ absurd (subst IsAnswer k.0 a) ] ]
   first_among-stands (first ∷ others) = λ b o h a. first_of-stands states.mark states.back states.takes_no_memory first others b o h.cases a
 
-  pub first_among-both : (ss : List (V → V → Type 0)) (alternatives : List (Meaning Tok Cx states.Seen errors.Seen V)) → AllAgree ss alternatives → SameByStandingIfAny states.mark states.back states.takes_no_memory (FirstAmong source errors states alternatives) ss alternatives
+  pub first_among-both : (ss : List (V → V → Type 0)) (alternatives : List (Meaning Tok Cx states.Seen errors.Seen V))
+      → AllAgree ss alternatives
+      → SameByStandingIfAny states.mark states.back states.takes_no_memory (FirstAmong source errors states alternatives) ss alternatives
   first_among-both ss [] h = tt
   first_among-both [] (first ∷ others) h = absurd h.each
   first_among-both (s ∷ ss) (first ∷ others) h = λ b c o q alike m n a z. first_of-both states.mark states.back states.takes_no_memory s ss first others h b c o q alike m.cases n.cases a z

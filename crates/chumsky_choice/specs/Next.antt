@@ -17,7 +17,8 @@ use Rattle.chumsky_parser.specs.Choice.{FirstOf}
 use Rattle.chumsky_parser.specs.Failure.{expects}
 use Rattle.chumsky_choice.specs.Among.{FirstAmong}
 
-module _ {Tok Cx St Mk Er V : Type 0} (merged : Er → Er → Er) (safe : Type 0) (back : St → Mk → St) (quiet : Type 0) (mark : Marks Tok Mk) (next : Meaning Tok Cx St Er V) (wanted : Bool) (old new : Held Tok Cx St Er) where
+module _ {Tok Cx St Mk Er V : Type 0} (merged : Er → Er → Er) (safe : Type 0) (back : St → Mk → St) (quiet : Type 0)
+    (mark : Marks Tok Mk) (next : Meaning Tok Cx St Er V) (wanted : Bool) (old new : Held Tok Cx St Er) where
   -- after a failure the next alternative, gone back to by the mark unless memory is wanting; any other answer stands
   abbrev pub NextAfter : Result (Option V) Fault → Result (Option V) Fault → Type 0
   NextAfter (Ok v) r = (r ≡ Ok v) × (new ≡ old)
@@ -29,11 +30,16 @@ module _ {Tok Cx St Mk Er V : Type 0} (merged : Er → Er → Er) (safe : Type 0
 
 module _ {I X Tok Sp Cu Er St Cx Mk : Type 0} (source : input_trait.Ghosts I Cu Tok Sp) (errors : error_trait.Ghosts Er I Tok Sp) (states : inspector_trait.Ghosts St I Mk Tok Sp) where
   -- the run from `old` to `new` goes on after an answer with the next alternative, by a checkpoint
-  abbrev pub RunsNext : {V : Type 0} → Checkpoint Cu Mk → Does I Tok Sp Er St Mk Cx V → Bool → InputRef I X Cu Tok Sp Er St Cx Mk → InputRef I X Cu Tok Sp Er St Cx Mk → Result (Option V) Fault → Result (Option V) Fault → Type 0
-  RunsNext before next wanted old new tried result = GoesToNext errors.merged errors.takes_no_memory states.back states.takes_no_memory (marks source states before) (next errors states) wanted (held source errors states old) (held source errors states new) tried result
+  abbrev pub RunsNext : {V : Type 0} → Checkpoint Cu Mk → Does I Tok Sp Er St Mk Cx V → Bool
+      → InputRef I X Cu Tok Sp Er St Cx Mk → InputRef I X Cu Tok Sp Er St Cx Mk → Result (Option V) Fault
+      → Result (Option V) Fault → Type 0
+  RunsNext before next wanted old new tried result =
+      GoesToNext errors.merged errors.takes_no_memory states.back states.takes_no_memory (marks source states before)
+      (next errors states) wanted (held source errors states old) (held source errors states new) tried result
 
   -- the run shows the first that does not say no of a parser and some others
-  abbrev pub RunsFirst : {P V : Type 0} → (P → Does I Tok Sp Er St Mk Cx V) → P → List P → Bool → InputRef I X Cu Tok Sp Er St Cx Mk → InputRef I X Cu Tok Sp Er St Cx Mk → Result (Option V) Fault → Type 0
+  abbrev pub RunsFirst : {P V : Type 0} → (P → Does I Tok Sp Er St Mk Cx V) → P → List P → Bool
+      → InputRef I X Cu Tok Sp Er St Cx Mk → InputRef I X Cu Tok Sp Er St Cx Mk → Result (Option V) Fault → Type 0
   RunsFirst meaning first others wanted old new result =
       Runs source errors states (FirstOf states.mark states.back states.takes_no_memory (meaning first errors states) (map (λ p. meaning p errors states) others)) wanted old new result
 

@@ -46,7 +46,14 @@ module _ {Tok Cx St Mk Er V : Type 0} (back : St → Mk → St) (safe : Type 0) 
   attempt_weaker : (first m n : Meaning Tok Cx St Er V) → MeansNoMore m n → MeansNoMore (AttemptFrom back safe mark first m) (AttemptFrom back safe mark first n)
   attempt_weaker first m n w b o h =
       elim (is_no h.attempt.verdict) [
-        | inl e ↦ record { attempt = h.attempt; meant = h.meant; then_else = left n b h.attempt o e (elim (gone m b h.attempt o e h.then_else) [ inl r ↦ inl r | inr t ↦ inr (t.0, w _ t.0 t.1, t.2) ]) }
+        | inl e
+            ↦ record {
+              attempt = h.attempt;
+              meant = h.meant;
+              then_else =
+                  left n b h.attempt o e
+                  (elim (gone m b h.attempt o e h.then_else) [ inl r ↦ inl r | inr t ↦ inr (t.0, w _ t.0 t.1, t.2) ]);
+            }
         | inr e ↦ record { attempt = h.attempt; meant = h.meant; then_else = kept n b h.attempt o h.attempt.verdict e (over m b h.attempt o h.attempt.verdict e h.then_else) }
       ]
 
@@ -57,7 +64,9 @@ module _ {Tok Cx St Mk Er V : Type 0} (back : St → Mk → St) (safe : Type 0) 
 
     -- the first says no, and so does the second
     late : (p s q : Outcome V Er St) → first b p → p.verdict ≡ No → second (record b { state = back p.state mark }) s → s.verdict ≡ No
-        → GoneOn back safe mark s third (record b { state = back p.state mark }) q → o ≡ record q { events = p.events ++ q.events } → AttemptFrom back safe mark (AttemptFrom back safe mark first second) third b o
+        → GoneOn back safe mark s third (record b { state = back p.state mark }) q
+        → o ≡ record q { events = p.events ++ q.events }
+        → AttemptFrom back safe mark (AttemptFrom back safe mark first second) third b o
     late p s q h e k f g l =
         let i : Outcome V Er St = record s { events = p.events ++ s.events } in
         record {
@@ -112,7 +121,9 @@ module _ {Tok Cx St Mk Er V : Type 0} (back : St → Mk → St) (safe : Type 0) 
               }
         ]
 
-    attempts-right : (o.verdict ≡ Halt Memory → ⊥) → AttemptFrom back safe mark (AttemptFrom back safe mark first second) third b o → AttemptFrom back safe mark first (AttemptFrom back safe mark second third) b o
+    attempts-right : (o.verdict ≡ Halt Memory → ⊥)
+        → AttemptFrom back safe mark (AttemptFrom back safe mark first second) third b o
+        → AttemptFrom back safe mark first (AttemptFrom back safe mark second third) b o
     attempts-right n h =
         let i = h.attempt in
         let p = h.meant.attempt in
@@ -133,7 +144,17 @@ module _ {Tok Cx St Mk Er V : Type 0} (back : St → Mk → St) (safe : Type 0) 
                     attempt = p;
                     meant = h.meant.meant;
                     then_else = left (AttemptFrom back safe mark second third) b p o e
-                        (inr (t.0, record { attempt = t.0; meant = t.1; then_else = kept third (record b { state = back p.state mark }) t.0 t.0 t.0.verdict (λ z. m (same_verdict i _ t.2 ∙ z)) refl }, f ∙ t.2));
+                        (inr (
+                          t.0,
+                          record {
+                            attempt = t.0;
+                            meant = t.1;
+                            then_else =
+                                kept third (record b { state = back p.state mark }) t.0 t.0 t.0.verdict
+                                (λ z. m (same_verdict i _ t.2 ∙ z)) refl;
+                          },
+                          f ∙ t.2,
+                        ));
                   }
             ]
           ]
@@ -172,6 +193,12 @@ module _ {Tok Cx St Mk Er V : Type 0} (mark : St → Mk) (back : St → Mk → S
         | inl r ↦ absurd (n r.1)
         | inr t ↦ elim t.meant.cases [
           | inl r ↦ absurd (n (same_verdict o t.attempt (refused t.attempt.verdict b t.attempt o r.1 t.then_else) ∙ r.1))
-          | inr u ↦ record { cases = inr (attempts-from back safe (mark b.state) first second third b o (attempts-right back safe (mark b.state) first second third b o n (record { attempt = t.attempt; meant = u; then_else = t.then_else }))) }
+          | inr u
+              ↦ record {
+                cases = inr
+                    (attempts-from back safe (mark b.state) first second third b o
+                    (attempts-right back safe (mark b.state) first second third b o n
+                    (record { attempt = t.attempt; meant = u; then_else = t.then_else })));
+              }
         ]
       ]

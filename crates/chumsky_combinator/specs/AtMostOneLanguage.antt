@@ -110,7 +110,9 @@ module _ {Tok Cx St Mk Er V : Type 0} (mark : St → Mk) (back : St → Mk → S
   module _ (F : Language Tok V) (d : Described part F) where
     -- the first step
     first_here : (b : Beginning Tok Cx St) → Within b
-        → Here (IsStepped (F.value (drop b.start b.tokens.list)) (λ t. TriedAfter t 1) (at_most_one F 0 (drop b.start b.tokens.list))) (OnceTried mark back safe part false) (place (at_most_one F 0 (drop b.start b.tokens.list))) b
+        → Here
+        (IsStepped (F.value (drop b.start b.tokens.list)) (λ t. TriedAfter t 1) (at_most_one F 0 (drop b.start b.tokens.list)))
+        (OnceTried mark back safe part false) (place (at_most_one F 0 (drop b.start b.tokens.list))) b
     first_here b w o m =
         let ts : List Tok = drop b.start b.tokens.list in
         let G : Bool → Type 0 = λ t. TriedAfter t 1 in
@@ -123,15 +125,22 @@ module _ {Tok Cx St Mk Er V : Type 0} (mark : St → Mk) (back : St → Mk → S
         subst (λ q. Answers P q b.tokens.list p.verdict p.end) (and_then_some (F.ends ts)) y) in
         let z : Here (λ n. ElseValue (F.ends ts) (P n) (Q n)) (OnceTried mark back safe part false) (or_else (F.ends ts) (At ts)) b =
         or_else-here mark back safe _ _ P Q (F.ends ts) (At ts) b first (λ s. given-here Er Q (record b { state = s }) (record { start = w.start; few = w.few }) (Some End) tt) in
-        let y : Answers R (or_else (F.ends ts) (At ts)) b.tokens.list o.verdict o.end = weaker-here (λ n. ElseValue (F.ends ts) (P n) (Q n)) R (as_stepped (F.value ts) G ts (F.ends ts)) (OnceTried mark back safe part false) (or_else (F.ends ts) (At ts)) b z o m in
+        let y : Answers R (or_else (F.ends ts) (At ts)) b.tokens.list o.verdict o.end =
+        weaker-here (λ n. ElseValue (F.ends ts) (P n) (Q n)) R (as_stepped (F.value ts) G ts (F.ends ts))
+        (OnceTried mark back safe part false) (or_else (F.ends ts) (At ts)) b z o m in
         subst (λ q. Answers R q b.tokens.list o.verdict o.end) (tried_place ts (F.ends ts)) y
 
     step_here : (k : ℕ) (tried : Bool) → TriedAfter tried k → (b : Beginning Tok Cx St) → Within b
-        → Here (IsStepped (F.value (drop b.start b.tokens.list)) (λ t. TriedAfter t (suc k)) (at_most_one F k (drop b.start b.tokens.list))) (AtMostOne mark back safe part tried) (place (at_most_one F k (drop b.start b.tokens.list))) b
+        → Here
+        (IsStepped (F.value (drop b.start b.tokens.list)) (λ t. TriedAfter t (suc k)) (at_most_one F k (drop b.start b.tokens.list)))
+        (AtMostOne mark back safe part tried) (place (at_most_one F k (drop b.start b.tokens.list))) b
     step_here zero false g b w = λ o m. first_here b w o m.step
     step_here zero true g b w = absurd g
     step_here (suc k) false g b w = absurd g
-    step_here (suc k) true g b w = λ o m. given-here Er (IsStepped (F.value (drop b.start b.tokens.list)) (λ t. TriedAfter t (suc (suc k))) (At (Over (drop b.start b.tokens.list)))) b w (Some End) tt o m.step
+    step_here (suc k) true g b w =
+        λ o m. given-here Er
+        (IsStepped (F.value (drop b.start b.tokens.list)) (λ t. TriedAfter t (suc (suc k))) (At (Over (drop b.start b.tokens.list))))
+        b w (Some End) tt o m.step
 
 module _ {Tok V : Type 0} (F : Language Tok V) where
   -- what follows the only item is what may follow the list

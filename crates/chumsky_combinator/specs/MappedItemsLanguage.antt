@@ -96,7 +96,8 @@ module _ {Tok Cx St Er S V W : Type 0} (made : Option V → Meaning Tok Cx St Er
   remade-spares : (step : Meaning Tok Cx St Er (Next S V)) → ((v : Option V) → NeverOutOfMemory (made v)) → NeverOutOfMemory step → NeverOutOfMemory (Remade made step)
   remade-spares step h k = chained-spares step _ k (after_spares h)
 
-module _ {Tok Cx St Er S V W : Type 0} (begins : Meaning Tok Cx St Er S) (gives : S → Meaning Tok Cx St Er (Next S V)) {L : ItemsLanguage Tok S V} {spare : Type 0} (h : AcceptsItems begins gives L spare) where
+module _ {Tok Cx St Er S V W : Type 0} (begins : Meaning Tok Cx St Er S) (gives : S → Meaning Tok Cx St Er (Next S V))
+    {L : ItemsLanguage Tok S V} {spare : Type 0} (h : AcceptsItems begins gives L spare) where
   -- `items.map(maps)`
   pub map_items-accepts : (maps : V → W → Type 0) → AcceptsItems begins (λ s. MapsItem maps (gives s)) (map_items_language maps L) spare
   map_items-accepts maps = record {
@@ -106,7 +107,9 @@ module _ {Tok Cx St Er S V W : Type 0} (begins : Meaning Tok Cx St Er S) (gives 
           start = d.start;
           step = λ k s g b w l o m.
               let ts : List Tok = drop b.start b.tokens.list in
-              remade-here (GivenBy maps) (L.value k ts) (MapsSome (L.value k) maps ts) (λ t. L.has_given t (suc k)) (L.next k ts) (gives s) b w (λ v c y t e i. given_by-here maps (L.value k) ts v i c y) (d.step k s g b w l) o m.remade;
+              remade-here (GivenBy maps) (L.value k ts) (MapsSome (L.value k) maps ts) (λ t. L.has_given t (suc k))
+              (L.next k ts) (gives s) b w (λ v c y t e i. given_by-here maps (L.value k) ts v i c y)
+              (d.step k s g b w l) o m.remade;
           further = d.further;
           one = d.one;
           given = λ k ts rest w e i. (let b = d.given k ts rest i.0 e i.1 in record { word = b.word; all = b.all; is = (i.0, b.is, i.2) });

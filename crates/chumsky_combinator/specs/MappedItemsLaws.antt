@@ -23,7 +23,9 @@ module _ {Tok Cx St Er S V W : Type 0} where
 
   pub remade-moves : (made : Option V → Meaning Tok Cx St Er W) (step : Meaning Tok Cx St Er (Next S V)) → ((v : Option V) → EndsAfterStart (made v)) → Moves step → Moves (Remade made step)
   remade-moves made step hm h =
-      chained-first step _ h (after_step-ends (λ v s. Chained (made v) (λ w. Given (Some (More w s)))) (Given (Some End)) (λ v s. chained-ends (made v) _ (hm v) (λ w. given-ends (Some (More w s)))) (given-ends (Some End)))
+      chained-first step _ h
+      (after_step-ends (λ v s. Chained (made v) (λ w. Given (Some (More w s)))) (Given (Some End))
+      (λ v s. chained-ends (made v) _ (hm v) (λ w. given-ends (Some (More w s)))) (given-ends (Some End)))
 
   module _ (same : V → V → Type 0) (other : W → W → Type 0) (alike : S → S → Type 0) where
     pub remade-agrees : (made made' : Option V → Meaning Tok Cx St Er W) (step step' : Meaning Tok Cx St Er (Next S V))

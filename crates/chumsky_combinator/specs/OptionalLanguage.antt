@@ -84,7 +84,9 @@ module _ {Tok V : Type 0} (f : Ender Tok) (value of : List Tok → V → Type 0)
 module _ {Tok Cx St Mk Er V : Type 0} (mark : St → Mk) (back : St → Mk → St) {safe spare : Type 0} (still : spare → safe) (part : Meaning Tok Cx St Er V) where
   or_none-by : (f : Ender Tok) (value : List Tok → V → Type 0) → Reads part f value → Reads (OrNone mark back safe part) (maybe_ends f) (MaybeValue f value)
   or_none-by f value h =
-      or-by mark back safe _ _ f (λ ts. At ts) (λ ts v. IfSomeOf (value ts) v) (λ ts v. IfNoneOf v) (regrouped-by part f value h Some (λ ts v. IfSomeOf (value ts) v) (λ ts v i. i)) (gives-by Er IfNoneOf None tt)
+      or-by mark back safe _ _ f (λ ts. At ts) (λ ts v. IfSomeOf (value ts) v) (λ ts v. IfNoneOf v)
+      (regrouped-by part f value h Some (λ ts v. IfSomeOf (value ts) v) (λ ts v i. i))
+      (gives-by Er IfNoneOf None tt)
 
   -- `part.or_not()`, where a mark and going back take no memory if errors and states don't
   pub or_not-accepts : {F : Language Tok V} → Accepts part F spare → Accepts (OrNone mark back safe part) (or_not_language F) spare

@@ -44,21 +44,29 @@ between_places ts i j l =
     let n : j - i ≡ length (drop i ts) - length (drop j ts) = omega (arith, a, b, l) in
     ap (λ k. take k (drop i ts)) n
 
-module _ {Tok Cx St Er V W : Type 0} (part : Meaning Tok Cx St Er V) (next : Option V → Meaning Tok Cx St Er W) (f : Ender Tok) (va : List Tok → V → Type 0) (h : Reads part f va) (Q : List Tok → W → Type 0) where
+module _ {Tok Cx St Er V W : Type 0} (part : Meaning Tok Cx St Er V) (next : Option V → Meaning Tok Cx St Er W)
+    (f : Ender Tok) (va : List Tok → V → Type 0) (h : Reads part f va) (Q : List Tok → W → Type 0) where
   -- what only gives a value after the part, which is one of what the part took
   abbrev GivesAfter : Beginning Tok Cx St → Type 0
   GivesAfter b =
-      (v : Option V) (p : Outcome V Er St) → f (drop b.start b.tokens.list) ≡ At (drop p.end b.tokens.list) → p.end ≤ length b.tokens.list → IfValue (va (drop b.start b.tokens.list)) v → (q : Outcome W Er St) → next v (from b p) q
+      (v : Option V) (p : Outcome V Er St) → f (drop b.start b.tokens.list) ≡ At (drop p.end b.tokens.list)
+      → p.end ≤ length b.tokens.list → IfValue (va (drop b.start b.tokens.list)) v → (q : Outcome W Er St)
+      → next v (from b p) q
       → (u : Option W) × Given u (from b p) q × IfValue (Q (drop b.start b.tokens.list)) u
 
-  given_by : (b : Beginning Tok Cx St) → Within b → GivesAfter b → (o : Outcome W Er St) (p : Outcome V Er St) (u : Verdict V Er) → Answers (va (drop b.start b.tokens.list)) (f (drop b.start b.tokens.list)) b.tokens.list u p.end → Follows u next b p o
+  given_by : (b : Beginning Tok Cx St) → Within b → GivesAfter b
+      → (o : Outcome W Er St) (p : Outcome V Er St) (u : Verdict V Er)
+      → Answers (va (drop b.start b.tokens.list)) (f (drop b.start b.tokens.list)) b.tokens.list u p.end
+      → Follows u next b p o
       → Answers (Q (drop b.start b.tokens.list)) (f (drop b.start b.tokens.list)) b.tokens.list o.verdict o.end
   given_by b w k o p (Yes v) a s = let y = k v p a.0 a.2 a.1 s.0 s.1 in rw (s.2, y.1) (a.0, y.2, a.2)
   given_by b w k o p No a s = rw s a
   given_by b w k o p (Halt x) a s = rw s a
   given_by b w k o p (Clash x) a s = rw s tt
 
-  gives_after-here : (b : Beginning Tok Cx St) → Within b → GivesAfter b → (o : Outcome W Er St) → Chained part next b o → Answers (Q (drop b.start b.tokens.list)) (f (drop b.start b.tokens.list)) b.tokens.list o.verdict o.end
+  gives_after-here : (b : Beginning Tok Cx St) → Within b → GivesAfter b → (o : Outcome W Er St)
+      → Chained part next b o
+      → Answers (Q (drop b.start b.tokens.list)) (f (drop b.start b.tokens.list)) b.tokens.list o.verdict o.end
   gives_after-here b w k o m = given_by b w k o m.first m.first.verdict (h.here b w m.first m.meant) m.follows
 
 module _ {Tok Cx St Er V W : Type 0} (is : Layout Tok → ℕ → ℕ → W → Type 0) (part : Meaning Tok Cx St Er V) where
@@ -80,8 +88,15 @@ module _ {Tok Cx St Er V W : Type 0} (is : Layout Tok → ℕ → ℕ → W → 
           let ts : List Tok = drop b.start b.tokens.list in
           gives_after-here (Asked false part) (λ _. Cover is b.start) f va (asked-by part f va h false) (CoversTaken is f) b w
           (λ v p e l i q n.
-          let x = n.copies in
-          (x.value, x.given, covering x.value b.wanted (is b.tokens b.start p.end) (CoversTaken is f ts) (λ u j. ends_there (f ts) (drop p.end b.tokens.list) (λ rest. IsSliceOf is (taken_of ts rest) u) e (slice_between b.tokens b.start p.end l u j)) x.is_value)) o m.run;
+          let x = n.copies in (
+            x.value,
+            x.given,
+            covering x.value b.wanted (is b.tokens b.start p.end) (CoversTaken is f ts)
+                (λ u j. ends_there (f ts) (drop p.end b.tokens.list) (λ rest. IsSliceOf is (taken_of ts rest) u) e
+                (slice_between b.tokens b.start p.end l u j))
+                x.is_value,
+          ))
+          o m.run;
     }
       where
         slice_between : (l : Layout Tok) (i j : ℕ) → j ≤ length l.list → (u : W) → is l i j u → IsSliceOf is (taken_of (drop i l.list) (drop j l.list)) u
@@ -118,17 +133,22 @@ module _ {Tok Cx St Er V W : Type 0} (with_span : Layout Tok → ℕ → ℕ →
   with_span-by f va h = record {
     here = λ b w o m.
         let ts : List Tok = drop b.start b.tokens.list in
-        gives_after-here part (AddsSpan with_span b.start) f va h (SpannedTaken f va) b w (λ v p e l i q n. (option_map (with_span b.tokens b.start p.end) v, n.given, each_value b p.end e l v i)) o m.run;
+        gives_after-here part (AddsSpan with_span b.start) f va h (SpannedTaken f va) b w
+        (λ v p e l i q n. (option_map (with_span b.tokens b.start p.end) v, n.given, each_value b p.end e l v i))
+        o m.run;
   }
     where
-      each_value : (b : Beginning Tok Cx St) (end : ℕ) → f (drop b.start b.tokens.list) ≡ At (drop end b.tokens.list) → end ≤ length b.tokens.list → (v : Option V) → IfValue (va (drop b.start b.tokens.list)) v
+      each_value : (b : Beginning Tok Cx St) (end : ℕ) → f (drop b.start b.tokens.list) ≡ At (drop end b.tokens.list)
+          → end ≤ length b.tokens.list → (v : Option V) → IfValue (va (drop b.start b.tokens.list)) v
           → IfValue (SpannedTaken f va (drop b.start b.tokens.list)) (option_map (with_span b.tokens b.start end) v)
       each_value b end e l None i = tt
       each_value b end e l (Some v) i =
           let ts : List Tok = drop b.start b.tokens.list in
           let rest : List Tok = drop end b.tokens.list in
           let w : W = with_span b.tokens b.start end v in
-          let k : IsSliceOf (λ l i j x. x ≡ with_span l i j v) (taken_of ts rest) w = record { layout = b.tokens; from = b.start; to = end; tokens = between_places b.tokens.list b.start end l; is_slice = refl } in
+          let k : IsSliceOf (λ l i j x. x ≡ with_span l i j v) (taken_of ts rest) w =
+          record { layout = b.tokens; from = b.start; to = end; tokens = between_places b.tokens.list b.start end l; is_slice = refl }
+          in
           ends_there (f ts) rest (λ r. AddsTaken with_span (va ts) (taken_of ts r) w) e (v, i, k)
 
   with_span-given : {F : Language Tok V} → Described part F → GivesOnly F.ends (SpannedTaken F.ends F.value) (λ u w. AddsTaken with_span (F.stands_for u) u w)

@@ -20,7 +20,14 @@ module _ {Tok Cx St Er V W : Type 0} (part : Meaning Tok V St Er W) where
   under-accepts v h = record {
     described = λ s.
         let d = h.described s in
-        record { reads = record { here = λ b w o m. d.reads.here (begun_under v b) (record { start = w.start; few = w.few }) o m.runs }; only = d.only; given = d.given; each = d.each; decided = d.decided; further = d.further };
+        record {
+          reads = record { here = λ b w o m. d.reads.here (begun_under v b) (record { start = w.start; few = w.few }) o m.runs };
+          only = d.only;
+          given = d.given;
+          each = d.each;
+          decided = d.decided;
+          further = d.further;
+        };
     moving = λ e b o m. h.moving e (begun_under v b) o m.runs;
     sparing = λ q t b o m. h.sparing q t (begun_under v b) o m.runs;
   }
@@ -30,7 +37,14 @@ module _ {Tok Cx St Er V W : Type 0} (part : Meaning Tok V St Er W) where
   under_made-accepts makes h = record {
     described = λ s.
         let d = h.described s in
-        record { reads = record { here = λ b w o m. d.reads.here (begun_under m.context b) (record { start = w.start; few = w.few }) o m.runs }; only = d.only; given = d.given; each = d.each; decided = d.decided; further = d.further };
+        record {
+          reads = record { here = λ b w o m. d.reads.here (begun_under m.context b) (record { start = w.start; few = w.few }) o m.runs };
+          only = d.only;
+          given = d.given;
+          each = d.each;
+          decided = d.decided;
+          further = d.further;
+        };
     moving = λ e b o m. h.moving e (begun_under m.context b) o m.runs;
     sparing = λ q t b o m. h.sparing q t (begun_under m.context b) o m.runs;
   }
@@ -67,7 +81,8 @@ module _ {Tok Cx St T S Er V : Type 0} (copies : S → Type 0) (safe : Type 0) (
   ]
 
   -- `part.with_state(..)`
-  pub on_copy-accepts : {F : Language Tok V} {quiet still spare : Type 0} → Accepts part F (quiet × still) → Accepts (OnCopy {St = St} copies safe seen part) (on_copy_language (safe × still) F) (quiet × spare)
+  pub on_copy-accepts : {F : Language Tok V} {quiet still spare : Type 0} → Accepts part F (quiet × still)
+      → Accepts (OnCopy {St = St} copies safe seen part) (on_copy_language (safe × still) F) (quiet × spare)
   on_copy-accepts {F} h = record {
     described = λ s. let d = h.described s in record { reads = on_copy-by F.ends F.value d.reads; only = d.only; given = d.given; each = d.each; decided = d.decided; further = d.further };
     moving = λ e. on_copy-moves (h.moving e);

@@ -69,7 +69,11 @@ module _ {Tok Cx St Er V : Type 0} {spare : Type 0} where
   too_deep-accepts : (intended : Intended Tok V) → Accepts (Onward (IsTooDeep {Tok = Tok} {Cx = Cx} {St = St} {Er = Er} {V = V})) (too_deep intended) spare
   too_deep-accepts intended = record {
     described = λ s. record {
-      reads = record { here = λ b w o m. let r : Ending (List Tok) = Refused in let a : Answers (λ (v : V). ⊥) {Tok = Tok} {Er = Er} r b.tokens.list (Halt TooDeep) o.end = inr refl in rw m.means.verdict a };
+      reads =
+          record {
+            here = λ b w o m. let r : Ending (List Tok) = Refused in let a : Answers (λ (v : V). ⊥) {Tok = Tok}
+                {Er = Er} r b.tokens.list (Halt TooDeep) o.end = inr refl in rw m.means.verdict a;
+          };
       only = record { taken = λ ts rest e. absurd (cc e) };
       given = record { given = λ ts rest v e x. absurd (cc e) };
       each = λ u. record { each = λ w rest x f. inr refl };
@@ -81,7 +85,8 @@ module _ {Tok Cx St Er V : Type 0} {spare : Type 0} where
   }
 
   -- where the bodies are lawful, each call accepts its language
-  module _ {calls bodies : ℕ → Meaning Tok Cx St Er V} (are : AreCalls calls bodies) (intended : Intended Tok V) (grammar : Language Tok V → Language Tok V) (keeps : KeepsLaws calls bodies spare grammar) where
+  module _ {calls bodies : ℕ → Meaning Tok Cx St Er V} (are : AreCalls calls bodies) (intended : Intended Tok V)
+      (grammar : Language Tok V → Language Tok V) (keeps : KeepsLaws calls bodies spare grammar) where
     pub exact-accepts : (depth : ℕ) → Accepts (calls depth) (call_language intended grammar depth) spare
     exact-accepts zero = fewer-accepts _ _ are.is_none (too_deep intended) (too_deep-accepts intended)
     exact-accepts (suc depth) =

@@ -6,7 +6,26 @@ use Rattle.chumsky_parser.specs.Language.{Language, unsaid, of_unsaid}
 use Rattle.chumsky_combinator.specs.Part.{Onward}
 use Rattle.chumsky_combinator.specs.PartLaws.{onward-ends, onward-agrees}
 use Rattle.chumsky_descent.specs.Lawful.{AnyTwo}
-use Rattle.chumsky_descent.specs.Calls.{Body, Bodies, IsTooDeep, CallOf, CallsOf, KeepsAgreement, KeepAgreement, AreCalls, KeepsLaws, Said, Nothing, Means, Steady, Exact, Together, DoesCall, same_of, IsSteady}
+use Rattle.chumsky_descent.specs.Calls.{
+  Body,
+  Bodies,
+  IsTooDeep,
+  CallOf,
+  CallsOf,
+  KeepsAgreement,
+  KeepAgreement,
+  AreCalls,
+  KeepsLaws,
+  Said,
+  Nothing,
+  Means,
+  Steady,
+  Exact,
+  Together,
+  DoesCall,
+  same_of,
+  IsSteady,
+}
 
 module _ {Tok Cx St Er : Type 0} where
   pub call-ends : {V : Type 0} (body : Body Tok Cx St Er V) (depth : ℕ) → EndsAfterStart (CallOf body depth)

@@ -78,7 +78,9 @@ pub data Said (Tok Cx St Er spare : Type 0) : Type 0 → Type 1 where
   Nothing : {V : Type 0} → Said Tok Cx St Er spare V
   Means : {V : Type 0} → Body Tok Cx St Er V → Said Tok Cx St Er spare V
   Steady : {V : Type 0} (same : V → V → Type 0) (body : Body Tok Cx St Er V) → KeepsAgreement same body → Said Tok Cx St Er spare V
-  Exact : {V : Type 0} (calls bodies : ℕ → Meaning Tok Cx St Er V) → AreCalls calls bodies → (intended : Intended Tok V) (grammar : Language Tok V → Language Tok V) → KeepsLaws calls bodies spare grammar → Said Tok Cx St Er spare V
+  Exact : {V : Type 0} (calls bodies : ℕ → Meaning Tok Cx St Er V) → AreCalls calls bodies
+      → (intended : Intended Tok V) (grammar : Language Tok V → Language Tok V) → KeepsLaws calls bodies spare grammar
+      → Said Tok Cx St Er spare V
   Together : {Name : Type 0} {V : Name → Type 0} (same : (name : Name) → V name → V name → Type 0) (bodies : Bodies Tok Cx St Er Name V)
       → KeepAgreement same bodies → (name : Name) → Said Tok Cx St Er spare (V name)
 
@@ -120,7 +122,9 @@ module _ {Tok Cx St Er : Type 0} where
 
 -- what is said of a function in the words of the errors and of the states
 abbrev pub Says : (I Tok Sp Er St Mk Cx V : Type 0) → Type 1
-Says I Tok Sp Er St Mk Cx V = (errors : error_trait.Ghosts Er I Tok Sp) (states : inspector_trait.Ghosts St I Mk Tok Sp) → Said Tok Cx states.Seen errors.Seen (errors.takes_no_memory × states.takes_no_memory) V
+Says I Tok Sp Er St Mk Cx V =
+    (errors : error_trait.Ghosts Er I Tok Sp) (states : inspector_trait.Ghosts St I Mk Tok Sp)
+    → Said Tok Cx states.Seen errors.Seen (errors.takes_no_memory × states.takes_no_memory) V
 
 -- what may be said of a run under a depth, for a value or not, and of its result
 abbrev pub IsRunUnder : (I X Tok Sp Cu Er St Cx Mk V : Type 0) → Type 1
@@ -133,8 +137,14 @@ module _ {I X Tok Sp Cu Er St Cx Mk V : Type 0} (source : input_trait.Ghosts I C
     pub as_wanted : IfOk result (λ value. is_some value ≡ wanted)
     pub lent : new.state.ghost_name ≡ old.state.ghost_name
 
-module _ {I X Tok Sp Cu Er St Cx Mk V F : Type 0} (source : input_trait.Ghosts I Cu Tok Sp) (errors : error_trait.Ghosts Er I Tok Sp) (states : inspector_trait.Ghosts St I Mk Tok Sp) (g : Shared F (MutBor (InputRef I X Cu Tok Sp Er St Cx Mk) × (Bool × (ℕ × Unit {0}))) (Result (Option V) Fault × (MutBor (InputRef I X Cu Tok Sp Er St Cx Mk) × Unit {0}))) (f : F) where
+module _ {I X Tok Sp Cu Er St Cx Mk V F : Type 0} (source : input_trait.Ghosts I Cu Tok Sp)
+    (errors : error_trait.Ghosts Er I Tok Sp) (states : inspector_trait.Ghosts St I Mk Tok Sp)
+    (g : Shared F (MutBor (InputRef I X Cu Tok Sp Er St Cx Mk) × (Bool × (ℕ × Unit {0})))
+    (Result (Option V) Fault × (MutBor (InputRef I X Cu Tok Sp Er St Cx Mk) × Unit {0})))
+    (f : F) where
   -- the function may be called under each smaller depth, and does under it what is said
   pub record MayCall (said : Said Tok Cx states.Seen errors.Seen (errors.takes_no_memory × states.takes_no_memory) V) (depth : ℕ) : Type 0 where
     pub may : (d : ℕ) → d < depth → (wanted : Bool) (p : MutBor (InputRef I X Cu Tok Sp Er St Cx Mk)) → g.pre f (p, (wanted, (d, tt)))
-    pub runs : (d : ℕ) (wanted : Bool) (p left : MutBor (InputRef I X Cu Tok Sp Er St Cx Mk)) (r : Result (Option V) Fault) → g.post f (p, (wanted, (d, tt))) (r, (left, tt)) → RunsPart source errors states (DoesUnder said d) wanted p.now left.now r
+    pub runs : (d : ℕ) (wanted : Bool) (p left : MutBor (InputRef I X Cu Tok Sp Er St Cx Mk)) (r : Result (Option V) Fault)
+        → g.post f (p, (wanted, (d, tt))) (r, (left, tt))
+        → RunsPart source errors states (DoesUnder said d) wanted p.now left.now r

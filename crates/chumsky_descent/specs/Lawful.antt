@@ -18,7 +18,18 @@ use Rattle.chumsky_parser.specs.ChoiceLaws.{or_else-ends, or_else-agrees, agree-
 use Rattle.chumsky_parser.specs.Copied.{GivesCopy, BothCopies}
 use Rattle.chumsky_parser.specs.FailureLaws.{SameCount}
 use Rattle.chumsky_parser.specs.Ignoring.{Gives, IgnoringFirst, IgnoringSecond, Between}
-use Rattle.chumsky_parser.specs.IgnoringLaws.{gives-ends, gives-agrees, copy-ends, copy-agrees, ignoring_first-ends, ignoring_first-agrees, ignoring_second-ends, ignoring_second-agrees, between-ends, between-agrees}
+use Rattle.chumsky_parser.specs.IgnoringLaws.{
+  gives-ends,
+  gives-agrees,
+  copy-ends,
+  copy-agrees,
+  ignoring_first-ends,
+  ignoring_first-agrees,
+  ignoring_second-ends,
+  ignoring_second-agrees,
+  between-ends,
+  between-agrees,
+}
 use Rattle.chumsky_parser.specs.Language.{Language, Accepts}
 use Rattle.chumsky_parser.specs.Laws.{sequence-ends, sequence-agrees}
 use Rattle.chumsky_parser.specs.SequenceLanguage.{then_language, then-accepts, ignore_then_language, ignore_then-accepts, then_ignore_language, then_ignore-accepts, between_language, between-accepts}
@@ -70,20 +81,41 @@ module _ {Tok Cx St Er spare : Type 0} where
   module _ {V W : Type 0} {first : Meaning Tok Cx St Er V} {second : Meaning Tok Cx St Er W} {F : Language Tok V} {G : Language Tok W} (f : Lawful spare first F) (g : Lawful spare second G) where
     -- `first.then(second)`
     pub then-lawful : Lawful spare (Sequence first second) (then_language F G)
-    then-lawful = record { ends = sequence-ends _ _ f.ends g.ends; agrees = loosely (SamePair AnyTwo AnyTwo) (sequence-agrees _ _ AnyTwo AnyTwo f.agrees g.agrees); accepts = then-accepts _ _ f.ends g.ends f.accepts g.accepts }
+    then-lawful =
+        record {
+          ends = sequence-ends _ _ f.ends g.ends;
+          agrees = loosely (SamePair AnyTwo AnyTwo) (sequence-agrees _ _ AnyTwo AnyTwo f.agrees g.agrees);
+          accepts = then-accepts _ _ f.ends g.ends f.accepts g.accepts;
+        }
 
     -- `first.ignore_then(second)`
     pub ignore_then-lawful : Lawful spare (IgnoringFirst first second) (ignore_then_language F G)
-    ignore_then-lawful = record { ends = ignoring_first-ends _ _ f.ends g.ends; agrees = ignoring_first-agrees _ _ AnyTwo AnyTwo f.agrees g.agrees; accepts = ignore_then-accepts _ _ f.ends g.ends f.accepts g.accepts }
+    ignore_then-lawful =
+        record {
+          ends = ignoring_first-ends _ _ f.ends g.ends;
+          agrees = ignoring_first-agrees _ _ AnyTwo AnyTwo f.agrees g.agrees;
+          accepts = ignore_then-accepts _ _ f.ends g.ends f.accepts g.accepts;
+        }
 
     -- `first.then_ignore(second)`
     pub then_ignore-lawful : Lawful spare (IgnoringSecond first second) (then_ignore_language F G)
-    then_ignore-lawful = record { ends = ignoring_second-ends _ _ f.ends g.ends; agrees = ignoring_second-agrees _ _ AnyTwo AnyTwo f.agrees g.agrees; accepts = then_ignore-accepts _ _ f.ends g.ends f.accepts g.accepts }
+    then_ignore-lawful =
+        record {
+          ends = ignoring_second-ends _ _ f.ends g.ends;
+          agrees = ignoring_second-agrees _ _ AnyTwo AnyTwo f.agrees g.agrees;
+          accepts = then_ignore-accepts _ _ f.ends g.ends f.accepts g.accepts;
+        }
 
   -- `part.delimited_by(opening, closing)`, and `part.padded_by(padding)`
-  pub between-lawful : {U V W : Type 0} {opening : Meaning Tok Cx St Er U} {part : Meaning Tok Cx St Er V} {closing : Meaning Tok Cx St Er W} {O : Language Tok U} {F : Language Tok V} {C : Language Tok W}
+  pub between-lawful : {U V W : Type 0} {opening : Meaning Tok Cx St Er U} {part : Meaning Tok Cx St Er V}
+      {closing : Meaning Tok Cx St Er W} {O : Language Tok U} {F : Language Tok V} {C : Language Tok W}
       → Lawful spare opening O → Lawful spare part F → Lawful spare closing C → Lawful spare (Between opening part closing) (between_language O F C)
-  between-lawful o p c = record { ends = between-ends _ _ _ o.ends p.ends c.ends; agrees = between-agrees _ _ _ AnyTwo AnyTwo AnyTwo o.agrees p.agrees c.agrees; accepts = between-accepts _ _ _ o.ends p.ends c.ends o.accepts p.accepts c.accepts }
+  between-lawful o p c =
+      record {
+        ends = between-ends _ _ _ o.ends p.ends c.ends;
+        agrees = between-agrees _ _ _ AnyTwo AnyTwo AnyTwo o.agrees p.agrees c.agrees;
+        accepts = between-accepts _ _ _ o.ends p.ends c.ends o.accepts p.accepts c.accepts;
+      }
 
   module _ {V : Type 0} {part : Meaning Tok Cx St Er V} {F : Language Tok V} (p : Lawful spare part F) where
     -- `part.map_by(mapper)`
@@ -139,8 +171,13 @@ module _ {Tok Cx St Mk Er X safe : Type 0} {mark : St → Mk} {back : St → Mk 
     }
 
 -- `just(value)`, of these members
-pub just-lawful : {I Tok Sp Cu Er St Mk Cx V : Type 0} (members : List Tok) (source : input_trait.Ghosts I Cu Tok Sp) (equal : Tok → Tok → Bool) (errors : error_trait.Ghosts Er I Tok Sp) (states : inspector_trait.Ghosts St I Mk Tok Sp)
-    (copies : V → Type 0) (safe : Type 0) → Lawful (errors.takes_no_memory × states.takes_no_memory) (MeansJust {Cx = Cx} source equal errors states copies safe members) (literal_language equal members copies safe)
+pub just-lawful : {I Tok Sp Cu Er St Mk Cx V : Type 0} (members : List Tok) (source : input_trait.Ghosts I Cu Tok Sp)
+    (equal : Tok → Tok → Bool) (errors : error_trait.Ghosts Er I Tok Sp)
+    (states : inspector_trait.Ghosts St I Mk Tok Sp)
+    (copies : V → Type 0) (safe : Type 0)
+    → Lawful (errors.takes_no_memory × states.takes_no_memory)
+    (MeansJust {Cx = Cx} source equal errors states copies safe members)
+    (literal_language equal members copies safe)
 just-lawful members source equal errors states copies safe = record {
   ends = just-ends source equal errors states copies safe members;
   agrees = loosely (BothCopies copies) (just-agrees source equal errors states copies safe members);
@@ -154,7 +191,10 @@ module _ {I Tok Sp Cu Er St Cx : Type 0} {source : input_trait.Ghosts I Cu Tok S
       → Lawful (errors.takes_no_memory × still) (Vetted errors.merged errors.takes_no_memory (ByPick source errors gives) part) (picked_language picks F)
   pick-lawful {V} {W} {part} {F} {gives} {picks} same agrees alike by_word p = record {
     ends = vetted-ends errors.merged errors.takes_no_memory (ByPick source errors gives) part p.ends;
-    agrees = loosely (SameFilterMapped same gives) (vetted-agrees errors.merged errors.takes_no_memory (ByPick source errors gives) part same (SameFilterMapped same gives) agrees (picks-alike source errors same gives alike));
+    agrees =
+        loosely (SameFilterMapped same gives)
+        (vetted-agrees errors.merged errors.takes_no_memory (ByPick source errors gives) part same
+        (SameFilterMapped same gives) agrees (picks-alike source errors same gives alike));
     accepts = picked-accepts source errors part gives picks by_word p.accepts;
   }
 
@@ -170,8 +210,15 @@ module _ {I Tok Sp Cu Er St Mk Cx : Type 0} {source : input_trait.Ghosts I Cu To
     }
 
     -- `text::whitespace()` and other runs
-    pub run-lawful : {test : Tok → Bool} {what : List (Wanted Tok)} → Lawful (errors.takes_no_memory × states.takes_no_memory) (MeansRun {Cx = Cx} source is errors states test what) (run_language is test)
-    run-lawful {test} {what} = record { ends = run-ends source is errors states test what; agrees = run-agrees source is errors states AnyTwo (λ ts i j v w e d. tt) test what; accepts = run-accepts source is errors states test what }
+    pub run-lawful : {test : Tok → Bool} {what : List (Wanted Tok)}
+        → Lawful (errors.takes_no_memory × states.takes_no_memory)
+        (MeansRun {Cx = Cx} source is errors states test what) (run_language is test)
+    run-lawful {test} {what} =
+        record {
+          ends = run-ends source is errors states test what;
+          agrees = run-agrees source is errors states AnyTwo (λ ts i j v w e d. tt) test what;
+          accepts = run-accepts source is errors states test what;
+        }
 
 same_pick : {W : Type 0} (x : Option W) → SamePick (λ _ _. ⊤) x x
 same_pick (Some w) = tt
@@ -181,7 +228,9 @@ module _ {I Sp Cu Er St Mk Cx : Type 0} {source : input_trait.Ghosts I Cu ℕ Sp
   -- `text::int(10).pick_by(text::decimal::<u32>())`, of 32 bits, and its kin
   pub decimal-lawful : (bits : ℕ) {begins : ℕ → Bool} {goes_on : ℕ → ℕ → Bool} {what : List (Wanted ℕ)} {rest_what : ℕ → List (Wanted ℕ)}
       → Lawful (errors.takes_no_memory × states.takes_no_memory)
-      (Vetted errors.merged errors.takes_no_memory (ByPick source errors (λ (digits : Bor (List ℕ)) picked. picked ≡ unsigned_of bits digits.now)) (MeansWord {Cx = Cx} source (TextSlice (λ s. s.now)) errors states begins goes_on what rest_what))
+      (Vetted errors.merged errors.takes_no_memory
+      (ByPick source errors (λ (digits : Bor (List ℕ)) picked. picked ≡ unsigned_of bits digits.now))
+      (MeansWord {Cx = Cx} source (TextSlice (λ s. s.now)) errors states begins goes_on what rest_what))
       (picked_language (λ w. unsigned_of bits (encode_utf8_all w)) (word_language {V = Bor (List ℕ)} (TextSlice (λ s. s.now)) begins goes_on))
   decimal-lawful bits {begins} {goes_on} {what} {rest_what} =
       let SameText : Bor (List ℕ) → Bor (List ℕ) → Type 0 = λ v w. v.now ≡ w.now in

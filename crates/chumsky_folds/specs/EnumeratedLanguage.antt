@@ -43,11 +43,17 @@ module _ {Tok Cx St Er S V : Type 0} (begins : Meaning Tok Cx St Er S) (gives : 
   numbered_value k ts (Some v) i = (refl, i)
   numbered_value k ts None i = tt
 
-  numbered_here : (k : ℕ) (ts rest : List Tok) (fit : Bool) → fit ≡ true → (v : Option V) (t : S) → IfValue (l.value k ts) v → l.has_given t (suc k) → (c : Beginning Tok Cx St) → Within c → Here (Is k ts (At (One rest))) {Er = Er} (Numbered fit k v t) (At (drop c.start c.tokens.list)) c
-  numbered_here k ts rest true f v t i g c y = let e : k + 1 ≡ suc k = add-one k in given-here Er (Is k ts (At (One rest))) c y (Some (More (option_map (λ x. (k, x)) v) (k + 1, t))) (numbered_value k ts v i, (e, g))
+  numbered_here : (k : ℕ) (ts rest : List Tok) (fit : Bool) → fit ≡ true → (v : Option V) (t : S)
+      → IfValue (l.value k ts) v → l.has_given t (suc k) → (c : Beginning Tok Cx St) → Within c
+      → Here (Is k ts (At (One rest))) {Er = Er} (Numbered fit k v t) (At (drop c.start c.tokens.list)) c
+  numbered_here k ts rest true f v t i g c y =
+      let e : k + 1 ≡ suc k = add-one k in
+      given-here Er (Is k ts (At (One rest))) c y (Some (More (option_map (λ x. (k, x)) v) (k + 1, t))) (numbered_value k ts v i, (e, g))
   numbered_here k ts rest false f v t i g c y = absurd (cc f)
 
-  follows : (k : ℕ) (ts : List Tok) (x : Ending (Stepped Tok)) → ((rest : List Tok) → x ≡ At (One rest) → fits k ≡ true) → (n : Option (Next S V)) (c : Beginning Tok Cx St) → Within c → IfValue (IsStepped (l.value k ts) (λ t. l.has_given t (suc k)) x) n
+  follows : (k : ℕ) (ts : List Tok) (x : Ending (Stepped Tok))
+      → ((rest : List Tok) → x ≡ At (One rest) → fits k ≡ true) → (n : Option (Next S V)) (c : Beginning Tok Cx St)
+      → Within c → IfValue (IsStepped (l.value k ts) (λ t. l.has_given t (suc k)) x) n
       → Here (Is k ts x) {Er = Er} (AfterStep (Numbered (fits k) k) (Given (Some End)) n) (At (drop c.start c.tokens.list)) c
   follows k ts (At (One rest)) f (Some (More v t)) c y i = numbered_here k ts rest (fits k) (f rest refl) v t i.0 i.1 c y
   follows k ts (At (One rest)) f (Some End) c y i = absurd i
@@ -58,7 +64,9 @@ module _ {Tok Cx St Er S V : Type 0} (begins : Meaning Tok Cx St Er S) (gives : 
   follows k ts x f None c y i = λ o m. absurd m
 
   enumerates_here : ItemsDescribed begins gives l → (k : ℕ) (s : S) → l.has_given s k → (b : Beginning Tok Cx St) → Within b → k + length (drop b.start b.tokens.list) < 2 ^ 64
-      → Here (Is k (drop b.start b.tokens.list) (l.next k (drop b.start b.tokens.list))) (Chained (gives s) (AfterStep (Numbered (fits k) k) (Given (Some End)))) (place (l.next k (drop b.start b.tokens.list))) b
+      → Here (Is k (drop b.start b.tokens.list) (l.next k (drop b.start b.tokens.list)))
+      (Chained (gives s) (AfterStep (Numbered (fits k) k) (Given (Some End))))
+      (place (l.next k (drop b.start b.tokens.list))) b
   enumerates_here d k s g b w f o m =
       let ts : List Tok = drop b.start b.tokens.list in
       let x : Ending (Stepped Tok) = l.next k ts in

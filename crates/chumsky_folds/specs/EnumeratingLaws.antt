@@ -48,7 +48,11 @@ module _ {Tok Cx St Er S V : Type 0} (gives : S → Meaning Tok Cx St Er (Next S
   -- they move where the items do
   pub enumerates-move : ItemsMove begins gives → ItemsMove (BeginsAtZero begins) (Enumerates gives)
   enumerates-move h =
-      held-items (λ t. (0, t)) begins gives (Enumerates gives) (λ s k b o m y. chained-first (gives s) _ k (after_step-ends (Numbered (fits 0) 0) (Given (Some End)) (numbered-ends (fits 0) 0) (given-ends (Some End))) b o m.step y) h
+      held-items (λ t. (0, t)) begins gives (Enumerates gives)
+      (λ s k b o m y. chained-first (gives s) _ k
+      (after_step-ends (Numbered (fits 0) 0) (Given (Some End)) (numbered-ends (fits 0) 0) (given-ends (Some End)))
+      b o m.step y)
+      h
 
   module _ (same : V → V → Type 0) (alike : S → S → Type 0) where
     step-agrees : ((s t : S) → alike s t → Agreeing (SameNext same alike) (gives s) (gives t)) → (n : ℕ) (s t : S) → alike s t

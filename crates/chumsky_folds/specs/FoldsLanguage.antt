@@ -33,18 +33,24 @@ module _ {Tok S V A : Type 0} (l : ItemsLanguage Tok S V) (steps : A → V → A
 
   -- of the items, from a copy
   abbrev pub fold_language : (A → Type 0) → Type 0 → Language Tok A
-  fold_language copies safe = list_language l (λ ts z. (a : A) × copies a × FoldedFrom (GivesFrom l.next l.value 0) a ts z) (λ w z. (a : A) × copies a × FoldedFrom (ListFrom l.stands_for l.last 0) a w z) safe
+  fold_language copies safe =
+      list_language l (λ ts z. (a : A) × copies a × FoldedFrom (GivesFrom l.next l.value 0) a ts z)
+      (λ w z. (a : A) × copies a × FoldedFrom (ListFrom l.stands_for l.last 0) a w z) safe
 
   -- of the items after a part, from its value
   abbrev pub foldl_language : Language Tok A → Language Tok A
   foldl_language F = joined_language F (plain_language {W = A} l) (λ ts z. (a : A) × F.value ts a × Ends (F.ends ts) (λ rest. FoldedFrom (GivesFrom l.next l.value 0) a rest z))
       (λ w z. (a : A) × Joined (λ u. F.stands_for u a) (λ u. FoldedFrom (ListFrom l.stands_for l.last 0) a u z) w)
 
-module _ {Tok Cx St Er S V A : Type 0} (gives : S → Meaning Tok Cx St Er (Next S V)) (begins : Meaning Tok Cx St Er S) (steps : A → V → A → Type 0) (l : ItemsLanguage Tok S V) {spare : Type 0} (h : AcceptsItems begins gives l spare) where
+module _ {Tok Cx St Er S V A : Type 0} (gives : S → Meaning Tok Cx St Er (Next S V)) (begins : Meaning Tok Cx St Er S)
+    (steps : A → V → A → Type 0) (l : ItemsLanguage Tok S V) {spare : Type 0}
+    (h : AcceptsItems begins gives l spare) where
   folds-accept : (a : Option A) → Accepts (FoldsItems gives begins steps a) (collected_language l (FoldsFrom steps a) ⊤) spare
   folds-accept a = collects-accepts gives begins l (FoldsFrom steps a) ⊤ h
 
-  from_start : (ts : List Tok) (P : A → Type 0) (a : Option A) → IfValue P a → (z : A) → Holding (GivesFrom l.next l.value 0) (FoldsFrom steps a) ts z → (a : A) × P a × FoldedFrom l steps (GivesFrom l.next l.value 0) a ts z
+  from_start : (ts : List Tok) (P : A → Type 0) (a : Option A) → IfValue P a → (z : A)
+      → Holding (GivesFrom l.next l.value 0) (FoldsFrom steps a) ts z
+      → (a : A) × P a × FoldedFrom l steps (GivesFrom l.next l.value 0) a ts z
   from_start ts P (Some a) i z k = (a, i, record { items = k.items; is = k.is; held = k.held })
   from_start ts P None i z k = absurd k.held
 
@@ -62,7 +68,10 @@ module _ {Tok Cx St Er S V A : Type 0} (gives : S → Meaning Tok Cx St Er (Next
                 (λ a c y e i.
                 let rest : List Tok = drop c.start c.tokens.list in
                 let same : rest ≡ ts = cc e in
-                weaker-here _ Q (λ z k. from_start ts copies a i z (subst (λ us. Holding (GivesFrom l.next l.value 0) (FoldsFrom steps a) us z) same k)) (FoldsItems gives begins steps a) (list_ends l.next rest) c (((folds-accept a).described s).reads.here c y));
+                weaker-here _ Q
+                (λ z k. from_start ts copies a i z (subst (λ us. Holding (GivesFrom l.next l.value 0) (FoldsFrom steps a) us z) same k))
+                (FoldsItems gives begins steps a) (list_ends l.next rest) c
+                (((folds-accept a).described s).reads.here c y));
           };
           only = d.only;
           given = record {
@@ -81,7 +90,9 @@ module _ {Tok Cx St Er S V A : Type 0} (gives : S → Meaning Tok Cx St Er (Next
   }
 
   -- `foldl`
-  pub foldl-accepts : (part : Meaning Tok Cx St Er A) (F : Language Tok A) → ItemsEnd begins gives → EndsAfterStart part → Accepts part F spare → Accepts (FoldsFromPart gives begins steps part) (foldl_language l steps F) spare
+  pub foldl-accepts : (part : Meaning Tok Cx St Er A) (F : Language Tok A) → ItemsEnd begins gives
+      → EndsAfterStart part → Accepts part F spare
+      → Accepts (FoldsFromPart gives begins steps part) (foldl_language l steps F) spare
   foldl-accepts part F ends ep k = record {
     described = λ s.
         let t = both-true F.said l.said s in
@@ -107,7 +118,11 @@ module _ {Tok Cx St Er S V A : Type 0} (gives : S → Meaning Tok Cx St Er (Next
                       let j = b.is in
                       record { word = b.word; all = b.all; is = record { items = j.items; is = j.is; held = j.held } };
                 } in
-                let b = (then-gives_only F.ends (list_ends l.next) F.value (FoldedFrom l steps (GivesFrom l.next l.value 0) i.0) F.stands_for (FoldedFrom l steps (ListFrom l.stands_for l.last 0) i.0) f.given one).given ts rest (i.0, z) e (i.1, i.2) in
+                let b =
+                (then-gives_only F.ends (list_ends l.next) F.value
+                (FoldedFrom l steps (GivesFrom l.next l.value 0) i.0) F.stands_for
+                (FoldedFrom l steps (ListFrom l.stands_for l.last 0) i.0) f.given one).given
+                ts rest (i.0, z) e (i.1, i.2) in
                 record { word = b.word; all = b.all; is = (i.0, b.is) };
           };
           each = λ u. then-takes_each F.ends (list_ends l.next) F.word _ F.follow l.follow (f.each u.0) (d.each u.1) u.2;
@@ -128,12 +143,16 @@ module _ {Tok S V A : Type 0} (l : ItemsLanguage Tok S V) (steps : V → A → A
       (λ ts z. (xs : List V) × (a : A) × FoldsRight steps a xs z × GivesFrom l.next l.value 0 xs ts × Ends (list_ends l.next ts) (λ rest. F.value rest a))
       (λ w z. (xs : List V) × (a : A) × FoldsRight steps a xs z × Joined (ListFrom l.stands_for l.last 0 xs) (λ u. F.stands_for u a) w)
 
-module _ {Tok Cx St Er S V C A : Type 0} (gives : S → Meaning Tok Cx St Er (Next S V)) (begins : Meaning Tok Cx St Er S) (holds : List V → C → Type 0) (quiet : Type 0) (part : Meaning Tok Cx St Er A) (steps : V → A → A → Type 0) (l : ItemsLanguage Tok S V) (F : Language Tok A)
+module _ {Tok Cx St Er S V C A : Type 0} (gives : S → Meaning Tok Cx St Er (Next S V))
+    (begins : Meaning Tok Cx St Er S) (holds : List V → C → Type 0) (quiet : Type 0) (part : Meaning Tok Cx St Er A)
+    (steps : V → A → A → Type 0) (l : ItemsLanguage Tok S V) (F : Language Tok A)
     (one_list : (xs ys : List V) (c : C) → holds xs c → holds ys c → xs ≡ ys) where
   abbrev Folded : List Tok → A → Type 0
   Folded ts z = (xs : List V) × (a : A) × FoldsRight steps a xs z × GivesFrom l.next l.value 0 xs ts × Ends (list_ends l.next ts) (λ rest. F.value rest a)
 
-  folded_there : (ts rest : List Tok) → list_ends l.next ts ≡ At rest → (c : Option C) (a z : Option A) → IfValue (Holding (GivesFrom l.next l.value 0) holds ts) c → IfValue (F.value rest) a → FoldsHeld holds steps c a z → IfValue (Folded ts) z
+  folded_there : (ts rest : List Tok) → list_ends l.next ts ≡ At rest → (c : Option C) (a z : Option A)
+      → IfValue (Holding (GivesFrom l.next l.value 0) holds ts) c → IfValue (F.value rest) a
+      → FoldsHeld holds steps c a z → IfValue (Folded ts) z
   folded_there ts rest e (Some c) (Some a) (Some z) i j k =
       let same : i.items ≡ k.0 = one_list i.items k.0 c i.held k.1 in
       (k.0, a, k.2, subst (λ xs. GivesFrom l.next l.value 0 xs ts) same i.is, ends_there (list_ends l.next ts) rest (λ r. F.value r a) e j)
@@ -142,7 +161,9 @@ module _ {Tok Cx St Er S V C A : Type 0} (gives : S → Meaning Tok Cx St Er (Ne
   folded_there ts rest e c a None i j k = tt
 
   -- `foldr`
-  pub foldr-accepts : {spare : Type 0} → ItemsEnd begins gives → EndsAfterStart part → AcceptsItems begins gives l spare → Accepts part F spare → Accepts (FoldsBack gives begins holds quiet part steps) (foldr_language l steps quiet F) spare
+  pub foldr-accepts : {spare : Type 0} → ItemsEnd begins gives → EndsAfterStart part
+      → AcceptsItems begins gives l spare → Accepts part F spare
+      → Accepts (FoldsBack gives begins holds quiet part steps) (foldr_language l steps quiet F) spare
   foldr-accepts ends ep h k =
       let collects = collects-accepts gives begins l holds quiet h in
       record {
@@ -154,7 +175,9 @@ module _ {Tok Cx St Er S V C A : Type 0} (gives : S → Meaning Tok Cx St Er (Ne
               reads = record {
                 here = λ b w.
                     let ts : List Tok = drop b.start b.tokens.list in
-                    chained-here (Holding (GivesFrom l.next l.value 0) holds ts) (Folded ts) (Collects gives begins holds quiet) (λ c. Chained part (FoldedBack holds steps c)) (list_ends l.next ts) F.ends b w (d.reads.here b w)
+                    chained-here (Holding (GivesFrom l.next l.value 0) holds ts) (Folded ts)
+                    (Collects gives begins holds quiet) (λ c. Chained part (FoldedBack holds steps c))
+                    (list_ends l.next ts) F.ends b w (d.reads.here b w)
                     (λ c g y e i o m.
                     let rest : List Tok = drop g.start g.tokens.list in
                     let z : Answers (Folded ts) (and_then (λ us. At us) (F.ends rest)) g.tokens.list o.verdict o.end =
@@ -165,8 +188,17 @@ module _ {Tok Cx St Er S V C A : Type 0} (gives : S → Meaning Tok Cx St Er (Ne
               only = then-takes_only (list_ends l.next) F.ends _ F.word d.only f.only;
               given = record {
                 given = λ ts rest z e i.
-                    let list : GivesOnly (list_ends l.next) (λ ts xs. GivesFrom l.next l.value 0 xs ts) (λ w xs. ListFrom l.stands_for l.last 0 xs w) = record { given = λ ts rest xs e g. let d = h.described t.0 in list-given l.next l.value l.stands_for l.last d.given d.over ts rest xs e g } in
-                    let b = (then-gives_only (list_ends l.next) F.ends (λ ts xs. GivesFrom l.next l.value 0 xs ts) F.value (λ w xs. ListFrom l.stands_for l.last 0 xs w) F.stands_for list f.given).given ts rest (i.0, i.1) e (i.3, i.4) in
+                    let list : GivesOnly (list_ends l.next) (λ ts xs. GivesFrom l.next l.value 0 xs ts)
+                    (λ w xs. ListFrom l.stands_for l.last 0 xs w) =
+                    record {
+                      given = λ ts rest xs e g. let d = h.described t.0 in list-given l.next l.value
+                          l.stands_for l.last d.given d.over ts rest xs e g;
+                    }
+                    in
+                    let b =
+                    (then-gives_only (list_ends l.next) F.ends (λ ts xs. GivesFrom l.next l.value 0 xs ts) F.value
+                    (λ w xs. ListFrom l.stands_for l.last 0 xs w) F.stands_for list f.given).given
+                    ts rest (i.0, i.1) e (i.3, i.4) in
                     record { word = b.word; all = b.all; is = (i.0, i.1, i.2, b.is) };
               };
               each = λ u. then-takes_each (list_ends l.next) F.ends _ F.word l.follow F.follow (d.each u.0) (f.each u.1) u.2;
@@ -175,7 +207,8 @@ module _ {Tok Cx St Er S V C A : Type 0} (gives : S → Meaning Tok Cx St Er (Ne
             };
         moving = λ e. elim (either-true l.moves F.moves e) [
           | inl x ↦ chained-first (Collects gives begins holds quiet) _ (collects.moving x) (λ c. chained-ends part _ ep (λ a b o m z. given-ends m.value b o m.given z))
-          | inr x ↦ chained-second (Collects gives begins holds quiet) _ (collects-ends gives begins holds quiet ends) (λ c. chained-first part _ (k.moving x) (λ a b o m z. given-ends m.value b o m.given z))
+          | inr x ↦ chained-second (Collects gives begins holds quiet) _ (collects-ends gives begins holds quiet ends)
+              (λ c. chained-first part _ (k.moving x) (λ a b o m z. given-ends m.value b o m.given z))
         ];
         sparing = λ q t. chained-spares (Collects gives begins holds quiet) _ (collects.sparing q t.0) (λ c. chained-spares part _ (k.sparing q t.1) (λ a b o m. given-spares m.value b o m.given));
       }

@@ -43,13 +43,18 @@ no_items = record {
 
 -- a word of the first and then one of the others, with the items of both
 abbrev pub item_then : {Tok V : Type 0} → Language Tok V → Language Tok (ArrayVec V) → Language Tok (ArrayVec V)
-item_then F G = joined_language F G (λ ts vs. OfItems (λ v others. F.value ts v × Ends (F.ends ts) (λ rest. G.value rest others)) vs.items) (λ w vs. OfItems (λ v others. Joined (λ u. F.stands_for u v) (λ u. G.stands_for u others) w) vs.items)
+item_then F G =
+    joined_language F G
+    (λ ts vs. OfItems (λ v others. F.value ts v × Ends (F.ends ts) (λ rest. G.value rest others)) vs.items)
+    (λ w vs. OfItems (λ v others. Joined (λ u. F.stands_for u v) (λ u. G.stands_for u others) w) vs.items)
 
 abbrev pub in_turn_language : {X Tok V : Type 0} → (X → Language Tok V) → List X → Language Tok (ArrayVec V)
 in_turn_language language [] = no_items
 in_turn_language language (x ∷ xs) = item_then (language x) (in_turn_language language xs)
 
-item_value : {V : Type 0} (P : V → Type 0) (Q R : ArrayVec V → Type 0) → ((v : V) (vs : ArrayVec V) → P v → Q vs → R (record { items = v ∷ vs.items })) → (v : Option V) (vs : Option (ArrayVec V)) → IfValue P v → IfValue Q vs → IfValue R (item_before v vs)
+item_value : {V : Type 0} (P : V → Type 0) (Q R : ArrayVec V → Type 0)
+    → ((v : V) (vs : ArrayVec V) → P v → Q vs → R (record { items = v ∷ vs.items }))
+    → (v : Option V) (vs : Option (ArrayVec V)) → IfValue P v → IfValue Q vs → IfValue R (item_before v vs)
 item_value P Q R f (Some v) (Some vs) i j = f v vs i j
 item_value P Q R f (Some v) None i j = tt
 item_value P Q R f None vs i j = tt
@@ -58,7 +63,12 @@ module _ {Tok Cx St Er V : Type 0} where
   none-accepts : {spare : Type 0} → Accepts (InTurn {Tok = Tok} {Cx = Cx} {St = St} {Er = Er} {V = V} []) no_items spare
   none-accepts = record {
     described = λ s. record {
-      reads = record { here = λ b w o m. given-here Er (λ vs. vs.items ≡ []) b w (wanting b.wanted (record { items = [] })) (wanting_value (λ vs. vs.items ≡ []) (record { items = [] }) refl b.wanted) o m };
+      reads =
+          record {
+            here = λ b w o m. given-here Er (λ vs. vs.items ≡ []) b w
+                (wanting b.wanted (record { items = [] }))
+                (wanting_value (λ vs. vs.items ≡ []) (record { items = [] }) refl b.wanted) o m;
+          };
       only = empty-takes_only;
       given = record { given = λ ts rest v e i. let z : ts ≡ rest = cc e in record { word = []; all = z; is = (refl, i) } };
       each = λ u. empty-takes_each;
@@ -105,7 +115,9 @@ module _ {Tok V : Type 0} (F : Language Tok V) (G : Language Tok (ArrayVec V)) (
       of_items ts rest [] e i = absurd i
       of_items ts rest (v ∷ vs) e i = (then-gives_only F.ends G.ends F.value G.value F.stands_for G.stands_for h k).given ts rest (v, record { items = vs }) e i
 
-module _ {X Tok Cx St Er V : Type 0} (meaning : X → Meaning Tok Cx St Er V) (language : X → Language Tok V) {spare : Type 0} (ends : (x : X) → EndsAfterStart (meaning x)) (h : (x : X) → Accepts (meaning x) (language x) spare) where
+module _ {X Tok Cx St Er V : Type 0} (meaning : X → Meaning Tok Cx St Er V) (language : X → Language Tok V)
+    {spare : Type 0} (ends : (x : X) → EndsAfterStart (meaning x))
+    (h : (x : X) → Accepts (meaning x) (language x) spare) where
   pub in_turn-accepts : (xs : List X) → Accepts (InTurn (map meaning xs)) (in_turn_language language xs) spare
   in_turn-accepts [] = none-accepts
   in_turn-accepts (x ∷ xs) =

@@ -8,7 +8,9 @@ use Rattle.chumsky_group.specs.Parts.{StopsBy}
 use Rattle.chumsky_group.specs.Regrouped.{Regrouped}
 
 module _ {Tok Cx St Er V W : Type 0} (s : Stop) {part : Meaning Tok Cx St Er V} {next : Option V → Meaning Tok Cx St Er W} where
-  follows_stops : (b : Beginning Tok Cx St) (o : Outcome W Er St) (p : Outcome V Er St) (u : Verdict V Er) → p.verdict ≡ u → part b p → Follows u next b p o → o.verdict ≡ Halt s → StopsBy s part ⊎ ((v : Option V) × StopsBy s (next v))
+  follows_stops : (b : Beginning Tok Cx St) (o : Outcome W Er St) (p : Outcome V Er St) (u : Verdict V Er)
+      → p.verdict ≡ u → part b p → Follows u next b p o → o.verdict ≡ Halt s
+      → StopsBy s part ⊎ ((v : Option V) × StopsBy s (next v))
   follows_stops b o p (Yes v) d m f e = inr (v, record { start = from b p; outcome = f.0; meant = f.1; stops = sym (ap (λ (x : Outcome W Er St). x.verdict) f.2) ∙ e })
   follows_stops b o p No d m f e = let no : ⊥ = cc in absurd no
   follows_stops b o p (Halt t) d m f e =

@@ -18,7 +18,9 @@ pub record AgreeSoFar {Tok Cx St Er V : Type 0} (same : V → V → Type 0) (m :
 pub first-agrees : {Tok Cx St Er V : Type 0} {same : V → V → Type 0} {m : Meaning Tok Cx St Er V} → Agreeing same m m → AgreeSoFar same m
 first-agrees h = record { agree = h }
 
-pub and-agrees : {Tok Cx St Er V W : Type 0} {sv : V → V → Type 0} {sw : W → W → Type 0} {m : Meaning Tok Cx St Er V} {n : Meaning Tok Cx St Er W} → AgreeSoFar sv m → Agreeing sw n n → AgreeSoFar (SamePair sv sw) (Sequence m n)
+pub and-agrees : {Tok Cx St Er V W : Type 0} {sv : V → V → Type 0} {sw : W → W → Type 0} {m : Meaning Tok Cx St Er V}
+    {n : Meaning Tok Cx St Er W}
+    → AgreeSoFar sv m → Agreeing sw n n → AgreeSoFar (SamePair sv sw) (Sequence m n)
 and-agrees {sv} {sw} {m} {n} h k = record { agree = sequence-agrees m n sv sw h.agree k }
 
 module _ {Tok Cx St Er V W : Type 0} (f : V → W) (part : Meaning Tok Cx St Er V) where

@@ -80,7 +80,9 @@ module _ {I Tok Sp Er St Mk Cx : Type 0} (errors : error_trait.Ghosts Er I Tok S
   MoreOrNoMoreIn item least most gives = MoreOrNoMore states.mark states.back (item errors states) least most (λ k. gives k errors states)
 
   -- each yes of the whole is a list of rounds, and ends with the item of the last; the items run for their values where asked says so
-  abbrev pub NeverEndsWithSeparatorIn : {A B O P X F U V W : Type 0} → (A → Does I Tok Sp Er St Mk Cx V) → (B → Does I Tok Sp Er St Mk Cx U) → SeparatedBy A B O P X F → (Bool → Bool) → Does I Tok Sp Er St Mk Cx W → Type 0
+  abbrev pub NeverEndsWithSeparatorIn : {A B O P X F U V W : Type 0} → (A → Does I Tok Sp Er St Mk Cx V)
+      → (B → Does I Tok Sp Er St Mk Cx U) → SeparatedBy A B O P X F → (Bool → Bool) → Does I Tok Sp Er St Mk Cx W
+      → Type 0
   NeverEndsWithSeparatorIn item separator list asked whole = NeverEndsWithSeparator (separator list.separator errors states) (item list.parser errors states) asked (whole errors states)
 
   -- of two answers from alike beginnings the one gives how many items the collection of the other holds

@@ -1,6 +1,41 @@
 -- The language of just so many items, collected: as many words of items, before what may go on with the list.
 -- Main words: exact_items. Main law: exactly-accepts. Read first: ListLanguage.antt, Exactly.antt.
-use Rattle.std.proofs.Common.{◌≡◌, ℕ, zero, suc, ◌+◌, ◌-◌, ◌^◌, ◌≤◌, ◌<◌, nat_le, nat_lt, Bool, true, false, ◌&&◌, cond, Option, Some, None, List, [], ◌∷◌, ◌++◌, length, drop, refl, sym, ◌∙◌, ap, subst, arith, append_assoc, inl, inr}
+use Rattle.std.proofs.Common.{
+  ◌≡◌,
+  ℕ,
+  zero,
+  suc,
+  ◌+◌,
+  ◌-◌,
+  ◌^◌,
+  ◌≤◌,
+  ◌<◌,
+  nat_le,
+  nat_lt,
+  Bool,
+  true,
+  false,
+  ◌&&◌,
+  cond,
+  Option,
+  Some,
+  None,
+  List,
+  [],
+  ◌∷◌,
+  ◌++◌,
+  length,
+  drop,
+  refl,
+  sym,
+  ◌∙◌,
+  ap,
+  subst,
+  arith,
+  append_assoc,
+  inl,
+  inr,
+}
 use Rattle.std.specs.Prelude.{⊤}
 use Rattle.std.proofs.lemmas.List.{length-drop}
 use Rattle.std.proofs.lemmas.Bool.Decides.{nat_tests}
@@ -114,7 +149,9 @@ module _ {Tok Cx St Er S V C : Type 0} (gives : S → Meaning Tok Cx St Er (Next
   never_empty : nat_lt 0 n ≡ true → (ts rest : List Tok) → Exact.next 0 ts ≡ At (Over rest) → ⊥
   never_empty z ts rest e = let i = exact_over (nat_le n 0) (l.next 0 ts) ts rest e in none_wanted n z i.0
 
-  goes_on : (k : ℕ) (items : List (List Tok)) (w rest : List Tok) → k ≤ n → ListFrom (λ j u (v : List Tok). Exact.word j u) Exact.last k items w → GoesOn l.word l.last l.follow n rest → GoesOn l.word l.last l.follow k (w ++ rest)
+  goes_on : (k : ℕ) (items : List (List Tok)) (w rest : List Tok) → k ≤ n
+      → ListFrom (λ j u (v : List Tok). Exact.word j u) Exact.last k items w → GoesOn l.word l.last l.follow n rest
+      → GoesOn l.word l.last l.follow k (w ++ rest)
   goes_on k [] w rest m i g =
       let same : n ≡ k = let a : n ≤ k = i.0 in omega (arith, a, m) in
       let e : w ≡ [] = i.1 in
@@ -125,7 +162,8 @@ module _ {Tok Cx St Er S V C : Type 0} (gives : S → Meaning Tok Cx St Er (Next
       let e : i.first ++ (i.second ++ rest) ≡ w ++ rest = sym (append_assoc i.first i.second rest) ∙ ap (λ u. u ++ rest) (sym i.all) in
       subst (GoesOn l.word l.last l.follow k) e c
 
-  each : ItemsDescribed begins gives l → l.unambiguous → (k : ℕ) (w rest : List Tok) → Exact.word k w → GoesOn Exact.word Exact.last Exact.follow (suc k) rest → EndsOrRefused (Exact.next k (w ++ rest)) (One rest)
+  each : ItemsDescribed begins gives l → l.unambiguous → (k : ℕ) (w rest : List Tok) → Exact.word k w
+      → GoesOn Exact.word Exact.last Exact.follow (suc k) rest → EndsOrRefused (Exact.next k (w ++ rest)) (One rest)
   each d u k w rest i g =
       let a : k < n = i.0 in
       let c : GoesOn l.word l.last l.follow (suc k) rest = subst (GoesOn l.word l.last l.follow (suc k)) (sym g.all) (goes_on (suc k) g.is.items g.words g.rest (omega (arith, a)) g.is.are g.fits) in
@@ -164,7 +202,9 @@ module _ {Tok Cx St Er S V C : Type 0} (gives : S → Meaning Tok Cx St Er (Next
     stops_there zero k ts c = rw c refl
     stops_there (suc m) k ts c = rw c refl
 
-    enough_here : (m k : ℕ) → n ≤ k → (x : Option (List V)) (b : Beginning Tok Cx St) → Within b → Made k (drop b.start b.tokens.list) x → Here Q {Er = Er} (Collected holds x) (list_until Exact.next m k (drop b.start b.tokens.list)) b
+    enough_here : (m k : ℕ) → n ≤ k → (x : Option (List V)) (b : Beginning Tok Cx St) → Within b
+        → Made k (drop b.start b.tokens.list) x
+        → Here Q {Er = Er} (Collected holds x) (list_until Exact.next m k (drop b.start b.tokens.list)) b
     enough_here m k z x b w i o p =
         let ts : List Tok = drop b.start b.tokens.list in
         let c : nat_le n k ≡ true = is_enough n k z in
@@ -173,20 +213,28 @@ module _ {Tok Cx St Er S V C : Type 0} (gives : S → Meaning Tok Cx St Er (Next
         subst (λ q. Answers Q q b.tokens.list o.verdict o.end) (sym (stops_there m k ts c)) u
 
     -- a step that has to have an item, where it is known what follows it
-    step_here : (left k : ℕ) (s : S) → l.has_given s k → (x : Option (List V)) (b : Beginning Tok Cx St) → Within b → k + length (drop b.start b.tokens.list) < 2 ^ 64 → nat_le n k ≡ false → (more : List Tok → Ending (List Tok))
-        → ((rest : List Tok) → l.next k (drop b.start b.tokens.list) ≡ At (One rest) → (v : Option V) (t : S) → IfValue (l.value k (drop b.start b.tokens.list)) v → l.has_given t (suc k) → (c : Beginning Tok Cx St) → Within c → rest ≡ drop c.start c.tokens.list
+    step_here : (left k : ℕ) (s : S) → l.has_given s k → (x : Option (List V)) (b : Beginning Tok Cx St) → Within b
+        → k + length (drop b.start b.tokens.list) < 2 ^ 64 → nat_le n k ≡ false
+        → (more : List Tok → Ending (List Tok))
+        →
+        ((rest : List Tok) → l.next k (drop b.start b.tokens.list) ≡ At (One rest) → (v : Option V) (t : S) → IfValue (l.value k (drop b.start b.tokens.list)) v → l.has_given t (suc k) → (c : Beginning Tok Cx St) → Within c → rest ≡ drop c.start c.tokens.list
         → Here Q (JustSo gives holds left (and_one x v) t) (more (drop c.start c.tokens.list)) c)
         → Here Q (JustSo gives holds (suc left) x s) (stepped_on more (Exact.next k (drop b.start b.tokens.list))) b
     step_here left k s g x b w f c more next o p =
         let ts : List Tok = drop b.start b.tokens.list in
         let z : Answers Q (and_then (goes more (l.next k ts)) (place (l.next k ts))) b.tokens.list o.verdict o.end =
-        chained-here (IsStepped (l.value k ts) (λ t. l.has_given t (suc k)) (l.next k ts)) Q (gives s) (AfterStep (λ v t. JustSo gives holds left (and_one x v) t) SaysNo) (place (l.next k ts)) (goes more (l.next k ts)) b w (d.step k s g b w f)
+        chained-here (IsStepped (l.value k ts) (λ t. l.has_given t (suc k)) (l.next k ts)) Q (gives s)
+        (AfterStep (λ v t. JustSo gives holds left (and_one x v) t) SaysNo) (place (l.next k ts))
+        (goes more (l.next k ts)) b w (d.step k s g b w f)
         (λ v q y e j. follow ts (l.next k ts) refl next v q y e j) o p in
         let u : stepped_on more (only_one (l.next k ts)) ≡ stepped_on more (Exact.next k ts) = rw c refl in
         subst (λ q. Answers Q q b.tokens.list o.verdict o.end) (and_goes more (l.next k ts) ∙ u) z
       where
         follow : (ts : List Tok) (t : Ending (Stepped Tok)) → l.next k ts ≡ t
-            → ((rest : List Tok) → l.next k ts ≡ At (One rest) → (v : Option V) (t : S) → IfValue (l.value k ts) v → l.has_given t (suc k) → (c : Beginning Tok Cx St) → Within c → rest ≡ drop c.start c.tokens.list → Here Q (JustSo gives holds left (and_one x v) t) (more (drop c.start c.tokens.list)) c)
+            →
+            ((rest : List Tok) → l.next k ts ≡ At (One rest) → (v : Option V) (t : S) → IfValue (l.value k ts) v
+            → l.has_given t (suc k) → (c : Beginning Tok Cx St) → Within c → rest ≡ drop c.start c.tokens.list
+            → Here Q (JustSo gives holds left (and_one x v) t) (more (drop c.start c.tokens.list)) c)
             → (v : Option (Next S V)) (c : Beginning Tok Cx St) → Within c → place t ≡ At (drop c.start c.tokens.list) → IfValue (IsStepped (l.value k ts) (λ t. l.has_given t (suc k)) t) v
             → Here Q (AfterStep (λ v t. JustSo gives holds left (and_one x v) t) SaysNo v) (goes more t (drop c.start c.tokens.list)) c
         follow ts (At (One rest)) a next (Some (More v t)) c y e j = next rest a v t j.0 j.1 c y (cc e)
@@ -200,7 +248,9 @@ module _ {Tok Cx St Er S V C : Type 0} (gives : S → Meaning Tok Cx St Er (Next
     none_left : (k : ℕ) (ts rest : List Tok) (P : Type 0) → l.next k ts ≡ At (One rest) → length ts ≤ 0 → P
     none_left k ts rest P e r = let h : length rest < length ts = d.further k ts rest e in absurd (omega (arith, h, r))
 
-    just_so : (left m k : ℕ) → k + left ≡ n → (s : S) → l.has_given s k → (x : Option (List V)) (b : Beginning Tok Cx St) → Within b → Made k (drop b.start b.tokens.list) x → k + length (drop b.start b.tokens.list) < 2 ^ 64
+    just_so : (left m k : ℕ) → k + left ≡ n → (s : S) → l.has_given s k
+        → (x : Option (List V)) (b : Beginning Tok Cx St) → Within b → Made k (drop b.start b.tokens.list) x
+        → k + length (drop b.start b.tokens.list) < 2 ^ 64
         → length (drop b.start b.tokens.list) ≤ m → Here Q (JustSo gives holds left x s) (list_until Exact.next m k (drop b.start b.tokens.list)) b
     just_so zero m k z s g x b w i f r = enough_here m k (omega (arith, z)) x b w i
     just_so (suc left) zero k z s g x b w i f r = step_here left k s g x b w f (is_below n k (omega (arith, z))) _ (λ rest e v t j h c y q. none_left k _ rest _ e r)
@@ -213,7 +263,9 @@ module _ {Tok Cx St Er S V C : Type 0} (gives : S → Meaning Tok Cx St Er (Next
         let v' : Made (suc k) (drop q.start q.tokens.list) (and_one x v) = subst (λ us. Made (suc k) us (and_one x v)) a (one_made k (drop b.start b.tokens.list) rest x v u i j) in
         just_so left m (suc k) (omega (arith, z)) t h (and_one x v) q y v' (omega (arith, f, p, len)) (omega (arith, r, p, len)))
 
-    made_here : (s : Option S) (b : Beginning Tok Cx St) → Within b → all ≡ drop b.start b.tokens.list → IfValue (λ s. l.has_given s 0) s → (x : Option (List V)) → Made 0 (drop b.start b.tokens.list) x → length (drop b.start b.tokens.list) < 2 ^ 64
+    made_here : (s : Option S) (b : Beginning Tok Cx St) → Within b → all ≡ drop b.start b.tokens.list
+        → IfValue (λ s. l.has_given s 0) s → (x : Option (List V)) → Made 0 (drop b.start b.tokens.list) x
+        → length (drop b.start b.tokens.list) < 2 ^ 64
         → Here Q (JustSoMade gives holds n x s) (list_ends Exact.next (drop b.start b.tokens.list)) b
     made_here None b w e g x i f = λ o m. absurd m
     made_here (Some s) b w e g x i f = just_so n (length (drop b.start b.tokens.list)) 0 (omega arith) s g x b w i (omega (arith, f)) (omega arith)

@@ -69,7 +69,8 @@ module _ {Tok Cx St Mk Er U V : Type 0} (mark : St → Mk) (back : St → Mk →
   unfilled-moves hs h e false start z = rw e (or_else-moves mark back safe _ _ (round-moves hs h e start) no-moves)
 
   -- the first step of `separated_by` moves, where an item does and there is one
-  pub separates-move : has_an_item d.least d.most ≡ true → EndsAfterStart separator → Moves item → ItemsMove (Given {Tok = Tok} {Cx = Cx} {St = St} {Er = Er} (Some 0)) (Separates mark back safe separator item d)
+  pub separates-move : has_an_item d.least d.most ≡ true → EndsAfterStart separator → Moves item
+      → ItemsMove (Given {Tok = Tok} {Cx = Cx} {St = St} {Er = Er} (Some 0)) (Separates mark back safe separator item d)
   separates-move e hs h =
       let t = both-true (nat_lt 0 d.least) (not (at_cap d.most 0)) e in
       given-items 0 (Separates mark back safe separator item d) (λ b o m y. unfilled-moves hs h t.0 (at_cap d.most 0) b.start (not-true _ t.1) b o m.step y)
@@ -82,7 +83,9 @@ module _ {Tok Cx St Er S V A W : Type 0} (step : S → Meaning Tok Cx St Er (Nex
   steps-move : (room : ℕ) (a : Option A) (s : S) → Moves (step s) → Moves (AllSteps step more ended room a s)
   steps-move zero a s h = chained-first (step s) _ h (after_step-ends (λ _ _. Stops CountTooLarge) (ended a) (λ _ _. stops-ends CountTooLarge) (he a))
   steps-move (suc room) a s h =
-      chained-first (step s) _ h (after_step-ends (λ v t. Chained (more a v) (λ c. AllSteps step more ended room c t)) (ended a) (λ v t. chained-ends (more a v) _ (hm a v) (λ c. steps-end room c t)) (he a))
+      chained-first (step s) _ h
+      (after_step-ends (λ v t. Chained (more a v) (λ c. AllSteps step more ended room c t)) (ended a)
+      (λ v t. chained-ends (more a v) _ (hm a v) (λ c. steps-end room c t)) (he a))
 
   module _ (begins : Meaning Tok Cx St Er S) (room : ℕ) (a : Option A) where
     made_after : ((b : Beginning Tok Cx St) (p : Outcome S Er St) (s : S) → begins b p → p.verdict ≡ Yes (Some s) → Moves (step s))
@@ -130,10 +133,12 @@ module _ {Tok Cx St Er S V C : Type 0} (gives : S → Meaning Tok Cx St Er (Next
 
   module _ (begins : Meaning Tok Cx St Er S) where
     just_so-after : ((b : Beginning Tok Cx St) (p : Outcome S Er St) (s : S) → begins b p → p.verdict ≡ Yes (Some s) → Moves (gives s))
-        → (n : ℕ) (items : Option (List V)) (b : Beginning Tok Cx St) (p : Outcome S Er St) (v : Option S) → nat_lt 0 n ≡ true → Asked true begins b p → p.verdict ≡ Yes v → Moves (JustSoMade gives holds n items v)
+        → (n : ℕ) (items : Option (List V)) (b : Beginning Tok Cx St) (p : Outcome S Er St) (v : Option S)
+        → nat_lt 0 n ≡ true → Asked true begins b p → p.verdict ≡ Yes v → Moves (JustSoMade gives holds n items v)
     just_so-after x zero items b p v z m e = absurd (cc)
     just_so-after x (suc n) items b p (Some s) z m e =
-        chained-first (gives s) _ (x (record b { wanted = true }) p s m.run e) (after_step-ends (λ v t. JustSo gives holds n (and_one items v) t) SaysNo (λ v t. just_so-ends n (and_one items v) t) no-ends)
+        chained-first (gives s) _ (x (record b { wanted = true }) p s m.run e)
+        (after_step-ends (λ v t. JustSo gives holds n (and_one items v) t) SaysNo (λ v t. just_so-ends n (and_one items v) t) no-ends)
     just_so-after x (suc n) items b p None z m e = λ c o k y. absurd k
 
     -- just so many items, of which there is one

@@ -15,7 +15,9 @@ use Rattle.chumsky_parser.specs.Memory.{NeverOutOfMemory, ItemsNeverOutOfMemory}
 use Rattle.chumsky_parser.specs.MemoryLaws.{given-spares, no-spares, stops-spares, asked-spares, chained-spares, or_else-spares}
 
 module _ {Tok Cx St Er S V W : Type 0} where
-  after_step-spares : (on : Option V → S → Meaning Tok Cx St Er W) (ended : Meaning Tok Cx St Er W) → ((v : Option V) (s : S) → NeverOutOfMemory (on v s)) → NeverOutOfMemory ended → (x : Option (Next S V)) → NeverOutOfMemory (AfterStep on ended x)
+  after_step-spares : (on : Option V → S → Meaning Tok Cx St Er W) (ended : Meaning Tok Cx St Er W)
+      → ((v : Option V) (s : S) → NeverOutOfMemory (on v s)) → NeverOutOfMemory ended → (x : Option (Next S V))
+      → NeverOutOfMemory (AfterStep on ended x)
   after_step-spares on ended h e (Some (More v s)) = h v s
   after_step-spares on ended h e (Some End) = e
   after_step-spares on ended h e None = λ b o m. absurd m
@@ -25,7 +27,9 @@ module _ {Tok Cx St Er S V A W : Type 0} (step : S → Meaning Tok Cx St Er (Nex
     all_steps-spare : (room : ℕ) (a : Option A) (s : S) → NeverOutOfMemory (AllSteps step more ended room a s)
     all_steps-spare zero a s = chained-spares (step s) _ (hs s) (after_step-spares (λ _ _. Stops CountTooLarge) (ended a) (λ _ _. stops-spares CountTooLarge tt) (he a))
     all_steps-spare (suc room) a s =
-        chained-spares (step s) _ (hs s) (after_step-spares (λ v t. Chained (more a v) (λ c. AllSteps step more ended room c t)) (ended a) (λ v t. chained-spares (more a v) _ (hm a v) (λ c. all_steps-spare room c t)) (he a))
+        chained-spares (step s) _ (hs s)
+        (after_step-spares (λ v t. Chained (more a v) (λ c. AllSteps step more ended room c t)) (ended a)
+        (λ v t. chained-spares (more a v) _ (hm a v) (λ c. all_steps-spare room c t)) (he a))
 
     from_made-spares : (room : ℕ) (a : Option A) (s : Option S) → NeverOutOfMemory (FromMade step more ended room a s)
     from_made-spares room a (Some s) b o m = all_steps-spare room a s b o (unlisted step more ended room a s b o m)

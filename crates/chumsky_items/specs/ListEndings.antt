@@ -46,7 +46,8 @@ over_value P k Nowhere rest n e i = absurd (cc e)
 over_value P k Refused rest n e i = absurd (cc e)
 
 -- each outcome is so, and ends where a yes of it ends
-pub ended-here : {Tok Cx St Er V : Type 0} (P Q : V → Type 0) (m : Meaning Tok Cx St Er V) (x : Ending (List Tok)) (b : Beginning Tok Cx St) → ((v : V) (rest : List Tok) → x ≡ At rest → P v → Q v) → Here P m x b → Here Q m x b
+pub ended-here : {Tok Cx St Er V : Type 0} (P Q : V → Type 0) (m : Meaning Tok Cx St Er V) (x : Ending (List Tok)) (b : Beginning Tok Cx St)
+    → ((v : V) (rest : List Tok) → x ≡ At rest → P v → Q v) → Here P m x b → Here Q m x b
 ended-here {Tok = Tok} {Er = Er} {V = V} P Q m x b f h o y = by_verdict o.verdict (h o y)
   where
     if_value : (rest : List Tok) → x ≡ At rest → (v : Option V) → IfValue P v → IfValue Q v
@@ -99,12 +100,16 @@ fits_one k l = grind (arith, nat_tests)
 
 module _ {Tok Cx St Er V : Type 0} where
   -- an item that is given, since it moved on and can be counted
-  settled_here : (P : V → Type 0) (k : ℕ) (stuck fit : Bool) (v : Option V) → IfValue P v → stuck ≡ false → fit ≡ true → (b : Beginning Tok Cx St) → Within b → Here (IsMore P k) {Er = Er} (Settled stuck fit k v) (At (drop b.start b.tokens.list)) b
+  settled_here : (P : V → Type 0) (k : ℕ) (stuck fit : Bool) (v : Option V) → IfValue P v → stuck ≡ false → fit ≡ true
+      → (b : Beginning Tok Cx St) → Within b
+      → Here (IsMore P k) {Er = Er} (Settled stuck fit k v) (At (drop b.start b.tokens.list)) b
   settled_here P k true fit v i s f b w = absurd (cc s)
   settled_here P k false true v i s f b w = let e : k + 1 ≡ suc k = add-one k in given-here Er (IsMore P k) b w (Some (More v (k + 1))) (i, e)
   settled_here P k false false v i s f b w = absurd (cc f)
 
-  pub counted-here : (item : Meaning Tok Cx St Er V) (f : Ender Tok) (value : List Tok → V → Type 0) → Reads item f value → EndsFurther f → (asked : Bool) (k start : ℕ) (b : Beginning Tok Cx St) → Within b → start ≤ b.start
+  pub counted-here : (item : Meaning Tok Cx St Er V) (f : Ender Tok) (value : List Tok → V → Type 0)
+      → Reads item f value → EndsFurther f → (asked : Bool) (k start : ℕ) (b : Beginning Tok Cx St) → Within b
+      → start ≤ b.start
       → k + length (drop b.start b.tokens.list) < 2 ^ 64 → Here (IsMore (value (drop b.start b.tokens.list)) k) (Counted asked k start item) (f (drop b.start b.tokens.list)) b
   counted-here item f value h further asked k start b w l few o m =
       let ts : List Tok = drop b.start b.tokens.list in
@@ -124,12 +129,14 @@ module _ {Tok Cx St Er V : Type 0} where
       subst (λ x. Answers (IsMore P k) x b.tokens.list o.verdict o.end) (and_then_some (f ts)) z
 
   -- no more items
-  pub closes-here : (few : Bool) (b : Beginning Tok Cx St) → Within b → Here (IsEnd {V = V}) (EndsUnlessFew {Tok = Tok} {Cx = Cx} {St = St} {Er = Er} few) (unless_few few (drop b.start b.tokens.list)) b
+  pub closes-here : (few : Bool) (b : Beginning Tok Cx St) → Within b
+      → Here (IsEnd {V = V}) (EndsUnlessFew {Tok = Tok} {Cx = Cx} {St = St} {Er = Er} few) (unless_few few (drop b.start b.tokens.list)) b
   closes-here true b w = λ o m. rw m refl
   closes-here false b w = given-here Er IsEnd b w (Some End) tt
 
 -- one more item, where the first ends, and an end, where the second does
-pub one_value : {Tok V : Type 0} (P : V → Type 0) (k : ℕ) (x y : Ending (List Tok)) (rest : List Tok) (n : Next ℕ V) → or_else x y ≡ At rest → ElseValue x (IsMore P k n) (IsEnd n) → IsStepped P (λ t. t ≡ suc k) (one_or x y) n
+pub one_value : {Tok V : Type 0} (P : V → Type 0) (k : ℕ) (x y : Ending (List Tok)) (rest : List Tok) (n : Next ℕ V)
+    → or_else x y ≡ At rest → ElseValue x (IsMore P k n) (IsEnd n) → IsStepped P (λ t. t ≡ suc k) (one_or x y) n
 one_value P k (At r) y rest (More v t) e i = i
 one_value P k (At r) y rest End e i = absurd i
 one_value P k Nowhere y rest n e i = over_value P k y rest n e i
@@ -137,7 +144,9 @@ one_value P k Refused y rest n e i = absurd i
 
 module _ {Tok Cx St Mk Er V : Type 0} (mark : St → Mk) (back : St → Mk → St) (safe : Type 0) where
   -- an item, or where it fails the end
-  pub one_or-here : (P : V → Type 0) (k : ℕ) (first second : Meaning Tok Cx St Er (Next ℕ V)) (x y : Ending (List Tok)) (b : Beginning Tok Cx St) → Here (IsMore P k) first x b → ((s : St) → Here IsEnd second y (record b { state = s }))
+  pub one_or-here : (P : V → Type 0) (k : ℕ) (first second : Meaning Tok Cx St Er (Next ℕ V))
+      (x y : Ending (List Tok)) (b : Beginning Tok Cx St)
+      → Here (IsMore P k) first x b → ((s : St) → Here IsEnd second y (record b { state = s }))
       → Here (IsStepped P (λ t. t ≡ suc k) (one_or x y)) (OrElse mark back safe first second) (place (one_or x y)) b
   one_or-here P k first second x y b h g o m =
       let z : Answers (IsStepped P (λ t. t ≡ suc k) (one_or x y)) (or_else x y) b.tokens.list o.verdict o.end =
@@ -151,10 +160,14 @@ module _ {Tok Cx St Mk Er V : Type 0} (mark : St → Mk) (back : St → Mk → S
     uncapped_here k b w l true next e = rw e (given-here Er (IsStepped (value (drop b.start b.tokens.list)) (λ t. t ≡ suc k) (At (Over (drop b.start b.tokens.list)))) b w (Some End) tt)
     uncapped_here k b w l false next e =
         let few : Bool = nat_lt k least in
-        rw e (one_or-here (value (drop b.start b.tokens.list)) k (Counted (asks free most) k b.start item) (EndsUnlessFew few) (f (drop b.start b.tokens.list)) (unless_few few (drop b.start b.tokens.list)) b
+        rw e
+        (one_or-here (value (drop b.start b.tokens.list)) k (Counted (asks free most) k b.start item) (EndsUnlessFew few) (f (drop b.start b.tokens.list)) (unless_few few (drop b.start b.tokens.list)) b
         (counted-here item f value h further (asks free most) k b.start b w (omega arith) l) (λ s. closes-here few (record b { state = s }) (record { start = w.start; few = w.few })))
 
     -- a step of `repeated`
     pub repeats-here : (k s : ℕ) → s ≡ k → (b : Beginning Tok Cx St) → Within b → k + length (drop b.start b.tokens.list) < 2 ^ 64
-        → Here (IsStepped (value (drop b.start b.tokens.list)) (λ t. t ≡ suc k) (repeated_next f least most k (drop b.start b.tokens.list))) (Repeats mark back safe item free least most s) (place (repeated_next f least most k (drop b.start b.tokens.list))) b
+        → Here
+        (IsStepped (value (drop b.start b.tokens.list)) (λ t. t ≡ suc k) (repeated_next f least most k (drop b.start b.tokens.list)))
+        (Repeats mark back safe item free least most s)
+        (place (repeated_next f least most k (drop b.start b.tokens.list))) b
     repeats-here k s e b w l = rw e (λ o m. uncapped_here k b w l (at_cap most k) (repeated_next f least most k (drop b.start b.tokens.list)) refl o m.step)

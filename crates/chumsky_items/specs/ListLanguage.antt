@@ -71,7 +71,9 @@ overs x rest e = rw e tt
 module _ {Tok Cx St Er S V : Type 0} (gives : S → Meaning Tok Cx St Er (Next S V)) (begins : Meaning Tok Cx St Er S) (l : ItemsLanguage Tok S V) where
   -- what is made of the items, where it reads so, and is given so
   listed : {C : Type 0} (m : Meaning Tok Cx St Er C) (value stands_for : List Tok → C → Type 0) (quiet : Type 0) {spare : Type 0} → AcceptsItems begins gives l spare
-      → (ItemsDescribed begins gives l → Reads m (list_ends l.next) value) → (ItemsDescribed begins gives l → GivesOnly (list_ends l.next) value stands_for) → (spare → l.takes_no_memory × quiet → NeverOutOfMemory m)
+      → (ItemsDescribed begins gives l → Reads m (list_ends l.next) value)
+      → (ItemsDescribed begins gives l → GivesOnly (list_ends l.next) value stands_for)
+      → (spare → l.takes_no_memory × quiet → NeverOutOfMemory m)
       → (ItemsEnd begins gives → ItemsMove begins gives → Moves m) → Accepts m (list_language l value stands_for quiet) spare
   listed m value stands_for quiet h reads given spares moves = record {
     described = λ s.
@@ -107,7 +109,9 @@ module _ {Tok Cx St Er S V : Type 0} (gives : S → Meaning Tok Cx St Er (Next S
     appends_here all k ts rest e (Some xs) None i j c y = given-here Er (Before all (suc k) rest) c y None tt
     appends_here all k ts rest e None v i j c y = given-here Er (Before all (suc k) rest) c y None tt
 
-    pub collection_holds : (all : List Tok) (k : ℕ) (ts rest : List Tok) → l.next k ts ≡ At (Over rest) → (x : Option (List V)) (c : Option C) → IfValue (Before all k ts) x → HoldsAll holds x c → IfValue (Holding (GivesFrom l.next l.value 0) holds all) c
+    pub collection_holds : (all : List Tok) (k : ℕ) (ts rest : List Tok) → l.next k ts ≡ At (Over rest)
+        → (x : Option (List V)) (c : Option C) → IfValue (Before all k ts) x → HoldsAll holds x c
+        → IfValue (Holding (GivesFrom l.next l.value 0) holds all) c
     collection_holds all k ts rest e (Some xs) (Some c) i h =
         let g : GivesFrom l.next l.value 0 (xs ++ []) all = i [] (overs (l.next k ts) rest e) in
         record { items = xs; is = subst (λ z. GivesFrom l.next l.value 0 z all) (append-nil xs) g; held = h }
@@ -140,14 +144,16 @@ module _ {Tok Cx St Er S V : Type 0} (gives : S → Meaning Tok Cx St Er (Next S
   abbrev CountBefore : List Tok → ℕ → List Tok → ℕ → Type 0
   CountBefore all k ts n = (us : List (Unit {0})) → GivesFrom l.next AnyItem k us ts → Holding (GivesFrom l.next AnyItem 0) IsNumberOf all (n + length us)
 
-  one_counted : (all : List Tok) (k : ℕ) (ts rest : List Tok) → l.next k ts ≡ At (One rest) → (x : Option ℕ) → IfValue (CountBefore all k ts) x → IfValue (CountBefore all (suc k) rest) (option_map (λ n. n + 1) x)
+  one_counted : (all : List Tok) (k : ℕ) (ts rest : List Tok) → l.next k ts ≡ At (One rest) → (x : Option ℕ)
+      → IfValue (CountBefore all k ts) x → IfValue (CountBefore all (suc k) rest) (option_map (λ n. n + 1) x)
   one_counted all k ts rest e None i = tt
   one_counted all k ts rest e (Some n) i = λ us g.
       let h = i (tt ∷ us) (ones (l.next k ts) rest (λ r. ⊤ × GivesFrom l.next AnyItem (suc k) us r) e (tt, g)) in
       let z : n + suc (length us) ≡ (n + 1) + length us = omega arith in
       record { items = h.items; is = h.is; held = h.held ∙ z }
 
-  all_counted : (all : List Tok) (k : ℕ) (ts rest : List Tok) → l.next k ts ≡ At (Over rest) → (x : Option ℕ) → IfValue (CountBefore all k ts) x → IfValue (Holding (GivesFrom l.next AnyItem 0) IsNumberOf all) x
+  all_counted : (all : List Tok) (k : ℕ) (ts rest : List Tok) → l.next k ts ≡ At (Over rest) → (x : Option ℕ)
+      → IfValue (CountBefore all k ts) x → IfValue (Holding (GivesFrom l.next AnyItem 0) IsNumberOf all) x
   all_counted all k ts rest e None i = tt
   all_counted all k ts rest e (Some n) i =
       let h = i [] (overs (l.next k ts) rest e) in

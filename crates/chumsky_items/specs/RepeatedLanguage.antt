@@ -35,7 +35,8 @@ repeated_language F least most = record {
 }
 
 module _ {Tok Cx St Mk Er V : Type 0} (mark : St → Mk) (back : St → Mk → St) (safe : Type 0) (item : Meaning Tok Cx St Er V) (free : Bool) (least : ℕ) (most : Option ℕ) (F : Language Tok V) where
-  pub repeated-accepts : {X : Type 0} → EndsAfterStart item → Accepts item F (X × safe) → AcceptsItems (Given (Some 0)) (Repeats mark back safe item free least most) (repeated_language F least most) (X × safe)
+  pub repeated-accepts : {X : Type 0} → EndsAfterStart item → Accepts item F (X × safe)
+      → AcceptsItems (Given (Some 0)) (Repeats mark back safe item free least most) (repeated_language F least most) (X × safe)
   repeated-accepts ends h = record {
     described = λ s.
         let t = both-true F.said F.moves s in

@@ -1,6 +1,36 @@
 -- Which words `repeated` takes, by those of its items.
 -- Main laws: repeated-one, repeated-given, repeated-over, repeated-never_empty, repeated-each, repeated-ends. Read first: ListWords.antt.
-use Rattle.std.proofs.Common.{◌≡◌, ℕ, suc, ◌≤◌, ◌<◌, nat_lt, Bool, true, false, not, cond, Option, Some, None, List, [], ◌∷◌, ◌++◌, length, refl, sym, ◌∙◌, ap, subst, arith, append_assoc, ◌⊎◌, inl, inr}
+use Rattle.std.proofs.Common.{
+  ◌≡◌,
+  ℕ,
+  suc,
+  ◌≤◌,
+  ◌<◌,
+  nat_lt,
+  Bool,
+  true,
+  false,
+  not,
+  cond,
+  Option,
+  Some,
+  None,
+  List,
+  [],
+  ◌∷◌,
+  ◌++◌,
+  length,
+  refl,
+  sym,
+  ◌∙◌,
+  ap,
+  subst,
+  arith,
+  append_assoc,
+  ◌⊎◌,
+  inl,
+  inr,
+}
 use Rattle.std.proofs.lemmas.Bool.Decides.{nat_tests}
 use Rattle.chumsky_parser.specs.Ending.{Ending, At, Nowhere, Refused, Ender, EndsOrRefused, DoesNotEnd}
 use Rattle.chumsky_parser.specs.Language.{Begins, TakesOnly, GivesOnly, TakesEach, EndsFurther}
@@ -104,7 +134,9 @@ module _ {Tok : Type 0} (f : Ender Tok) (least : ℕ) (most : Option ℕ) where
       let b = h.taken ts rest i.1 in
       record { word = b.word; all = b.all; is = (under-cap most k i.0, b.is) }
 
-  pub repeated-given : {V : Type 0} (value of : List Tok → V → Type 0) → GivesOnly f value of → (k : ℕ) (ts rest : List Tok) (v : V) → repeated_next f least most k ts ≡ At (One rest) → value ts v → Begins (λ w. RepeatedWord most (λ u. of u v) k w) ts rest
+  pub repeated-given : {V : Type 0} (value of : List Tok → V → Type 0) → GivesOnly f value of
+      → (k : ℕ) (ts rest : List Tok) (v : V) → repeated_next f least most k ts ≡ At (One rest) → value ts v
+      → Begins (λ w. RepeatedWord most (λ u. of u v) k w) ts rest
   repeated-given value of h k ts rest v e j =
       let i = one_is (at_cap most k) (At ts) (f ts) (unless_few (nat_lt k least) ts) rest e in
       let b = h.given ts rest v i.1 j in
@@ -129,21 +161,28 @@ module _ {Tok : Type 0} (f : Ender Tok) (least : ℕ) (most : Option ℕ) where
   repeated-decided k ts h e = refused_is (at_cap most k) (At ts) (f ts) (unless_few (nat_lt k least) ts) (λ z. cc z) h (few_not_refused (nat_lt k least) ts) e
 
   module _ (P fits : List Tok → Type 0) (h : TakesEach f P fits) where
-    goes_on_fits : ((w rest : List Tok) → P w → fits rest → fits (w ++ rest)) → (k : ℕ) (items : List (List Tok)) (w rest : List Tok) → ListFrom (λ j u (v : List Tok). RepeatedWord most P j u) (RepeatedEnd least most) k items w → fits rest → fits (w ++ rest)
+    goes_on_fits : ((w rest : List Tok) → P w → fits rest → fits (w ++ rest))
+        → (k : ℕ) (items : List (List Tok)) (w rest : List Tok)
+        → ListFrom (λ j u (v : List Tok). RepeatedWord most P j u) (RepeatedEnd least most) k items w → fits rest
+        → fits (w ++ rest)
     goes_on_fits again k [] w rest i y = subst (λ z. fits (z ++ rest)) (sym i.1) y
     goes_on_fits again k (v ∷ vs) w rest i y =
         let g : fits (i.second ++ rest) = goes_on_fits again (suc k) vs i.second rest i.is_second y in
         let e : i.first ++ (i.second ++ rest) ≡ w ++ rest = sym (append_assoc i.first i.second rest) ∙ ap (λ u. u ++ rest) (sym i.all) in
         subst fits e (again i.first (i.second ++ rest) i.is_first.1 g)
 
-    pub repeated-each : ((w rest : List Tok) → P w → fits rest → fits (w ++ rest)) → (k : ℕ) (w rest : List Tok) → RepeatedWord most P k w → GoesOn (RepeatedWord most P) (RepeatedEnd least most) (RepeatedFollow f fits least most) (suc k) rest
+    pub repeated-each : ((w rest : List Tok) → P w → fits rest → fits (w ++ rest)) → (k : ℕ) (w rest : List Tok)
+        → RepeatedWord most P k w
+        → GoesOn (RepeatedWord most P) (RepeatedEnd least most) (RepeatedFollow f fits least most) (suc k) rest
         → EndsOrRefused (repeated_next f least most k (w ++ rest)) (One rest)
     repeated-each again k w rest i g =
         let y : fits rest = subst fits (sym g.all) (goes_on_fits again (suc k) g.is.items g.words g.rest g.is.are g.fits.0) in
         let c : at_cap most k ≡ false = cap-under most k i.0 in
         rw c (one_each (f (w ++ rest)) (unless_few (nat_lt k least) (w ++ rest)) rest (h.each w rest i.1 y))
 
-    ended_each : (k : ℕ) (rest : List Tok) → Enough least most k → RepeatedFollow f fits least most rest → (c : Bool) → at_cap most k ≡ c → EndsOrRefused (cond c (overs (At rest)) (one_or (f rest) (unless_few (nat_lt k least) rest))) (Over rest)
+    ended_each : (k : ℕ) (rest : List Tok) → Enough least most k → RepeatedFollow f fits least most rest → (c : Bool)
+        → at_cap most k ≡ c
+        → EndsOrRefused (cond c (overs (At rest)) (one_or (f rest) (unless_few (nat_lt k least) rest))) (Over rest)
     ended_each k rest n y true d = inl refl
     ended_each k rest n (y, inl i) false d = let z : at_cap most k ≡ true = exact-full least most k i n in absurd (cc (d, z))
     ended_each k rest n (y, inr e) false d = let z : nat_lt k least ≡ false = enough-least least most k n d in rw z (over_each (f rest) (At rest) rest e (inl refl))

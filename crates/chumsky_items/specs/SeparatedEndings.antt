@@ -1,6 +1,36 @@
 -- Where a step of `separated_by` ends, with an item or without, by where its item and its separator do.
 -- Main law: separates-here. Read first: ListWords.antt, ListEndings.antt, Separating.antt.
-use Rattle.std.proofs.Common.{◌≡◌, ℕ, zero, suc, ◌+◌, ◌^◌, ◌≤◌, ◌<◌, Bool, true, false, not, ◌&&◌, nat_eq, nat_lt, nat_le, cond, Option, Some, None, List, length, drop, refl, sym, ◌∙◌, ap, subst, arith}
+use Rattle.std.proofs.Common.{
+  ◌≡◌,
+  ℕ,
+  zero,
+  suc,
+  ◌+◌,
+  ◌^◌,
+  ◌≤◌,
+  ◌<◌,
+  Bool,
+  true,
+  false,
+  not,
+  ◌&&◌,
+  nat_eq,
+  nat_lt,
+  nat_le,
+  cond,
+  Option,
+  Some,
+  None,
+  List,
+  length,
+  drop,
+  refl,
+  sym,
+  ◌∙◌,
+  ap,
+  subst,
+  arith,
+}
 use Rattle.std.specs.Prelude.{⊤}
 use Rattle.std.proofs.lemmas.Bool.Decides.{nat_tests}
 use Rattle.chumsky_input.specs.Outcome.{Meaning, Beginning}
@@ -64,11 +94,14 @@ alone_value P k (At r) rest End e i = absurd i
 alone_value P k Nowhere rest n e i = absurd (cc e)
 alone_value P k Refused rest n e i = absurd (cc e)
 
-led_value : {Tok V : Type 0} (value : List Tok → V → Type 0) (k : ℕ) (x : Ending (List Tok)) (g : List Tok → Ending (Stepped Tok)) (mid : List Tok) (n : Next ℕ V) → x ≡ At mid → IsStepped (value mid) (λ t. t ≡ suc k) (g mid) n
+led_value : {Tok V : Type 0} (value : List Tok → V → Type 0) (k : ℕ) (x : Ending (List Tok))
+    (g : List Tok → Ending (Stepped Tok)) (mid : List Tok) (n : Next ℕ V)
+    → x ≡ At mid → IsStepped (value mid) (λ t. t ≡ suc k) (g mid) n
     → IsStepped (λ v. Ends x (λ us. value us v)) (λ t. t ≡ suc k) (and_then g x) n
 led_value value k x g mid n e i = rw e i
 
-else_value : {Tok V : Type 0} (P : V → Type 0) (k : ℕ) (r : Ending (Stepped Tok)) (y : Ending (List Tok)) (rest : List Tok) (n : Next ℕ V) → or_else (place r) y ≡ At rest → ElseValue (place r) (IsStepped P (λ t. t ≡ suc k) r n) (IsEnd n)
+else_value : {Tok V : Type 0} (P : V → Type 0) (k : ℕ) (r : Ending (Stepped Tok)) (y : Ending (List Tok)) (rest : List Tok) (n : Next ℕ V)
+    → or_else (place r) y ≡ At rest → ElseValue (place r) (IsStepped P (λ t. t ≡ suc k) r n) (IsEnd n)
     → IsStepped P (λ t. t ≡ suc k) (or_else r (overs y)) n
 else_value P k (At s) y rest n e i = i
 else_value P k Nowhere y rest n e i = over_value P k y rest n e i
@@ -86,7 +119,9 @@ module _ {Tok : Type 0} (fs : Ender Tok) (keeps : (ts rest : List Tok) → fs ts
       by_separator Nowhere d g = let z : ts ≡ rest = cc g in let q : length ts ≡ length rest = ap length z in omega (arith, q)
       by_separator Refused d g = absurd (cc g)
 
-module _ {Tok Cx St Mk Er U V : Type 0} (mark : St → Mk) (back : St → Mk → St) (safe : Type 0) (separator : Meaning Tok Cx St Er U) (item : Meaning Tok Cx St Er V) (fs f : Ender Tok) (vs : List Tok → U → Type 0) (value : List Tok → V → Type 0)
+module _ {Tok Cx St Mk Er U V : Type 0} (mark : St → Mk) (back : St → Mk → St) (safe : Type 0)
+    (separator : Meaning Tok Cx St Er U) (item : Meaning Tok Cx St Er V) (fs f : Ender Tok)
+    (vs : List Tok → U → Type 0) (value : List Tok → V → Type 0)
     (hs : Reads separator fs vs) (h : Reads item f value) (keeps : (ts rest : List Tok) → fs ts ≡ At rest → length rest ≤ length ts) (further : EndsFurther f) where
   abbrev Any : U → Type 0
   Any u = ⊤
@@ -94,7 +129,8 @@ module _ {Tok Cx St Mk Er U V : Type 0} (mark : St → Mk) (back : St → Mk →
   silent_here : (b : Beginning Tok Cx St) → Within b → Here Any (Asked false separator) (fs (drop b.start b.tokens.list)) b
   silent_here b w =
       let ts : List Tok = drop b.start b.tokens.list in
-      weaker-here (vs ts) Any (λ u i. tt) (Asked false separator) (fs ts) b (asked-here (vs ts) b false separator (fs ts) (hs.here (record b { wanted = false }) (record { start = w.start; few = w.few })))
+      weaker-here (vs ts) Any (λ u i. tt) (Asked false separator) (fs ts) b
+      (asked-here (vs ts) b false separator (fs ts) (hs.here (record b { wanted = false }) (record { start = w.start; few = w.few })))
 
   nothing_here : (b : Beginning Tok Cx St) → Within b → Here Any {Er = Er} (Given None) (At (drop b.start b.tokens.list)) b
   nothing_here b w = given-here Er Any b w None tt
@@ -104,7 +140,8 @@ module _ {Tok Cx St Mk Er U V : Type 0} (mark : St → Mk) (back : St → Mk →
   perhaps_here b w =
       let ts : List Tok = drop b.start b.tokens.list in
       weaker-here _ Any (λ u i. tt) (Perhaps mark back safe separator) (or_else (fs ts) (At ts)) b
-      (or_else-here mark back safe (Asked false separator) (Given None) Any Any (fs ts) (At ts) b (silent_here b w) (λ s. nothing_here (record b { state = s }) (record { start = w.start; few = w.few })))
+      (or_else-here mark back safe (Asked false separator) (Given None) Any Any (fs ts) (At ts) b (silent_here b w)
+      (λ s. nothing_here (record b { state = s }) (record { start = w.start; few = w.few })))
 
   lead_here : (l : Bool) (k : ℕ) (b : Beginning Tok Cx St) → Within b → Here Any (Lead mark back safe separator (nat_eq k 0) l) (lead_at fs l k (drop b.start b.tokens.list)) b
   lead_here l (suc k) b w = rw (later k) (silent_here b w)
@@ -113,28 +150,40 @@ module _ {Tok Cx St Mk Er U V : Type 0} (mark : St → Mk) (back : St → Mk →
 
   -- an item, or where a separator may stand here the end
   staying_here : (c : Bool) (k start : ℕ) (asked : Bool) (b : Beginning Tok Cx St) → Within b → start ≤ b.start → k + length (drop b.start b.tokens.list) < 2 ^ 64
-      → Here (IsStepped (value (drop b.start b.tokens.list)) (λ t. t ≡ suc k) (stay_step f c (drop b.start b.tokens.list))) (Staying mark back safe c (Counted asked k start item)) (place (stay_step f c (drop b.start b.tokens.list))) b
+      → Here
+      (IsStepped (value (drop b.start b.tokens.list)) (λ t. t ≡ suc k) (stay_step f c (drop b.start b.tokens.list)))
+      (Staying mark back safe c (Counted asked k start item)) (place (stay_step f c (drop b.start b.tokens.list)))
+      b
   staying_here true k start asked b w l q o m =
       let ts : List Tok = drop b.start b.tokens.list in
-      one_or-here mark back safe (value ts) k (Counted asked k start item) (EndsUnlessFew false) (f ts) (At ts) b (counted-here item f value h further asked k start b w l q) (λ s. closes-here false (record b { state = s }) (record { start = w.start; few = w.few })) o m
+      one_or-here mark back safe (value ts) k (Counted asked k start item) (EndsUnlessFew false) (f ts) (At ts) b
+      (counted-here item f value h further asked k start b w l q)
+      (λ s. closes-here false (record b { state = s }) (record { start = w.start; few = w.few })) o m
   staying_here false k start asked b w l q o m =
       let ts : List Tok = drop b.start b.tokens.list in
       let R : Next ℕ V → Type 0 = IsStepped (value ts) (λ t. t ≡ suc k) (one_or (f ts) Nowhere) in
       let z : Answers R (f ts) b.tokens.list o.verdict o.end =
-      ended-here (IsMore (value ts) k) R (Counted asked k start item) (f ts) b (λ n rest e i. alone_value (value ts) k (f ts) rest n e i) (counted-here item f value h further asked k start b w l q) o m in
+      ended-here (IsMore (value ts) k) R (Counted asked k start item) (f ts) b
+      (λ n rest e i. alone_value (value ts) k (f ts) rest n e i)
+      (counted-here item f value h further asked k start b w l q) o m in
       subst (λ x. Answers R x b.tokens.list o.verdict o.end) (one_alone (f ts)) z
 
   -- a separator where there has to be one, and then that
   round_here : (leading : Bool) (k : ℕ) (c asked : Bool) (b : Beginning Tok Cx St) → Within b → k + length (drop b.start b.tokens.list) < 2 ^ 64
-      → Here (IsStepped (λ v. Ends (lead_at fs leading k (drop b.start b.tokens.list)) (λ mid. value mid v)) (λ t. t ≡ suc k) (and_then (stay_step f c) (lead_at fs leading k (drop b.start b.tokens.list))))
-      (Chained (Lead mark back safe separator (nat_eq k 0) leading) (λ _. Staying mark back safe c (Counted asked k b.start item))) (place (and_then (stay_step f c) (lead_at fs leading k (drop b.start b.tokens.list)))) b
+      → Here
+      (IsStepped (λ v. Ends (lead_at fs leading k (drop b.start b.tokens.list)) (λ mid. value mid v))
+      (λ t. t ≡ suc k) (and_then (stay_step f c) (lead_at fs leading k (drop b.start b.tokens.list))))
+      (Chained (Lead mark back safe separator (nat_eq k 0) leading) (λ _. Staying mark back safe c (Counted asked k b.start item)))
+      (place (and_then (stay_step f c) (lead_at fs leading k (drop b.start b.tokens.list)))) b
   round_here leading k c asked b w q o m =
       let ts : List Tok = drop b.start b.tokens.list in
       let x : Ending (List Tok) = lead_at fs leading k ts in
       let R : Next ℕ V → Type 0 = IsStepped (λ v. Ends x (λ mid. value mid v)) (λ t. t ≡ suc k) (and_then (stay_step f c) x) in
       let next : Option U → Meaning Tok Cx St Er (Next ℕ V) = λ _. Staying mark back safe c (Counted asked k b.start item) in
       let z : Answers R (and_then (λ mid. place (stay_step f c mid)) x) b.tokens.list o.verdict o.end =
-      chained-here Any R (Lead mark back safe separator (nat_eq k 0) leading) (SameText (Lead mark back safe separator (nat_eq k 0) leading) next b) x (λ mid. place (stay_step f c mid)) b w (lead_here leading k b w)
+      chained-here Any R (Lead mark back safe separator (nat_eq k 0) leading)
+      (SameText (Lead mark back safe separator (nat_eq k 0) leading) next b) x (λ mid. place (stay_step f c mid))
+      b w (lead_here leading k b w)
       (λ v d y e i p n.
       let mid : List Tok = drop d.start d.tokens.list in
       let same : d.tokens ≡ b.tokens = n.1 in
@@ -143,7 +192,9 @@ module _ {Tok Cx St Mk Er U V : Type 0} (mark : St → Mk) (back : St → Mk →
       let dl : d.start ≤ length b.tokens.list = subst (λ s. d.start ≤ length s.list) same y.start in
       let l : b.start ≤ d.start = earlier_place b.tokens.list b.start d.start w.start dl less' in
       let q' : k + length mid < 2 ^ 64 = omega (arith, q, less) in
-      weaker-here (IsStepped (value mid) (λ t. t ≡ suc k) (stay_step f c mid)) R (λ u j. led_value value k x (stay_step f c) mid u e j) (next v) (place (stay_step f c mid)) d (staying_here c k b.start asked d y l q') p n.0)
+      weaker-here (IsStepped (value mid) (λ t. t ≡ suc k) (stay_step f c mid)) R
+      (λ u j. led_value value k x (stay_step f c) mid u e j) (next v) (place (stay_step f c mid)) d
+      (staying_here c k b.start asked d y l q') p n.0)
       o (same_text (Lead mark back safe separator (nat_eq k 0) leading) next b o m) in
       subst (λ s. Answers R s b.tokens.list o.verdict o.end) (place_then (stay_step f c) x) z
 
@@ -159,11 +210,15 @@ module _ {Tok Cx St Mk Er U V : Type 0} (mark : St → Mk) (back : St → Mk →
       subst (λ s. Answers (IsEnd {V = V}) s b.tokens.list o.verdict o.end) (and_then_some x) z)
 
   last_here : (P : V → Type 0) (t : Bool) (k : ℕ) (b : Beginning Tok Cx St) → Within b
-      → Here (IsStepped P (λ t. t ≡ suc k) (overs (full_at fs t k (drop b.start b.tokens.list)))) (Last mark back safe separator (t && not (nat_eq k 0))) (place (overs (full_at fs t k (drop b.start b.tokens.list)))) b
+      → Here (IsStepped P (λ t. t ≡ suc k) (overs (full_at fs t k (drop b.start b.tokens.list))))
+      (Last mark back safe separator (t && not (nat_eq k 0)))
+      (place (overs (full_at fs t k (drop b.start b.tokens.list)))) b
   last_here P t k b w o m =
       let x : Ending (List Tok) = full_at fs t k (drop b.start b.tokens.list) in
       let R : Next ℕ V → Type 0 = IsStepped P (λ t. t ≡ suc k) (overs x) in
-      let z : Answers R x b.tokens.list o.verdict o.end = ended-here IsEnd R (Last mark back safe separator (t && not (nat_eq k 0))) x b (λ n rest e i. over_value P k x rest n e i) (ends_here t k b w) o m in
+      let z : Answers R x b.tokens.list o.verdict o.end =
+      ended-here IsEnd R (Last mark back safe separator (t && not (nat_eq k 0))) x b
+      (λ n rest e i. over_value P k x rest n e i) (ends_here t k b w) o m in
       subst (λ s. Answers R s b.tokens.list o.verdict o.end) (place_over x) z
 
   same_stays : (d : Bounds) (k : ℕ) → stays d k ≡ (stands d.leading d.trailing k && nat_le d.least k)
@@ -173,7 +228,9 @@ module _ {Tok Cx St Mk Er U V : Type 0} (mark : St → Mk) (back : St → Mk →
   -- a step below the cap
   below_here : (d : Bounds) (k : ℕ) (b : Beginning Tok Cx St) → Within b → k + length (drop b.start b.tokens.list) < 2 ^ 64
       → (next : Ending (Stepped Tok)) → next ≡ one_or (and_then f (lead_at fs d.leading k (drop b.start b.tokens.list))) (none_at fs d.leading d.trailing d.least k (drop b.start b.tokens.list))
-      → Here (IsStepped (λ v. Ends (lead_at fs d.leading k (drop b.start b.tokens.list)) (λ mid. value mid v)) (λ t. t ≡ suc k) next) (Unfilled mark back safe separator item d false k b.start) (place next) b
+      → Here
+      (IsStepped (λ v. Ends (lead_at fs d.leading k (drop b.start b.tokens.list)) (λ mid. value mid v)) (λ t. t ≡ suc k) next)
+      (Unfilled mark back safe separator item d false k b.start) (place next) b
   below_here d k b w q next e o m =
       let ts : List Tok = drop b.start b.tokens.list in
       let x : Ending (List Tok) = lead_at fs d.leading k ts in
@@ -187,17 +244,27 @@ module _ {Tok Cx St Mk Er U V : Type 0} (mark : St → Mk) (back : St → Mk →
       (or_else-here mark back safe (Round mark back safe separator item d k b.start) (EndsUnlessFew (nat_lt k d.least)) (R r) IsEnd (place r) y b
       (λ p n. round_here d.leading k c (asks_after (nat_eq k 0) d) b w q p n.run) (λ s. closes-here (nat_lt k d.least) (record b { state = s }) (record { start = w.start; few = w.few }))) o m in
       let g : or_else r (overs y) ≡ next = round_or f c x y ∙ ap (λ a. one_or (and_then f x) (stay_or a x y)) (same_stays d k) ∙ sym e in
-      let u : Answers (R (or_else r (overs y))) (place (or_else r (overs y))) b.tokens.list o.verdict o.end = subst (λ s. Answers (R (or_else r (overs y))) s b.tokens.list o.verdict o.end) (place_else r y) z in
+      let u : Answers (R (or_else r (overs y))) (place (or_else r (overs y))) b.tokens.list o.verdict o.end =
+      subst (λ s. Answers (R (or_else r (overs y))) s b.tokens.list o.verdict o.end) (place_else r y) z in
       subst (λ s. Answers (R s) (place s) b.tokens.list o.verdict o.end) g u
 
   step_here : (d : Bounds) (k : ℕ) (b : Beginning Tok Cx St) → Within b → k + length (drop b.start b.tokens.list) < 2 ^ 64 → (c : Bool)
-      → (next : Ending (Stepped Tok)) → next ≡ cond c (overs (full_at fs d.trailing k (drop b.start b.tokens.list))) (one_or (and_then f (lead_at fs d.leading k (drop b.start b.tokens.list))) (none_at fs d.leading d.trailing d.least k (drop b.start b.tokens.list)))
-      → Here (IsStepped (λ v. Ends (lead_at fs d.leading k (drop b.start b.tokens.list)) (λ mid. value mid v)) (λ t. t ≡ suc k) next) (Unfilled mark back safe separator item d c k b.start) (place next) b
+      → (next : Ending (Stepped Tok))
+      → next
+      ≡ cond c (overs (full_at fs d.trailing k (drop b.start b.tokens.list)))
+      (one_or (and_then f (lead_at fs d.leading k (drop b.start b.tokens.list)))
+      (none_at fs d.leading d.trailing d.least k (drop b.start b.tokens.list)))
+      → Here
+      (IsStepped (λ v. Ends (lead_at fs d.leading k (drop b.start b.tokens.list)) (λ mid. value mid v)) (λ t. t ≡ suc k) next)
+      (Unfilled mark back safe separator item d c k b.start) (place next) b
   step_here d k b w q true next e = rw e (last_here (λ v. Ends (lead_at fs d.leading k (drop b.start b.tokens.list)) (λ mid. value mid v)) d.trailing k b w)
   step_here d k b w q false next e = below_here d k b w q next e
 
   -- a step of `separated_by`
   pub separates-here : (d : Bounds) (k s : ℕ) → s ≡ k → (b : Beginning Tok Cx St) → Within b → k + length (drop b.start b.tokens.list) < 2 ^ 64
-      → Here (IsStepped (λ v. Ends (lead_at fs d.leading k (drop b.start b.tokens.list)) (λ mid. value mid v)) (λ t. t ≡ suc k) (separated_next f fs d.leading d.trailing d.least d.most k (drop b.start b.tokens.list)))
+      → Here
+      (IsStepped (λ v. Ends (lead_at fs d.leading k (drop b.start b.tokens.list)) (λ mid. value mid v))
+      (λ t. t ≡ suc k)
+      (separated_next f fs d.leading d.trailing d.least d.most k (drop b.start b.tokens.list)))
       (Separates mark back safe separator item d s) (place (separated_next f fs d.leading d.trailing d.least d.most k (drop b.start b.tokens.list))) b
   separates-here d k s e b w q = rw e (λ o m. step_here d k b w q (at_cap d.most k) (separated_next f fs d.leading d.trailing d.least d.most k (drop b.start b.tokens.list)) refl o m.step)

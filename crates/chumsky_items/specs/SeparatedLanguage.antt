@@ -43,8 +43,12 @@ separated_language G F d = record {
   takes_no_memory = F.takes_no_memory × G.takes_no_memory;
 }
 
-module _ {Tok Cx St Mk Er U V : Type 0} (mark : St → Mk) (back : St → Mk → St) (safe : Type 0) (separator : Meaning Tok Cx St Er U) (item : Meaning Tok Cx St Er V) (d : Bounds) (G : Language Tok U) (F : Language Tok V) where
-  pub separated-accepts : {X : Type 0} → EndsAfterStart separator → EndsAfterStart item → Accepts separator G (X × safe) → Accepts item F (X × safe) → AcceptsItems (Given (Some 0)) (Separates mark back safe separator item d) (separated_language G F d) (X × safe)
+module _ {Tok Cx St Mk Er U V : Type 0} (mark : St → Mk) (back : St → Mk → St) (safe : Type 0)
+    (separator : Meaning Tok Cx St Er U) (item : Meaning Tok Cx St Er V) (d : Bounds) (G : Language Tok U)
+    (F : Language Tok V) where
+  pub separated-accepts : {X : Type 0} → EndsAfterStart separator → EndsAfterStart item
+      → Accepts separator G (X × safe) → Accepts item F (X × safe)
+      → AcceptsItems (Given (Some 0)) (Separates mark back safe separator item d) (separated_language G F d) (X × safe)
   separated-accepts es ei hs h = record {
     described = λ s.
         let t = both-true (F.said && F.moves) G.said s in
@@ -62,9 +66,15 @@ module _ {Tok Cx St Mk Er U V : Type 0} (mark : St → Mk) (back : St → Mk →
           over = separated-over F.ends G.ends G.word g.only d.least d.most d.leading d.trailing;
           each = λ q. separated-each F.ends G.ends F.word G.word F.follow G.follow (i.each q.0) (g.each q.1) d.leading d.trailing d.least d.most q.2 q.3 q.4;
           ends = λ q. separated-ends F.ends G.ends F.word G.word F.follow G.follow (i.each q.0) (g.each q.1) d.leading d.trailing d.least d.most q.2 q.3 q.4;
-          decided = λ k ts b. let z = sooner-below F.refused_from G.refused_from (length ts) b in separated-decided F.ends G.ends d.leading d.trailing d.least d.most k ts (λ us l. i.decided us (fewer-below F.refused_from (length us) (length ts) l z.0)) (g.decided ts z.1) (lead_keeps G.ends keeps);
+          decided = λ k ts b.
+              let z = sooner-below F.refused_from G.refused_from (length ts) b in
+              separated-decided F.ends G.ends d.leading d.trailing d.least d.most k ts
+              (λ us l. i.decided us (fewer-below F.refused_from (length us) (length ts) l z.0)) (g.decided ts z.1)
+              (lead_keeps G.ends keeps);
           never_empty = λ m. let i = both-true (has_an_item d.least d.most) F.moves m in separated-never_empty F.ends G.ends d.leading d.trailing d.least d.most i.0;
         };
-    moving = λ e. let i = both-true (has_an_item d.least d.most) F.moves e in (separates-end mark back safe separator item d es ei, separates-move mark back safe separator item d i.0 es (h.moving i.1));
+    moving = λ e.
+        let i = both-true (has_an_item d.least d.most) F.moves e in
+        (separates-end mark back safe separator item d es ei, separates-move mark back safe separator item d i.0 es (h.moving i.1));
     sparing = λ q t. record { begin = given-spares (Some 0); step = separates-spare mark back safe separator item d q.1 (hs.sparing q t.1) (h.sparing q t.0) };
   }

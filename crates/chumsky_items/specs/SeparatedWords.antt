@@ -1,6 +1,39 @@
 -- Which words `separated_by` takes, by those of its items and separators.
 -- Main laws: separated-one, separated-given, separated-over, separated-never_empty, separated-each, separated-ends. Read first: ListWords.antt, RepeatedWords.antt.
-use Rattle.std.proofs.Common.{◌≡◌, ℕ, zero, suc, ◌≤◌, ◌<◌, nat_lt, nat_le, Bool, true, false, not, ◌&&◌, cond, Option, Some, None, List, [], ◌∷◌, ◌++◌, length, refl, sym, ◌∙◌, ap, subst, arith, append_assoc, ◌⊎◌, inl, inr}
+use Rattle.std.proofs.Common.{
+  ◌≡◌,
+  ℕ,
+  zero,
+  suc,
+  ◌≤◌,
+  ◌<◌,
+  nat_lt,
+  nat_le,
+  Bool,
+  true,
+  false,
+  not,
+  ◌&&◌,
+  cond,
+  Option,
+  Some,
+  None,
+  List,
+  [],
+  ◌∷◌,
+  ◌++◌,
+  length,
+  refl,
+  sym,
+  ◌∙◌,
+  ap,
+  subst,
+  arith,
+  append_assoc,
+  ◌⊎◌,
+  inl,
+  inr,
+}
 use Rattle.std.proofs.lemmas.Bool.Decides.{nat_tests}
 use Rattle.chumsky_parser.specs.Ending.{Ending, At, Nowhere, Refused, Ender, and_then, or_else, Ends, EndsOrRefused, DoesNotEnd}
 use Rattle.chumsky_parser.specs.Language.{Begins, TakesOnly, GivesOnly, TakesEach, EndsFurther}
@@ -27,7 +60,9 @@ nothing P ts rest p e = record { word = []; all = e; is = p }
 
 module _ {Tok : Type 0} (f separator : Ender Tok) where
   -- a separator where there has to be one, and an item
-  led_begins : (S Q : List Tok → Type 0) → TakesOnly separator S → (l : Bool) (k : ℕ) (ts rest : List Tok) → ((mid : List Tok) → lead_at separator l k ts ≡ At mid → f mid ≡ At rest → Begins Q mid rest) → and_then f (lead_at separator l k ts) ≡ At rest → Begins (Led S l Q k) ts rest
+  led_begins : (S Q : List Tok → Type 0) → TakesOnly separator S → (l : Bool) (k : ℕ) (ts rest : List Tok)
+      → ((mid : List Tok) → lead_at separator l k ts ≡ At mid → f mid ≡ At rest → Begins Q mid rest)
+      → and_then f (lead_at separator l k ts) ≡ At rest → Begins (Led S l Q k) ts rest
   led_begins S Q h l k ts rest g e = by_place l k g e
     where
       after : (mid : List Tok) → separator ts ≡ At mid → Begins Q mid rest → Begins (Joined S Q) ts rest
@@ -41,12 +76,16 @@ module _ {Tok : Type 0} (f separator : Ender Tok) where
       by_separator Nowhere d g e = absurd (cc e)
       by_separator Refused d g e = absurd (cc e)
 
-      by_missing : (x : Ending (List Tok)) → separator ts ≡ x → ((mid : List Tok) → or_else x (At ts) ≡ At mid → f mid ≡ At rest → Begins Q mid rest) → and_then f (or_else x (At ts)) ≡ At rest → Begins (λ w. Joined S Q w ⊎ Q w) ts rest
+      by_missing : (x : Ending (List Tok)) → separator ts ≡ x
+          → ((mid : List Tok) → or_else x (At ts) ≡ At mid → f mid ≡ At rest → Begins Q mid rest)
+          → and_then f (or_else x (At ts)) ≡ At rest → Begins (λ w. Joined S Q w ⊎ Q w) ts rest
       by_missing (At mid) d g e = let b = after mid d (g mid refl e) in record { word = b.word; all = b.all; is = inl b.is }
       by_missing Nowhere d g e = let b = g ts refl e in record { word = b.word; all = b.all; is = inr b.is }
       by_missing Refused d g e = absurd (cc e)
 
-      by_place : (l : Bool) (k : ℕ) → ((mid : List Tok) → lead_at separator l k ts ≡ At mid → f mid ≡ At rest → Begins Q mid rest) → and_then f (lead_at separator l k ts) ≡ At rest → Begins (Led S l Q k) ts rest
+      by_place : (l : Bool) (k : ℕ)
+          → ((mid : List Tok) → lead_at separator l k ts ≡ At mid → f mid ≡ At rest → Begins Q mid rest)
+          → and_then f (lead_at separator l k ts) ≡ At rest → Begins (Led S l Q k) ts rest
       by_place l (suc k) g e = by_separator (separator ts) refl g e
       by_place true zero g e = by_missing (separator ts) refl g e
       by_place false zero g e = g ts refl e
@@ -58,7 +97,9 @@ module _ {Tok : Type 0} (f separator : Ender Tok) where
     one_parts : (k : ℕ) (ts rest : List Tok) → next k ts ≡ At (One rest) → (at_cap most k ≡ false) × (and_then f (lead_at separator leading k ts) ≡ At rest)
     one_parts k ts rest e = one_is (at_cap most k) (full_at separator trailing k ts) (and_then f (lead_at separator leading k ts)) (none_at separator leading trailing least k ts) rest e
 
-    pub separated-further : EndsFurther f → ((l : Bool) (k : ℕ) (ts rest : List Tok) → lead_at separator l k ts ≡ At rest → length rest ≤ length ts) → (k : ℕ) (ts rest : List Tok) → next k ts ≡ At (One rest) → length rest < length ts
+    pub separated-further : EndsFurther f
+        → ((l : Bool) (k : ℕ) (ts rest : List Tok) → lead_at separator l k ts ≡ At rest → length rest ≤ length ts)
+        → (k : ℕ) (ts rest : List Tok) → next k ts ≡ At (One rest) → length rest < length ts
     separated-further h keeps k ts rest e = by_lead (lead_at separator leading k ts) (keeps leading k ts) (one_parts k ts rest e).1
       where
         by_lead : (x : Ending (List Tok)) → ((mid : List Tok) → x ≡ At mid → length mid ≤ length ts) → and_then f x ≡ At rest → length rest < length ts
@@ -73,7 +114,9 @@ module _ {Tok : Type 0} (f separator : Ender Tok) where
         elim (over_is (at_cap most 0) (full_at separator trailing 0 ts) (and_then f (lead_at separator leading 0 ts)) (none_at separator leading trailing least 0 ts) rest e) [
           | inl i ↦ let z : false ≡ true = subst (λ c. not c ≡ true) i.0 t.1 in cc z
           | inr i ↦
-              let z : unless_few (nat_lt 0 least) ts ≡ At rest = subst (λ s. stay_or s (lead_at separator leading 0 ts) (unless_few (nat_lt 0 least) ts) ≡ At rest) (none-stays least leading t.0) i.1 in
+              let z : unless_few (nat_lt 0 least) ts ≡ At rest =
+              subst (λ s. stay_or s (lead_at separator leading 0 ts) (unless_few (nat_lt 0 least) ts) ≡ At rest)
+              (none-stays least leading t.0) i.1 in
               let j = few_at (nat_lt 0 least) ts rest z in
               cc (t.0, j.0)
         ]
@@ -84,17 +127,25 @@ module _ {Tok : Type 0} (f separator : Ender Tok) where
         let b = led_begins S P hs leading k ts rest (λ mid d g. h.taken mid rest g) i.1 in
         record { word = b.word; all = b.all; is = (under-cap most k i.0, b.is) }
 
-    pub separated-given : {V : Type 0} (S : List Tok → Type 0) (value of : List Tok → V → Type 0) → GivesOnly f value of → TakesOnly separator S → (k : ℕ) (ts rest : List Tok) (v : V) → next k ts ≡ At (One rest)
+    pub separated-given : {V : Type 0} (S : List Tok → Type 0) (value of : List Tok → V → Type 0)
+        → GivesOnly f value of → TakesOnly separator S → (k : ℕ) (ts rest : List Tok) (v : V)
+        → next k ts ≡ At (One rest)
         → Ends (lead_at separator leading k ts) (λ mid. value mid v) → Begins (λ w. SeparatedWord S leading most (λ u. of u v) k w) ts rest
     separated-given S value of h hs k ts rest v e j =
         let i = one_parts k ts rest e in
         let b = led_begins S (λ u. of u v) hs leading k ts rest (λ mid d g. h.given mid rest v g (subst (λ x. Ends x (λ us. value us v)) d j)) i.1 in
         record { word = b.word; all = b.all; is = (under-cap most k i.0, b.is) }
 
-    pub separated-decided : (k : ℕ) (ts : List Tok) → ((us : List Tok) → length us ≤ length ts → f us ≡ Refused → ⊥) → (separator ts ≡ Refused → ⊥) → ((l : Bool) (k : ℕ) (ts rest : List Tok) → lead_at separator l k ts ≡ At rest → length rest ≤ length ts) → next k ts ≡ Refused → ⊥
+    pub separated-decided : (k : ℕ) (ts : List Tok) → ((us : List Tok) → length us ≤ length ts → f us ≡ Refused → ⊥)
+        → (separator ts ≡ Refused → ⊥)
+        → ((l : Bool) (k : ℕ) (ts rest : List Tok) → lead_at separator l k ts ≡ At rest → length rest ≤ length ts)
+        → next k ts ≡ Refused → ⊥
     separated-decided k ts h hs keeps e =
         refused_is (at_cap most k) (full_at separator trailing k ts) (and_then f (lead_at separator leading k ts)) (none_at separator leading trailing least k ts)
-        (full_not trailing k) (λ z. by_lead (lead_at separator leading k ts) (keeps leading k ts) (lead_not leading k) z) (λ z. stay_not (stands leading trailing k && nat_le least k) (lead_at separator leading k ts) (lead_not leading k) z) e
+        (full_not trailing k)
+        (λ z. by_lead (lead_at separator leading k ts) (keeps leading k ts) (lead_not leading k) z)
+        (λ z. stay_not (stands leading trailing k && nat_le least k) (lead_at separator leading k ts) (lead_not leading k) z)
+        e
       where
         missing_not : (x : Ending (List Tok)) → (x ≡ Refused → ⊥) → or_else x (At ts) ≡ Refused → ⊥
         missing_not (At r) g e = cc e
@@ -156,24 +207,32 @@ module _ {Tok : Type 0} (f separator : Ender Tok) where
     none_taken l false (suc k) c ts rest e = few_taken l false (suc k) ts rest e
     none_taken true t zero c ts rest e = by_least (nat_le least zero) refl (separator ts) refl e
       where
-        by_least : (b : Bool) → nat_le least zero ≡ b → (x : Ending (List Tok)) → separator ts ≡ x → stay_or b (or_else x (At ts)) (unless_few (nat_lt zero least) ts) ≡ At rest → Begins (SeparatedEnd S true t least most zero) ts rest
+        by_least : (b : Bool) → nat_le least zero ≡ b → (x : Ending (List Tok)) → separator ts ≡ x
+            → stay_or b (or_else x (At ts)) (unless_few (nat_lt zero least) ts) ≡ At rest
+            → Begins (SeparatedEnd S true t least most zero) ts rest
         by_least true g (At r) d e = let b = hs.taken ts rest (d ∙ e) in record { word = b.word; all = b.all; is = (le-least least most zero g, inr (under-cap most zero c, b.is)) }
         by_least true g Nowhere d e = nothing _ ts rest (le-least least most zero g, inl refl) (cc e)
         by_least true g Refused d e = absurd (cc e)
         by_least false g x d e = few_taken true t zero ts rest e
     none_taken l true (suc k) c ts rest e = by_least (nat_le least (suc k)) refl (separator ts) refl e
       where
-        by_least : (b : Bool) → nat_le least (suc k) ≡ b → (x : Ending (List Tok)) → separator ts ≡ x → stay_or b x (unless_few (nat_lt (suc k) least) ts) ≡ At rest → Begins (SeparatedEnd S l true least most (suc k)) ts rest
+        by_least : (b : Bool) → nat_le least (suc k) ≡ b → (x : Ending (List Tok)) → separator ts ≡ x
+            → stay_or b x (unless_few (nat_lt (suc k) least) ts) ≡ At rest
+            → Begins (SeparatedEnd S l true least most (suc k)) ts rest
         by_least true g (At r) d e = let b = hs.taken ts rest (d ∙ e) in record { word = b.word; all = b.all; is = stays_behind l k b.word (le-least least most (suc k) g) b.is }
         by_least true g Nowhere d e = few_taken l true (suc k) ts rest e
         by_least true g Refused d e = absurd (cc e)
         by_least false g x d e = few_taken l true (suc k) ts rest e
 
-    pub separated-over : (leading trailing : Bool) (k : ℕ) (ts rest : List Tok) → separated_next f separator leading trailing least most k ts ≡ At (Over rest) → Begins (SeparatedEnd S leading trailing least most k) ts rest
-    separated-over leading trailing k ts rest e = elim (over_is (at_cap most k) (full_at separator trailing k ts) (and_then f (lead_at separator leading k ts)) (none_at separator leading trailing least k ts) rest e) [
-      | inl i ↦ full_taken leading trailing k i.0 ts rest i.1
-      | inr i ↦ none_taken leading trailing k i.0 ts rest i.1
-    ]
+    pub separated-over : (leading trailing : Bool) (k : ℕ) (ts rest : List Tok)
+        → separated_next f separator leading trailing least most k ts ≡ At (Over rest)
+        → Begins (SeparatedEnd S leading trailing least most k) ts rest
+    separated-over leading trailing k ts rest e =
+        elim (over_is (at_cap most k) (full_at separator trailing k ts) (and_then f (lead_at separator leading k ts))
+        (none_at separator leading trailing least k ts) rest e) [
+          | inl i ↦ full_taken leading trailing k i.0 ts rest i.1
+          | inr i ↦ none_taken leading trailing k i.0 ts rest i.1
+        ]
 
   -- each word is taken
   module _ (P S fits sfits : List Tok → Type 0) (h : TakesEach f P fits) (hs : TakesEach separator S sfits) (leading trailing : Bool) (least : ℕ) (most : Option ℕ)
@@ -189,12 +248,19 @@ module _ {Tok : Type 0} (f separator : Ender Tok) where
         let a : EndsOrRefused (separator (i.first ++ (i.second ++ rest))) (i.second ++ rest) = hs.each i.first (i.second ++ rest) i.is_first (after_separator i.second rest i.is_second y) in
         (i.second ++ rest, subst (λ u. EndsOrRefused (separator u) (i.second ++ rest)) (sym e) a, h.each i.second rest i.is_second y)
 
-    led_each : (l : Bool) → (l ≡ true → (w rest : List Tok) → P w → fits rest → DoesNotEnd (separator (w ++ rest))) → (k : ℕ) (w rest : List Tok) → Led S l P k w → fits rest → EndsOrRefused (and_then f (lead_at separator l k (w ++ rest))) rest
+    led_each : (l : Bool) → (l ≡ true → (w rest : List Tok) → P w → fits rest → DoesNotEnd (separator (w ++ rest)))
+        → (k : ℕ) (w rest : List Tok) → Led S l P k w → fits rest
+        → EndsOrRefused (and_then f (lead_at separator l k (w ++ rest))) rest
     led_each l clear (suc k) w rest i y = let t = taken_there w rest i y in then_or_refused f (separator (w ++ rest)) t.0 rest t.1 t.2
     led_each false clear zero w rest i y = h.each w rest i y
-    led_each true clear zero w rest (inl i) y = let t = taken_there w rest i y in then_or_refused f (or_else (separator (w ++ rest)) (At (w ++ rest))) t.0 rest (first_or_refused (separator (w ++ rest)) (At (w ++ rest)) t.0 t.1) t.2
+    led_each true clear zero w rest (inl i) y =
+        let t = taken_there w rest i y in
+        then_or_refused f (or_else (separator (w ++ rest)) (At (w ++ rest))) t.0 rest
+        (first_or_refused (separator (w ++ rest)) (At (w ++ rest)) t.0 t.1) t.2
     led_each true clear zero w rest (inr p) y =
-        let x : EndsOrRefused (or_else (separator (w ++ rest)) (At (w ++ rest))) (w ++ rest) = second_or_refused (separator (w ++ rest)) (At (w ++ rest)) (w ++ rest) (clear refl w rest p y) (inl refl) in
+        let x : EndsOrRefused (or_else (separator (w ++ rest)) (At (w ++ rest))) (w ++ rest) =
+        second_or_refused (separator (w ++ rest)) (At (w ++ rest)) (w ++ rest) (clear refl w rest p y) (inl refl)
+        in
         then_or_refused f (or_else (separator (w ++ rest)) (At (w ++ rest))) (w ++ rest) rest x (h.each w rest p y)
 
     last_fits : (l t : Bool) (k : ℕ) (w rest : List Tok) → MayTrail S l t most (suc k) w → fits rest → sfits rest → fits (w ++ rest)
@@ -205,7 +271,9 @@ module _ {Tok : Type 0} (f separator : Ender Tok) where
     last_fits true true k w rest (inr x) y z = after_item w rest x z
     last_fits false true k w rest (inr x) y z = after_item w rest x z
 
-    goes_on_fits : (k : ℕ) (items : List (List Tok)) (w rest : List Tok) → ListFrom (λ j u (v : List Tok). SeparatedWord S leading most P j u) (SeparatedEnd S leading trailing least most) (suc k) items w → fits rest → sfits rest → fits (w ++ rest)
+    goes_on_fits : (k : ℕ) (items : List (List Tok)) (w rest : List Tok)
+        → ListFrom (λ j u (v : List Tok). SeparatedWord S leading most P j u) (SeparatedEnd S leading trailing least most) (suc k) items w
+        → fits rest → sfits rest → fits (w ++ rest)
     goes_on_fits k [] w rest i y z = last_fits leading trailing k w rest i.1 y z
     goes_on_fits k (v ∷ vs) w rest i y z =
         let g : fits (i.second ++ rest) = goes_on_fits (suc k) vs i.second rest i.is_second y z in
@@ -244,7 +312,9 @@ module _ {Tok : Type 0} (f separator : Ender Tok) where
     NoItem l t k w rest = DoesNotEnd (and_then f (lead_at separator l k (w ++ rest))) × EndsOrRefused (none_at separator l t least k (w ++ rest)) rest
 
     -- where no separator is there
-    by_end : (c : Bool) (x : Ending (List Tok)) (k : ℕ) (w rest : List Tok) → DoesNotEnd x → Enough least most k → at_cap most k ≡ false → w ≡ [] → DoesNotEnd (and_then f x) × EndsOrRefused (stay_or c x (unless_few (nat_lt k least) (w ++ rest))) rest
+    by_end : (c : Bool) (x : Ending (List Tok)) (k : ℕ) (w rest : List Tok) → DoesNotEnd x → Enough least most k
+        → at_cap most k ≡ false → w ≡ []
+        → DoesNotEnd (and_then f x) × EndsOrRefused (stay_or c x (unless_few (nat_lt k least) (w ++ rest))) rest
     by_end c (At r) k w rest d n a e = absurd d
     by_end true Nowhere k w rest d n a e = (tt, inl (few_not k w rest n a e))
     by_end false Nowhere k w rest d n a e = (tt, inl (few_not k w rest n a e))
@@ -252,7 +322,9 @@ module _ {Tok : Type 0} (f separator : Ender Tok) where
     by_end false Refused k w rest d n a e = (tt, inl (few_not k w rest n a e))
 
     -- where one is there, and stays
-    by_stay : (k : ℕ) (x y : Ending (List Tok)) (rest : List Tok) → EndsOrRefused x rest → DoesNotEnd (f rest) → Enough least most k → at_cap most k ≡ false → DoesNotEnd (and_then f x) × EndsOrRefused (stay_or (nat_le least k) x y) rest
+    by_stay : (k : ℕ) (x y : Ending (List Tok)) (rest : List Tok) → EndsOrRefused x rest → DoesNotEnd (f rest)
+        → Enough least most k → at_cap most k ≡ false
+        → DoesNotEnd (and_then f x) × EndsOrRefused (stay_or (nat_le least k) x y) rest
     by_stay k x y rest (inl d) g n c = let b : nat_le least k ≡ true = enough-le least most k n c in rw (d, b) (g, inl refl)
     by_stay k x y rest (inr d) g n c = let b : nat_le least k ≡ true = enough-le least most k n c in rw (d, b) (tt, inr refl)
 
@@ -274,11 +346,14 @@ module _ {Tok : Type 0} (f separator : Ender Tok) where
     none_each true true (suc k) w rest n (inr s) c y = by_stay (suc k) (separator (w ++ rest)) (unless_few (nat_lt (suc k) least) (w ++ rest)) rest (hs.each w rest s y.1) y.3 n c
     none_each false true (suc k) w rest n (inr s) c y = by_stay (suc k) (separator (w ++ rest)) (unless_few (nat_lt (suc k) least) (w ++ rest)) rest (hs.each w rest s y.1) y.3 n c
 
-    last_each : (b : Bool) (d x y : Ending (List Tok)) (rest : List Tok) → (b ≡ true → EndsOrRefused d rest) → (b ≡ false → DoesNotEnd x × EndsOrRefused y rest) → EndsOrRefused (cond b (overs d) (one_or x y)) (Over rest)
+    last_each : (b : Bool) (d x y : Ending (List Tok)) (rest : List Tok) → (b ≡ true → EndsOrRefused d rest)
+        → (b ≡ false → DoesNotEnd x × EndsOrRefused y rest)
+        → EndsOrRefused (cond b (overs d) (one_or x y)) (Over rest)
     last_each true d x y rest g i = overs_each d rest (g refl)
     last_each false d x y rest g i = let e = i refl in over_each x y rest e.0 e.1
 
-    pub separated-ends : (k : ℕ) (w rest : List Tok) → SeparatedEnd S leading trailing least most k w → Follow rest → EndsOrRefused (separated_next f separator leading trailing least most k (w ++ rest)) (Over rest)
+    pub separated-ends : (k : ℕ) (w rest : List Tok) → SeparatedEnd S leading trailing least most k w → Follow rest
+        → EndsOrRefused (separated_next f separator leading trailing least most k (w ++ rest)) (Over rest)
     separated-ends k w rest i y =
         last_each (at_cap most k) (full_at separator trailing k (w ++ rest)) (and_then f (lead_at separator leading k (w ++ rest))) (none_at separator leading trailing least k (w ++ rest)) rest
         (λ c. full_each leading trailing k w rest i.1 c y) (λ c. none_each leading trailing k w rest i.0 i.1 c y)

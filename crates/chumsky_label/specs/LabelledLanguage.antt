@@ -29,7 +29,9 @@ module _ {Tok Cx St Er V : Type 0} (merged : Er → Er → Er) (maps : Er → Er
 
   -- a part that a label names
   pub labelled-moves : (part : Meaning Tok Cx St Er V) → Moves part → Moves (MeansLabelled merged maps free part)
-  labelled-moves part h b o m y = shielded-moves part (λ c v p q. LabelledAs merged maps free (Yes v) c p q) (λ c p q. LabelledAs merged maps free No c p q) h labelled_yes-moves labelled_no-no b o m.run y
+  labelled-moves part h b o m y =
+      shielded-moves part (λ c v p q. LabelledAs merged maps free (Yes v) c p q)
+      (λ c p q. LabelledAs merged maps free No c p q) h labelled_yes-moves labelled_no-no b o m.run y
 
   pub labelled-spares : free → (part : Meaning Tok Cx St Er V) → NeverOutOfMemory part → NeverOutOfMemory (MeansLabelled merged maps free part)
   labelled-spares x part h b o m =

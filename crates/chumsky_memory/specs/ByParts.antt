@@ -47,4 +47,7 @@ module _ {I Tok Sp Er St Mk Cx : Type 0} (errors : error_trait.Ghosts Er I Tok S
 
   -- no call that shows a run of the parser is refused for memory
   abbrev pub NoRunOut : {V : Type 0} → Does I Tok Sp Er St Mk Cx V → Type 0
-  NoRunOut {V} does = (wanted : Bool) (old new : Held Tok Cx states.Seen errors.Seen) (result : Result (Option V) Fault) → Ran errors.merged errors.takes_no_memory (does errors states) wanted old new result → AnswersWithoutMemory result
+  NoRunOut {V} does =
+      (wanted : Bool) (old new : Held Tok Cx states.Seen errors.Seen) (result : Result (Option V) Fault)
+      → Ran errors.merged errors.takes_no_memory (does errors states) wanted old new result
+      → AnswersWithoutMemory result

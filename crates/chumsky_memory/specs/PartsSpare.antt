@@ -32,7 +32,8 @@ module _ {Tok Cx St Er V : Type 0} where
     each-spares (x ∷ xs) h = (h 0 x (omega arith), each-spares xs (λ k y l. h (suc k) y (omega (arith, l))))
 
 module _ {Tok Cx St Mk Er V : Type 0} (back : St → Mk → St) (safe : Type 0) (still : safe) (mark : Mk) where
-  stands-spares : (k : ℕ) (first : Meaning Tok Cx St Er V) (others : List (Meaning Tok Cx St Er V)) → NeverOutOfMemory first → NoneOutOfMemory others → NeverOutOfMemory (Stands back safe mark k first others)
+  stands-spares : (k : ℕ) (first : Meaning Tok Cx St Er V) (others : List (Meaning Tok Cx St Er V))
+      → NeverOutOfMemory first → NoneOutOfMemory others → NeverOutOfMemory (Stands back safe mark k first others)
   stands-spares zero first others h hs b o m = h b o m.0
   stands-spares (suc k) first [] h hs b o m = absurd m
   stands-spares (suc k) first (next ∷ others) h hs b o m =
@@ -43,12 +44,15 @@ module _ {Tok Cx St Mk Er V : Type 0} (back : St → Mk → St) (safe : Type 0) 
 
 module _ {Tok Cx St Mk Er V : Type 0} (mark : St → Mk) (back : St → Mk → St) (safe : Type 0) (still : safe) where
   -- the first alternative that does not say no, where a mark and going back take no memory
-  pub first_of-spares : (first : Meaning Tok Cx St Er V) (others : List (Meaning Tok Cx St Er V)) → NeverOutOfMemory first → NoneOutOfMemory others → NeverOutOfMemory (FirstOf mark back safe first others)
+  pub first_of-spares : (first : Meaning Tok Cx St Er V) (others : List (Meaning Tok Cx St Er V))
+      → NeverOutOfMemory first → NoneOutOfMemory others → NeverOutOfMemory (FirstOf mark back safe first others)
   first_of-spares first [] h hs b o m = h b o m.cases
   first_of-spares first (next ∷ others) h hs b o m =
       elim m.cases [ inl r ↦ absurd (r.0 still) | inr t ↦ stands-spares back safe still (mark b.state) t.k first (next ∷ others) h hs b o t.stands ]
 
-module _ {I Tok Sp Cu Er St Mk Cx V : Type 0} (source : input_trait.Ghosts I Cu Tok Sp) (errors : error_trait.Ghosts Er I Tok Sp) (states : inspector_trait.Ghosts St I Mk Tok Sp) (quiet : errors.takes_no_memory) (still : states.takes_no_memory) where
+module _ {I Tok Sp Cu Er St Mk Cx V : Type 0} (source : input_trait.Ghosts I Cu Tok Sp)
+    (errors : error_trait.Ghosts Er I Tok Sp) (states : inspector_trait.Ghosts St I Mk Tok Sp)
+    (quiet : errors.takes_no_memory) (still : states.takes_no_memory) where
   -- the same of a list, where the error of an empty one takes none either
   pub first_among-spares : (ms : List (Meaning Tok Cx states.Seen errors.Seen V)) → NoneOutOfMemory ms → NeverOutOfMemory (FirstAmong source errors states ms)
   first_among-spares [] h b o m = misses-spares quiet m.cases
@@ -79,9 +83,13 @@ module _ {I Tok Sp Er St Mk Cx V : Type 0} (errors : error_trait.Ghosts Er I Tok
   none-meant (d ∷ ds) h = (h.0, none-meant ds h.1)
 
   -- alternatives that are tried in order, where a mark and going back take no memory
-  pub in_order-spares : states.takes_no_memory → (whole : Does I Tok Sp Er St Mk Cx V) (alternatives : List (Does I Tok Sp Er St Mk Cx V)) → TriesInOrder errors states whole alternatives → OutOnlyBy errors states (map part alternatives) whole
+  pub in_order-spares : states.takes_no_memory
+      → (whole : Does I Tok Sp Er St Mk Cx V) (alternatives : List (Does I Tok Sp Er St Mk Cx V))
+      → TriesInOrder errors states whole alternatives → OutOnlyBy errors states (map part alternatives) whole
   in_order-spares still whole [] m h = absurd m
-  in_order-spares still whole (first ∷ others) m h = λ b o x. first_of-spares states.mark states.back states.takes_no_memory still (first errors states) (each_meant errors states others) h.0 (none-meant others h.1) b o (m b o x)
+  in_order-spares still whole (first ∷ others) m h =
+      λ b o x. first_of-spares states.mark states.back states.takes_no_memory still (first errors states)
+      (each_meant errors states others) h.0 (none-meant others h.1) b o (m b o x)
 
   -- what stops only where one of its parts does
   pub stops_only-spares : (whole : Does I Tok Sp Er St Mk Cx V) (parts : List (Part I Tok Sp Er St Mk Cx)) → StopsOnlyByAny errors states whole parts → OutOnlyBy errors states parts whole

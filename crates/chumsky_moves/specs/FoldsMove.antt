@@ -28,14 +28,24 @@ use Rattle.chumsky_items.specs.ItemsMove.{made-move, collects-move}
 use Rattle.chumsky_parser.specs.Progress.{Moves, ItemsMove}
 use Rattle.chumsky_parser.specs.ProgressLaws.{either-true, asked-moves, chained-first, chained-second, remade-items, held-items}
 
-module _ {Tok Cx St Er S T V : Type 0} (before : Meaning Tok Cx St Er S) (firsts : S → Meaning Tok Cx St Er (Next S V)) (begins : Meaning Tok Cx St Er T) (seconds : T → Meaning Tok Cx St Er (Next T V)) (ends : ItemsEnd begins seconds) where
+module _ {Tok Cx St Er S T V : Type 0} (before : Meaning Tok Cx St Er S)
+    (firsts : S → Meaning Tok Cx St Er (Next S V)) (begins : Meaning Tok Cx St Er T)
+    (seconds : T → Meaning Tok Cx St Er (Next T V)) (ends : ItemsEnd begins seconds) where
   second-ends : (t : Option T) → EndsAfterStart (FirstOfSecond firsts begins seconds t)
-  second-ends (Some t) = chained-ends (seconds t) _ (ends.step t) (after_step-ends (λ v u. Given (Some (More v (Second u)))) (Given (Some End)) (λ v u. given-ends (Some (More v (Second u)))) (given-ends (Some End)))
+  second-ends (Some t) =
+      chained-ends (seconds t) _ (ends.step t)
+      (after_step-ends (λ v u. Given (Some (More v (Second u)))) (Given (Some End))
+      (λ v u. given-ends (Some (More v (Second u)))) (given-ends (Some End)))
   second-ends None = λ b o m a. absurd m
 
   first-moves : (s : S) → Moves (firsts s) → Moves (GivesInTurn firsts begins seconds (First s))
   first-moves s h b o m y =
-      chained-first (firsts s) _ h (after_step-ends (λ v t. Given (Some (More v (First t)))) (Chained (Asked true begins) (FirstOfSecond firsts begins seconds)) (λ v t. given-ends (Some (More v (First t)))) (chained-ends (Asked true begins) _ (asked-ends true begins ends.begin) second-ends)) b o m.step y
+      chained-first (firsts s) _ h
+      (after_step-ends (λ v t. Given (Some (More v (First t))))
+      (Chained (Asked true begins) (FirstOfSecond firsts begins seconds))
+      (λ v t. given-ends (Some (More v (First t))))
+      (chained-ends (Asked true begins) _ (asked-ends true begins ends.begin) second-ends))
+      b o m.step y
 
   -- the items of one parser, whose first step moves, and then those of another
   pub in_turn-move : ItemsMove before firsts → ItemsMove (BeginsFirst before) (GivesInTurn firsts begins seconds)
@@ -44,7 +54,12 @@ module _ {Tok Cx St Er S T V : Type 0} (before : Meaning Tok Cx St Er S) (firsts
 module _ {Tok Cx St Er S V : Type 0} (begins : Meaning Tok Cx St Er S) (gives : S → Meaning Tok Cx St Er (Next S V)) where
   placed-move : ItemsMove begins gives → ItemsMove begins (λ s. Placed (gives s))
   placed-move h =
-      remade-items (λ s k b o m y. chained-first (gives s) _ k (after_step-ends (PairedWith b.start) (Given (Some End)) (λ v t. given-ends (Some (More (option_map (λ x. (x, b.start)) v) t))) (given-ends (Some End))) b o m.run y) h
+      remade-items
+      (λ s k b o m y. chained-first (gives s) _ k
+      (after_step-ends (PairedWith b.start) (Given (Some End))
+      (λ v t. given-ends (Some (More (option_map (λ x. (x, b.start)) v) t))) (given-ends (Some End)))
+      b o m.run y)
+      h
 
 module _ {Tok Cx St Er O J : Type 0} (makes : O → J → Type 0) (part : Meaning Tok Cx St Er O) where
   iterator-ends : (o : Option O) → EndsAfterStart (IteratorOf {Tok = Tok} {Cx = Cx} {St = St} {Er = Er} makes o)
@@ -60,14 +75,17 @@ module _ {Tok Cx St Er S V : Type 0} (gives : S → Meaning Tok Cx St Er (Next S
     pub fold-moves : (copies : A → Type 0) (safe : Type 0) → ItemsMove begins gives → Moves (FoldsFromCopy gives begins steps copies safe)
     fold-moves copies safe h = chained-second _ _ (copy-ends copies safe) (λ a. collects-move gives begins ends h (FoldsFrom steps a) ⊤)
 
-    pub foldl-moves : (part : Meaning Tok Cx St Er A) (a c : Bool) → EndsAfterStart part → (a ≡ true → Moves part) → (c ≡ true → ItemsMove begins gives) → (a || c) ≡ true → Moves (FoldsFromPart gives begins steps part)
+    pub foldl-moves : (part : Meaning Tok Cx St Er A) (a c : Bool) → EndsAfterStart part → (a ≡ true → Moves part)
+        → (c ≡ true → ItemsMove begins gives) → (a || c) ≡ true → Moves (FoldsFromPart gives begins steps part)
     foldl-moves part a c ep hp hi e =
         elim (either-true a c e) [
           | inl x ↦ chained-first part _ (hp x) (folds-ends gives begins steps ends)
           | inr x ↦ chained-second part _ ep (λ z. collects-move gives begins ends (hi x) (FoldsFrom steps z) ⊤)
         ]
 
-  pub foldr-moves : {A C : Type 0} (holds : List V → C → Type 0) (quiet : Type 0) (part : Meaning Tok Cx St Er A) (steps : V → A → A → Type 0) (c a : Bool) → EndsAfterStart part → (c ≡ true → ItemsMove begins gives) → (a ≡ true → Moves part) → (c || a) ≡ true
+  pub foldr-moves : {A C : Type 0} (holds : List V → C → Type 0) (quiet : Type 0) (part : Meaning Tok Cx St Er A)
+      (steps : V → A → A → Type 0) (c a : Bool)
+      → EndsAfterStart part → (c ≡ true → ItemsMove begins gives) → (a ≡ true → Moves part) → (c || a) ≡ true
       → Moves (FoldsBack gives begins holds quiet part steps)
   foldr-moves holds quiet part steps c a ep hi hp e =
       let folded : (x : _) (z : _) → EndsAfterStart (FoldedBack holds steps x z) = λ x z b o m k. given-ends m.value b o m.given k in
@@ -76,10 +94,14 @@ module _ {Tok Cx St Er S V : Type 0} (gives : S → Meaning Tok Cx St Er (Next S
         | inr x ↦ chained-second _ _ (collects-ends gives begins holds quiet ends) (λ z. chained-first part _ (hp x) (folded z))
       ]
 
-  takes_all-moves : {A : Type 0} (more : Option A → Option V → Meaning Tok Cx St Er A) → ((a : Option A) (v : Option V) → EndsAfterStart (more a v)) → ItemsMove begins gives → (a : Option A) → Moves (TakesAll gives begins more a)
+  takes_all-moves : {A : Type 0} (more : Option A → Option V → Meaning Tok Cx St Er A)
+      → ((a : Option A) (v : Option V) → EndsAfterStart (more a v)) → ItemsMove begins gives → (a : Option A)
+      → Moves (TakesAll gives begins more a)
   takes_all-moves more hm h a b o m y = made-move gives more Given ends.step hm given-ends begins m.room a ends.begin h b o m.run y
 
-  pub foldl_with-moves : {A : Type 0} (folds : GivesShown Tok Cx St (A × V) A) (part : Meaning Tok Cx St Er A) (a c : Bool) → EndsAfterStart part → (a ≡ true → Moves part) → (c ≡ true → ItemsMove begins gives) → (a || c) ≡ true → Moves (FoldsShown gives begins folds part)
+  pub foldl_with-moves : {A : Type 0} (folds : GivesShown Tok Cx St (A × V) A) (part : Meaning Tok Cx St Er A) (a c : Bool)
+      → EndsAfterStart part → (a ≡ true → Moves part) → (c ≡ true → ItemsMove begins gives) → (a || c) ≡ true
+      → Moves (FoldsShown gives begins folds part)
   foldl_with-moves {A} folds part a c ep hp hi e b o m y =
       let taken : (z : Option A) (v : Option V) → EndsAfterStart (TakesShown folds b.start z v) = λ z v. shown-ends folds b.start (both z v) in
       elim (either-true a c e) as (λ _. b.start < o.end) [
@@ -93,8 +115,12 @@ module _ {Tok Cx St Er V C A : Type 0} (holds : List (V × ℕ) → C → Type 0
   back-ends (Some c) None b o m z = given-ends None b o m z
   back-ends None a b o m z = given-ends None b o m z
 
-module _ {Tok Cx St Er S V C A : Type 0} (gives : S → Meaning Tok Cx St Er (Next S V)) (begins : Meaning Tok Cx St Er S) (ends : ItemsEnd begins gives) (holds : List (V × ℕ) → C → Type 0) (folds : GivesShown Tok Cx St (V × A) A) where
-  pub foldr_with-moves : (part : Meaning Tok Cx St Er A) (c a : Bool) → EndsAfterStart part → (c ≡ true → ItemsMove begins gives) → (a ≡ true → Moves part) → (c || a) ≡ true → Moves (FoldsBackShown gives begins holds folds part)
+module _ {Tok Cx St Er S V C A : Type 0} (gives : S → Meaning Tok Cx St Er (Next S V))
+    (begins : Meaning Tok Cx St Er S) (ends : ItemsEnd begins gives) (holds : List (V × ℕ) → C → Type 0)
+    (folds : GivesShown Tok Cx St (V × A) A) where
+  pub foldr_with-moves : (part : Meaning Tok Cx St Er A) (c a : Bool) → EndsAfterStart part
+      → (c ≡ true → ItemsMove begins gives) → (a ≡ true → Moves part) → (c || a) ≡ true
+      → Moves (FoldsBackShown gives begins holds folds part)
   foldr_with-moves part c a ep hi hp e =
       let placed = placed-end gives begins ends in
       let folded : (x : _) (z : _) → EndsAfterStart (FoldedBackShown holds folds x z) = λ x z b o m k. back-ends holds folds x z b o m.by_value k in
@@ -115,14 +141,21 @@ module _ {Tok Cx St E Er V A : Type 0} (seen : E → Er) (tries : GivesShown Tok
   taken-ends : (since : ℕ) (a : Option A) (x : Option (V × ℕ)) → EndsAfterStart (TakesTried {Tok = Tok} {Cx = Cx} {St = St} seen tries since a x)
   taken-ends since a x b o m z = tries-ends since (both a x) b o m.by_value z
 
-module _ {Tok Cx St E Er S V A : Type 0} (gives : S → Meaning Tok Cx St Er (Next S V)) (begins : Meaning Tok Cx St Er S) (ends : ItemsEnd begins gives) (seen : E → Er) (tries : GivesShown Tok Cx St (A × V) (Result A E)) (part : Meaning Tok Cx St Er A) where
+module _ {Tok Cx St E Er S V A : Type 0} (gives : S → Meaning Tok Cx St Er (Next S V))
+    (begins : Meaning Tok Cx St Er S) (ends : ItemsEnd begins gives) (seen : E → Er)
+    (tries : GivesShown Tok Cx St (A × V) (Result A E)) (part : Meaning Tok Cx St Er A) where
   trying-moves : (a c : Bool) → EndsAfterStart part → (a ≡ true → Moves part) → (c ≡ true → ItemsMove begins gives) → (a || c) ≡ true → Moves (FoldsTrying gives begins seen tries part)
   trying-moves a c ep hp hi e b o m y =
       let placed = placed-end gives begins ends in
       elim (either-true a c e) as (λ _. b.start < o.end) [
         | inl x ↦ chained-first part _ (hp x) (takes_all-ends (λ s. Placed (gives s)) begins (TakesTried seen tries b.start) placed (taken-ends seen tries b.start)) b o m.run y
-        | inr x ↦ chained-second part _ ep (takes_all-moves (λ s. Placed (gives s)) begins placed (TakesTried seen tries b.start) (taken-ends seen tries b.start) (placed-move begins gives (hi x))) b o m.run y
+        | inr x ↦ chained-second part _ ep
+            (takes_all-moves (λ s. Placed (gives s)) begins placed (TakesTried seen tries b.start)
+            (taken-ends seen tries b.start) (placed-move begins gives (hi x)))
+            b o m.run y
       ]
 
   pub try_foldl-moves : (a c : Bool) → EndsAfterStart part → (a ≡ true → Moves part) → (c ≡ true → ItemsMove begins gives) → (a || c) ≡ true → Moves (FoldsTried gives begins seen tries part)
-  try_foldl-moves a c ep hp hi e b o m y = chained-first (Asked true (FoldsTrying gives begins seen tries part)) _ (asked-moves true _ (trying-moves a c ep hp hi e)) (λ z. given-ends (where_wanted b.wanted z)) b o m.run y
+  try_foldl-moves a c ep hp hi e b o m y =
+      chained-first (Asked true (FoldsTrying gives begins seen tries part)) _
+      (asked-moves true _ (trying-moves a c ep hp hi e)) (λ z. given-ends (where_wanted b.wanted z)) b o m.run y

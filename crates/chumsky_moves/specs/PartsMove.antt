@@ -18,7 +18,9 @@ use Rattle.chumsky_parser.specs.Progress.{Moves}
 use Rattle.chumsky_parser.specs.ProgressLaws.{either-true, chained-first, chained-second, sequence-moves}
 
 module _ {Tok Cx St Er : Type 0} where
-  pub either-moves : {A B V : Type 0} (left : A → Meaning Tok Cx St Er V) (right : B → Meaning Tok Cx St Er V) (f : A → Bool) (g : B → Bool) → ((x : A) → f x ≡ true → Moves (left x)) → ((y : B) → g y ≡ true → Moves (right y)) → (p : Either A B) → of_either f g p ≡ true
+  pub either-moves : {A B V : Type 0} (left : A → Meaning Tok Cx St Er V) (right : B → Meaning Tok Cx St Er V) (f : A → Bool) (g : B → Bool)
+      → ((x : A) → f x ≡ true → Moves (left x)) → ((y : B) → g y ≡ true → Moves (right y)) → (p : Either A B)
+      → of_either f g p ≡ true
       → Moves (λ b o. MatchEither p (λ x. left x b o) (λ y. right y b o))
   either-moves left right f g hf hg (Left x) = hf x
   either-moves left right f g hf hg (Right y) = hg y
@@ -47,7 +49,9 @@ module _ {X Tok Cx St Er V : Type 0} (meaning : X → Meaning Tok Cx St Er V) (t
   pub in_turn-moves : (xs : List X) → list_any test xs ≡ true → Moves (InTurn (map meaning xs))
   in_turn-moves [] e = absurd (cc)
   in_turn-moves (x ∷ xs) e =
-      let rest : (v : Option V) → EndsAfterStart (Chained (InTurn (map meaning xs)) (λ vs. Given (item_before v vs))) = λ v. chained-ends (InTurn (map meaning xs)) _ (in_turn-ends (map meaning xs) (each-ends meaning ends xs)) (λ vs. given-ends (item_before v vs)) in
+      let rest : (v : Option V) → EndsAfterStart (Chained (InTurn (map meaning xs)) (λ vs. Given (item_before v vs))) =
+      λ v. chained-ends (InTurn (map meaning xs)) _ (in_turn-ends (map meaning xs) (each-ends meaning ends xs))
+      (λ vs. given-ends (item_before v vs)) in
       elim (either-true (test x) (list_any test xs) e) [
         | inl t ↦ chained-first (meaning x) _ (h x t) rest
         | inr t ↦ chained-second (meaning x) _ (ends x) (λ v. chained-first (InTurn (map meaning xs)) _ (in_turn-moves xs t) (λ vs. given-ends (item_before v vs)))

@@ -21,7 +21,9 @@ IsOver Ended = ⊤
 IsOver (Refused f) = ⊤
 
 module _ {Tok Cx St Er S V : Type 0} (merged : Er → Er → Er) (safe : Type 0) (begins : Meaning Tok Cx St Er S) (gives : S → Meaning Tok Cx St Er (Next S V)) where
-  fits_over : (fit : Bool) (y : V × S) (r : Option V) → r ≡ None → (p : Phase S) (n m : ℕ) → MatchBool fit ((r ≡ Some y.0) × (p ≡ Running y.1) × (m ≡ n + 1)) ((r ≡ None) × (p ≡ Refused (fault.Stop CountTooLarge)) × (m ≡ n)) → IsOver p
+  fits_over : (fit : Bool) (y : V × S) (r : Option V) → r ≡ None → (p : Phase S) (n m : ℕ)
+      → MatchBool fit ((r ≡ Some y.0) × (p ≡ Running y.1) × (m ≡ n + 1)) ((r ≡ None) × (p ≡ Refused (fault.Stop CountTooLarge)) × (m ≡ n))
+      → IsOver p
   fits_over true y r i p n m h = let e = h.0 in let no : ⊥ = cc in absurd no
   fits_over false y r i p n m h = subst IsOver (sym h.1) tt
 
@@ -44,7 +46,9 @@ module _ {Tok Cx St Er S V : Type 0} (merged : Er → Er → Er) (safe : Type 0)
   over_on Ended q old new n m r i w = (w.0, subst IsOver (sym w.1) tt)
   over_on (Refused f) q old new n m r i w = (w.0, subst IsOver (sym w.1) tt)
 
-module _ {Tok Cx St Er S V T K : Type 0} (merged : Er → Er → Er) (safe : Type 0) (begins : K → Meaning Tok Cx St Er S) (gives : K → S → Meaning Tok Cx St Er (Next S V)) (nexts : T → Option V → T → Type 0) (key : T → K) (phase : T → Phase S) (holds : T → Held Tok Cx St Er) (given : T → ℕ)
+module _ {Tok Cx St Er S V T K : Type 0} (merged : Er → Er → Er) (safe : Type 0) (begins : K → Meaning Tok Cx St Er S)
+    (gives : K → S → Meaning Tok Cx St Er (Next S V)) (nexts : T → Option V → T → Type 0) (key : T → K)
+    (phase : T → Phase S) (holds : T → Held Tok Cx St Er) (given : T → ℕ)
     (walks : (w : T) (r : Option V) (v : T) → nexts w r v → WalksOn merged safe (begins (key w)) (gives (key w)) (phase w) (holds w) (given w) r (phase v) (holds v) (given v)) where
   all-none : (rs : List (Option V)) (w v : T) → IsOver (phase w) → Called nexts w rs v → AllNone rs
   all-none [] w v i c = tt

@@ -8,7 +8,9 @@ use Rattle.chumsky_input.specs.Run.{Ran, LeavesBy}
 use Rattle.chumsky_parse_iter.specs.Walk.{with_next}
 
 module _ {Tok Cx St Er V : Type 0} (merged : Er → Er → Er) (safe : Type 0) where
-  left_kept_context : (v : Verdict V Er) (o : Outcome V Er St) (old new : Held Tok Cx St Er) (state : St) → LeavesBy merged safe v o old new → LeavesBy merged safe v o old (record new { context = old.context; state = state; stopped = old.stopped })
+  left_kept_context : (v : Verdict V Er) (o : Outcome V Er St) (old new : Held Tok Cx St Er) (state : St)
+      → LeavesBy merged safe v o old new
+      → LeavesBy merged safe v o old (record new { context = old.context; state = state; stopped = old.stopped })
   left_kept_context (Yes _) o old new state l = record { end = l.end; kept = l.kept; emitted = l.emitted; stopped = refl }
   left_kept_context No o old new state l = record { end = l.end; kept = l.kept; emitted = l.emitted; stopped = refl }
   left_kept_context (Halt _) o old new state l = refl
@@ -29,14 +31,18 @@ module _ {Tok Cx St Er V : Type 0} {merged : Er → Er → Er} {safe : Type 0} {
       }
 
   -- a run that was made of parts
-  pub ran-begun : {old begun new : Held Tok Cx St Er} {kept : Option (Event Er)} {emitted : List Er} {r : Result (Option V) Fault} → begun ≡ record old { kept = None; emitted = [] } → kept ≡ old.kept → emitted ≡ old.emitted → Ran merged safe meaning wanted (record begun { kept = kept; emitted = emitted }) new r
+  pub ran-begun : {old begun new : Held Tok Cx St Er} {kept : Option (Event Er)} {emitted : List Er} {r : Result (Option V) Fault}
+      → begun ≡ record old { kept = None; emitted = [] } → kept ≡ old.kept → emitted ≡ old.emitted
+      → Ran merged safe meaning wanted (record begun { kept = kept; emitted = emitted }) new r
       → Ran merged safe meaning wanted old new r
   ran-begun {old} {begun} {new} {kept} {emitted} {r} b k e h =
       let whole : record begun { kept = kept; emitted = emitted } ≡ old = ap (λ (x : Held Tok Cx St Er). record x { kept = kept; emitted = emitted }) b ∙ rw (k, e) refl in
       subst (λ x. Ran merged safe meaning wanted x new r) whole h
 
   -- and what it left taken apart
-  pub ran-parts : {old begun mid new : Held Tok Cx St Er} {kept : Option (Event Er)} {emitted : List Er} {r : Result (Option V) Fault} → begun ≡ record old { kept = None; emitted = [] } → kept ≡ old.kept → emitted ≡ old.emitted → Ran merged safe meaning wanted (record begun { kept = kept; emitted = emitted }) mid r → new.state ≡ mid.state
+  pub ran-parts : {old begun mid new : Held Tok Cx St Er} {kept : Option (Event Er)} {emitted : List Er} {r : Result (Option V) Fault}
+      → begun ≡ record old { kept = None; emitted = [] } → kept ≡ old.kept → emitted ≡ old.emitted
+      → Ran merged safe meaning wanted (record begun { kept = kept; emitted = emitted }) mid r → new.state ≡ mid.state
       → new ≡ record mid { context = old.context; state = new.state; stopped = old.stopped } → Ran merged safe meaning wanted old new r
   ran-parts {old} {begun} {mid} {new} {kept} {emitted} {r} b k e h s n = subst (λ x. Ran merged safe meaning wanted old x r) (sym n) (ran-kept_context (ran-begun b k e h) s)
 

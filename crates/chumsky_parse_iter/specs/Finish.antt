@@ -39,7 +39,9 @@ module _ {I Tok Sp Cu Er St Mk Cx : Type 0} (source : input_trait.Ghosts I Cu To
   Closing (Refused (fault.Stop s)) = Stops s
 
   -- the run closes, and a failure adds its last error to those that were emitted: the state and the errors that it leaves
-  pub record ClosesWith (closing : Meaning Tok Cx states.Seen errors.Seen (Unit {0})) (old : Held Tok Cx states.Seen errors.Seen) (state : states.Seen) (found : List errors.Seen) (result : Result (Option (Unit {0})) Stop) : Type 0 where
+  pub record ClosesWith (closing : Meaning Tok Cx states.Seen errors.Seen (Unit {0}))
+      (old : Held Tok Cx states.Seen errors.Seen) (state : states.Seen) (found : List errors.Seen)
+      (result : Result (Option (Unit {0})) Stop) : Type 0 where
     pub answer : Result (Unit {0}) Fault
     pub mid : Held Tok Cx states.Seen errors.Seen
     pub left : Held Tok Cx states.Seen errors.Seen
@@ -140,13 +142,17 @@ module _ {I Tok Sp Cu Er V R : Type 0} (source : input_trait.Ghosts I Cu Tok Sp)
   AnswersBeside out ts o (Err s) = RefusesBy errors.takes_no_memory o.verdict o s
 
   -- an outcome from where a run begins, the state that it leaves, and the answer
-  pub record AnswersWhole {Cx St : Type 0} (meaning : Meaning Tok Cx St errors.Seen V) (start : Held Tok Cx St errors.Seen) (out : R) (state : St) (result : Result (ParseResult R Er) Stop) : Type 0 where
-    pub outcome : Outcome V errors.Seen St
-    pub meant : meaning (begin false start) outcome
-    pub state_is : state ≡ outcome.state
-    pub answered : AnswersBeside out start.tokens outcome result
+  pub record AnswersWhole {Cx St : Type 0} (meaning : Meaning Tok Cx St errors.Seen V)
+      (start : Held Tok Cx St errors.Seen) (out : R) (state : St) (result : Result (ParseResult R Er) Stop) : Type 0
+    where
+      pub outcome : Outcome V errors.Seen St
+      pub meant : meaning (begin false start) outcome
+      pub state_is : state ≡ outcome.state
+      pub answered : AnswersBeside out start.tokens outcome result
 
-module _ {I Tok Sp Cu Er St Mk Cx S V : Type 0} (source : input_trait.Ghosts I Cu Tok Sp) (errors : error_trait.Ghosts Er I Tok Sp) (states : inspector_trait.Ghosts St I Mk Tok Sp) (begins : Meaning Tok Cx states.Seen errors.Seen S)
+module _ {I Tok Sp Cu Er St Mk Cx S V : Type 0} (source : input_trait.Ghosts I Cu Tok Sp)
+    (errors : error_trait.Ghosts Er I Tok Sp) (states : inspector_trait.Ghosts St I Mk Tok Sp)
+    (begins : Meaning Tok Cx states.Seen errors.Seen S)
     (gives : S → Meaning Tok Cx states.Seen errors.Seen (Next S V)) where
   -- however the last step was left, what is answered then is answered of the whole run, of calls that gave this
   abbrev pub AnswersTheWhole : (R : Type 0) → Held Tok Cx states.Seen errors.Seen → List (Option V) → Phase S → Held Tok Cx states.Seen errors.Seen → Type 0
@@ -157,12 +163,22 @@ module _ {I Tok Sp Cu Er St Mk Cx S V : Type 0} (source : input_trait.Ghosts I C
 module _ {P I V X Cu S Tok Sp Er St Cx Mk : Type 0} (source : input_trait.Ghosts I Cu Tok Sp) (errors : error_trait.Ghosts Er I Tok Sp) (states : inspector_trait.Ghosts St I Mk Tok Sp) where
   -- let a run be as `parse_iter` makes it: whatever number of items it was asked for, what `finish` answers then is answered of
   -- the whole run
-  abbrev pub FinishAnswers : (P → Does I Tok Sp Er St Mk Cx S) → (P → IterParserDebug → S → Does I Tok Sp Er St Mk Cx (Next S V)) → (ParseIter P I V X Cu S Tok Sp Er St Cx Mk → Option V → ParseIter P I V X Cu S Tok Sp Er St Cx Mk → Type 0) → (R : Type 0) → ParseIter P I V X Cu S Tok Sp Er St Cx Mk → ParseIter P I V X Cu S Tok Sp Er St Cx Mk → Type 0
+  abbrev pub FinishAnswers : (P → Does I Tok Sp Er St Mk Cx S)
+      → (P → IterParserDebug → S → Does I Tok Sp Er St Mk Cx (Next S V))
+      → (ParseIter P I V X Cu S Tok Sp Er St Cx Mk → Option V → ParseIter P I V X Cu S Tok Sp Er St Cx Mk → Type 0)
+      → (R : Type 0) → ParseIter P I V X Cu S Tok Sp Er St Cx Mk → ParseIter P I V X Cu S Tok Sp Er St Cx Mk → Type 0
   FinishAnswers begins gives nexts R run last =
-      (gave : List (Option V)) → run.phase ≡ Unbegun → run.given ≡ 0 → (held_in source errors states run.parts).kept ≡ None → (held_in source errors states run.parts).emitted ≡ [] → Called nexts run gave last
-      → AnswersTheWhole source errors states (begins run.parser.now errors states) (λ s. gives run.parser.now (record { nonconsumption_is_ok = false }) s errors states) R (held_in source errors states run.parts) gave last.phase (held_in source errors states last.parts)
+      (gave : List (Option V)) → run.phase ≡ Unbegun → run.given ≡ 0
+      → (held_in source errors states run.parts).kept ≡ None
+      → (held_in source errors states run.parts).emitted ≡ [] → Called nexts run gave last
+      → AnswersTheWhole source errors states (begins run.parser.now errors states)
+      (λ s. gives run.parser.now (record { nonconsumption_is_ok = false }) s errors states) R
+      (held_in source errors states run.parts) gave last.phase (held_in source errors states last.parts)
 
-  module _ (steady : P → Type 0) (nexts : ParseIter P I V X Cu S Tok Sp Er St Cx Mk → Option V → ParseIter P I V X Cu S Tok Sp Er St Cx Mk → Type 0) (collect : Collect P V (Vec V Global) → Does I Tok Sp Er St Mk Cx (Vec V Global)) (run last : ParseIter P I V X Cu S Tok Sp Er St Cx Mk) where
+  module _ (steady : P → Type 0)
+      (nexts : ParseIter P I V X Cu S Tok Sp Er St Cx Mk → Option V → ParseIter P I V X Cu S Tok Sp Er St Cx Mk → Type 0)
+      (collect : Collect P V (Vec V Global) → Does I Tok Sp Er St Mk Cx (Vec V Global))
+      (run last : ParseIter P I V X Cu S Tok Sp Er St Cx Mk) where
     -- what is so of whatever a run of a steady parser gave that had not begun, and of each list that `collect` may give from
     -- where it began
     abbrev pub WithCollected : (List (Option V) → List V → Type 0) → Type 0

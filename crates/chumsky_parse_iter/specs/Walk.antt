@@ -107,7 +107,9 @@ module _ {I Tok Sp Cu Er St Mk Cx : Type 0} (source : input_trait.Ghosts I Cu To
   -- a step run under a context, from a cursor, errors and a state to others
   abbrev pub RunsFrom : {S V : Type 0} → Does I Tok Sp Er St Mk Cx (Next S V) → Cx → Cu → Aside Er → St → Cu → Aside Er → St → Result (Option (V × S)) Fault → Type 0
   RunsFrom step context cursor found state cursor' found' state' answer =
-      Ran errors.merged errors.takes_no_memory (step errors states) true (held_of source errors states cursor found state context) (held_of source errors states cursor' found' state' context) (with_next answer)
+      Ran errors.merged errors.takes_no_memory (step errors states) true
+      (held_of source errors states cursor found state context)
+      (held_of source errors states cursor' found' state' context) (with_next answer)
 
   -- a step run from what a run holds between its steps to what it holds then
   abbrev pub RunsBetween : {S V : Type 0} → Does I Tok Sp Er St Mk Cx (Next S V) → Parts Cu Er St Cx → Parts Cu Er St Cx → Result (Option (V × S)) Fault → Type 0
@@ -116,4 +118,15 @@ module _ {I Tok Sp Cu Er St Mk Cx : Type 0} (source : input_trait.Ghosts I Cu To
   -- a run holds what it does at the start of this input: a default context, this state, and no error
   abbrev pub BeginsWhole : (Cx → Type 0) → I → St → Parts Cu Er St Cx → Type 0
   BeginsWhole is_default input state parts =
-      (context : Cx) × is_default context × (held_in source errors states parts ≡ record { tokens = source.tokens input; place = 0; context = context; state = states.seen state; kept = None; emitted = []; stopped = None })
+      (context : Cx) × is_default context
+      ×
+      (held_in source errors states parts ≡
+      record {
+        tokens = source.tokens input;
+        place = 0;
+        context = context;
+        state = states.seen state;
+        kept = None;
+        emitted = [];
+        stopped = None;
+      })

@@ -121,5 +121,8 @@ module _ {Tok Cx St Er V : Type 0} {merged : Er → Er → Er} {safe : Type 0}
       record {
         outcome = h.outcome;
         meant = h.meant;
-        hands = hands_stop merged safe final meaning w old mid h.outcome.verdict h.outcome s new h.answered (ap (λ (z : Held Tok Cx St Er). z.state) n ∙ h.state) (ap (λ (z : Held Tok Cx St Er). z.stopped) n) h.left;
+        hands =
+            hands_stop merged safe final meaning w old mid h.outcome.verdict h.outcome s new h.answered
+            (ap (λ (z : Held Tok Cx St Er). z.state) n ∙ h.state) (ap (λ (z : Held Tok Cx St Er). z.stopped) n)
+            h.left;
       }

@@ -121,7 +121,11 @@ module _ {Tok Cx St Mk Er V : Type 0} (mark : St → Mk) (back : St → Mk → S
       -- an alternative before others
       pub next-accepts : AcceptInOrder first (next ∷ others) (or_language F G)
       next-accepts = record {
-        later = fewer-accepts (FirstByAMark first (next ∷ others)) (ByAMark first (FirstByAMark next others)) (λ b o x. (x.0, attempted x.0 x.1.k b o x.1.stands)) (or_language F G) (by_a_mark-accepts first (FirstByAMark next others) h k.later);
+        later =
+            fewer-accepts (FirstByAMark first (next ∷ others)) (ByAMark first (FirstByAMark next others))
+            (λ b o x. (x.0, attempted x.0 x.1.k b o x.1.stands)) (or_language F G)
+            (by_a_mark-accepts first (FirstByAMark next others) h k.later);
         first_of = fewer-accepts (FirstOf mark back safe first (next ∷ others)) (OrElse mark back safe first (FirstByAMark next others))
-            (λ b o x. record { cases = elim x.cases [ inl r ↦ inl r | inr y ↦ inr (attempted (mark b.state) y.k b o y.stands) ] }) (or_language F G) (or-accepts first (FirstByAMark next others) h k.later);
+            (λ b o x. record { cases = elim x.cases [ inl r ↦ inl r | inr y ↦ inr (attempted (mark b.state) y.k b o y.stands) ] })
+            (or_language F G) (or-accepts first (FirstByAMark next others) h k.later);
       }

@@ -36,7 +36,8 @@ module _ {Tok Cx St Er S V X W : Type 0} (step : S → Meaning Tok Cx St Er (Nex
     → (c : Beginning Tok Cx St) → Within c → Here Q (ended x) (At (drop c.start c.tokens.list)) c)
   where
     -- a step, where it is known what follows an item
-    step_here : (k : ℕ) (s : S) → has_given s k → (x : Option X) (b : Beginning Tok Cx St) → Within b → IfValue (made k (drop b.start b.tokens.list)) x → k + length (drop b.start b.tokens.list) < 2 ^ 64
+    step_here : (k : ℕ) (s : S) → has_given s k → (x : Option X) (b : Beginning Tok Cx St) → Within b
+        → IfValue (made k (drop b.start b.tokens.list)) x → k + length (drop b.start b.tokens.list) < 2 ^ 64
         → (on : Option V → S → Meaning Tok Cx St Er W) (goes : List Tok → Ending (List Tok))
         →
         ((rest : List Tok) → next k (drop b.start b.tokens.list) ≡ At (One rest) → (v : Option V) (t : S)
@@ -92,7 +93,8 @@ module _ {Tok Cx St Er S V X W : Type 0} (step : S → Meaning Tok Cx St Er (Nex
         all_steps n room (suc k) t h a f z (subst (λ us. IfValue (made (suc k) us) a) same u) (omega (arith, l, p, len)) (omega (arith, m, p, len)) (omega (arith, r, p, len))))
 
     -- a run over items, from here
-    pub items-here : (begins : Meaning Tok Cx St Er S) → Reads begins (λ ts. At ts) (λ ts s. has_given s 0) → (first : X) (b : Beginning Tok Cx St) → Within b → made 0 (drop b.start b.tokens.list) first
+    pub items-here : (begins : Meaning Tok Cx St Er S) → Reads begins (λ ts. At ts) (λ ts s. has_given s 0)
+        → (first : X) (b : Beginning Tok Cx St) → Within b → made 0 (drop b.start b.tokens.list) first
         → Here Q (Items step more ended begins first) (list_ends next (drop b.start b.tokens.list)) b
     items-here begins h first b w i o m =
         chained-here (λ s. has_given s 0) Q (Asked true begins) (FromMade step more ended m.room (wanting b.wanted first)) (At (drop b.start b.tokens.list)) (list_ends next) b w

@@ -143,7 +143,21 @@ module _ {Tok Cx St Er S V : Type 0} (begins : Meaning Tok Cx St Er S) (gives : 
 
 -- nothing is said
 abbrev pub unsaid_items : {Tok S V : Type 0} → ItemsLanguage Tok S V
-unsaid_items = record { said = false; has_given = λ _ _. ⊤; next = λ _ _. Refused; value = λ _ _ _. ⊤; word = λ _ _. ⊤; stands_for = λ _ _ _. ⊤; last = λ _ _. ⊤; follow = λ _. ⊥; unambiguous = ⊥; refused_from = Some zero; moves = false; takes_no_memory = ⊥ }
+unsaid_items =
+    record {
+      said = false;
+      has_given = λ _ _. ⊤;
+      next = λ _ _. Refused;
+      value = λ _ _ _. ⊤;
+      word = λ _ _. ⊤;
+      stands_for = λ _ _ _. ⊤;
+      last = λ _ _. ⊤;
+      follow = λ _. ⊥;
+      unambiguous = ⊥;
+      refused_from = Some zero;
+      moves = false;
+      takes_no_memory = ⊥;
+    }
 
 pub of_unsaid_items : {Tok Cx St Er S V : Type 0} {begins : Meaning Tok Cx St Er S} {gives : S → Meaning Tok Cx St Er (Next S V)} {spare : Type 0} → AcceptsItems begins gives unsaid_items spare
 of_unsaid_items = record { described = λ s. absurd (cc s); moving = λ s. absurd (cc s); sparing = λ _ x. absurd x }

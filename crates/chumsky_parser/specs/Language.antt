@@ -93,7 +93,19 @@ module _ {Tok Cx St Er V : Type 0} (m : Meaning Tok Cx St Er V) (l : Language To
 
 -- nothing is said
 abbrev pub unsaid : {Tok V : Type 0} → Language Tok V
-unsaid = record { said = false; ends = λ _. Refused; value = λ _ _. ⊤; word = λ _. ⊤; stands_for = λ _ _. ⊤; follow = λ _. ⊥; unambiguous = ⊥; refused_from = Some zero; moves = false; takes_no_memory = ⊥ }
+unsaid =
+    record {
+      said = false;
+      ends = λ _. Refused;
+      value = λ _ _. ⊤;
+      word = λ _. ⊤;
+      stands_for = λ _ _. ⊤;
+      follow = λ _. ⊥;
+      unambiguous = ⊥;
+      refused_from = Some zero;
+      moves = false;
+      takes_no_memory = ⊥;
+    }
 
 pub of_unsaid : {Tok Cx St Er V : Type 0} {m : Meaning Tok Cx St Er V} {spare : Type 0} → Accepts m unsaid spare
 of_unsaid = record { described = λ s. absurd (cc s); moving = λ s. absurd (cc s); sparing = λ _ x. absurd x }

@@ -11,7 +11,16 @@ module _ {Tok Cx St Er V : Type 0} (m n : Meaning Tok Cx St Er V) (fewer : (b : 
   -- what has no other outcomes accepts the same language
   pub fewer-accepts : {spare : Type 0} → Accepts n l spare → Accepts m l spare
   fewer-accepts h = record {
-    described = λ s. let d = h.described s in record { reads = record { here = λ b w o x. d.reads.here b w o (fewer b o x) }; only = d.only; given = d.given; each = d.each; decided = d.decided; further = d.further };
+    described = λ s.
+        let d = h.described s in
+        record {
+          reads = record { here = λ b w o x. d.reads.here b w o (fewer b o x) };
+          only = d.only;
+          given = d.given;
+          each = d.each;
+          decided = d.decided;
+          further = d.further;
+        };
     moving = λ e b o x. h.moving e b o (fewer b o x);
     sparing = λ q t b o x. h.sparing q t b o (fewer b o x);
   }

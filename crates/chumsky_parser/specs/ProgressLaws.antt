@@ -157,12 +157,18 @@ module _ {Tok Cx St Er S V : Type 0} where
       }
 
   -- other steps, each of which moves where its own does
-  pub remade-items : {U : Type 0} {begins : Meaning Tok Cx St Er S} {gives : S → Meaning Tok Cx St Er (Next S V)} {other : S → Meaning Tok Cx St Er (Next S U)} → ((s : S) → Moves (gives s) → Moves (other s)) → ItemsMove begins gives → ItemsMove begins other
+  pub remade-items : {U : Type 0} {begins : Meaning Tok Cx St Er S} {gives : S → Meaning Tok Cx St Er (Next S V)}
+      {other : S → Meaning Tok Cx St Er (Next S U)}
+      → ((s : S) → Moves (gives s) → Moves (other s)) → ItemsMove begins gives → ItemsMove begins other
   remade-items h k = record { by = elim k.by [ inl x ↦ inl x | inr x ↦ inr (λ b p s m e. h s (x b p s m e)) ] }
 
-module _ {Tok Cx St Er S R V W : Type 0} (f : S → R) (begins : Meaning Tok Cx St Er S) (gives : S → Meaning Tok Cx St Er (Next S V)) (other : R → Meaning Tok Cx St Er (Next R W)) (h : (s : S) → Moves (gives s) → Moves (other (f s))) where
+module _ {Tok Cx St Er S R V W : Type 0} (f : S → R) (begins : Meaning Tok Cx St Er S)
+    (gives : S → Meaning Tok Cx St Er (Next S V)) (other : R → Meaning Tok Cx St Er (Next R W))
+    (h : (s : S) → Moves (gives s) → Moves (other (f s))) where
   unwrapped : ((b : Beginning Tok Cx St) (p : Outcome S Er St) (s : S) → begins b p → p.verdict ≡ Yes (Some s) → Moves (gives s))
-      → (b : Beginning Tok Cx St) (q : Outcome S Er St) (p : Outcome R Er St) (v : Verdict S Er) → begins b q → q.verdict ≡ v → Follows v (λ s. Given (option_map f s)) b q p → (r : R) → p.verdict ≡ Yes (Some r) → Moves (other r)
+      → (b : Beginning Tok Cx St) (q : Outcome S Er St) (p : Outcome R Er St) (v : Verdict S Er) → begins b q
+      → q.verdict ≡ v → Follows v (λ s. Given (option_map f s)) b q p → (r : R) → p.verdict ≡ Yes (Some r)
+      → Moves (other r)
   unwrapped x b q p (Yes (Some s)) m d k r e =
       let whole : p.verdict ≡ k.0.verdict = ap (λ (z : Outcome R Er St). z.verdict) k.2 in
       let one : k.0.verdict ≡ Yes (Some (f s)) = ap (λ (z : Outcome R Er St). z.verdict) k.1 in

@@ -109,7 +109,9 @@ module _ {Tok Cx St Er V W : Type 0} (first : Meaning Tok Cx St Er V) (second : 
     sparing = ignoring_second-spares first second;
   }) h k
 
-module _ {Tok Cx St Er U V W : Type 0} (opening : Meaning Tok Cx St Er U) (part : Meaning Tok Cx St Er V) (closing : Meaning Tok Cx St Er W) {O : Language Tok U} {F : Language Tok V} {C : Language Tok W} {spare : Type 0} where
+module _ {Tok Cx St Er U V W : Type 0} (opening : Meaning Tok Cx St Er U) (part : Meaning Tok Cx St Er V)
+    (closing : Meaning Tok Cx St Er W) {O : Language Tok U} {F : Language Tok V} {C : Language Tok W}
+    {spare : Type 0} where
   -- `part.delimited_by(opening, closing)`
   pub between-accepts : EndsAfterStart opening → EndsAfterStart part → EndsAfterStart closing → Accepts opening O spare → Accepts part F spare → Accepts closing C spare
       → Accepts (Between opening part closing) (between_language O F C) spare

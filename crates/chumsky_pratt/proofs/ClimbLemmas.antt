@@ -31,7 +31,9 @@ module _ {Tok Cx St Er V : Type 0} {merged : Er → Er → Er} {quiet : Type 0} 
   pub waiting : (part : Meaning Tok Cx St Er V) {now new : Held Tok Cx St Er} {r : Result (Option V) Fault} → Ran merged quiet part wanted now new r → Ran merged quiet (Waiting part) wanted now new r
   waiting part {now} {new} {r} h = ran-weaker merged quiet part (Waiting part) wanted now new r (λ o k. inr k) h
 
-  pub onward : (place : ℕ) (part : Meaning Tok Cx St Er V) {now new : Held Tok Cx St Er} {r : Result (Option V) Fault} → place < now.place → Ran merged quiet part wanted now new r → Ran merged quiet (Onward place part) wanted now new r
+  pub onward : (place : ℕ) (part : Meaning Tok Cx St Er V) {now new : Held Tok Cx St Er} {r : Result (Option V) Fault}
+      → place < now.place → Ran merged quiet part wanted now new r
+      → Ran merged quiet (Onward place part) wanted now new r
   onward place part {now} {new} {r} l h = ran-weaker merged quiet part (Onward place part) wanted now new r (λ o k. inl (l, k)) h
 
   pub not_onward : (place : ℕ) (part : Meaning Tok Cx St Er V) {now : Held Tok Cx St Er} → now.place ≤ place → Ran merged quiet (Onward place part) wanted now now (Err (fault.Stop NoProgress))
@@ -47,26 +49,37 @@ module _ {Tok Cx St Mk Er F V : Type 0} (s : Syntax Tok Cx St Mk Er F V) where
 
 module _ {Tok Cx St Mk Er F V : Type 0} (merged : Er → Er → Er) (quiet : Type 0) (s : Syntax Tok Cx St Mk Er F V) (wanted : Bool) where
   -- the whole of an expression, of its run and of an operand
-  pub expressed : (now new : Held Tok Cx St Er) (r : Result (Option V) Fault) (least : ℕ) → Ran merged quiet (whole merged quiet s wanted (record { least = least; held = now })) wanted now new r → Ran merged quiet (Expression s least) wanted now new r
+  pub expressed : (now new : Held Tok Cx St Er) (r : Result (Option V) Fault) (least : ℕ)
+      → Ran merged quiet (whole merged quiet s wanted (record { least = least; held = now })) wanted now new r
+      → Ran merged quiet (Expression s least) wanted now new r
   expressed now new r least h =
       ran-weaker merged quiet _ (Expression s least) wanted now new r (λ o k. record { run = below-level s (suc (length now.tokens.list)) least (begin wanted now) o (omega arith) k }) h
 
-  pub operand_ran : (l inner : Begun Tok Cx St Er) {new : Held Tok Cx St Er} {r : Result (Option V) Fault} → tokens_left inner.held < tokens_left l.held → Ran merged quiet (whole merged quiet s wanted inner) wanted inner.held new r
+  pub operand_ran : (l inner : Begun Tok Cx St Er) {new : Held Tok Cx St Er} {r : Result (Option V) Fault}
+      → tokens_left inner.held < tokens_left l.held
+      → Ran merged quiet (whole merged quiet s wanted inner) wanted inner.held new r
       → Ran merged quiet (operand_of merged quiet s wanted l inner.least) wanted inner.held new r
-  operand_ran l inner {new} {r} e h = ran-weaker merged quiet _ (operand_of merged quiet s wanted l inner.least) wanted inner.held new r (λ o k. below-level s (tokens_left l.held) inner.least (begin wanted inner.held) o e k) h
+  operand_ran l inner {new} {r} e h =
+      ran-weaker merged quiet _ (operand_of merged quiet s wanted l inner.least) wanted inner.held new r
+      (λ o k. below-level s (tokens_left l.held) inner.least (begin wanted inner.held) o e k) h
 
   module _ (l : Begun Tok Cx St Er) where
     abbrev Heads : Meaning Tok Cx St Er V
     Heads = Head s (operand_of merged quiet s wanted l) l.held.place
 
-    leveled : {new : Held Tok Cx St Er} {r : Result (Option V) Fault} → Ran merged quiet (Chained Heads (AllRounds s (operand_of merged quiet s wanted l) l.held.place l.least any_power)) wanted l.held new r → Ran merged quiet (whole merged quiet s wanted l) wanted l.held new r
+    leveled : {new : Held Tok Cx St Er} {r : Result (Option V) Fault}
+        → Ran merged quiet
+        (Chained Heads (AllRounds s (operand_of merged quiet s wanted l) l.held.place l.least any_power)) wanted
+        l.held new r
+        → Ran merged quiet (whole merged quiet s wanted l) wanted l.held new r
     leveled {new} {r} h = ran-weaker merged quiet _ (whole merged quiet s wanted l) wanted l.held new r (λ o k. record { run = k }) h
 
     -- the head of an expression has no value, and one
     headless : {new : Held Tok Cx St Er} {f : Fault} → Ran merged quiet Heads wanted l.held new (Err f) → Ran merged quiet (whole merged quiet s wanted l) wanted l.held new (Err f)
     headless h = leveled (failed h refl refl)
 
-    headed : EndsAfterStart s.atom → ((i : ℕ) → EndsAfterStart (s.reads i)) → {new : Held Tok Cx St Er} (x : Option V) → Ran merged quiet Heads wanted l.held new (Ok x) → HasValue merged quiet s wanted l x any_power new
+    headed : EndsAfterStart s.atom → ((i : ℕ) → EndsAfterStart (s.reads i)) → {new : Held Tok Cx St Er} (x : Option V)
+        → Ran merged quiet Heads wanted l.held new (Ok x) → HasValue merged quiet s wanted l x any_power new
     headed atom_ends reads_end {new} x h =
         let ends : EndsAfterStart Heads = head-ends s atom_ends reads_end (operand_of merged quiet s wanted l) (below-ends s atom_ends reads_end (tokens_left l.held)) l.held.place in
         record { tokens = h.same.tokens; order = ran-onward merged quiet Heads ends wanted l.held new x h; leads = λ fin r k. leveled (chained h refl k) }
@@ -79,23 +92,34 @@ module _ {Tok Cx St Mk Er F V : Type 0} (merged : Er → Er → Er) (quiet : Typ
           counted = omega arith;
           stands = stands_at-marked s.mark m l.held e;
           tokens = refl;
-          leads = λ new r h. ran-weaker merged quiet _ Heads wanted l.held new r (λ o k. record { run = k }) (ran-marked merged quiet s.mark s.safe (λ k. prefixes merged quiet s wanted l k s.number 0) wanted l.held m new r e h);
+          leads =
+              λ new r h. ran-weaker merged quiet _ Heads wanted l.held new r (λ o k. record { run = k })
+              (ran-marked merged quiet s.mark s.safe (λ k. prefixes merged quiet s wanted l k s.number 0) wanted l.held m new r e h);
         }
 
     pub begin_lacks : (s.safe → ⊥) → Ran merged quiet (whole merged quiet s wanted l) wanted l.held l.held (Err (fault.Stop Memory))
     begin_lacks may =
-        headless (ran-weaker merged quiet _ Heads wanted l.held l.held (Err (fault.Stop Memory)) (λ o k. record { run = k }) (ran-not_marked merged quiet s.mark s.safe (λ k. prefixes merged quiet s wanted l k s.number 0) wanted l.held may))
+        headless
+        (ran-weaker merged quiet _ Heads wanted l.held l.held (Err (fault.Stop Memory))
+        (λ o k. record { run = k })
+        (ran-not_marked merged quiet s.mark s.safe (λ k. prefixes merged quiet s wanted l k s.number 0) wanted l.held may))
 
     module _ (m : Marks Tok Mk) (next : ℕ) (now : Held Tok Cx St Er) (t : TriesPrefixes merged quiet s wanted l m next now) where
-      atom_left : (count : ℕ) → next + count ≡ s.number → next ≡ s.number → Leads merged quiet s wanted (prefixes merged quiet s wanted l m.mark count next) now Heads l.held → Leads merged quiet s wanted s.atom now Heads l.held
+      atom_left : (count : ℕ) → next + count ≡ s.number → next ≡ s.number
+          → Leads merged quiet s wanted (prefixes merged quiet s wanted l m.mark count next) now Heads l.held
+          → Leads merged quiet s wanted s.atom now Heads l.held
       atom_left zero e d h = h
       atom_left (suc count) e d h = absurd (omega (arith, e, d))
 
       -- past the last prefix operator the atom
-      pub atom_ok : EndsAfterStart s.atom → ((i : ℕ) → EndsAfterStart (s.reads i)) → next ≡ s.number → {new : Held Tok Cx St Er} (x : Option V) → Ran merged quiet s.atom wanted now new (Ok x) → HasValue merged quiet s wanted l x any_power new
+      pub atom_ok : EndsAfterStart s.atom → ((i : ℕ) → EndsAfterStart (s.reads i)) → next ≡ s.number
+          → {new : Held Tok Cx St Er} (x : Option V) → Ran merged quiet s.atom wanted now new (Ok x)
+          → HasValue merged quiet s wanted l x any_power new
       atom_ok atom_ends reads_end e x h = headed atom_ends reads_end x (atom_left t.count t.counted e t.leads _ _ h)
 
-      pub atom_err : next ≡ s.number → {new : Held Tok Cx St Er} {f : Fault} → Ran merged quiet s.atom wanted now new (Err f) → Ran merged quiet (whole merged quiet s wanted l) wanted l.held new (Err f)
+      pub atom_err : next ≡ s.number → {new : Held Tok Cx St Er} {f : Fault}
+          → Ran merged quiet s.atom wanted now new (Err f)
+          → Ran merged quiet (whole merged quiet s wanted l) wanted l.held new (Err f)
       atom_err e h = headless (atom_left t.count t.counted e t.leads _ _ h)
 
       abbrev Tried : ℕ → Fixity → Meaning Tok Cx St Er V
@@ -136,11 +160,20 @@ module _ {Tok Cx St Mk Er F V : Type 0} (merged : Er → Er → Er) (quiet : Typ
             (i.0, i.1, subst (λ x. Leads merged quiet s wanted (Tried i.0 x) now Heads l.held) f i.2)
 
         -- its reading is refused, or that of its operand
-        pub try_stops : {new : Held Tok Cx St Er} (h : Stop) → Ran merged quiet Read wanted now new (Err (fault.Stop h)) → Ran merged quiet (whole merged quiet s wanted l) wanted l.held new (Err (fault.Stop h))
-        try_stops {new} h k = headless (tries.2 new _ (attempt-stands merged quiet s.back s.safe m.mark Read (prefixes merged quiet s wanted l m.mark tries.0 (suc next)) wanted now new (Err (fault.Stop h)) k (λ e. cc)))
+        pub try_stops : {new : Held Tok Cx St Er} (h : Stop)
+            → Ran merged quiet Read wanted now new (Err (fault.Stop h))
+            → Ran merged quiet (whole merged quiet s wanted l) wanted l.held new (Err (fault.Stop h))
+        try_stops {new} h k =
+            headless
+            (tries.2 new _
+            (attempt-stands merged quiet s.back s.safe m.mark Read
+            (prefixes merged quiet s wanted l m.mark tries.0 (suc next)) wanted now new
+            (Err (fault.Stop h)) k (λ e. cc)))
 
         -- it fails, or its operand does, and is gone back from
-        pub try_fails : {new bk : Held Tok Cx St Er} → Ran merged quiet Read wanted now new (Err fault.Fail) → bk ≡ gone_back s.back new m → (after : ℕ) → after ≡ suc next → TriesPrefixes merged quiet s wanted l m after bk
+        pub try_fails : {new bk : Held Tok Cx St Er} → Ran merged quiet Read wanted now new (Err fault.Fail)
+            → bk ≡ gone_back s.back new m → (after : ℕ) → after ≡ suc next
+            → TriesPrefixes merged quiet s wanted l m after bk
         try_fails {new} {bk} h e after i =
             rw i (record {
               count = tries.0;
@@ -150,20 +183,32 @@ module _ {Tok Cx St Mk Er F V : Type 0} (merged : Er → Er → Er) (quiet : Typ
               leads = λ fin r k. tries.2 fin r (attempt-after merged quiet s.back s.safe m Read wanted now new (prefixes merged quiet s wanted l m.mark tries.0 (suc next)) bk fin r t.stands h e k);
             })
 
-        pub try_lacks : {new fin : Held Tok Cx St Er} → Ran merged quiet Read wanted now new (Err fault.Fail) → fin ≡ new → (s.safe → ⊥) → Ran merged quiet (whole merged quiet s wanted l) wanted l.held fin (Err (fault.Stop Memory))
-        try_lacks {new} {fin} h e may = headless (tries.2 fin _ (attempt-unrestored merged quiet s.back s.safe m Read wanted now new (prefixes merged quiet s wanted l m.mark tries.0 (suc next)) fin h e may))
+        pub try_lacks : {new fin : Held Tok Cx St Er} → Ran merged quiet Read wanted now new (Err fault.Fail)
+            → fin ≡ new → (s.safe → ⊥)
+            → Ran merged quiet (whole merged quiet s wanted l) wanted l.held fin (Err (fault.Stop Memory))
+        try_lacks {new} {fin} h e may =
+            headless
+            (tries.2 fin _
+            (attempt-unrestored merged quiet s.back s.safe m Read wanted now new
+            (prefixes merged quiet s wanted l m.mark tries.0 (suc next)) fin h e may))
 
         -- it is read
         pub not_read : {new : Held Tok Cx St Er} {g : Fault} → Ran merged quiet (s.reads next) wanted now new (Err g) → Ran merged quiet Read wanted now new (Err g)
         not_read h = failed h refl refl
 
-        pub read_stays : {new : Held Tok Cx St Er} (x : Option F) → Ran merged quiet (s.reads next) wanted now new (Ok x) → new.place ≤ l.held.place → Ran merged quiet (whole merged quiet s wanted l) wanted l.held new (Err (fault.Stop NoProgress))
+        pub read_stays : {new : Held Tok Cx St Er} (x : Option F)
+            → Ran merged quiet (s.reads next) wanted now new (Ok x) → new.place ≤ l.held.place
+            → Ran merged quiet (whole merged quiet s wanted l) wanted l.held new (Err (fault.Stop NoProgress))
         read_stays {new} x h e = try_stops NoProgress (chained h refl (not_onward l.held.place _ e))
 
-        pub read_lacks : {new : Held Tok Cx St Er} (x : Option F) → Ran merged quiet (s.reads next) wanted now new (Ok x) → l.held.place < new.place → Ran merged quiet (whole merged quiet s wanted l) wanted l.held new (Err (fault.Stop Memory))
+        pub read_lacks : {new : Held Tok Cx St Er} (x : Option F)
+            → Ran merged quiet (s.reads next) wanted now new (Ok x) → l.held.place < new.place
+            → Ran merged quiet (whole merged quiet s wanted l) wanted l.held new (Err (fault.Stop Memory))
         read_lacks {new} x h e = try_stops Memory (chained h refl (onward l.held.place _ e (waiting-lacks _ new)))
 
-        pub read_waits : {new : Held Tok Cx St Er} (x : Option F) → Ran merged quiet (s.reads next) wanted now new (Ok x) → l.held.place < new.place → new.place ≤ length new.tokens.list → (after : ℕ) → after ≡ suc next
+        pub read_waits : {new : Held Tok Cx St Er} (x : Option F)
+            → Ran merged quiet (s.reads next) wanted now new (Ok x) → l.held.place < new.place
+            → new.place ≤ length new.tokens.list → (after : ℕ) → after ≡ suc next
             → WaitsPrefix merged quiet s wanted l x m after (record { least = power; held = new })
         read_waits {new} x h e w after i =
             let tokens : new.tokens ≡ l.held.tokens = h.same.tokens ∙ t.tokens in
@@ -177,7 +222,14 @@ module _ {Tok Cx St Mk Er F V : Type 0} (merged : Er → Er → Er) (quiet : Typ
               fixity = f;
               read = record { stands = t.stands; read = h; onward = e; room = omega (arith, e, w, long); tokens = tokens };
               here_tokens = t.tokens;
-              leads = λ fin r k. tries.2 fin r (subst (λ z. Ran merged quiet (TryPrefix s (operand_of merged quiet s wanted l) l.held.place m.mark next z (prefixes merged quiet s wanted l m.mark tries.0 (suc next))) wanted now fin r) f k);
+              leads =
+                  λ fin r k. tries.2 fin r
+                  (subst
+                  (λ z. Ran merged quiet
+                  (TryPrefix s (operand_of merged quiet s wanted l) l.held.place m.mark next z
+                  (prefixes merged quiet s wanted l m.mark tries.0 (suc next)))
+                  wanted now fin r)
+                  f k);
             }
 
     module _ (f : Option F) (m : Marks Tok Mk) (next : ℕ) (inner : Begun Tok Cx St Er) (t : WaitsPrefix merged quiet s wanted l f m next inner) where
@@ -188,35 +240,59 @@ module _ {Tok Cx St Mk Er F V : Type 0} (merged : Er → Er → Er) (quiet : Typ
       there : t.index < s.number
       there = omega (arith, t.counted, t.is_next)
 
-      operated : {new : Held Tok Cx St Er} {r : Result (Option V) Fault} → Ran merged quiet (Chained (operand_of merged quiet s wanted l inner.least) (λ v. GivenShown s.gives l.held.place (all_there f (After v)))) wanted inner.held new r
+      operated : {new : Held Tok Cx St Er} {r : Result (Option V) Fault}
+          → Ran merged quiet
+          (Chained (operand_of merged quiet s wanted l inner.least) (λ v. GivenShown s.gives l.held.place (all_there f (After v))))
+          wanted inner.held new r
           → Ran merged quiet (AfterPrefix s (operand_of merged quiet s wanted l) l.held.place t.index inner.least) wanted t.here new r
       operated h = chained t.read.read refl (onward l.held.place _ t.read.onward (waiting _ h))
 
       -- its operand has a value, which ends past where its expression began; and it is folded
-      pub prefix_order : EndsAfterStart s.atom → ((i : ℕ) → EndsAfterStart (s.reads i)) → {now : Held Tok Cx St Er} (v : Option V) → Ran merged quiet (whole merged quiet s wanted inner) wanted inner.held now (Ok v) → l.held.place ≤ now.place
+      pub prefix_order : EndsAfterStart s.atom → ((i : ℕ) → EndsAfterStart (s.reads i))
+          → {now : Held Tok Cx St Er} (v : Option V)
+          → Ran merged quiet (whole merged quiet s wanted inner) wanted inner.held now (Ok v)
+          → l.held.place ≤ now.place
       prefix_order atom_ends reads_end {now} v h =
-          let ends : EndsAfterStart (whole merged quiet s wanted inner) = level-ends s atom_ends reads_end (operand_of merged quiet s wanted inner) (below-ends s atom_ends reads_end (tokens_left inner.held)) inner.least in
+          let ends : EndsAfterStart (whole merged quiet s wanted inner) =
+          level-ends s atom_ends reads_end (operand_of merged quiet s wanted inner)
+          (below-ends s atom_ends reads_end (tokens_left inner.held)) inner.least in
           let on : inner.held.place ≤ now.place = ran-onward merged quiet (whole merged quiet s wanted inner) ends wanted inner.held now v h in
           omega (arith, on, t.read.onward)
 
-      pub prefix_ok : EndsAfterStart s.atom → ((i : ℕ) → EndsAfterStart (s.reads i)) → {now new : Held Tok Cx St Er} (v y : Option V) → Ran merged quiet (whole merged quiet s wanted inner) wanted inner.held now (Ok v)
+      pub prefix_ok : EndsAfterStart s.atom → ((i : ℕ) → EndsAfterStart (s.reads i))
+          → {now new : Held Tok Cx St Er} (v y : Option V)
+          → Ran merged quiet (whole merged quiet s wanted inner) wanted inner.held now (Ok v)
           → Ran merged quiet (GivenShown s.gives l.held.place (all_there f (After v))) wanted now new (Ok y) → HasValue merged quiet s wanted l y any_power new
       prefix_ok atom_ends reads_end {now} {new} v y h g =
           let r = operated (chained (operand_ran l inner t.read.room h) refl g) in
           let i = tries m t.index t.here was there inner.least t.fixity in
-          headed atom_ends reads_end y (i.2 new (Ok y) (attempt-stands merged quiet s.back s.safe m.mark (AfterPrefix s (operand_of merged quiet s wanted l) l.held.place t.index inner.least) (prefixes merged quiet s wanted l m.mark i.0 (suc t.index)) wanted t.here new (Ok y) r (λ e. cc)))
+          headed atom_ends reads_end y
+          (i.2 new (Ok y)
+          (attempt-stands merged quiet s.back s.safe m.mark
+          (AfterPrefix s (operand_of merged quiet s wanted l) l.held.place t.index inner.least)
+          (prefixes merged quiet s wanted l m.mark i.0 (suc t.index)) wanted t.here new (Ok y) r
+          (λ e. cc)))
 
-      not_operated : {now : Held Tok Cx St Er} {g : Fault} → Ran merged quiet (whole merged quiet s wanted inner) wanted inner.held now (Err g) → Ran merged quiet (AfterPrefix s (operand_of merged quiet s wanted l) l.held.place t.index inner.least) wanted t.here now (Err g)
+      not_operated : {now : Held Tok Cx St Er} {g : Fault}
+          → Ran merged quiet (whole merged quiet s wanted inner) wanted inner.held now (Err g)
+          → Ran merged quiet (AfterPrefix s (operand_of merged quiet s wanted l) l.held.place t.index inner.least) wanted t.here now (Err g)
       not_operated h = operated (failed (operand_ran l inner t.read.room h) refl refl)
 
       -- it is refused, or it fails
-      pub prefix_stops : {now : Held Tok Cx St Er} (g : Stop) → Ran merged quiet (whole merged quiet s wanted inner) wanted inner.held now (Err (fault.Stop g)) → Ran merged quiet (whole merged quiet s wanted l) wanted l.held now (Err (fault.Stop g))
+      pub prefix_stops : {now : Held Tok Cx St Er} (g : Stop)
+          → Ran merged quiet (whole merged quiet s wanted inner) wanted inner.held now (Err (fault.Stop g))
+          → Ran merged quiet (whole merged quiet s wanted l) wanted l.held now (Err (fault.Stop g))
       prefix_stops g h = try_stops m t.index t.here was there inner.least t.fixity g (not_operated h)
 
-      pub prefix_fails : {now bk : Held Tok Cx St Er} → Ran merged quiet (whole merged quiet s wanted inner) wanted inner.held now (Err fault.Fail) → bk ≡ gone_back s.back now m → TriesPrefixes merged quiet s wanted l m next bk
+      pub prefix_fails : {now bk : Held Tok Cx St Er}
+          → Ran merged quiet (whole merged quiet s wanted inner) wanted inner.held now (Err fault.Fail)
+          → bk ≡ gone_back s.back now m → TriesPrefixes merged quiet s wanted l m next bk
       prefix_fails h e = try_fails m t.index t.here was there inner.least t.fixity (not_operated h) e next t.is_next
 
-      pub prefix_lacks : {now fin : Held Tok Cx St Er} → Ran merged quiet (whole merged quiet s wanted inner) wanted inner.held now (Err fault.Fail) → fin ≡ now → (s.safe → ⊥) → Ran merged quiet (whole merged quiet s wanted l) wanted l.held fin (Err (fault.Stop Memory))
+      pub prefix_lacks : {now fin : Held Tok Cx St Er}
+          → Ran merged quiet (whole merged quiet s wanted inner) wanted inner.held now (Err fault.Fail) → fin ≡ now
+          → (s.safe → ⊥)
+          → Ran merged quiet (whole merged quiet s wanted l) wanted l.held fin (Err (fault.Stop Memory))
       prefix_lacks h e may = try_lacks m t.index t.here was there inner.least t.fixity (not_operated h) e may
 
       pub prefix_tokens : {now : Held Tok Cx St Er} {r : Result (Option V) Fault} → Ran merged quiet (whole merged quiet s wanted inner) wanted inner.held now r → m.tokens ≡ now.tokens

@@ -122,13 +122,16 @@ module _ (n size : ℕ) where
     weights_more (x ∷ xs) f = let h = weights_more xs f in omega (arith, h)
 
     -- an operand begins, or there is no memory to wait for it
-    pub waited_less : (power : ℕ) (f : Frame A B Cu Mk) (old new : List (Frame A B Cu Mk)) (here : Cu) (next : Todo A Cu Mk) (x : ℕ) → WaitsFor power f old new next → weight_of n size source f + child n size (suc (left_from n size source here)) < x
+    pub waited_less : (power : ℕ) (f : Frame A B Cu Mk) (old new : List (Frame A B Cu Mk)) (here : Cu) (next : Todo A Cu Mk) (x : ℕ)
+        → WaitsFor power f old new next
+        → weight_of n size source f + child n size (suc (left_from n size source here)) < x
         → total n size source new here next < weights n size source old + x
     waited_less power f old new here next x (inl e) l = rw (e.0, e.1) (let h = weights_more old f in omega (arith, h, l))
     waited_less power f old new here next x (inr e) l = rw (e.0, e.1) (omega (arith, l))
 
     -- a frame was taken off
-    pub lightened : (old new : List (Frame A B Cu Mk)) (f : Frame A B Cu Mk) (x : ℕ) → old ≡ new ++ f ∷ [] → x < weight_of n size source f + weights n size source new → x < weights n size source old + 0
+    pub lightened : (old new : List (Frame A B Cu Mk)) (f : Frame A B Cu Mk) (x : ℕ) → old ≡ new ++ f ∷ []
+        → x < weight_of n size source f + weights n size source new → x < weights n size source old + 0
     lightened old new f x e l = rw e (let h = weights_more new f in omega (arith, h, l))
 
 -- beside what else weighs

@@ -12,7 +12,9 @@ module _ {I X Cu Tok Sp Er St Cx Mk : Type 0} (source : input_trait.Ghosts I Cu 
   -- f may be called with any three values and any extra whose cursors are in order, and keeps the reference to the state
   pub record KeepsStateOfThree : Type 0 where
     pub may : (a : A) (v : V) (w : W) (x : MutBor (MapExtra I X Cu Tok Sp Er St Cx Mk)) → InOrder source states x.now → calls.pre f (a, (v, (w, (x, tt))))
-    pub keeps : (a : A) (v : V) (w : W) (x left : MutBor (MapExtra I X Cu Tok Sp Er St Cx Mk)) (r : R) → InOrder source states x.now → calls.post f (a, (v, (w, (x, tt)))) (r, (left, tt)) → left.now.state.ghost_name ≡ x.now.state.ghost_name
+    pub keeps : (a : A) (v : V) (w : W) (x left : MutBor (MapExtra I X Cu Tok Sp Er St Cx Mk)) (r : R)
+        → InOrder source states x.now → calls.post f (a, (v, (w, (x, tt)))) (r, (left, tt))
+        → left.now.state.ghost_name ≡ x.now.state.ghost_name
 
   -- f may answer r to the three values and an extra that shows x, and leave the state s
   pub record AnswersThree (values : A × (V × W)) (x : Shown Tok Cx states.Seen) (r : R) (s : states.Seen) : Type 0 where

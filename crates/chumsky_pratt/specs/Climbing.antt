@@ -146,7 +146,10 @@ module _ {Tok Cx St Mk Er F V : Type 0} (merged : Er → Er → Er) (quiet : Typ
     pub leads : Leads (infixes l turn.place x below m.mark (suc count) index) here (round_of l below x) turn
     pub after : Leads (rounds_of l below x) turn (whole l) l.held
 
-module _ {I Tok Sp Cu Er St Cx Mk F V A B : Type 0} (source : input_trait.Ghosts I Cu Tok Sp) (errors : error_trait.Ghosts Er I Tok Sp) (states : inspector_trait.Ghosts St I Mk Tok Sp) (s : Syntax Tok Cx states.Seen states.Marked errors.Seen F V) (wanted : Bool) (shown : A → Option V) (found : B → Option F) where
+module _ {I Tok Sp Cu Er St Cx Mk F V A B : Type 0} (source : input_trait.Ghosts I Cu Tok Sp)
+    (errors : error_trait.Ghosts Er I Tok Sp) (states : inspector_trait.Ghosts St I Mk Tok Sp)
+    (s : Syntax Tok Cx states.Seen states.Marked errors.Seen F V) (wanted : Bool) (shown : A → Option V)
+    (found : B → Option F) where
   -- an open expression is this one
   pub record IsOpen (level : Open Cu) (l : Begun Tok Cx states.Seen errors.Seen) : Type 0 where
     pub least : level.least ≡ l.least
@@ -158,9 +161,14 @@ module _ {I Tok Sp Cu Er St Cx Mk F V A B : Type 0} (source : input_trait.Ghosts
   abbrev pub Waits : Begun Tok Cx states.Seen errors.Seen → List (Frame A B Cu Mk) → Begun Tok Cx states.Seen errors.Seen → Type 0
   Waits goal [] inner = inner ≡ goal
   Waits goal (frame.Before p ∷ fs) inner =
-      (l : Begun Tok Cx states.Seen errors.Seen) × IsOpen p.level l × WaitsPrefix errors.merged errors.takes_no_memory s wanted l (found p.found) (marks source states p.before) p.next inner × Waits goal fs l
+      (l : Begun Tok Cx states.Seen errors.Seen) × IsOpen p.level l
+      × WaitsPrefix errors.merged errors.takes_no_memory s wanted l (found p.found) (marks source states p.before) p.next inner
+      × Waits goal fs l
   Waits goal (frame.Between p ∷ fs) inner =
-      (l : Begun Tok Cx states.Seen errors.Seen) × IsOpen p.level l × WaitsInfix errors.merged errors.takes_no_memory s wanted l (found p.found) (marks source states p.before) p.next (shown p.value) p.below p.then_below inner × Waits goal fs l
+      (l : Begun Tok Cx states.Seen errors.Seen) × IsOpen p.level l
+      × WaitsInfix errors.merged errors.takes_no_memory s wanted l (found p.found) (marks source states p.before)
+      p.next (shown p.value) p.below p.then_below inner
+      × Waits goal fs l
 
   -- what comes next leads to the goal, by what waits
   abbrev pub Climbs : Begun Tok Cx states.Seen errors.Seen → List (Frame A B Cu Mk) → Held Tok Cx states.Seen errors.Seen → Todo A Cu Mk → Type 0
@@ -170,20 +178,33 @@ module _ {I Tok Sp Cu Er St Cx Mk F V A B : Type 0} (source : input_trait.Ghosts
   Climbs goal fs now (todo.Value p) =
       (l : Begun Tok Cx states.Seen errors.Seen) × IsOpen p.level l × HasValue errors.merged errors.takes_no_memory s wanted l (shown p.value) p.below now × Waits goal fs l
   Climbs goal fs now (todo.Postfixes p) =
-      (l : Begun Tok Cx states.Seen errors.Seen) × IsOpen p.level l × TriesPostfixes errors.merged errors.takes_no_memory s wanted l (shown p.value) p.below (marks source states p.before) p.next now × Waits goal fs l
+      (l : Begun Tok Cx states.Seen errors.Seen) × IsOpen p.level l
+      × TriesPostfixes errors.merged errors.takes_no_memory s wanted l (shown p.value) p.below (marks source states p.before) p.next now
+      × Waits goal fs l
   Climbs goal fs now (todo.Infixes p) =
-      (l : Begun Tok Cx states.Seen errors.Seen) × IsOpen p.level l × TriesInfixes errors.merged errors.takes_no_memory s wanted l (shown p.value) p.below (marks source states p.before) p.next now × Waits goal fs l
+      (l : Begun Tok Cx states.Seen errors.Seen) × IsOpen p.level l
+      × TriesInfixes errors.merged errors.takes_no_memory s wanted l (shown p.value) p.below (marks source states p.before) p.next now
+      × Waits goal fs l
   Climbs goal fs now (todo.Answer r) =
-      (l : Begun Tok Cx states.Seen errors.Seen) × Ran errors.merged errors.takes_no_memory (whole errors.merged errors.takes_no_memory s wanted l) wanted l.held now (shown_by shown r) × Waits goal fs l
+      (l : Begun Tok Cx states.Seen errors.Seen)
+      × Ran errors.merged errors.takes_no_memory (whole errors.merged errors.takes_no_memory s wanted l) wanted
+      l.held now (shown_by shown r)
+      × Waits goal fs l
 
-module _ {I X Tok Sp Cu Er St Cx Mk F V A B : Type 0} (source : input_trait.Ghosts I Cu Tok Sp) (errors : error_trait.Ghosts Er I Tok Sp) (states : inspector_trait.Ghosts St I Mk Tok Sp) (s : Syntax Tok Cx states.Seen states.Marked errors.Seen F V) (wanted : Bool) (shown : A → Option V) (found : B → Option F) where
+module _ {I X Tok Sp Cu Er St Cx Mk F V A B : Type 0} (source : input_trait.Ghosts I Cu Tok Sp)
+    (errors : error_trait.Ghosts Er I Tok Sp) (states : inspector_trait.Ghosts St I Mk Tok Sp)
+    (s : Syntax Tok Cx states.Seen states.Marked errors.Seen F V) (wanted : Bool) (shown : A → Option V)
+    (found : B → Option F) where
   -- it leads to some goal
   abbrev pub MayGo : List (Frame A B Cu Mk) → InputRef I X Cu Tok Sp Er St Cx Mk → Todo A Cu Mk → Type 0
   MayGo fs inp next = (goal : Begun Tok Cx states.Seen errors.Seen) × Climbs source errors states s wanted shown found goal fs (held source errors states inp) next
 
   -- to whichever goal it led, it leads after the step
   abbrev pub GoesOn : List (Frame A B Cu Mk) → InputRef I X Cu Tok Sp Er St Cx Mk → Todo A Cu Mk → List (Frame A B Cu Mk) → InputRef I X Cu Tok Sp Er St Cx Mk → Todo A Cu Mk → Type 0
-  GoesOn fs old now gs new next = (goal : Begun Tok Cx states.Seen errors.Seen) → Climbs source errors states s wanted shown found goal fs (held source errors states old) now → Climbs source errors states s wanted shown found goal gs (held source errors states new) next
+  GoesOn fs old now gs new next =
+      (goal : Begun Tok Cx states.Seen errors.Seen)
+      → Climbs source errors states s wanted shown found goal fs (held source errors states old) now
+      → Climbs source errors states s wanted shown found goal gs (held source errors states new) next
 
 -- a frame more waits for an operand of this power, which begins; or there is no memory for it
 abbrev pub WaitsFor : {A B Cu Mk : Type 0} → ℕ → Frame A B Cu Mk → List (Frame A B Cu Mk) → List (Frame A B Cu Mk) → Todo A Cu Mk → Type 0

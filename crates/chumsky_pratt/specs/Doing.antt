@@ -15,7 +15,9 @@ module _ {I Tok Sp Er St Mk Cx A B : Type 0} where
   abbrev pub reads_and : Does I Tok Sp Er St Mk Cx A → (ℕ → Does I Tok Sp Er St Mk Cx B) → ℕ → Does I Tok Sp Er St Mk Cx (Found A B)
   reads_and here there i errors states = ReadsAnd (here errors states) (λ j. there j errors states) i
 
-module _ {I Tok Sp Er St Mk Cx F V : Type 0} (atom : Does I Tok Sp Er St Mk Cx V) (number : ℕ) (stands : ℕ → Fixity) (reads : ℕ → Does I Tok Sp Er St Mk Cx F) (gives : Makes I Tok Sp St Mk Cx (F × Operands V) V) (errors : error_trait.Ghosts Er I Tok Sp) (states : inspector_trait.Ghosts St I Mk Tok Sp) where
+module _ {I Tok Sp Er St Mk Cx F V : Type 0} (atom : Does I Tok Sp Er St Mk Cx V) (number : ℕ) (stands : ℕ → Fixity)
+    (reads : ℕ → Does I Tok Sp Er St Mk Cx F) (gives : Makes I Tok Sp St Mk Cx (F × Operands V) V)
+    (errors : error_trait.Ghosts Er I Tok Sp) (states : inspector_trait.Ghosts St I Mk Tok Sp) where
   -- of what expressions are made
   abbrev pub syntax_of : Syntax Tok Cx states.Seen states.Marked errors.Seen F V
   syntax_of =
@@ -30,7 +32,8 @@ module _ {I Tok Sp Er St Mk Cx F V : Type 0} (atom : Does I Tok Sp Er St Mk Cx V
         gives = gives states;
       }
 
-module _ {I Tok Sp Er St Mk Cx F V : Type 0} (atom : Does I Tok Sp Er St Mk Cx V) (number : ℕ) (stands : ℕ → Fixity) (reads : ℕ → Does I Tok Sp Er St Mk Cx F) (gives : Makes I Tok Sp St Mk Cx (F × Operands V) V) where
+module _ {I Tok Sp Er St Mk Cx F V : Type 0} (atom : Does I Tok Sp Er St Mk Cx V) (number : ℕ) (stands : ℕ → Fixity)
+    (reads : ℕ → Does I Tok Sp Er St Mk Cx F) (gives : Makes I Tok Sp St Mk Cx (F × Operands V) V) where
   -- an expression of any power
   abbrev pub DoesExpression : Does I Tok Sp Er St Mk Cx V
   DoesExpression errors states = Expression (syntax_of atom number stands reads gives errors states) 0

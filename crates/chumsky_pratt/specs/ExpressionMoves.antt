@@ -44,7 +44,9 @@ module _ {Tok Cx St Mk Er F V : Type 0} (s : Syntax Tok Cx St Mk Er F V) (atom_e
     operand_past power b p o (Halt z) g y = absurd (no_yes o (ap (λ (x : Outcome V Er St). x.verdict) g) (λ n. n) y)
     operand_past power b p o (Clash z) g y = absurd (no_yes o (ap (λ (x : Outcome V Er St). x.verdict) g) (λ n. n) y)
 
-    else_past : (m : Mk) (next : Meaning Tok Cx St Er V) (b : Beginning Tok Cx St) (p o : Outcome V Er St) (v : Verdict V Er) → (IsYes p.verdict → start < p.end) → Past next → b.start ≡ start → ElseFrom s.back s.safe m v next b p o → IsYes o.verdict → start < o.end
+    else_past : (m : Mk) (next : Meaning Tok Cx St Er V) (b : Beginning Tok Cx St) (p o : Outcome V Er St) (v : Verdict V Er)
+        → (IsYes p.verdict → start < p.end) → Past next → b.start ≡ start → ElseFrom s.back s.safe m v next b p o
+        → IsYes o.verdict → start < o.end
     else_past m next b p o (Yes v) h n t e y = subst (λ (x : Outcome V Er St). start < x.end) (sym e) (h (subst (λ (x : Outcome V Er St). IsYes x.verdict) e y))
     else_past m next b p o No h n t (inl r) y = absurd (subst IsYes r.1 y)
     else_past m next b p o No h n t (inr k) y =
@@ -56,7 +58,9 @@ module _ {Tok Cx St Mk Er F V : Type 0} (s : Syntax Tok Cx St Mk Er F V) (atom_e
     else_past m next b p o (Clash z) h n t e y = subst (λ (x : Outcome V Er St). start < x.end) (sym e) (h (subst (λ (x : Outcome V Er St). IsYes x.verdict) e y))
 
     prefix-past : (m : Mk) (i : ℕ) (f : Fixity) (next : Meaning Tok Cx St Er V) → Past next → Past (TryPrefix s operand start m i f next)
-    prefix-past m i (Prefix power) next n = λ b o t h y. else_past m next b h.attempt o h.attempt.verdict (operand_past power b h.meant.first h.attempt h.meant.first.verdict h.meant.follows) n t h.then_else y
+    prefix-past m i (Prefix power) next n =
+        λ b o t h y. else_past m next b h.attempt o h.attempt.verdict
+        (operand_past power b h.meant.first h.attempt h.meant.first.verdict h.meant.follows) n t h.then_else y
     prefix-past m i (Postfix power) next n = n
     prefix-past m i (Infix left right chains) next n = n
 
@@ -67,7 +71,9 @@ module _ {Tok Cx St Mk Er F V : Type 0} (s : Syntax Tok Cx St Mk Er F V) (atom_e
     head-past : Past (Head s operand start)
     head-past b o t h y = elim h.run [ inl r ↦ absurd (subst IsYes r.1 y) | inr k ↦ from-past (s.mark b.state) s.number 0 b o t k y ]
 
-  rounds_after : (operand : ℕ → Meaning Tok Cx St Er V) → ((power : ℕ) → EndsAfterStart (operand power)) → (least : ℕ) (b : Beginning Tok Cx St) (p o : Outcome V Er St) (v : Verdict V Er) → p.verdict ≡ v → Head s operand b.start b p
+  rounds_after : (operand : ℕ → Meaning Tok Cx St Er V) → ((power : ℕ) → EndsAfterStart (operand power))
+      → (least : ℕ) (b : Beginning Tok Cx St) (p o : Outcome V Er St) (v : Verdict V Er) → p.verdict ≡ v
+      → Head s operand b.start b p
       → Follows v (AllRounds s operand b.start least any_power) b p o → IsYes o.verdict → b.start < o.end
   rounds_after operand ends least b p o (Yes x) e h f y =
       let verdict : o.verdict ≡ f.0.verdict = ap (λ (z : Outcome V Er St). z.verdict) f.2 in
@@ -81,7 +87,11 @@ module _ {Tok Cx St Mk Er F V : Type 0} (s : Syntax Tok Cx St Mk Er F V) (atom_e
 
   below-moves : (n least : ℕ) → Moves (Below s n least)
   below-moves zero least b o m y = absurd m
-  below-moves (suc n) least b o m y = elim m [ inl k ↦ rounds_after (Below s n) (below-ends s atom_ends reads_end n) least b k.1.run.first o k.1.run.first.verdict refl k.1.run.meant k.1.run.follows y | inr k ↦ below-moves n least b o k.1 y ]
+  below-moves (suc n) least b o m y =
+      elim m [
+        | inl k ↦ rounds_after (Below s n) (below-ends s atom_ends reads_end n) least b k.1.run.first o k.1.run.first.verdict refl k.1.run.meant k.1.run.follows y
+        | inr k ↦ below-moves n least b o k.1 y
+      ]
 
   pub expression-move : (least : ℕ) → Moves (Expression s least)
   expression-move least b o m y = below-moves (suc (length b.tokens.list)) least b o m.run y

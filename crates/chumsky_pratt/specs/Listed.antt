@@ -68,7 +68,8 @@ module _ {T A : Type 0} (same : T → A → A → Type 0) where
 module _ {Tok Cx St Er T A : Type 0} (reads : T → Meaning Tok Cx St Er A) (steady : T → Type 0) (same : T → A → A → Type 0) (h : (t : T) → steady t → Agreeing (same t) (reads t) (reads t)) where
   reads_if-agree : (ts : List T) (i : ℕ) (t : Option T) → slice_get ts i ≡ t → All steady ts → Agreeing (SameIn same ts) (ReadsIf reads i t) (ReadsIf reads i t)
   reads_if-agree ts i (Some t) e s =
-      chained-agrees (reads t) (reads t) _ _ (same t) (SameIn same ts) (h t (of_all steady ts i t e s)) (λ v w k. given-agrees (SameIn same ts) (option_map (found_at i) v) (option_map (found_at i) w) (at-same same ts i t e v w k))
+      chained-agrees (reads t) (reads t) _ _ (same t) (SameIn same ts) (h t (of_all steady ts i t e s))
+      (λ v w k. given-agrees (SameIn same ts) (option_map (found_at i) v) (option_map (found_at i) w) (at-same same ts i t e v w k))
   reads_if-agree ts i None e s = λ b c o q l m n a z. absurd m
 
   pub reads_in-agree : (ts : List T) → All steady ts → (i : ℕ) → Agreeing (SameIn same ts) (ReadsIf reads i (slice_get ts i)) (ReadsIf reads i (slice_get ts i))
@@ -84,7 +85,9 @@ module _ {Tok Cx St T A V : Type 0} (gives : T → GivesShown Tok Cx St (A × Op
   GivesIn ts p = GivesIf (slice_get ts p.0.index) p.0.found p.1
 
   module _ (steady : T → Type 0) (one : (t : T) → steady t → OnlyAnswers (gives t)) where
-    gives_if-one : (ts : List T) (i : ℕ) (t : Option T) → slice_get ts i ≡ t → All steady ts → (f : A) (x : Operands V) (run : Shown Tok Cx St) (z z' : V) (s u : St) → GivesIf t f x run z s → GivesIf t f x run z' u → (z ≡ z') × (s ≡ run.state)
+    gives_if-one : (ts : List T) (i : ℕ) (t : Option T) → slice_get ts i ≡ t → All steady ts
+        → (f : A) (x : Operands V) (run : Shown Tok Cx St) (z z' : V) (s u : St) → GivesIf t f x run z s
+        → GivesIf t f x run z' u → (z ≡ z') × (s ≡ run.state)
     gives_if-one ts i (Some t) e h f x run z z' s u m n = one t (of_all steady ts i t e h) (f, x) run z z' s u m n
     gives_if-one ts i None e h f x run z z' s u m n = (m.0 ∙ sym n.0, m.1)
 

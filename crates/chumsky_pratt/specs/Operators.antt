@@ -102,7 +102,9 @@ module _ {Tok Cx St A B V : Type 0} (here : GivesShown Tok Cx St (A × Operands 
   abbrev pub GivesAnd : GivesShown Tok Cx St (Found A B × Operands V) V
   GivesAnd p = GivesFound p.0 p.1
 
-  found-one : OnlyAnswers here → OnlyAnswers there → (f : Found A B) (x : Operands V) (run : Shown Tok Cx St) (z z' : V) (s t : St) → GivesFound f x run z s → GivesFound f x run z' t → (z ≡ z') × (s ≡ run.state)
+  found-one : OnlyAnswers here → OnlyAnswers there
+      → (f : Found A B) (x : Operands V) (run : Shown Tok Cx St) (z z' : V) (s t : St) → GivesFound f x run z s
+      → GivesFound f x run z' t → (z ≡ z') × (s ≡ run.state)
   found-one h k (Here f) x = h (f, x)
   found-one h k (There f) x = k (f, x)
 

@@ -76,8 +76,12 @@ module _ {Tok Cx St Mk Er F V : Type 0} (s : Syntax Tok Cx St Mk Er F V) where
   abbrev pub PassesOver : ℕ → ℕ → Type 0
   PassesOver least i =
       (n start at below count : ℕ) (x : Option V) (m : Mk) (b : Beginning Tok Cx St) (o : Outcome (Turn V) Er St)
-      → (From s (TryInfix s (Below s n) start least at x below m) (suc count) i (Given (Some Rests)) b o → From s (TryInfix s (Below s n) start least at x below m) count (suc i) (Given (Some Rests)) b o)
-      × (From s (TryInfix s (Below s n) start least at x below m) count (suc i) (Given (Some Rests)) b o → From s (TryInfix s (Below s n) start least at x below m) (suc count) i (Given (Some Rests)) b o)
+      →
+      (From s (TryInfix s (Below s n) start least at x below m) (suc count) i (Given (Some Rests)) b o
+      → From s (TryInfix s (Below s n) start least at x below m) count (suc i) (Given (Some Rests)) b o)
+      ×
+      (From s (TryInfix s (Below s n) start least at x below m) count (suc i) (Given (Some Rests)) b o
+      → From s (TryInfix s (Below s n) start least at x below m) (suc count) i (Given (Some Rests)) b o)
 
   pub weak_passed : (least i left right : ℕ) (chains : Bool) → s.stands i ≡ Infix left right chains → left < least → PassesOver least i
   weak_passed least i left right chains e l n start at below count x m b o =
@@ -106,8 +110,12 @@ module _ {Tok Cx St Mk Er F V : Type 0} (s : Syntax Tok Cx St Mk Er F V) where
   abbrev pub PassesOverUnder : ℕ → ℕ → Type 0
   PassesOverUnder below i =
       (n start least at count : ℕ) (x : Option V) (m : Mk) (b : Beginning Tok Cx St) (o : Outcome (Turn V) Er St)
-      → (From s (TryInfix s (Below s n) start least at x below m) (suc count) i (Given (Some Rests)) b o → From s (TryInfix s (Below s n) start least at x below m) count (suc i) (Given (Some Rests)) b o)
-      × (From s (TryInfix s (Below s n) start least at x below m) count (suc i) (Given (Some Rests)) b o → From s (TryInfix s (Below s n) start least at x below m) (suc count) i (Given (Some Rests)) b o)
+      →
+      (From s (TryInfix s (Below s n) start least at x below m) (suc count) i (Given (Some Rests)) b o
+      → From s (TryInfix s (Below s n) start least at x below m) count (suc i) (Given (Some Rests)) b o)
+      ×
+      (From s (TryInfix s (Below s n) start least at x below m) count (suc i) (Given (Some Rests)) b o
+      → From s (TryInfix s (Below s n) start least at x below m) (suc count) i (Given (Some Rests)) b o)
 
   pub bounded_passed : (below i left right : ℕ) (chains : Bool) → s.stands i ≡ Infix left right chains → below ≤ left → PassesOverUnder below i
   bounded_passed below i left right chains e l n start least at count x m b o =

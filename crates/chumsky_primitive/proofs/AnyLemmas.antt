@@ -20,10 +20,14 @@ module _ {Tok Cx St Er : Type 0} (after : St → Tok → St) (old : Held Tok Cx 
   stays (Some t) new s k = let no : ⊥ = cc in absurd no
 
   -- where no token is there, none is taken
-  pub any_stays : (new : Held Tok Cx St Er) → is_some (slice_get old.tokens.list old.place) ≡ false → new ≡ took after old (slice_get old.tokens.list old.place) → (slice_get old.tokens.list old.place ≡ None) × (new ≡ old)
+  pub any_stays : (new : Held Tok Cx St Er) → is_some (slice_get old.tokens.list old.place) ≡ false
+      → new ≡ took after old (slice_get old.tokens.list old.place)
+      → (slice_get old.tokens.list old.place ≡ None) × (new ≡ old)
   any_stays new s k = stays _ new s k
 
-module _ {I Tok Sp Cu Er St Mk Cx V : Type 0} (source : input_trait.Ghosts I Cu Tok Sp) (IsOf : Tok → V → Type 0) (safe : Tok → Type 0) (errors : error_trait.Ghosts Er I Tok Sp) (states : inspector_trait.Ghosts St I Mk Tok Sp) (old : Held Tok Cx states.Seen errors.Seen) where
+module _ {I Tok Sp Cu Er St Mk Cx V : Type 0} (source : input_trait.Ghosts I Cu Tok Sp) (IsOf : Tok → V → Type 0)
+    (safe : Tok → Type 0) (errors : error_trait.Ghosts Er I Tok Sp) (states : inspector_trait.Ghosts St I Mk Tok Sp)
+    (old : Held Tok Cx states.Seen errors.Seen) where
   pub any_takes : (t : Tok) (v : V) (new : Held Tok Cx states.Seen errors.Seen) → slice_get old.tokens.list old.place ≡ Some t → IsOf t v → new ≡ took states.after old (Some t)
       → Ran errors.merged errors.takes_no_memory (MeansAny source IsOf safe errors states) true old new (Ok (Some v))
   any_takes t v new e s k =
@@ -49,7 +53,12 @@ module _ {I Tok Sp Cu Er St Mk Cx V : Type 0} (source : input_trait.Ghosts I Cu 
   pub any_misses : (w : Bool) (mid new : Held Tok Cx states.Seen errors.Seen) (f : Fault) → slice_get old.tokens.list old.place ≡ None → mid ≡ old
       → Fails errors.merged errors.takes_no_memory (expects source errors mid.tokens (wanted.Any ∷ []) None mid.place mid.place) mid new f
       → Ran errors.merged errors.takes_no_memory (MeansAny source IsOf safe errors states) w old new (Err f)
-  any_misses w mid new f e s k = misses w new f e (subst (λ (h : Held Tok Cx states.Seen errors.Seen). Fails errors.merged errors.takes_no_memory (expects source errors h.tokens (wanted.Any ∷ []) None h.place h.place) h new f) s k)
+  any_misses w mid new f e s k =
+      misses w new f e
+      (subst
+      (λ (h : Held Tok Cx states.Seen errors.Seen). Fails errors.merged errors.takes_no_memory
+      (expects source errors h.tokens (wanted.Any ∷ []) None h.place h.place) h new f)
+      s k)
 
   pub any_lacks : (new : Held Tok Cx states.Seen errors.Seen) → LacksToken safe old new
       → Ran errors.merged errors.takes_no_memory (MeansAny source IsOf safe errors states) true old new (Err (fault.Stop Memory))

@@ -39,18 +39,29 @@ module _ {Tok Cx St Er E V : Type 0} (merged : Er → Er → Er) (free : Type 0)
         meant = record { call = calls w (Ok v) met e; does = inl refl; later = λ a. ahead.place };
         answered = refl;
         state = ap (λ (z : Held Tok Cx St Er). z.state) n;
-        left = record { end = ap (λ (z : Held Tok Cx St Er). z.place) n; kept = ap (λ (z : Held Tok Cx St Er). z.kept) n; emitted = ap (λ (z : Held Tok Cx St Er). z.emitted) n; stopped = ap (λ (z : Held Tok Cx St Er). z.stopped) n ∙ ahead.stopped };
+        left =
+            record {
+              end = ap (λ (z : Held Tok Cx St Er). z.place) n;
+              kept = ap (λ (z : Held Tok Cx St Er). z.kept) n;
+              emitted = ap (λ (z : Held Tok Cx St Er). z.emitted) n;
+              stopped = ap (λ (z : Held Tok Cx St Er). z.stopped) n ∙ ahead.stopped;
+            };
         same = record { tokens = ap (λ (z : Held Tok Cx St Er). z.tokens) n ∙ ahead.tokens; context = ap (λ (z : Held Tok Cx St Er). z.context) n ∙ ahead.context };
       }
 
   -- the closure's own event, after what it kept
-  kept_twice : (e : Event Er) → primary merged (option_to_list (primary merged (option_to_list old.kept ++ option_to_list left.kept)) ++ e ∷ []) ≡ primary merged (option_to_list old.kept ++ (option_to_list left.kept ++ e ∷ []))
+  kept_twice : (e : Event Er)
+      → primary merged (option_to_list (primary merged (option_to_list old.kept ++ option_to_list left.kept)) ++ e ∷ [])
+      ≡ primary merged (option_to_list old.kept ++ (option_to_list left.kept ++ e ∷ []))
   kept_twice e = primary-append merged (option_to_list old.kept ++ option_to_list left.kept) (e ∷ []) ∙ ap (primary merged) (append_assoc (option_to_list old.kept) (option_to_list left.kept) (e ∷ []))
 
   event_before : (q : ℕ) → HasEventAt q (option_to_list (primary merged (option_to_list old.kept ++ option_to_list left.kept))) → HasEventAt q (option_to_list old.kept ++ option_to_list left.kept)
   event_before q h =
       subst (HasEventAt q) (append-nil (option_to_list old.kept ++ option_to_list left.kept))
-      (has_event_at-kept merged q (option_to_list old.kept ++ option_to_list left.kept) [] (subst (HasEventAt q) (sym (append-nil (option_to_list (primary merged (option_to_list old.kept ++ option_to_list left.kept))))) h))
+      (has_event_at-kept merged q (option_to_list old.kept ++ option_to_list left.kept) []
+      (subst (HasEventAt q)
+      (sym (append-nil (option_to_list (primary merged (option_to_list old.kept ++ option_to_list left.kept)))))
+      h))
 
   adds : {x : E} {mid new : Held Tok Cx St Er} → Forward start left → reads start (Err (failure.Error x)) left → start ≡ without_errors old
       → mid ≡ brought_back merged old.kept old.emitted left → (k : Fault) → Adds merged free (record { place = old.place; error = seen x }) mid new k
@@ -64,7 +75,12 @@ module _ {Tok Cx St Er E V : Type 0} (merged : Er → Er → Er) (free : Type 0)
         state = ap (λ (z : Held Tok Cx St Er). z.state) a ∙ ap (λ (z : Held Tok Cx St Er). z.state) n;
         left = record {
           end = ap (λ (z : Held Tok Cx St Er). z.place) a ∙ ap (λ (z : Held Tok Cx St Er). z.place) n;
-          kept = ap (λ (z : Held Tok Cx St Er). z.kept) a ∙ ap (λ (z : Held Tok Cx St Er). primary merged (option_to_list z.kept ++ record { place = old.place; error = seen x } ∷ [])) n ∙ kept_twice (record { place = old.place; error = seen x });
+          kept =
+              ap (λ (z : Held Tok Cx St Er). z.kept) a
+              ∙ ap (λ (z : Held Tok Cx St Er). primary merged
+              (option_to_list z.kept ++ record { place = old.place; error = seen x } ∷ []))
+              n
+              ∙ kept_twice (record { place = old.place; error = seen x });
           emitted = ap (λ (z : Held Tok Cx St Er). z.emitted) a ∙ ap (λ (z : Held Tok Cx St Er). z.emitted) n;
           stopped = ap (λ (z : Held Tok Cx St Er). z.stopped) a ∙ ap (λ (z : Held Tok Cx St Er). z.stopped) n ∙ ahead.stopped;
         };

@@ -16,7 +16,9 @@ use Rattle.chumsky_parser.specs.Failure.{Misses, expects, wanting}
 use Rattle.chumsky_parser.proofs.FailureLemmas.{ran-yes, ran-halts, ran-misses}
 use Rattle.chumsky_primitive.specs.End.{MeansEnd}
 
-module _ {I Tok Sp Cu Er St Mk Cx : Type 0} (source : input_trait.Ghosts I Cu Tok Sp) (errors : error_trait.Ghosts Er I Tok Sp) (states : inspector_trait.Ghosts St I Mk Tok Sp) (w : Bool) (old : Held Tok Cx states.Seen errors.Seen) where
+module _ {I Tok Sp Cu Er St Mk Cx : Type 0} (source : input_trait.Ghosts I Cu Tok Sp)
+    (errors : error_trait.Ghosts Er I Tok Sp) (states : inspector_trait.Ghosts St I Mk Tok Sp) (w : Bool)
+    (old : Held Tok Cx states.Seen errors.Seen) where
   pub end_there : (new : Held Tok Cx states.Seen errors.Seen) → None ≡ slice_get old.tokens.list old.place → new ≡ old
       → Ran errors.merged errors.takes_no_memory (MeansEnd source errors states) w old new (Ok (wanting w tt))
   end_there new e k =
@@ -27,7 +29,9 @@ module _ {I Tok Sp Cu Er St Mk Cx : Type 0} (source : input_trait.Ghosts I Cu To
   end_unmarked new k may =
       rw k (ran-halts errors.merged errors.takes_no_memory _ w old old (record { tokens = refl; context = refl }) refl (λ o v s. record { by_token = inl (may, v, s) }))
 
-  pub end_unrestored : (t : Tok) (mid new : Held Tok Cx states.Seen errors.Seen) → Some t ≡ slice_get old.tokens.list old.place → mid ≡ took states.after old (Some t) → new ≡ mid → (states.takes_no_memory → ⊥)
+  pub end_unrestored : (t : Tok) (mid new : Held Tok Cx states.Seen errors.Seen)
+      → Some t ≡ slice_get old.tokens.list old.place → mid ≡ took states.after old (Some t) → new ≡ mid
+      → (states.takes_no_memory → ⊥)
       → Ran errors.merged errors.takes_no_memory (MeansEnd source errors states) w old new (Err (fault.Stop Memory))
   end_unrestored t mid new e k n may =
       rw (n, k) (ran-halts errors.merged errors.takes_no_memory _ w old (took states.after old (Some t)) (record { tokens = refl; context = refl }) refl
@@ -35,12 +39,16 @@ module _ {I Tok Sp Cu Er St Mk Cx : Type 0} (source : input_trait.Ghosts I Cu To
 
   -- the event of the end, where the token was taken and gone back from
   back_from : (t : Tok) (new : Held Tok Cx states.Seen errors.Seen) (f : Fault) → Some t ≡ slice_get old.tokens.list old.place
-      → Fails errors.merged errors.takes_no_memory (expects source errors old.tokens (wanted.EndOfInput ∷ []) (Some t) old.place (old.place + 1)) (record old { state = states.back (states.after old.state t) (states.mark old.state) }) new f
+      → Fails errors.merged errors.takes_no_memory
+      (expects source errors old.tokens (wanted.EndOfInput ∷ []) (Some t) old.place (old.place + 1))
+      (record old { state = states.back (states.after old.state t) (states.mark old.state) }) new f
       → Ran errors.merged errors.takes_no_memory (MeansEnd source errors states) w old new (Err f)
   back_from t new f e k =
       ran-moved (record { tokens = refl; context = refl }) refl refl refl (λ o h. record { by_token = rw (sym e) (inr (inr h)) })
       (ran-misses errors.merged errors.takes_no_memory
-      (λ b o. Misses errors.takes_no_memory (expects source errors b.tokens (wanted.EndOfInput ∷ []) (Some t) b.start (b.start + 1)) b.start (states.back (states.after old.state t) (states.mark old.state)) o)
+      (λ b o. Misses errors.takes_no_memory
+      (expects source errors b.tokens (wanted.EndOfInput ∷ []) (Some t) b.start (b.start + 1)) b.start
+      (states.back (states.after old.state t) (states.mark old.state)) o)
       w (record old { state = states.back (states.after old.state t) (states.mark old.state) }) _ new f k (λ o h. h))
 
   pub end_misses : (t : Tok) (m : Marks Tok states.Marked) (past : ℕ) (mid back new : Held Tok Cx states.Seen errors.Seen) (f : Fault)
@@ -49,6 +57,9 @@ module _ {I Tok Sp Cu Er St Mk Cx : Type 0} (source : input_trait.Ghosts I Cu To
       → Ran errors.merged errors.takes_no_memory (MeansEnd source errors states) w old new (Err f)
   end_misses t m past mid back new f e q k p n h =
       let uncut : take (length old.emitted) old.emitted ≡ old.emitted = take-length old.emitted in
-      let there : back ≡ record old { state = states.back (states.after old.state t) (states.mark old.state) } = n ∙ ap (λ (x : Held Tok Cx states.Seen errors.Seen). gone_back states.back x m) k ∙ ap (gone_back states.back (took states.after old (Some t))) q ∙ ap (λ es. record old { state = states.back (states.after old.state t) (states.mark old.state); emitted = es }) uncut in
+      let there : back ≡ record old { state = states.back (states.after old.state t) (states.mark old.state) } =
+      n ∙ ap (λ (x : Held Tok Cx states.Seen errors.Seen). gone_back states.back x m) k
+      ∙ ap (gone_back states.back (took states.after old (Some t))) q
+      ∙ ap (λ es. record old { state = states.back (states.after old.state t) (states.mark old.state); emitted = es }) uncut in
       let far : past ≡ old.place + 1 = p ∙ ap (λ (x : Held Tok Cx states.Seen errors.Seen). x.place) k in
       back_from t new f e (rw (there, q, far) at h)

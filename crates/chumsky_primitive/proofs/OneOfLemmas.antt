@@ -21,11 +21,15 @@ use Rattle.chumsky_primitive.specs.Any.{CountsAs}
 use Rattle.chumsky_primitive.proofs.AnyLemmas.{any_takes, any_skips, any_lacks}
 
 -- where a cursor stands that was moved past what was found
-pub past_is : {A Tok Cu : Type 0} (value : A → Tok) (place : Cu → ℕ) (before after : Cu) (found : Option A) → MatchOption found (after ≡ before) (λ _. place after ≡ place before + 1) → place after ≡ past (option_map value found) (place before)
+pub past_is : {A Tok Cu : Type 0} (value : A → Tok) (place : Cu → ℕ) (before after : Cu) (found : Option A)
+    → MatchOption found (after ≡ before) (λ _. place after ≡ place before + 1)
+    → place after ≡ past (option_map value found) (place before)
 past_is value place before after None m = ap place m
 past_is value place before after (Some t) m = m
 
-module _ {I Tok Sp Cu Er St Mk Cx S : Type 0} (source : input_trait.Ghosts I Cu Tok Sp) (seen : Tok → S) (safe : Tok → Type 0) (errors : error_trait.Ghosts Er I Tok Sp) (states : inspector_trait.Ghosts St I Mk Tok Sp) (test : Tok → Bool) (what : List (Wanted Tok)) (old : Held Tok Cx states.Seen errors.Seen) where
+module _ {I Tok Sp Cu Er St Mk Cx S : Type 0} (source : input_trait.Ghosts I Cu Tok Sp) (seen : Tok → S)
+    (safe : Tok → Type 0) (errors : error_trait.Ghosts Er I Tok Sp) (states : inspector_trait.Ghosts St I Mk Tok Sp)
+    (test : Tok → Bool) (what : List (Wanted Tok)) (old : Held Tok Cx states.Seen errors.Seen) where
   taken : {found : Option Tok} {t : Tok} {tokens : Layout Tok} {place : ℕ} (new : Held Tok Cx states.Seen errors.Seen) → found ≡ Some t → tokens ≡ old.tokens → place ≡ past found old.place
       → new ≡ record old { tokens = tokens; place = place; state = states.after old.state t } → new ≡ record old { place = old.place + 1; state = states.after old.state t }
   taken {t = t} new p l k m =
@@ -39,14 +43,16 @@ module _ {I Tok Sp Cu Er St Mk Cx S : Type 0} (source : input_trait.Ghosts I Cu 
   -- a token that passes, taken by value; the same without one; and want of memory for it
   pub tested_takes : {found : Option Tok} {t v : Tok} {tokens : Layout Tok} {place : ℕ} (new : Held Tok Cx states.Seen errors.Seen)
       → found ≡ slice_get old.tokens.list old.place → (found ≡ Some t) × (test t ≡ true) → tokens ≡ old.tokens → place ≡ past found old.place → seen v ≡ seen t
-      → new ≡ record old { tokens = tokens; place = place; state = states.after old.state t } → Ran errors.merged errors.takes_no_memory (MeansTested source seen safe errors states test what) true old new (Ok (Some v))
+      → new ≡ record old { tokens = tokens; place = place; state = states.after old.state t }
+      → Ran errors.merged errors.takes_no_memory (MeansTested source seen safe errors states test what) true old new (Ok (Some v))
   tested_takes {found} {t} {v} {tokens} {place} new e p l k s m =
       ran-weaker errors.merged errors.takes_no_memory _ _ true old new (Ok (Some v)) (means true (Some t) true (sym p.0 ∙ e) p.1)
       (any_takes source (CountsAs seen) safe errors states old t v new (sym e ∙ p.0) s (taken new p.0 l k m))
 
   pub tested_skips : {found : Option Tok} {t : Tok} {tokens : Layout Tok} {place : ℕ} (new : Held Tok Cx states.Seen errors.Seen)
       → found ≡ slice_get old.tokens.list old.place → (found ≡ Some t) × (test t ≡ true) → tokens ≡ old.tokens → place ≡ past found old.place
-      → new ≡ record old { tokens = tokens; place = place; state = states.after old.state t } → Ran errors.merged errors.takes_no_memory (MeansTested source seen safe errors states test what) false old new (Ok None)
+      → new ≡ record old { tokens = tokens; place = place; state = states.after old.state t }
+      → Ran errors.merged errors.takes_no_memory (MeansTested source seen safe errors states test what) false old new (Ok None)
   tested_skips {found} {t} {tokens} {place} new e p l k m =
       let there : slice_get old.tokens.list old.place ≡ Some t = sym e ∙ p.0 in
       ran-weaker errors.merged errors.takes_no_memory _ _ false old new (Ok None) (means false (Some t) true (sym there) p.1)
@@ -59,7 +65,9 @@ module _ {I Tok Sp Cu Er St Mk Cx S : Type 0} (source : input_trait.Ghosts I Cu 
       (any_lacks source (CountsAs seen) safe errors states old old (refl, (t, sym e ∙ p.0, may)))
 
   -- want of memory to go back from what doesn't pass
-  pub tested_stays : (found : Option Tok) (new : Held Tok Cx states.Seen errors.Seen) → found ≡ slice_get old.tokens.list old.place → passes test found ≡ false → StaysAt states.takes_no_memory states.after found old new
+  pub tested_stays : (found : Option Tok) (new : Held Tok Cx states.Seen errors.Seen)
+      → found ≡ slice_get old.tokens.list old.place → passes test found ≡ false
+      → StaysAt states.takes_no_memory states.after found old new
       → (w : Bool) → Ran errors.merged errors.takes_no_memory (MeansTested source seen safe errors states test what) w old new (Err (fault.Stop Memory))
   tested_stays found new f p (may, inl n) w =
       rw n (ran-halts errors.merged errors.takes_no_memory _ w old old (record { tokens = refl; context = refl }) refl (λ o v s. means w found false f p o (inl (may, v, s))))
@@ -74,7 +82,8 @@ module _ {I Tok Sp Cu Er St Mk Cx S : Type 0} (source : input_trait.Ghosts I Cu 
   back_from found new f e p k w =
       ran-moved (record { tokens = refl; context = refl }) refl refl refl (λ o h. means w found false e p o (inr (inr h)))
       (ran-misses errors.merged errors.takes_no_memory
-      (λ b o. Misses errors.takes_no_memory (expects source errors b.tokens what found b.start (past found b.start)) b.start (states.back (told states.after found old.state) (states.mark old.state)) o)
+      (λ b o. Misses errors.takes_no_memory (expects source errors b.tokens what found b.start (past found b.start))
+      b.start (states.back (told states.after found old.state) (states.mark old.state)) o)
       w (gone_back_from states.after states.mark states.back found old) _ new f k (λ o h. h))
 
   pub tested_fails : (found : Option Tok) (to : ℕ) (mid new : Held Tok Cx states.Seen errors.Seen) (f : Fault)

@@ -17,7 +17,9 @@ abbrev pub PointsTo : {Tok : Type 0} → Tok → Bor Tok → Type 0
 PointsTo t v = v.now ≡ t
 
 -- `IsOf t v` says that v is the token t, by value or by reference
-module _ {I Tok Sp Cu Er St Mk Cx V : Type 0} (source : input_trait.Ghosts I Cu Tok Sp) (IsOf : Tok → V → Type 0) (safe : Tok → Type 0) (errors : error_trait.Ghosts Er I Tok Sp) (states : inspector_trait.Ghosts St I Mk Tok Sp) where
+module _ {I Tok Sp Cu Er St Mk Cx V : Type 0} (source : input_trait.Ghosts I Cu Tok Sp) (IsOf : Tok → V → Type 0)
+    (safe : Tok → Type 0) (errors : error_trait.Ghosts Er I Tok Sp)
+    (states : inspector_trait.Ghosts St I Mk Tok Sp) where
   -- a token is there, and is taken: with a value where one is wanted
   pub record Takes (t : Tok) (b : Beginning Tok Cx states.Seen) (o : Outcome V errors.Seen states.Seen) : Type 0 where
     pub value : Option V

@@ -15,7 +15,9 @@ counts-same seen t v w e d = e ∙ sym d
 pub points-same : {Tok : Type 0} (t : Tok) (v w : Bor Tok) → PointsTo t v → PointsTo t w → v.now ≡ w.now
 points-same t v w e d = e ∙ sym d
 
-module _ {I Tok Sp Cu Er St Mk Cx V : Type 0} (source : input_trait.Ghosts I Cu Tok Sp) (IsOf : Tok → V → Type 0) (safe : Tok → Type 0) (errors : error_trait.Ghosts Er I Tok Sp) (states : inspector_trait.Ghosts St I Mk Tok Sp) where
+module _ {I Tok Sp Cu Er St Mk Cx V : Type 0} (source : input_trait.Ghosts I Cu Tok Sp) (IsOf : Tok → V → Type 0)
+    (safe : Tok → Type 0) (errors : error_trait.Ghosts Er I Tok Sp)
+    (states : inspector_trait.Ghosts St I Mk Tok Sp) where
   any_ends : (t : Option Tok) (b : Beginning Tok Cx states.Seen) (o : Outcome V errors.Seen states.Seen) → MeansAnyAt source IsOf safe errors states t b o → IsAnswer o.verdict → b.start ≤ o.end
   any_ends (Some t) b o (inl r) a = absurd (subst IsAnswer r.1 a)
   any_ends (Some t) b o (inr m) a = omega (arith, ap (λ (x : Outcome V errors.Seen states.Seen). x.end) m.outcome)
@@ -25,13 +27,23 @@ module _ {I Tok Sp Cu Er St Mk Cx V : Type 0} (source : input_trait.Ghosts I Cu 
   any-ends b o m a = any_ends _ b o m.by_token a
 
   module _ (same : V → V → Type 0) (alike_values : (t : Tok) (v w : V) → IsOf t v → IsOf t w → same v w) where
-    any_agree : (t : Option Tok) (b c : Beginning Tok Cx states.Seen) (o q : Outcome V errors.Seen states.Seen) → Alike b c → MeansAnyAt source IsOf safe errors states t b o → MeansAnyAt source IsOf safe errors states t c q → IsAnswer o.verdict → IsAnswer q.verdict → Agree same o q
+    any_agree : (t : Option Tok) (b c : Beginning Tok Cx states.Seen) (o q : Outcome V errors.Seen states.Seen)
+        → Alike b c → MeansAnyAt source IsOf safe errors states t b o
+        → MeansAnyAt source IsOf safe errors states t c q → IsAnswer o.verdict → IsAnswer q.verdict → Agree same o q
     any_agree (Some t) b c o q alike (inl r) n a z = absurd (subst IsAnswer r.1 a)
     any_agree (Some t) b c o q alike (inr m) (inl r) a z = absurd (subst IsAnswer r.1 z)
     any_agree (Some t) b c o q alike (inr m) (inr n) a z =
         let e : Outcome V errors.Seen states.Seen = record { verdict = Yes m.value; end = b.start + 1; state = states.after b.state t; events = []; emitted = [] } in
         let f : Outcome V errors.Seen states.Seen = record { verdict = Yes n.value; end = c.start + 1; state = states.after c.state t; events = []; emitted = [] } in
-        let ef : Agree same e f = record { answer = wanted-same (IsOf t) same (alike_values t) b.wanted c.wanted m.value n.value m.is_value n.is_value; end = ap (λ p. p + 1) alike.start; state = ap (λ s. states.after s t) alike.state; events = refl; emitted = refl } in
+        let ef : Agree same e f =
+        record {
+          answer = wanted-same (IsOf t) same (alike_values t) b.wanted c.wanted m.value n.value m.is_value n.is_value;
+          end = ap (λ p. p + 1) alike.start;
+          state = ap (λ s. states.after s t) alike.state;
+          events = refl;
+          emitted = refl;
+        }
+        in
         rw (m.outcome, n.outcome) ef
     any_agree None b c o q alike m n a z = misses-agree same (cc (alike.tokens, alike.start)) alike.start alike.state m n a z
 

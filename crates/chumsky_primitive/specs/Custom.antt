@@ -90,11 +90,18 @@ module _ {Tok Cx St Er E V : Type 0} (seen : E → Er) (reads : Reads Tok Cx St 
   pub record IsSteady : Type 0 where
     pub alike : (b : Beginning Tok Cx St) (x y : Call reads b) → EndAlike seen x.returned y.returned x.left y.left
 
-module _ {I X Tok Sp Cu Er St Cx Mk V F : Type 0} (source : input_trait.Ghosts I Cu Tok Sp) (errors : error_trait.Ghosts Er I Tok Sp) (states : inspector_trait.Ghosts St I Mk Tok Sp) (g : Shared F (MutBor (InputRef I X Cu Tok Sp Er St Cx Mk) × Unit {0}) (Result V (Failure Er) × (MutBor (InputRef I X Cu Tok Sp Er St Cx Mk) × Unit {0}))) (f : F) where
+module _ {I X Tok Sp Cu Er St Cx Mk V F : Type 0} (source : input_trait.Ghosts I Cu Tok Sp)
+    (errors : error_trait.Ghosts Er I Tok Sp) (states : inspector_trait.Ghosts St I Mk Tok Sp)
+    (g : Shared F (MutBor (InputRef I X Cu Tok Sp Er St Cx Mk) × Unit {0})
+    (Result V (Failure Er) × (MutBor (InputRef I X Cu Tok Sp Er St Cx Mk) × Unit {0})))
+    (f : F) where
   -- the closure may be called on any input; after a value and after an error it stands where it began or further on, in the same tokens, under the same context, with the older emitted errors before any new ones, and no parser that it ran has stopped; the stop that it answers is the first of those that it ran into; and it keeps the lent state
   pub record MayRun : Type 0 where
     pub may : (p : MutBor (InputRef I X Cu Tok Sp Er St Cx Mk)) → g.pre f (p, tt)
-    pub keeps : (p left : MutBor (InputRef I X Cu Tok Sp Er St Cx Mk)) (r : Result V (Failure Er)) → g.post f (p, tt) (r, (left, tt)) → GoesForward r (held source errors states p.now) (held source errors states left.now) × (left.now.state.ghost_name ≡ p.now.state.ghost_name)
+    pub keeps : (p left : MutBor (InputRef I X Cu Tok Sp Er St Cx Mk)) (r : Result V (Failure Er))
+        → g.post f (p, tt) (r, (left, tt))
+        → GoesForward r (held source errors states p.now) (held source errors states left.now)
+        × (left.now.state.ghost_name ≡ p.now.state.ghost_name)
 
   -- what a call of the closure may do
   pub record Calls (before : Held Tok Cx states.Seen errors.Seen) (r : Result V (Failure Er)) (after : Held Tok Cx states.Seen errors.Seen) : Type 0 where

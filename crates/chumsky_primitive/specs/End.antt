@@ -13,7 +13,10 @@ module _ {I Tok Sp Cu Er St Mk Cx : Type 0} (source : input_trait.Ghosts I Cu To
   abbrev pub MeansEndAt : Option Tok → Meaning Tok Cx states.Seen errors.Seen (Unit {0})
   MeansEndAt (Some t) b o =
       let gone = states.after b.state t in
-      Refuses (states.takes_no_memory → ⊥) gone o ⊎ Misses errors.takes_no_memory (expects source errors b.tokens (wanted.EndOfInput ∷ []) (Some t) b.start (b.start + 1)) b.start (states.back gone (states.mark b.state)) o
+      Refuses (states.takes_no_memory → ⊥) gone o
+      ⊎ Misses errors.takes_no_memory
+      (expects source errors b.tokens (wanted.EndOfInput ∷ []) (Some t) b.start (b.start + 1)) b.start
+      (states.back gone (states.mark b.state)) o
   MeansEndAt None b o = Given (wanting b.wanted tt) b o
 
   pub record MeansEnd (b : Beginning Tok Cx states.Seen) (o : Outcome (Unit {0}) errors.Seen states.Seen) : Type 0 where

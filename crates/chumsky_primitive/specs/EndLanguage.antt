@@ -63,7 +63,9 @@ never_refused [] e = absurd (cc e)
 never_refused (t ∷ ts) e = absurd (cc e)
 
 module _ {I Tok Sp Cu Er St Mk Cx : Type 0} (source : input_trait.Ghosts I Cu Tok Sp) (errors : error_trait.Ghosts Er I Tok Sp) (states : inspector_trait.Ghosts St I Mk Tok Sp) where
-  end_by : (b : Beginning Tok Cx states.Seen) → Within b → (o : Outcome (Unit {0}) errors.Seen states.Seen) (found : Option Tok) → slice_get b.tokens.list b.start ≡ found → MeansEndAt source errors states found b o
+  end_by : (b : Beginning Tok Cx states.Seen) → Within b
+      → (o : Outcome (Unit {0}) errors.Seen states.Seen) (found : Option Tok)
+      → slice_get b.tokens.list b.start ≡ found → MeansEndAt source errors states found b o
       → Answers (λ (_ : Unit {0}). ⊤) (end_ends (drop b.start b.tokens.list)) b.tokens.list o.verdict o.end
   end_by b w o (Some t) e (inl r) = refuses-by (λ (_ : Unit {0}). ⊤) _ b.tokens.list o r
   end_by b w o (Some t) e (inr m) =

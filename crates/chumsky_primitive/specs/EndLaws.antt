@@ -17,7 +17,9 @@ module _ {I Tok Sp Cu Er St Mk Cx : Type 0} (source : input_trait.Ghosts I Cu To
   pub end-ends : EndsAfterStart (MeansEnd {Cx = Cx} source errors states)
   end-ends b o m a = elim m.by_token [ inl r ↦ absurd (subst IsAnswer r.1 a) | inr h ↦ end_ends _ b o h a ]
 
-  end_agree : (t : Option Tok) (b c : Beginning Tok Cx states.Seen) (o q : Outcome (Unit {0}) errors.Seen states.Seen) → Alike b c → MeansEndAt source errors states t b o → MeansEndAt source errors states t c q → IsAnswer o.verdict → IsAnswer q.verdict → Agree SameUnit o q
+  end_agree : (t : Option Tok) (b c : Beginning Tok Cx states.Seen) (o q : Outcome (Unit {0}) errors.Seen states.Seen)
+      → Alike b c → MeansEndAt source errors states t b o → MeansEndAt source errors states t c q → IsAnswer o.verdict
+      → IsAnswer q.verdict → Agree SameUnit o q
   end_agree None b c o q alike m n a z = given-agrees SameUnit _ _ (wanting-same SameUnit b.wanted c.wanted tt tt) b c o q alike m n a z
   end_agree (Some t) b c o q alike (inl r) n a z = absurd (subst IsAnswer r.1 a)
   end_agree (Some t) b c o q alike (inr m) (inl r) a z = absurd (subst IsAnswer r.1 z)

@@ -29,13 +29,17 @@ abbrev pub is_member : {Tok : Type 0} → (Tok → Tok → Bool) → Tok → Opt
 is_member equal m None = false
 is_member equal m (Some t) = equal m t
 
-module _ {I Tok Sp Cu Er St Mk Cx : Type 0} (source : input_trait.Ghosts I Cu Tok Sp) (equal : Tok → Tok → Bool) (errors : error_trait.Ghosts Er I Tok Sp) (states : inspector_trait.Ghosts St I Mk Tok Sp) where
+module _ {I Tok Sp Cu Er St Mk Cx : Type 0} (source : input_trait.Ghosts I Cu Tok Sp) (equal : Tok → Tok → Bool)
+    (errors : error_trait.Ghosts Er I Tok Sp) (states : inspector_trait.Ghosts St I Mk Tok Sp) where
   -- a member is taken; where another token or none is found, that is gone back from
   abbrev pub MeansMemberFound : Tok → Option Tok → Bool → Meaning Tok Cx states.Seen errors.Seen (Unit {0})
   MeansMemberFound m found true b o = o ≡ record { verdict = Yes None; end = past found b.start; state = told states.after found b.state; events = []; emitted = [] }
   MeansMemberFound m found false b o =
       let gone = told states.after found b.state in
-      Refuses (states.takes_no_memory → ⊥) gone o ⊎ Misses errors.takes_no_memory (expects source errors b.tokens (wanted.Token m ∷ []) found b.start (past found b.start)) b.start (states.back gone (states.mark b.state)) o
+      Refuses (states.takes_no_memory → ⊥) gone o
+      ⊎ Misses errors.takes_no_memory
+      (expects source errors b.tokens (wanted.Token m ∷ []) found b.start (past found b.start)) b.start
+      (states.back gone (states.mark b.state)) o
 
   -- one member
   pub record MeansMember (m : Tok) (b : Beginning Tok Cx states.Seen) (o : Outcome (Unit {0}) errors.Seen states.Seen) : Type 0 where

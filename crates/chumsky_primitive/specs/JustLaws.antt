@@ -14,8 +14,10 @@ pub past-after : {Tok : Type 0} (t : Option Tok) (p : ℕ) → p ≤ past t p
 past-after None p = omega arith
 past-after (Some t) p = omega arith
 
-module _ {I Tok Sp Cu Er St Mk Cx : Type 0} (source : input_trait.Ghosts I Cu Tok Sp) (equal : Tok → Tok → Bool) (errors : error_trait.Ghosts Er I Tok Sp) (states : inspector_trait.Ghosts St I Mk Tok Sp) where
-  found_ends : (m : Tok) (t : Option Tok) (e : Bool) (b : Beginning Tok Cx states.Seen) (o : Outcome (Unit {0}) errors.Seen states.Seen) → MeansMemberFound source equal errors states m t e b o → IsAnswer o.verdict → b.start ≤ o.end
+module _ {I Tok Sp Cu Er St Mk Cx : Type 0} (source : input_trait.Ghosts I Cu Tok Sp) (equal : Tok → Tok → Bool)
+    (errors : error_trait.Ghosts Er I Tok Sp) (states : inspector_trait.Ghosts St I Mk Tok Sp) where
+  found_ends : (m : Tok) (t : Option Tok) (e : Bool) (b : Beginning Tok Cx states.Seen) (o : Outcome (Unit {0}) errors.Seen states.Seen)
+      → MeansMemberFound source equal errors states m t e b o → IsAnswer o.verdict → b.start ≤ o.end
   found_ends m t true b o h a = omega (arith, past-after t b.start, ap (λ (x : Outcome (Unit {0}) errors.Seen states.Seen). x.end) h)
   found_ends m t false b o (inl r) a = absurd (subst IsAnswer r.1 a)
   found_ends m t false b o (inr h) a = misses-ends SameUnit (omega arith) h a
@@ -27,7 +29,11 @@ module _ {I Tok Sp Cu Er St Mk Cx : Type 0} (source : input_trait.Ghosts I Cu To
   members-ends [] = given-ends None
   members-ends (m ∷ ms) = chained-ends _ _ (member-ends m) (λ _. members-ends ms)
 
-  found_agree : (m : Tok) (t : Option Tok) (e : Bool) (b c : Beginning Tok Cx states.Seen) (o q : Outcome (Unit {0}) errors.Seen states.Seen) → Alike b c → MeansMemberFound source equal errors states m t e b o → MeansMemberFound source equal errors states m t e c q → IsAnswer o.verdict → IsAnswer q.verdict → Agree SameUnit o q
+  found_agree : (m : Tok) (t : Option Tok) (e : Bool) (b c : Beginning Tok Cx states.Seen)
+      (o q : Outcome (Unit {0}) errors.Seen states.Seen)
+      → Alike b c → MeansMemberFound source equal errors states m t e b o
+      → MeansMemberFound source equal errors states m t e c q → IsAnswer o.verdict → IsAnswer q.verdict
+      → Agree SameUnit o q
   found_agree m t true b c o q alike h k a z =
       let x : Outcome (Unit {0}) errors.Seen states.Seen = record { verdict = Yes None; end = past t b.start; state = told states.after t b.state; events = []; emitted = [] } in
       let y : Outcome (Unit {0}) errors.Seen states.Seen = record { verdict = Yes None; end = past t c.start; state = told states.after t c.state; events = []; emitted = [] } in

@@ -39,13 +39,19 @@ module _ {Tok Cx St Er : Type 0} where
   abbrev pub StaysAt : Type 0 → (St → Tok → St) → Option Tok → Held Tok Cx St Er → Held Tok Cx St Er → Type 0
   StaysAt safe after found old new = (safe → ⊥) × ((new ≡ old) ⊎ (new ≡ record old { state = told after found old.state }))
 
-module _ {I Tok Sp Cu Er St Mk Cx S : Type 0} (source : input_trait.Ghosts I Cu Tok Sp) (seen : Tok → S) (safe : Tok → Type 0) (errors : error_trait.Ghosts Er I Tok Sp) (states : inspector_trait.Ghosts St I Mk Tok Sp) where
+module _ {I Tok Sp Cu Er St Mk Cx S : Type 0} (source : input_trait.Ghosts I Cu Tok Sp) (seen : Tok → S)
+    (safe : Tok → Type 0) (errors : error_trait.Ghosts Er I Tok Sp)
+    (states : inspector_trait.Ghosts St I Mk Tok Sp) where
   -- a token that passes is taken as any token is; another, or none, is gone back from
   abbrev pub MeansFound : List (Wanted Tok) → Option Tok → Bool → Meaning Tok Cx states.Seen errors.Seen Tok
   MeansFound what found true b o = MeansAny source (CountsAs seen) safe errors states b o
   MeansFound what found false b o =
       let gone = told states.after found b.state in
-      Refuses (states.takes_no_memory → ⊥) b.state o ⊎ (Refuses (states.takes_no_memory → ⊥) gone o ⊎ Misses errors.takes_no_memory (expects source errors b.tokens what found b.start (past found b.start)) b.start (states.back gone (states.mark b.state)) o)
+      Refuses (states.takes_no_memory → ⊥) b.state o
+      ⊎
+      (Refuses (states.takes_no_memory → ⊥) gone o ⊎ Misses errors.takes_no_memory
+      (expects source errors b.tokens what found b.start (past found b.start)) b.start
+      (states.back gone (states.mark b.state)) o)
 
   -- one token, by a test
   pub record MeansTested (test : Tok → Bool) (what : List (Wanted Tok)) (b : Beginning Tok Cx states.Seen) (o : Outcome Tok errors.Seen states.Seen) : Type 0 where

@@ -11,14 +11,20 @@ use Rattle.chumsky_primitive.specs.AnyLaws.{any-ends, any-agrees, counts-same}
 use Rattle.chumsky_primitive.specs.Just.{told}
 use Rattle.chumsky_primitive.specs.OneOf.{MeansFound, MeansTested}
 
-module _ {I Tok Sp Cu Er St Mk Cx S : Type 0} (source : input_trait.Ghosts I Cu Tok Sp) (seen : Tok → S) (safe : Tok → Type 0) (errors : error_trait.Ghosts Er I Tok Sp) (states : inspector_trait.Ghosts St I Mk Tok Sp) (what : List (Wanted Tok)) where
-  found_ends : (t : Option Tok) (e : Bool) (b : Beginning Tok Cx states.Seen) (o : Outcome Tok errors.Seen states.Seen) → MeansFound source seen safe errors states what t e b o → IsAnswer o.verdict → b.start ≤ o.end
+module _ {I Tok Sp Cu Er St Mk Cx S : Type 0} (source : input_trait.Ghosts I Cu Tok Sp) (seen : Tok → S)
+    (safe : Tok → Type 0) (errors : error_trait.Ghosts Er I Tok Sp) (states : inspector_trait.Ghosts St I Mk Tok Sp)
+    (what : List (Wanted Tok)) where
+  found_ends : (t : Option Tok) (e : Bool) (b : Beginning Tok Cx states.Seen) (o : Outcome Tok errors.Seen states.Seen)
+      → MeansFound source seen safe errors states what t e b o → IsAnswer o.verdict → b.start ≤ o.end
   found_ends t true b o m a = any-ends source (CountsAs seen) safe errors states b o m a
   found_ends t false b o (inl r) a = absurd (subst IsAnswer r.1 a)
   found_ends t false b o (inr (inl r)) a = absurd (subst IsAnswer r.1 a)
   found_ends t false b o (inr (inr m)) a = misses-ends (λ x y. x ≡ y) (omega arith) m a
 
-  found_agree : (t : Option Tok) (e : Bool) (b c : Beginning Tok Cx states.Seen) (o q : Outcome Tok errors.Seen states.Seen) → Alike b c → MeansFound source seen safe errors states what t e b o → MeansFound source seen safe errors states what t e c q → IsAnswer o.verdict → IsAnswer q.verdict → Agree (λ x y. seen x ≡ seen y) o q
+  found_agree : (t : Option Tok) (e : Bool) (b c : Beginning Tok Cx states.Seen) (o q : Outcome Tok errors.Seen states.Seen)
+      → Alike b c → MeansFound source seen safe errors states what t e b o
+      → MeansFound source seen safe errors states what t e c q → IsAnswer o.verdict → IsAnswer q.verdict
+      → Agree (λ x y. seen x ≡ seen y) o q
   found_agree t true b c o q alike m n a z = any-agrees source (CountsAs seen) safe errors states (λ x y. seen x ≡ seen y) (counts-same seen) b c o q alike m n a z
   found_agree t false b c o q alike (inl r) n a z = absurd (subst IsAnswer r.1 a)
   found_agree t false b c o q alike (inr (inl r)) n a z = absurd (subst IsAnswer r.1 a)

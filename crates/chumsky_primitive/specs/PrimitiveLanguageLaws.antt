@@ -72,17 +72,25 @@ module _ {Tok V : Type 0} (test : Tok → Bool) (IsOf : Tok → V → Type 0) wh
       by_test false e = absurd (cc e)
 
   -- what reads one token that passes, with a value of it
-  pub one-accepts : {Cx St Er spare free : Type 0} (m : Meaning Tok Cx St Er V) → Reads m (one_ends test) (λ ts v. OfFirst (λ t. IsOf t v) ts) → Moves m → (spare → free → NeverOutOfMemory m) → Accepts m (one_language test IsOf free) spare
+  pub one-accepts : {Cx St Er spare free : Type 0} (m : Meaning Tok Cx St Er V)
+      → Reads m (one_ends test) (λ ts v. OfFirst (λ t. IsOf t v) ts) → Moves m → (spare → free → NeverOutOfMemory m)
+      → Accepts m (one_language test IsOf free) spare
   one-accepts m h k q = record {
     described = λ s. record { reads = h; only = one_only; given = one_given; each = λ u. one_each; decided = never-below one_decided; further = λ d. one_further };
     moving = λ d. k;
     sparing = q;
   }
 
-module _ {I Tok Sp Cu Er St Mk Cx V : Type 0} (source : input_trait.Ghosts I Cu Tok Sp) (IsOf : Tok → V → Type 0) (safe : Tok → Type 0) (errors : error_trait.Ghosts Er I Tok Sp) (states : inspector_trait.Ghosts St I Mk Tok Sp) where
+module _ {I Tok Sp Cu Er St Mk Cx V : Type 0} (source : input_trait.Ghosts I Cu Tok Sp) (IsOf : Tok → V → Type 0)
+    (safe : Tok → Type 0) (errors : error_trait.Ghosts Er I Tok Sp)
+    (states : inspector_trait.Ghosts St I Mk Tok Sp) where
   -- a token that passes a test, where any is taken
-  any_here : (test : Tok → Bool) (b : Beginning Tok Cx states.Seen) → Within b → (o : Outcome V errors.Seen states.Seen) (t : Tok) (found : Option Tok) → slice_get b.tokens.list b.start ≡ Some t → test t ≡ true → found ≡ Some t
-      → MeansAnyAt source IsOf safe errors states found b o → Answers (λ v. OfFirst (λ t. IsOf t v) (drop b.start b.tokens.list)) (one_ends test (drop b.start b.tokens.list)) b.tokens.list o.verdict o.end
+  any_here : (test : Tok → Bool) (b : Beginning Tok Cx states.Seen) → Within b
+      → (o : Outcome V errors.Seen states.Seen) (t : Tok) (found : Option Tok)
+      → slice_get b.tokens.list b.start ≡ Some t → test t ≡ true → found ≡ Some t
+      → MeansAnyAt source IsOf safe errors states found b o
+      → Answers (λ v. OfFirst (λ t. IsOf t v) (drop b.start b.tokens.list))
+      (one_ends test (drop b.start b.tokens.list)) b.tokens.list o.verdict o.end
   any_here test b w o t None e d f m = absurd (cc f)
   any_here test b w o t (Some u) e d f (inl r) = refuses-by _ _ b.tokens.list o r
   any_here test b w o t (Some u) e d f (inr x) =
@@ -94,18 +102,27 @@ module _ {I Tok Sp Cu Er St Mk Cx V : Type 0} (source : input_trait.Ghosts I Cu 
       rw (x.outcome, token_there b.tokens.list b.start t e, d) (refl, j, z)
 
   any_by : (b : Beginning Tok Cx states.Seen) → Within b → (o : Outcome V errors.Seen states.Seen) (found : Option Tok) → slice_get b.tokens.list b.start ≡ found
-      → MeansAnyAt source IsOf safe errors states found b o → Answers (λ v. OfFirst (λ t. IsOf t v) (drop b.start b.tokens.list)) (one_ends (λ t. true) (drop b.start b.tokens.list)) b.tokens.list o.verdict o.end
+      → MeansAnyAt source IsOf safe errors states found b o
+      → Answers (λ v. OfFirst (λ t. IsOf t v) (drop b.start b.tokens.list))
+      (one_ends (λ t. true) (drop b.start b.tokens.list)) b.tokens.list o.verdict o.end
   any_by b w o None e m = misses-by _ _ b.tokens.list o (rw (none_there b.tokens.list b.start e) refl) m
   any_by b w o (Some t) e m = any_here (λ t. true) b w o t (Some t) e refl refl m
 
   -- `any`, `any_ref`
   pub any-accepts : Accepts (MeansAny {Cx = Cx} source IsOf safe errors states) (one_language (λ t. true) IsOf ((t : Tok) → safe t)) (errors.takes_no_memory × states.takes_no_memory)
-  any-accepts = one-accepts (λ t. true) IsOf _ (record { here = λ b w o m. any_by b w o (slice_get b.tokens.list b.start) refl m.by_token }) (any-moves source IsOf safe errors states) (λ q free. any-spares source errors states q.0 IsOf safe free)
+  any-accepts =
+      one-accepts (λ t. true) IsOf _
+      (record { here = λ b w o m. any_by b w o (slice_get b.tokens.list b.start) refl m.by_token })
+      (any-moves source IsOf safe errors states) (λ q free. any-spares source errors states q.0 IsOf safe free)
 
 module _ {I Tok Sp Cu Er St Mk Cx : Type 0} (source : input_trait.Ghosts I Cu Tok Sp) (errors : error_trait.Ghosts Er I Tok Sp) (states : inspector_trait.Ghosts St I Mk Tok Sp) where
   module _ {S : Type 0} (seen : Tok → S) (safe : Tok → Type 0) (test : Tok → Bool) (what : List (Wanted Tok)) where
-    found_by : (b : Beginning Tok Cx states.Seen) → Within b → (o : Outcome Tok errors.Seen states.Seen) (found : Option Tok) (p : Bool) → slice_get b.tokens.list b.start ≡ found → passes test found ≡ p
-        → MeansFound source seen safe errors states what found p b o → Answers (λ v. OfFirst (λ t. CountsAs seen t v) (drop b.start b.tokens.list)) (one_ends test (drop b.start b.tokens.list)) b.tokens.list o.verdict o.end
+    found_by : (b : Beginning Tok Cx states.Seen) → Within b
+        → (o : Outcome Tok errors.Seen states.Seen) (found : Option Tok) (p : Bool)
+        → slice_get b.tokens.list b.start ≡ found → passes test found ≡ p
+        → MeansFound source seen safe errors states what found p b o
+        → Answers (λ v. OfFirst (λ t. CountsAs seen t v) (drop b.start b.tokens.list))
+        (one_ends test (drop b.start b.tokens.list)) b.tokens.list o.verdict o.end
     found_by b w o (Some t) true e d m = any_here source (CountsAs seen) safe errors states test b w o t (slice_get b.tokens.list b.start) e d e m.by_token
     found_by b w o (Some t) false e d (inl r) = refuses-by _ _ b.tokens.list o r
     found_by b w o (Some t) false e d (inr (inl r)) = refuses-by _ _ b.tokens.list o r
@@ -116,7 +133,8 @@ module _ {I Tok Sp Cu Er St Mk Cx : Type 0} (source : input_trait.Ghosts I Cu To
     found_by b w o None false e d (inr (inr m)) = misses-by _ _ b.tokens.list o (rw (none_there b.tokens.list b.start e) refl) m
 
     -- `one_of`, `none_of`
-    pub tested-accepts : Accepts (MeansTested {Cx = Cx} source seen safe errors states test what) (one_language test (CountsAs seen) ((t : Tok) → safe t)) (errors.takes_no_memory × states.takes_no_memory)
+    pub tested-accepts : Accepts (MeansTested {Cx = Cx} source seen safe errors states test what)
+        (one_language test (CountsAs seen) ((t : Tok) → safe t)) (errors.takes_no_memory × states.takes_no_memory)
     tested-accepts =
         one-accepts test (CountsAs seen) _ (record { here = λ b w o m. found_by b w o _ _ refl refl m.by_token }) (tested-moves source seen safe errors states what test)
         (λ q free. tested-spares source errors states q.0 q.1 seen safe free test what)
@@ -136,7 +154,9 @@ empty-accepts {Tok = Tok} {Er = Er} = record {
   sparing = λ q free. empty-spares;
 }
 
-module _ {I Tok Sp Cu Er St Mk Cx V : Type 0} (source : input_trait.Ghosts I Cu Tok Sp) (safe : Tok → Type 0) (errors : error_trait.Ghosts Er I Tok Sp) (states : inspector_trait.Ghosts St I Mk Tok Sp) (picks : Picks Tok Cx states.Seen V) where
+module _ {I Tok Sp Cu Er St Mk Cx V : Type 0} (source : input_trait.Ghosts I Cu Tok Sp) (safe : Tok → Type 0)
+    (errors : error_trait.Ghosts Er I Tok Sp) (states : inspector_trait.Ghosts St I Mk Tok Sp)
+    (picks : Picks Tok Cx states.Seen V) where
   -- `select`, `select_ref`
   pub select-accepts : Accepts (MeansSelect source safe errors states picks) (some_token ((t : Tok) → safe t)) (errors.takes_no_memory × states.takes_no_memory)
   select-accepts = record { described = λ s. absurd (cc s); moving = λ d. select-moves source safe errors states picks; sparing = λ q free. select-spares source errors states q.0 q.1 safe free picks }
@@ -162,7 +182,8 @@ module _ {Tok : Type 0} (equal : Tok → Tok → Bool) where
   literal_taken (m ∷ ms) [] rest e = absurd (cc e)
   literal_taken (m ∷ ms) (t ∷ ts) rest e = by_test (equal m t) (literal_taken ms ts rest) refl e
     where
-      by_test : (c : Bool) → (literal_ends equal ms ts ≡ At rest → Begins (Equals equal ms) ts rest) → equal m t ≡ c → cond c (literal_ends equal ms ts) Nowhere ≡ At rest → Begins (Equals equal (m ∷ ms)) (t ∷ ts) rest
+      by_test : (c : Bool) → (literal_ends equal ms ts ≡ At rest → Begins (Equals equal ms) ts rest) → equal m t ≡ c
+          → cond c (literal_ends equal ms ts) Nowhere ≡ At rest → Begins (Equals equal (m ∷ ms)) (t ∷ ts) rest
       by_test true h d g = let b = h g in record { word = t ∷ b.word; all = ap (λ u. t ∷ u) b.all; is = (d, b.is) }
       by_test false h d g = absurd (cc g)
 
@@ -196,8 +217,11 @@ module _ {Tok : Type 0} (equal : Tok → Tok → Bool) where
       with_first [] ts rest a i = absurd i
       with_first (u ∷ us) ts rest a i = let l : length ts ≡ length ((u ∷ us) ++ rest) = ap length a in let k = behind us rest in omega (arith, l, k)
 
-module _ {I Tok Sp Cu Er St Mk Cx : Type 0} (source : input_trait.Ghosts I Cu Tok Sp) (equal : Tok → Tok → Bool) (errors : error_trait.Ghosts Er I Tok Sp) (states : inspector_trait.Ghosts St I Mk Tok Sp) where
-  member_by : (m : Tok) (b : Beginning Tok Cx states.Seen) → Within b → (o : Outcome (Unit {0}) errors.Seen states.Seen) (found : Option Tok) (p : Bool) → slice_get b.tokens.list b.start ≡ found → is_member equal m found ≡ p
+module _ {I Tok Sp Cu Er St Mk Cx : Type 0} (source : input_trait.Ghosts I Cu Tok Sp) (equal : Tok → Tok → Bool)
+    (errors : error_trait.Ghosts Er I Tok Sp) (states : inspector_trait.Ghosts St I Mk Tok Sp) where
+  member_by : (m : Tok) (b : Beginning Tok Cx states.Seen) → Within b
+      → (o : Outcome (Unit {0}) errors.Seen states.Seen) (found : Option Tok) (p : Bool)
+      → slice_get b.tokens.list b.start ≡ found → is_member equal m found ≡ p
       → MeansMemberFound source equal errors states m found p b o → Answers (λ v. ⊤) (literal_ends equal (m ∷ []) (drop b.start b.tokens.list)) b.tokens.list o.verdict o.end
   member_by m b w o (Some t) true e d x =
       let l : b.start < length b.tokens.list = slice_get_within b.tokens.list b.start t e in
@@ -218,7 +242,8 @@ module _ {I Tok Sp Cu Er St Mk Cx : Type 0} (source : input_trait.Ghosts I Cu To
       let f : Ender Tok = literal_ends equal (m ∷ []) in
       let g : Ender Tok = literal_ends equal ms in
       let Q : List Tok → Unit {0} → Type 0 = λ ts v. Ends (f ts) (λ rest. ⊤) in
-      weaker-by _ (literal_ends equal (m ∷ ms)) Q (same_ends-by _ (then_ends f g) Q (second-by (MeansMember source equal errors states m) (MeansMembers source equal errors states ms) f g (λ ts v. ⊤) (λ ts v. ⊤) (member_reads m) (members_read ms))
+      weaker-by _ (literal_ends equal (m ∷ ms)) Q
+      (same_ends-by _ (then_ends f g) Q (second-by (MeansMember source equal errors states m) (MeansMembers source equal errors states ms) f g (λ ts v. ⊤) (λ ts v. ⊤) (member_reads m) (members_read ms))
       (literal_ends equal (m ∷ ms)) (more_members equal m ms)) (λ ts v. ⊤) (λ ts v i. tt)
 
   module _ {V : Type 0} (copies : V → Type 0) (safe : Type 0) (ms : List Tok) where
@@ -226,7 +251,11 @@ module _ {I Tok Sp Cu Er St Mk Cx : Type 0} (source : input_trait.Ghosts I Cu To
     just_reads =
         let f : Ender Tok = literal_ends equal ms in
         let Q : List Tok → V → Type 0 = λ ts v. Ends (f ts) (λ rest. copies v) in
-        weaker-by _ f Q (same_ends-by _ (then_ends f (λ ts. At ts)) Q (second-by (MeansMembers source equal errors states ms) (GivesCopy copies safe) f (λ ts. At ts) (λ ts v. ⊤) (λ ts. copies) (members_read ms) (copy-by errors.Seen copies safe)) f (literal_alone equal ms))
+        weaker-by _ f Q
+        (same_ends-by _ (then_ends f (λ ts. At ts)) Q
+        (second-by (MeansMembers source equal errors states ms) (GivesCopy copies safe) f (λ ts. At ts)
+        (λ ts v. ⊤) (λ ts. copies) (members_read ms) (copy-by errors.Seen copies safe))
+        f (literal_alone equal ms))
         (λ ts. copies) (λ ts v i. always (f ts) (copies v) i)
 
     -- `just`

@@ -17,7 +17,9 @@ use Rattle.chumsky_primitive.specs.Select.{Picks, MeansAnswer, MeansSelect, Mean
 use Rattle.chumsky_parser.specs.Progress.{IsYes, Moves}
 use Rattle.chumsky_parser.specs.ProgressLaws.{misses-no, chained-first}
 
-module _ {I Tok Sp Cu Er St Mk Cx V : Type 0} (source : input_trait.Ghosts I Cu Tok Sp) (IsOf : Tok → V → Type 0) (safe : Tok → Type 0) (errors : error_trait.Ghosts Er I Tok Sp) (states : inspector_trait.Ghosts St I Mk Tok Sp) where
+module _ {I Tok Sp Cu Er St Mk Cx V : Type 0} (source : input_trait.Ghosts I Cu Tok Sp) (IsOf : Tok → V → Type 0)
+    (safe : Tok → Type 0) (errors : error_trait.Ghosts Er I Tok Sp)
+    (states : inspector_trait.Ghosts St I Mk Tok Sp) where
   any_moves : (t : Option Tok) (b : Beginning Tok Cx states.Seen) (o : Outcome V errors.Seen states.Seen) → MeansAnyAt source IsOf safe errors states t b o → IsYes o.verdict → b.start < o.end
   any_moves (Some t) b o (inl r) y = absurd (subst IsYes r.1 y)
   any_moves (Some t) b o (inr m) y = omega (arith, ap (λ (x : Outcome V errors.Seen states.Seen). x.end) m.outcome)
@@ -26,8 +28,11 @@ module _ {I Tok Sp Cu Er St Mk Cx V : Type 0} (source : input_trait.Ghosts I Cu 
   pub any-moves : Moves (MeansAny {Cx = Cx} source IsOf safe errors states)
   any-moves b o m y = any_moves _ b o m.by_token y
 
-module _ {I Tok Sp Cu Er St Mk Cx S : Type 0} (source : input_trait.Ghosts I Cu Tok Sp) (seen : Tok → S) (safe : Tok → Type 0) (errors : error_trait.Ghosts Er I Tok Sp) (states : inspector_trait.Ghosts St I Mk Tok Sp) (what : List (Wanted Tok)) where
-  tested_moves : (t : Option Tok) (e : Bool) (b : Beginning Tok Cx states.Seen) (o : Outcome Tok errors.Seen states.Seen) → one_of.MeansFound source seen safe errors states what t e b o → IsYes o.verdict → b.start < o.end
+module _ {I Tok Sp Cu Er St Mk Cx S : Type 0} (source : input_trait.Ghosts I Cu Tok Sp) (seen : Tok → S)
+    (safe : Tok → Type 0) (errors : error_trait.Ghosts Er I Tok Sp) (states : inspector_trait.Ghosts St I Mk Tok Sp)
+    (what : List (Wanted Tok)) where
+  tested_moves : (t : Option Tok) (e : Bool) (b : Beginning Tok Cx states.Seen) (o : Outcome Tok errors.Seen states.Seen)
+      → one_of.MeansFound source seen safe errors states what t e b o → IsYes o.verdict → b.start < o.end
   tested_moves t true b o m y = any-moves source (CountsAs seen) safe errors states b o m y
   tested_moves t false b o (inl r) y = absurd (subst IsYes r.1 y)
   tested_moves t false b o (inr (inl r)) y = absurd (subst IsYes r.1 y)
@@ -36,8 +41,11 @@ module _ {I Tok Sp Cu Er St Mk Cx S : Type 0} (source : input_trait.Ghosts I Cu 
   pub tested-moves : (test : Tok → Bool) → Moves (MeansTested {Cx = Cx} source seen safe errors states test what)
   tested-moves test b o m y = tested_moves _ _ b o m.by_token y
 
-module _ {I Tok Sp Cu Er St Mk Cx V : Type 0} (source : input_trait.Ghosts I Cu Tok Sp) (safe : Tok → Type 0) (errors : error_trait.Ghosts Er I Tok Sp) (states : inspector_trait.Ghosts St I Mk Tok Sp) (picks : Picks Tok Cx states.Seen V) where
-  answer_moves : (t : Tok) (r : Option V) (s : states.Seen) (b : Beginning Tok Cx states.Seen) (o : Outcome V errors.Seen states.Seen) → MeansAnswer source safe errors states t r s b o → IsYes o.verdict → b.start < o.end
+module _ {I Tok Sp Cu Er St Mk Cx V : Type 0} (source : input_trait.Ghosts I Cu Tok Sp) (safe : Tok → Type 0)
+    (errors : error_trait.Ghosts Er I Tok Sp) (states : inspector_trait.Ghosts St I Mk Tok Sp)
+    (picks : Picks Tok Cx states.Seen V) where
+  answer_moves : (t : Tok) (r : Option V) (s : states.Seen) (b : Beginning Tok Cx states.Seen) (o : Outcome V errors.Seen states.Seen)
+      → MeansAnswer source safe errors states t r s b o → IsYes o.verdict → b.start < o.end
   answer_moves t (Some v) s b o m y = omega (arith, ap (λ (x : Outcome V errors.Seen states.Seen). x.end) m)
   answer_moves t None s b o (inl x) y = absurd (subst IsYes x.1 y)
   answer_moves t None s b o (inr m) y = absurd (misses-no m y)
@@ -54,13 +62,16 @@ past-after : {Tok : Type 0} (t : Option Tok) (p : ℕ) → p ≤ past t p
 past-after None p = omega arith
 past-after (Some t) p = omega arith
 
-module _ {I Tok Sp Cu Er St Mk Cx : Type 0} (source : input_trait.Ghosts I Cu Tok Sp) (equal : Tok → Tok → Bool) (errors : error_trait.Ghosts Er I Tok Sp) (states : inspector_trait.Ghosts St I Mk Tok Sp) where
-  taken_moves : (m t : Tok) (e : Bool) (b : Beginning Tok Cx states.Seen) (o : Outcome (Unit {0}) errors.Seen states.Seen) → MeansMemberFound source equal errors states m (Some t) e b o → IsYes o.verdict → b.start < o.end
+module _ {I Tok Sp Cu Er St Mk Cx : Type 0} (source : input_trait.Ghosts I Cu Tok Sp) (equal : Tok → Tok → Bool)
+    (errors : error_trait.Ghosts Er I Tok Sp) (states : inspector_trait.Ghosts St I Mk Tok Sp) where
+  taken_moves : (m t : Tok) (e : Bool) (b : Beginning Tok Cx states.Seen) (o : Outcome (Unit {0}) errors.Seen states.Seen)
+      → MeansMemberFound source equal errors states m (Some t) e b o → IsYes o.verdict → b.start < o.end
   taken_moves m t true b o h y = omega (arith, ap (λ (x : Outcome (Unit {0}) errors.Seen states.Seen). x.end) h)
   taken_moves m t false b o (inl r) y = absurd (subst IsYes r.1 y)
   taken_moves m t false b o (inr h) y = absurd (misses-no h y)
 
-  found_moves : (m : Tok) (t : Option Tok) (b : Beginning Tok Cx states.Seen) (o : Outcome (Unit {0}) errors.Seen states.Seen) → MeansMemberFound source equal errors states m t (is_member equal m t) b o → IsYes o.verdict → b.start < o.end
+  found_moves : (m : Tok) (t : Option Tok) (b : Beginning Tok Cx states.Seen) (o : Outcome (Unit {0}) errors.Seen states.Seen)
+      → MeansMemberFound source equal errors states m t (is_member equal m t) b o → IsYes o.verdict → b.start < o.end
   found_moves m (Some t) b o h y = taken_moves m t (equal m t) b o h y
   found_moves m None b o (inl r) y = absurd (subst IsYes r.1 y)
   found_moves m None b o (inr h) y = absurd (misses-no h y)
@@ -68,7 +79,8 @@ module _ {I Tok Sp Cu Er St Mk Cx : Type 0} (source : input_trait.Ghosts I Cu To
   member-moves : (m : Tok) → Moves (MeansMember {Cx = Cx} source equal errors states m)
   member-moves m b o h y = elim h.by_token [ inl r ↦ absurd (subst IsYes r.1 y) | inr k ↦ found_moves m _ b o k y ]
 
-  found_ends : (m : Tok) (t : Option Tok) (e : Bool) (b : Beginning Tok Cx states.Seen) (o : Outcome (Unit {0}) errors.Seen states.Seen) → MeansMemberFound source equal errors states m t e b o → IsAnswer o.verdict → b.start ≤ o.end
+  found_ends : (m : Tok) (t : Option Tok) (e : Bool) (b : Beginning Tok Cx states.Seen) (o : Outcome (Unit {0}) errors.Seen states.Seen)
+      → MeansMemberFound source equal errors states m t e b o → IsAnswer o.verdict → b.start ≤ o.end
   found_ends m t true b o h a = omega (arith, past-after t b.start, ap (λ (x : Outcome (Unit {0}) errors.Seen states.Seen). x.end) h)
   found_ends m t false b o (inl r) a = absurd (subst IsAnswer r.1 a)
   found_ends m t false b o (inr h) a = misses-ends (λ _ _. Unit {0}) (omega arith) h a

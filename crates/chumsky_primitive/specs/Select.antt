@@ -26,13 +26,19 @@ Picks Tok Cx St V = Tok → Shown Tok Cx St → Option V → St → Type 0
 
 module _ {I X Cu Tok Sp Er St Cx Mk F V : Type 0} (source : input_trait.Ghosts I Cu Tok Sp) (states : inspector_trait.Ghosts St I Mk Tok Sp) where
   -- by a closure that is given a token which counts as the one that is there
-  pub record PicksValue {S : Type 0} (seen : Tok → S) (calls : Shared F (Tok × (MutBor (MapExtra I X Cu Tok Sp Er St Cx Mk) × Unit {0})) (Option V × (MutBor (MapExtra I X Cu Tok Sp Er St Cx Mk) × Unit {0}))) (f : F) (t : Tok) (x : Shown Tok Cx states.Seen) (r : Option V) (s : states.Seen) : Type 0 where
+  pub record PicksValue {S : Type 0} (seen : Tok → S)
+      (calls : Shared F (Tok × (MutBor (MapExtra I X Cu Tok Sp Er St Cx Mk) × Unit {0}))
+      (Option V × (MutBor (MapExtra I X Cu Tok Sp Er St Cx Mk) × Unit {0})))
+      (f : F) (t : Tok) (x : Shown Tok Cx states.Seen) (r : Option V) (s : states.Seen) : Type 0 where
     pub token : Tok
     pub counts : seen token ≡ seen t
     pub answers : MayAnswer source states calls f token x r s
 
   -- by one that is given a reference to it
-  pub record PicksRef (calls : Shared F (Bor Tok × (MutBor (MapExtra I X Cu Tok Sp Er St Cx Mk) × Unit {0})) (Option V × (MutBor (MapExtra I X Cu Tok Sp Er St Cx Mk) × Unit {0}))) (f : F) (t : Tok) (x : Shown Tok Cx states.Seen) (r : Option V) (s : states.Seen) : Type 0 where
+  pub record PicksRef
+      (calls : Shared F (Bor Tok × (MutBor (MapExtra I X Cu Tok Sp Er St Cx Mk) × Unit {0}))
+      (Option V × (MutBor (MapExtra I X Cu Tok Sp Er St Cx Mk) × Unit {0})))
+      (f : F) (t : Tok) (x : Shown Tok Cx states.Seen) (r : Option V) (s : states.Seen) : Type 0 where
     pub token : Bor Tok
     pub is_there : token.now ≡ t
     pub answers : MayAnswer source states calls f token x r s
@@ -55,12 +61,16 @@ module _ {Tok Cx St V : Type 0} (picks : Picks Tok Cx St V) where
 abbrev pub over : {Tok Cx St : Type 0} → (St → Tok → St) → Tok → Beginning Tok Cx St → Shown Tok Cx St
 over after t b = record { tokens = b.tokens; from = b.start; to = b.start + 1; context = b.context; state = after b.state t }
 
-module _ {I Tok Sp Cu Er St Mk Cx V : Type 0} (source : input_trait.Ghosts I Cu Tok Sp) (safe : Tok → Type 0) (errors : error_trait.Ghosts Er I Tok Sp) (states : inspector_trait.Ghosts St I Mk Tok Sp) where
+module _ {I Tok Sp Cu Er St Mk Cx V : Type 0} (source : input_trait.Ghosts I Cu Tok Sp) (safe : Tok → Type 0)
+    (errors : error_trait.Ghosts Er I Tok Sp) (states : inspector_trait.Ghosts St I Mk Tok Sp) where
   -- a picked token is taken; from another the run goes back to the start, and fails there
   abbrev pub MeansAnswer : Tok → Option V → states.Seen → Meaning Tok Cx states.Seen errors.Seen V
   MeansAnswer t (Some v) s b o = o ≡ record { verdict = Yes (wanting b.wanted v); end = b.start + 1; state = s; events = []; emitted = [] }
   MeansAnswer t None s b o =
-      Refuses (states.takes_no_memory → ⊥) s o ⊎ Misses errors.takes_no_memory (expects source errors b.tokens (wanted.SomethingElse ∷ []) (Some t) b.start (b.start + 1)) b.start (states.back s (states.mark b.state)) o
+      Refuses (states.takes_no_memory → ⊥) s o
+      ⊎ Misses errors.takes_no_memory
+      (expects source errors b.tokens (wanted.SomethingElse ∷ []) (Some t) b.start (b.start + 1)) b.start
+      (states.back s (states.mark b.state)) o
 
   module _ (picks : Picks Tok Cx states.Seen V) where
     -- some answer of the closure to the token
@@ -81,7 +91,10 @@ module _ {I Tok Sp Cu Er St Mk Cx : Type 0} (source : input_trait.Ghosts I Cu To
   -- the run goes back from a token to the checkpoint before it, and fails there; or there is no memory to go back, and nothing is done
   abbrev pub MissesFrom : Marks Tok states.Marked → Tok → Held Tok Cx states.Seen errors.Seen → Held Tok Cx states.Seen errors.Seen → Fault → Type 0
   MissesFrom before t old new f =
-      ((new ≡ old) × (states.takes_no_memory → ⊥) × (f ≡ fault.Stop Memory)) ⊎ Fails errors.merged errors.takes_no_memory (expects source errors before.tokens (wanted.SomethingElse ∷ []) (Some t) before.place old.place) (gone_back states.back old before) new f
+      ((new ≡ old) × (states.takes_no_memory → ⊥) × (f ≡ fault.Stop Memory))
+      ⊎ Fails errors.merged errors.takes_no_memory
+      (expects source errors before.tokens (wanted.SomethingElse ∷ []) (Some t) before.place old.place)
+      (gone_back states.back old before) new f
 
 module _ {I X Tok Sp Cu Er St Cx Mk : Type 0} (source : input_trait.Ghosts I Cu Tok Sp) (errors : error_trait.Ghosts Er I Tok Sp) (states : inspector_trait.Ghosts St I Mk Tok Sp) where
   -- the same of what a run is lent: from the token that was found back to the checkpoint before it

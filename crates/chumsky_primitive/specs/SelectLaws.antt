@@ -14,8 +14,11 @@ wanting-both same true true v w s = s
 wanting-both same true false v w s = tt
 wanting-both same false c v w s = tt
 
-module _ {I Tok Sp Cu Er St Mk Cx V : Type 0} (source : input_trait.Ghosts I Cu Tok Sp) (safe : Tok → Type 0) (errors : error_trait.Ghosts Er I Tok Sp) (states : inspector_trait.Ghosts St I Mk Tok Sp) (picks : Picks Tok Cx states.Seen V) where
-  answer_ends : (t : Tok) (r : Option V) (s : states.Seen) (b : Beginning Tok Cx states.Seen) (o : Outcome V errors.Seen states.Seen) → MeansAnswer source safe errors states t r s b o → IsAnswer o.verdict → b.start ≤ o.end
+module _ {I Tok Sp Cu Er St Mk Cx V : Type 0} (source : input_trait.Ghosts I Cu Tok Sp) (safe : Tok → Type 0)
+    (errors : error_trait.Ghosts Er I Tok Sp) (states : inspector_trait.Ghosts St I Mk Tok Sp)
+    (picks : Picks Tok Cx states.Seen V) where
+  answer_ends : (t : Tok) (r : Option V) (s : states.Seen) (b : Beginning Tok Cx states.Seen) (o : Outcome V errors.Seen states.Seen)
+      → MeansAnswer source safe errors states t r s b o → IsAnswer o.verdict → b.start ≤ o.end
   answer_ends t (Some v) s b o m a = omega (arith, ap (λ (x : Outcome V errors.Seen states.Seen). x.end) m)
   answer_ends t None s b o (inl x) a = absurd (subst IsAnswer x.1 a)
   answer_ends t None s b o (inr m) a = misses-ends (λ x y. x ≡ y) (omega arith) m a
@@ -28,13 +31,23 @@ module _ {I Tok Sp Cu Er St Mk Cx V : Type 0} (source : input_trait.Ghosts I Cu 
   pub select-ends : EndsAfterStart (MeansSelect source safe errors states picks)
   select-ends b o m a = elim m.by_token [ inl r ↦ absurd (subst IsAnswer r.1 a) | inr h ↦ select_ends _ b o h a ]
 
-  answer_agree : (t : Tok) (r r' : Option V) (s s' : states.Seen) (x : Shown Tok Cx states.Seen) → PicksAlike picks → picks t x r s → picks t x r' s' → (b c : Beginning Tok Cx states.Seen) (o q : Outcome V errors.Seen states.Seen) → Alike b c
+  answer_agree : (t : Tok) (r r' : Option V) (s s' : states.Seen) (x : Shown Tok Cx states.Seen) → PicksAlike picks
+      → picks t x r s → picks t x r' s'
+      → (b c : Beginning Tok Cx states.Seen) (o q : Outcome V errors.Seen states.Seen) → Alike b c
       → MeansAnswer source safe errors states t r s b o → MeansAnswer source safe errors states t r' s' c q → IsAnswer o.verdict → IsAnswer q.verdict → Agree (SamePicked picks) o q
   answer_agree t (Some v) (Some w) s s' x h p p' b c o q alike m n a z =
       let e : Outcome V errors.Seen states.Seen = record { verdict = Yes (wanting b.wanted v); end = b.start + 1; state = s; events = []; emitted = [] } in
       let f : Outcome V errors.Seen states.Seen = record { verdict = Yes (wanting c.wanted w); end = c.start + 1; state = s'; events = []; emitted = [] } in
       let both : SamePicked picks v w = record { token = t; shown = x; state = s; other_state = s'; first = p; second = p' } in
-      let ef : Agree (SamePicked picks) e f = record { answer = wanting-both (SamePicked picks) b.wanted c.wanted v w both; end = ap (λ k. k + 1) alike.start; state = (h t x (Some v) (Some w) s s' p p').1; events = refl; emitted = refl } in
+      let ef : Agree (SamePicked picks) e f =
+      record {
+        answer = wanting-both (SamePicked picks) b.wanted c.wanted v w both;
+        end = ap (λ k. k + 1) alike.start;
+        state = (h t x (Some v) (Some w) s s' p p').1;
+        events = refl;
+        emitted = refl;
+      }
+      in
       rw (m, n) ef
   answer_agree t (Some v) None s s' x h p p' b c o q alike m n a z = let e = (h t x (Some v) None s s' p p').0 in let no : ⊥ = cc in absurd no
   answer_agree t None (Some w) s s' x h p p' b c o q alike m n a z = let e = (h t x None (Some w) s s' p p').0 in let no : ⊥ = cc in absurd no
@@ -44,7 +57,10 @@ module _ {I Tok Sp Cu Er St Mk Cx V : Type 0} (source : input_trait.Ghosts I Cu 
       let e = (h t x None None s s' p p').1 in
       misses-agree (SamePicked picks) (cc (alike.tokens, alike.start)) alike.start (cc (e, alike.state)) m n a z
 
-  select_agree : (t : Option Tok) (b c : Beginning Tok Cx states.Seen) (o q : Outcome V errors.Seen states.Seen) → PicksAlike picks → Alike b c → MeansSelectAt source safe errors states picks t b o → MeansSelectAt source safe errors states picks t c q → IsAnswer o.verdict → IsAnswer q.verdict → Agree (SamePicked picks) o q
+  select_agree : (t : Option Tok) (b c : Beginning Tok Cx states.Seen) (o q : Outcome V errors.Seen states.Seen)
+      → PicksAlike picks → Alike b c → MeansSelectAt source safe errors states picks t b o
+      → MeansSelectAt source safe errors states picks t c q → IsAnswer o.verdict → IsAnswer q.verdict
+      → Agree (SamePicked picks) o q
   select_agree (Some t) b c o q h alike (inl r) n a z = absurd (subst IsAnswer r.1 a)
   select_agree (Some t) b c o q h alike (inr m) (inl r) a z = absurd (subst IsAnswer r.1 z)
   select_agree (Some t) b c o q h alike (inr m) (inr n) a z =

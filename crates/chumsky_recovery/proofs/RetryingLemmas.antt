@@ -37,14 +37,18 @@ turned_none (Ok None) = refl
 turned_none (Err f) = refl
 
 module _ {Tok Cx St Er V : Type 0} (merged : Er → Er → Er) (safe : Type 0) (part : Meaning Tok Cx St Er V) (w : Bool) (old mid : Held Tok Cx St Er) where
-  forgets_yes : (v : Verdict V Er) (o : Outcome V Er St) (x : Option V) → o.verdict ≡ v → Ok x ≡ answer v → part (begin w old) o → mid.state ≡ o.state → LeavesBy merged safe v o old mid → SameRun old mid → old.kept ≡ None → Ran merged safe (Unheard part) w old (record mid { kept = None }) (Ok x)
+  forgets_yes : (v : Verdict V Er) (o : Outcome V Er St) (x : Option V) → o.verdict ≡ v → Ok x ≡ answer v
+      → part (begin w old) o → mid.state ≡ o.state → LeavesBy merged safe v o old mid → SameRun old mid
+      → old.kept ≡ None → Ran merged safe (Unheard part) w old (record mid { kept = None }) (Ok x)
   forgets_yes (Yes y) o x e a m s l same none =
       record {
         outcome = record o { events = [] };
         meant = record { heard = o; meant = m; forgets = subst (λ v. Forgets v o (record o { events = [] })) (sym e) refl };
         answered = a ∙ ap answer (sym e);
         state = s;
-        left = subst (λ v. LeavesBy merged safe v (record o { events = [] }) old (record mid { kept = None })) (sym e) (record { end = l.end; kept = sym none ∙ kept-same merged old.kept; emitted = l.emitted; stopped = l.stopped });
+        left =
+            subst (λ v. LeavesBy merged safe v (record o { events = [] }) old (record mid { kept = None })) (sym e)
+            (record { end = l.end; kept = sym none ∙ kept-same merged old.kept; emitted = l.emitted; stopped = l.stopped });
         same = record { tokens = same.tokens; context = same.context };
       }
   forgets_yes No o x e a m s l same none = let no : ⊥ = cc in absurd no
@@ -63,9 +67,18 @@ module _ {Tok Cx St Er V : Type 0} (merged : Er → Er → Er) (safe : Type 0) (
 
   -- one that did not
   pub unheard-err : (f : Fault) → Ran merged safe part w old mid (Err f) → Ran merged safe (Unheard part) w old mid (Err f)
-  unheard-err f h = record { outcome = h.outcome; meant = record { heard = h.outcome; meant = h.meant; forgets = stands_err h.outcome.verdict h.outcome f h.answered }; answered = h.answered; state = h.state; left = h.left; same = h.same }
+  unheard-err f h =
+      record {
+        outcome = h.outcome;
+        meant = record { heard = h.outcome; meant = h.meant; forgets = stands_err h.outcome.verdict h.outcome f h.answered };
+        answered = h.answered;
+        state = h.state;
+        left = h.left;
+        same = h.same;
+      }
 
-module _ {Tok Cx St Mk Er V : Type 0} (merged : Er → Er → Er) (safe : Type 0) (mark : St → Mk) (back : St → Mk → St) (quiet : Type 0) (part : Meaning Tok Cx St Er V) (w : Bool) (old : Held Tok Cx St Er) where
+module _ {Tok Cx St Mk Er V : Type 0} (merged : Er → Er → Er) (safe : Type 0) (mark : St → Mk) (back : St → Mk → St)
+    (quiet : Type 0) (part : Meaning Tok Cx St Er V) (w : Bool) (old : Held Tok Cx St Er) where
   abbrev Tried : Meaning Tok Cx St Er (Turn V)
   Tried = Retries mark back quiet part
 
@@ -85,7 +98,10 @@ module _ {Tok Cx St Mk Er V : Type 0} (merged : Er → Er → Er) (safe : Type 0
       same_mid = record { tokens = ap (λ (z : Held Tok Cx St Er). z.tokens) g.left; context = ap (λ (z : Held Tok Cx St Er). z.context) g.left }
 
       -- the run goes back, or its state refuses
-      backs : {A : Type 0} (value : A → Option V) (new : Held Tok Cx St Er) (r : Result (Option A) Fault) → ((o : Outcome (Turn V) Er St) → GoesOn mark back quiet g.first (begin w old) o → IfQuiet mark back quiet v g.first (begin w old) o)
+      backs : {A : Type 0} (value : A → Option V) (new : Held Tok Cx St Er) (r : Result (Option A) Fault)
+          →
+          ((o : Outcome (Turn V) Er St) → GoesOn mark back quiet g.first (begin w old) o
+          → IfQuiet mark back quiet v g.first (begin w old) o)
           → BackOr back quiet m mid new r → Ran merged safe Tried w old new (turned value r)
       backs value new r k (inl t) =
           let o : Outcome (Turn V) Er St = record { verdict = Yes (Some Again); end = old.place; state = back g.first.state (mark old.state); events = []; emitted = [] } in
@@ -107,7 +123,8 @@ module _ {Tok Cx St Mk Er V : Type 0} (merged : Er → Er → Er) (safe : Type 0
           })
       backs value new r k (inr t) =
           let left = t.2 ∙ ap (λ (z : Held Tok Cx St Er). record z { kept = None }) g.left in
-          rw t.0 (ran-halts merged safe Tried w old new (record { tokens = ap (λ (z : Held Tok Cx St Er). z.tokens) left; context = ap (λ (z : Held Tok Cx St Er). z.context) left }) (ap (λ (z : Held Tok Cx St Er). z.stopped) left)
+          rw t.0
+          (ran-halts merged safe Tried w old new (record { tokens = ap (λ (z : Held Tok Cx St Er). z.tokens) left; context = ap (λ (z : Held Tok Cx St Er). z.context) left }) (ap (λ (z : Held Tok Cx St Er). z.stopped) left)
           (λ o i s. tried v g o (k o (inl (t.1, i, s ∙ ap (λ (z : Held Tok Cx St Er). z.state) left)))))
 
     -- nothing was emitted where as much is emitted as before
@@ -140,18 +157,36 @@ module _ {Tok Cx St Mk Er V : Type 0} (merged : Er → Er → Er) (safe : Type 0
           same = same_mid (Yes x) g;
         }
 
-    stops : (v : Verdict V Er) (p : Outcome V Er St) (s : Stop) → p.verdict ≡ v → part (begin w old) p → Err (fault.Stop s) ≡ answer v → mid.state ≡ p.state → LeavesBy merged safe v p old mid → SameRun old mid → Ran merged safe Tried w old mid (Err (fault.Stop s))
+    stops : (v : Verdict V Er) (p : Outcome V Er St) (s : Stop) → p.verdict ≡ v → part (begin w old) p
+        → Err (fault.Stop s) ≡ answer v → mid.state ≡ p.state → LeavesBy merged safe v p old mid → SameRun old mid
+        → Ran merged safe Tried w old mid (Err (fault.Stop s))
     stops (Yes x) p s e k a t l same = let no : ⊥ = cc in absurd no
     stops No p s e k a t l same = let no : ⊥ = cc in absurd no
     stops (Halt z) p s e k a t l same =
         let is : s ≡ z = cc in
-        record { outcome = retold (Halt z) p; meant = record { cases = inr (p, k, subst (λ u. IfQuiet mark back quiet u p (begin w old) (retold (Halt z) p)) (sym e) refl) }; answered = ap (λ i. Err (fault.Stop i)) is; state = t; left = l; same = same }
+        record {
+          outcome = retold (Halt z) p;
+          meant = record { cases = inr (p, k, subst (λ u. IfQuiet mark back quiet u p (begin w old) (retold (Halt z) p)) (sym e) refl) };
+          answered = ap (λ i. Err (fault.Stop i)) is;
+          state = t;
+          left = l;
+          same = same;
+        }
     stops (Clash z) p s e k a t l same =
         let is : s ≡ Memory = cc in
-        record { outcome = retold (Clash z) p; meant = record { cases = inr (p, k, subst (λ u. IfQuiet mark back quiet u p (begin w old) (retold (Clash z) p)) (sym e) refl) }; answered = ap (λ i. Err (fault.Stop i)) is; state = t; left = l; same = same }
+        record {
+          outcome = retold (Clash z) p;
+          meant = record { cases = inr (p, k, subst (λ u. IfQuiet mark back quiet u p (begin w old) (retold (Clash z) p)) (sym e) refl) };
+          answered = ap (λ i. Err (fault.Stop i)) is;
+          state = t;
+          left = l;
+          same = same;
+        }
 
     -- what is made of the part's answer
-    pub retries-answers : {A : Type 0} (value : A → Option V) (new : Held Tok Cx St Er) (a : Result A Fault) (r : Result (Option A) Fault) → Ran merged safe part w old mid (counted value a) → QuietOrBack back quiet m mid new a r → Ran merged safe Tried w old new (turned value r)
+    pub retries-answers : {A : Type 0} (value : A → Option V) (new : Held Tok Cx St Er) (a : Result A Fault) (r : Result (Option A) Fault)
+        → Ran merged safe part w old mid (counted value a) → QuietOrBack back quiet m mid new a r
+        → Ran merged safe Tried w old new (turned value r)
     retries-answers value new (Ok x) r h (inl t) = rw (t.1, t.2) (quiet_yes (value x) (went_yes merged safe part w old mid (value x) (bare _ h)) t.0)
     retries-answers value new (Ok x) r h (inr t) =
         let g = went_yes merged safe part w old mid (value x) (bare _ h) in
@@ -159,9 +194,16 @@ module _ {Tok Cx St Mk Er V : Type 0} (merged : Er → Er → Er) (safe : Type 0
     retries-answers value new (Err fault.Fail) r h t = backs No (went_no merged safe part w old mid (bare _ h)) value new r (λ o j. j) t
     retries-answers value new (Err (fault.Stop s)) r h t = rw (t.0, t.1) (stops h.outcome.verdict h.outcome s refl h.meant h.answered h.state h.left h.same)
 
-module _ {Tok Cx St Mk Er U W V : Type 0} {merged : Er → Er → Er} {safe : Type 0} {mark : St → Mk} {back : St → Mk → St} {quiet : Type 0} {until : Meaning Tok Cx St Er U} {skip : Meaning Tok Cx St Er W} {part : Meaning Tok Cx St Er V} {w : Bool} {old : Held Tok Cx St Er} where
-  turn : {new : Held Tok Cx St Er} {r : Result (Option (Turn V)) Fault} → Ran merged safe (Chained (Unheard (Seeks {X = V} mark back quiet until skip)) (AfterSeek mark back quiet part)) w old new r → Ran merged safe (RetryTurn mark back quiet until skip part) w old new r
-  turn {new} {r} h = ran-weaker merged safe (Chained (Unheard (Seeks {X = V} mark back quiet until skip)) (AfterSeek mark back quiet part)) (RetryTurn mark back quiet until skip part) w old new r (λ o k. record { run = k }) h
+module _ {Tok Cx St Mk Er U W V : Type 0} {merged : Er → Er → Er} {safe : Type 0} {mark : St → Mk}
+    {back : St → Mk → St} {quiet : Type 0} {until : Meaning Tok Cx St Er U} {skip : Meaning Tok Cx St Er W}
+    {part : Meaning Tok Cx St Er V} {w : Bool} {old : Held Tok Cx St Er} where
+  turn : {new : Held Tok Cx St Er} {r : Result (Option (Turn V)) Fault}
+      → Ran merged safe (Chained (Unheard (Seeks {X = V} mark back quiet until skip)) (AfterSeek mark back quiet part)) w old new r
+      → Ran merged safe (RetryTurn mark back quiet until skip part) w old new r
+  turn {new} {r} h =
+      ran-weaker merged safe
+      (Chained (Unheard (Seeks {X = V} mark back quiet until skip)) (AfterSeek mark back quiet part))
+      (RetryTurn mark back quiet until skip part) w old new r (λ o k. record { run = k }) h
 
   module _ {mid : Held Tok Cx St Er} {x : Result (Option (Turn V)) Fault} (h : Ran merged safe (Seeks {X = V} mark back quiet until skip) w old mid x) where
     -- looking and skipping did not succeed
@@ -174,19 +216,31 @@ module _ {Tok Cx St Mk Er U W V : Type 0} {merged : Er → Er → Er} {safe : Ty
       retry-found {v} e = turn (chained (unheard-yes merged safe (Seeks mark back quiet until skip) w old mid (Some (Last v)) (rw e at h) none) refl ran-no)
 
       module _ (e : x ≡ Ok (Some Again)) where
-        on : {new : Held Tok Cx St Er} {r : Result (Option (Turn V)) Fault} → Ran merged safe (Retries mark back quiet part) w (record mid { kept = None }) new r → Ran merged safe (RetryTurn mark back quiet until skip part) w old new r
+        on : {new : Held Tok Cx St Er} {r : Result (Option (Turn V)) Fault}
+            → Ran merged safe (Retries mark back quiet part) w (record mid { kept = None }) new r
+            → Ran merged safe (RetryTurn mark back quiet until skip part) w old new r
         on k = turn (chained (unheard-yes merged safe (Seeks mark back quiet until skip) w old mid (Some Again) (rw e at h) none) refl k)
 
-        pub retry-unmarked : {new : Held Tok Cx St Er} → new ≡ record mid { kept = None } → (quiet → ⊥) → Ran merged safe (RetryTurn mark back quiet until skip part) w old new (Err (fault.Stop Memory))
+        pub retry-unmarked : {new : Held Tok Cx St Er} → new ≡ record mid { kept = None } → (quiet → ⊥)
+            → Ran merged safe (RetryTurn mark back quiet until skip part) w old new (Err (fault.Stop Memory))
         retry-unmarked {new} n may = on (retries-unmarked merged safe mark back quiet part w (record mid { kept = None }) new n may)
 
         module _ {m : Marks Tok Mk} {far new : Held Tok Cx St Er} (q : m ≡ marked_here mark (record mid { kept = None })) where
-          pub retry-emit : (a : Result V Fault) (r : Result (Option V) Fault) → Ran merged safe part w (record mid { kept = None }) far (with_value a) → QuietOrBack back quiet m far new a r → Ran merged safe (RetryTurn mark back quiet until skip part) w old new (with_last r)
+          pub retry-emit : (a : Result V Fault) (r : Result (Option V) Fault)
+              → Ran merged safe part w (record mid { kept = None }) far (with_value a)
+              → QuietOrBack back quiet m far new a r
+              → Ran merged safe (RetryTurn mark back quiet until skip part) w old new (with_last r)
           retry-emit a r k l =
               on (subst (λ y. Ran merged safe (Retries mark back quiet part) w (record mid { kept = None }) new y) (turned_value r)
-              (retries-answers merged safe mark back quiet part w (record mid { kept = None }) refl m q far Some new a r (subst (λ y. Ran merged safe part w (record mid { kept = None }) far y) (sym (by_value a)) k) l))
+              (retries-answers merged safe mark back quiet part w (record mid { kept = None }) refl m q far Some new a
+              r (subst (λ y. Ran merged safe part w (record mid { kept = None }) far y) (sym (by_value a)) k) l))
 
-          pub retry-check : (a : Result (Unit {0}) Fault) (r : Result (Option (Unit {0})) Fault) → Ran merged safe part w (record mid { kept = None }) far (without_value a) → QuietOrBack back quiet m far new a r → Ran merged safe (RetryTurn mark back quiet until skip part) w old new (without_last r)
+          pub retry-check : (a : Result (Unit {0}) Fault) (r : Result (Option (Unit {0})) Fault)
+              → Ran merged safe part w (record mid { kept = None }) far (without_value a)
+              → QuietOrBack back quiet m far new a r
+              → Ran merged safe (RetryTurn mark back quiet until skip part) w old new (without_last r)
           retry-check a r k l =
               on (subst (λ y. Ran merged safe (Retries mark back quiet part) w (record mid { kept = None }) new y) (turned_none r)
-              (retries-answers merged safe mark back quiet part w (record mid { kept = None }) refl m q far (λ _. None) new a r (subst (λ y. Ran merged safe part w (record mid { kept = None }) far y) (sym (by_none a)) k) l))
+              (retries-answers merged safe mark back quiet part w (record mid { kept = None }) refl m q far
+              (λ _. None) new a r
+              (subst (λ y. Ran merged safe part w (record mid { kept = None }) far y) (sym (by_none a)) k) l))

@@ -52,7 +52,9 @@ module _ {T Tok : Type 0} (has : T → Tok → Bool) where
   abbrev pub OutOnlyToNest : {Cx St Er V : Type 0} → List (T × T) → Meaning Tok Cx St Er V → Type 0
   OutOnlyToNest {Cx} {St} {Er} {V} pairs m = (b : Beginning Tok Cx St) (o : Outcome V Er St) → m b o → o.verdict ≡ Halt Memory → SomeOpens pairs b.tokens b.start
 
-module _ {I Tok Sp Cu Er St Mk Cx T : Type 0} (source : input_trait.Ghosts I Cu Tok Sp) (errors : error_trait.Ghosts Er I Tok Sp) (states : inspector_trait.Ghosts St I Mk Tok Sp) (has : T → Tok → Bool) (members : T → List Tok) (pairs : List (T × T)) where
+module _ {I Tok Sp Cu Er St Mk Cx T : Type 0} (source : input_trait.Ghosts I Cu Tok Sp)
+    (errors : error_trait.Ghosts Er I Tok Sp) (states : inspector_trait.Ghosts St I Mk Tok Sp) (has : T → Tok → Bool)
+    (members : T → List Tok) (pairs : List (T × T)) where
   -- a token that fits is taken; what does not is gone back from, where the innermost closing delimiter was expected
   abbrev pub Fits : Option (Role T) → T → Option Tok → Meaning Tok Cx states.Seen errors.Seen (Role T)
   Fits (Some r) innermost found b o = o ≡ record { verdict = Yes (Some r); end = past found b.start; state = told states.after found b.state; events = []; emitted = [] }

@@ -20,7 +20,9 @@ use Rattle.chumsky_recovery.specs.RecoveryMoves.{recovered-moves}
 abbrev pub recovered_language : {Tok V : Type 0} → Language Tok V → Language Tok V → Language Tok V
 recovered_language F G = record (or_language F G) { takes_no_memory = ⊥ }
 
-module _ {Tok Cx St Mk Er V : Type 0} (merged : Er → Er → Er) (final : Final Tok Er) (back : St → Mk → St) (safe : Type 0) (mark : Mk) (part help : Meaning Tok Cx St Er V) (P Q : V → Type 0) (x y : Ending (List Tok)) (b : Beginning Tok Cx St)
+module _ {Tok Cx St Mk Er V : Type 0} (merged : Er → Er → Er) (final : Final Tok Er) (back : St → Mk → St)
+    (safe : Type 0) (mark : Mk) (part help : Meaning Tok Cx St Er V) (P Q : V → Type 0) (x y : Ending (List Tok))
+    (b : Beginning Tok Cx St)
     (h : Here P part x b) (k : (s : St) → Here Q help y (record b { state = s })) where
   abbrev R : V → Type 0
   R v = ElseValue x (P v) (Q v)

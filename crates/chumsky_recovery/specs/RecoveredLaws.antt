@@ -6,7 +6,9 @@ use Rattle.chumsky_shield.specs.ShieldedLaws.{shielded-ends, shielded-agrees, no
 use Rattle.chumsky_recovery.specs.Recovered.{Final, error_of, Helped, ElseHelp, OrHelp, MarkedOrHelp, MeansRecovered}
 
 module _ {Tok Cx St Mk Er V : Type 0} (merged : Er → Er → Er) (final : Final Tok Er) (back : St → Mk → St) (safe : Type 0) (mark : Mk) (part help : Meaning Tok Cx St Er V) where
-  helped_ends : EndsAfterStart help → (v : Verdict V Er) (b : Beginning Tok Cx St) (p q o : Outcome V Er St) → q.verdict ≡ v → help (record b { state = back p.state mark }) q → Helped merged final back safe mark v b p q o → IsAnswer o.verdict → b.start ≤ o.end
+  helped_ends : EndsAfterStart help → (v : Verdict V Er) (b : Beginning Tok Cx St) (p q o : Outcome V Er St)
+      → q.verdict ≡ v → help (record b { state = back p.state mark }) q → Helped merged final back safe mark v b p q o
+      → IsAnswer o.verdict → b.start ≤ o.end
   helped_ends h (Yes v) b p q o e m (inl r) a = absurd (subst IsAnswer r.1 a)
   helped_ends h (Yes v) b p q o e m (inr t) a =
       let on : b.start ≤ q.end = h (record b { state = back p.state mark }) q m (rw e tt) in
@@ -17,7 +19,9 @@ module _ {Tok Cx St Mk Er V : Type 0} (merged : Er → Er → Er) (final : Final
   helped_ends h (Halt s) b p q o e m t a = absurd (subst IsAnswer (ap (λ (x : Outcome V Er St). x.verdict) t ∙ e) a)
   helped_ends h (Clash s) b p q o e m t a = absurd (subst IsAnswer (ap (λ (x : Outcome V Er St). x.verdict) t ∙ e) a)
 
-  else_help_ends : EndsAfterStart part → EndsAfterStart help → (v : Verdict V Er) (b : Beginning Tok Cx St) (p o : Outcome V Er St) → part b p → ElseHelp merged final back safe mark v help b p o → IsAnswer o.verdict → b.start ≤ o.end
+  else_help_ends : EndsAfterStart part → EndsAfterStart help
+      → (v : Verdict V Er) (b : Beginning Tok Cx St) (p o : Outcome V Er St) → part b p
+      → ElseHelp merged final back safe mark v help b p o → IsAnswer o.verdict → b.start ≤ o.end
   else_help_ends hp hh (Yes v) b p o m e a = hp b o (subst (part b) (sym e) m) a
   else_help_ends hp hh No b p o m (inl r) a = absurd (subst IsAnswer r.1 a)
   else_help_ends hp hh No b p o m (inr k) a = helped_ends hh k.0.verdict b p k.0 o refl k.1 k.2 a
@@ -30,30 +34,41 @@ module _ {Tok Cx St Mk Er V : Type 0} (merged : Er → Er → Er) (final : Final
   module _ (s : V → V → Type 0) where
     helped_agree : Agreeing s help help → (b c : Beginning Tok Cx St) (p r q u o x : Outcome V Er St) → Alike b c → Agree s p r
         → help (record b { state = back p.state mark }) q → help (record c { state = back r.state mark }) u
-        → (v w : Verdict V Er) → q.verdict ≡ v → u.verdict ≡ w → Helped merged final back safe mark v b p q o → Helped merged final back safe mark w c r u x → IsAnswer o.verdict → IsAnswer x.verdict → Agree s o x
+        → (v w : Verdict V Er) → q.verdict ≡ v → u.verdict ≡ w → Helped merged final back safe mark v b p q o
+        → Helped merged final back safe mark w c r u x → IsAnswer o.verdict → IsAnswer x.verdict → Agree s o x
     helped_agree h b c p r q u o x alike g m n (Yes v) (Yes w) e d (inl k) t a z = absurd (subst IsAnswer k.1 a)
     helped_agree h b c p r q u o x alike g m n (Yes v) (Yes w) e d (inr k) (inl t) a z = absurd (subst IsAnswer t.1 z)
     helped_agree h b c p r q u o x alike g m n (Yes v) (Yes w) e d (inr k) (inr t) a z =
-        let gone : Alike (record b { state = back p.state mark }) (record c { state = back r.state mark }) = record { tokens = alike.tokens; start = alike.start; context = alike.context; state = ap (λ y. back y mark) g.state } in
+        let gone : Alike (record b { state = back p.state mark }) (record c { state = back r.state mark }) =
+        record { tokens = alike.tokens; start = alike.start; context = alike.context; state = ap (λ y. back y mark) g.state }
+        in
         let i : Agree s q u = h (record b { state = back p.state mark }) (record c { state = back r.state mark }) q u gone m n (rw e tt) (rw d tt) in
         let told : error_of merged final b p ≡ error_of merged final c r = cc (alike.tokens, g.events, g.end) in
         let joined : Agree s (record q { emitted = q.emitted ++ error_of merged final b p ∷ [] }) (record u { emitted = u.emitted ++ error_of merged final c r ∷ [] }) =
         record { answer = i.answer; end = i.end; state = i.state; events = i.events; emitted = cc (i.emitted, told) } in
         rw (k, t) joined
     helped_agree h b c p r q u o x alike g m n (Yes v) No e d k t a z =
-        let gone : Alike (record b { state = back p.state mark }) (record c { state = back r.state mark }) = record { tokens = alike.tokens; start = alike.start; context = alike.context; state = ap (λ y. back y mark) g.state } in
+        let gone : Alike (record b { state = back p.state mark }) (record c { state = back r.state mark }) =
+        record { tokens = alike.tokens; start = alike.start; context = alike.context; state = ap (λ y. back y mark) g.state }
+        in
         let i : Agree s q u = h (record b { state = back p.state mark }) (record c { state = back r.state mark }) q u gone m n (rw e tt) (rw d tt) in
         let no : SameAnswer s q.verdict u.verdict = i.answer in absurd (rw (e, d) at no)
     helped_agree h b c p r q u o x alike g m n No (Yes w) e d k t a z =
-        let gone : Alike (record b { state = back p.state mark }) (record c { state = back r.state mark }) = record { tokens = alike.tokens; start = alike.start; context = alike.context; state = ap (λ y. back y mark) g.state } in
+        let gone : Alike (record b { state = back p.state mark }) (record c { state = back r.state mark }) =
+        record { tokens = alike.tokens; start = alike.start; context = alike.context; state = ap (λ y. back y mark) g.state }
+        in
         let i : Agree s q u = h (record b { state = back p.state mark }) (record c { state = back r.state mark }) q u gone m n (rw e tt) (rw d tt) in
         let no : SameAnswer s q.verdict u.verdict = i.answer in absurd (rw (e, d) at no)
     helped_agree h b c p r q u o x alike g m n No No e d (inl k) t a z = absurd (subst IsAnswer k.1 a)
     helped_agree h b c p r q u o x alike g m n No No e d (inr k) (inl t) a z = absurd (subst IsAnswer t.1 z)
     helped_agree h b c p r q u o x alike g m n No No e d (inr k) (inr t) a z =
-        let gone : Alike (record b { state = back p.state mark }) (record c { state = back r.state mark }) = record { tokens = alike.tokens; start = alike.start; context = alike.context; state = ap (λ y. back y mark) g.state } in
+        let gone : Alike (record b { state = back p.state mark }) (record c { state = back r.state mark }) =
+        record { tokens = alike.tokens; start = alike.start; context = alike.context; state = ap (λ y. back y mark) g.state }
+        in
         let i : Agree s q u = h (record b { state = back p.state mark }) (record c { state = back r.state mark }) q u gone m n (rw e tt) (rw d tt) in
-        let joined : Agree s (record { verdict = No; end = b.start; state = back q.state mark; events = p.events; emitted = [] }) (record { verdict = No; end = c.start; state = back u.state mark; events = r.events; emitted = [] }) =
+        let joined : Agree s
+        (record { verdict = No; end = b.start; state = back q.state mark; events = p.events; emitted = [] })
+        (record { verdict = No; end = c.start; state = back u.state mark; events = r.events; emitted = [] }) =
         record { answer = tt; end = alike.start; state = ap (λ y. back y mark) i.state; events = g.events; emitted = refl } in
         rw (k, t) joined
     helped_agree h b c p r q u o x alike g m n (Yes v) (Halt y) e d k t a z = absurd (subst IsAnswer (ap (λ (i : Outcome V Er St). i.verdict) t ∙ d) z)
@@ -64,7 +79,8 @@ module _ {Tok Cx St Mk Er V : Type 0} (merged : Er → Er → Er) (final : Final
     helped_agree h b c p r q u o x alike g m n (Clash y) w e d k t a z = absurd (subst IsAnswer (ap (λ (i : Outcome V Er St). i.verdict) k ∙ e) a)
 
     else_help_agree : Agreeing s part part → Agreeing s help help → (b c : Beginning Tok Cx St) (o q p r : Outcome V Er St) → Alike b c → part b p → part c r
-        → (v w : Verdict V Er) → p.verdict ≡ v → r.verdict ≡ w → ElseHelp merged final back safe mark v help b p o → ElseHelp merged final back safe mark w help c r q → IsAnswer o.verdict → IsAnswer q.verdict → Agree s o q
+        → (v w : Verdict V Er) → p.verdict ≡ v → r.verdict ≡ w → ElseHelp merged final back safe mark v help b p o
+        → ElseHelp merged final back safe mark w help c r q → IsAnswer o.verdict → IsAnswer q.verdict → Agree s o q
     else_help_agree hp hh b c o q p r alike m n (Yes v) (Yes w) x y e d a z = rw (e, d) (hp b c p r alike m n (rw x tt) (rw y tt))
     else_help_agree hp hh b c o q p r alike m n (Yes v) No x y e d a z =
         let no : SameAnswer s p.verdict r.verdict = (hp b c p r alike m n (rw x tt) (rw y tt)).answer in absurd (rw (x, y) at no)
@@ -88,7 +104,8 @@ module _ {Tok Cx St Mk Er V : Type 0} (merged : Er → Er → Er) (final : Final
   marked-ends : EndsAfterStart part → EndsAfterStart help → EndsAfterStart (MarkedOrHelp merged final mark back safe part help)
   marked-ends hp hh b o m a = elim m.cases [ inl r ↦ absurd (subst IsAnswer r.1 a) | inr t ↦ or_help-ends merged final back safe (mark b.state) part help hp hh b o t a ]
 
-  marked-agrees : (s : V → V → Type 0) → Agreeing s part part → Agreeing s help help → Agreeing s (MarkedOrHelp merged final mark back safe part help) (MarkedOrHelp merged final mark back safe part help)
+  marked-agrees : (s : V → V → Type 0) → Agreeing s part part → Agreeing s help help
+      → Agreeing s (MarkedOrHelp merged final mark back safe part help) (MarkedOrHelp merged final mark back safe part help)
   marked-agrees s hp hh b c o q alike m n a z =
       elim m.cases [
         | inl r ↦ absurd (subst IsAnswer r.1 a)
@@ -101,6 +118,7 @@ module _ {Tok Cx St Mk Er V : Type 0} (merged : Er → Er → Er) (final : Final
   pub recovered-ends : EndsAfterStart part → EndsAfterStart help → EndsAfterStart (MeansRecovered merged final mark back safe part help)
   recovered-ends hp hh b o m a = shielded-ends _ _ _ (marked-ends hp hh) (yes_as_one-ends merged) (no_as_one-ends merged) b o m.run a
 
-  pub recovered-agrees : (s : V → V → Type 0) → Agreeing s part part → Agreeing s help help → Agreeing s (MeansRecovered merged final mark back safe part help) (MeansRecovered merged final mark back safe part help)
+  pub recovered-agrees : (s : V → V → Type 0) → Agreeing s part part → Agreeing s help help
+      → Agreeing s (MeansRecovered merged final mark back safe part help) (MeansRecovered merged final mark back safe part help)
   recovered-agrees s hp hh b c o q alike m n a z =
       shielded-agrees _ _ _ s s (marked-agrees s hp hh) (yes_as_one-agrees merged s) (no_as_one-agrees merged s s) b c o q alike m.run n.run a z

@@ -69,7 +69,9 @@ module _ {Tok Cx St Er V : Type 0} (part whole : Meaning Tok Cx St Er V) where
 module _ {Tok Cx St Er V : Type 0} (merged : Er → Er → Er) (part whole : Meaning Tok Cx St Er V) where
   -- it fails only where the part does, and with the part's one event
   abbrev pub FailsAsPart : Type 0
-  FailsAsPart = (b : Beginning Tok Cx St) (o : Outcome V Er St) → whole b o → o.verdict ≡ No → (p : Outcome V Er St) × part b p × (p.verdict ≡ No) × (o.events ≡ option_to_list (primary merged p.events)) × (o.emitted ≡ [])
+  FailsAsPart =
+      (b : Beginning Tok Cx St) (o : Outcome V Er St) → whole b o → o.verdict ≡ No
+      → (p : Outcome V Er St) × part b p × (p.verdict ≡ No) × (o.events ≡ option_to_list (primary merged p.events)) × (o.emitted ≡ [])
 
   -- where the part may succeed, an answer of the whole is that success, with its events counted as one
   abbrev pub DoesAsPart : (V → V → Type 0) → Type 0

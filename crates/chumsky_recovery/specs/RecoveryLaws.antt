@@ -23,7 +23,9 @@ module _ {Tok Cx St Mk Er V : Type 0} (merged : Er → Er → Er) (final : Final
   one_answer b f o (Clash s) e j a = absurd (subst IsAnswer (ap (λ (x : Outcome V Er St). x.verdict) j) a)
 
   helped : (b : Beginning Tok Cx St) (p q f o : Outcome V Er St) → part b p → p.verdict ≡ No → help (record b { state = back p.state (mark b.state) }) q → o ≡ as_one merged f → IsAnswer f.verdict
-      → (v : Verdict V Er) → q.verdict ≡ v → Helped merged final back safe (mark b.state) v b p q f → Unneeded merged final mark back part help b o ⊎ Needed merged final mark back part help b o ⊎ InVain merged final mark back part help b o
+      → (v : Verdict V Er) → q.verdict ≡ v → Helped merged final back safe (mark b.state) v b p q f
+      → Unneeded merged final mark back part help b o ⊎ Needed merged final mark back part help b o
+      ⊎ InVain merged final mark back part help b o
   helped b p q f o m n k is a (Yes v) e (inl r) = absurd (subst IsAnswer r.1 a)
   helped b p q f o m n k is a (Yes v) e (inr t) = inr (inl (record { value = v; failure = p; meant = m; fails = n; did = q; helps = k; succeeds = e; is = is ∙ ap (as_one merged) t }))
   helped b p q f o m n k is a No e (inl r) = absurd (subst IsAnswer r.1 a)
@@ -41,7 +43,9 @@ module _ {Tok Cx St Mk Er V : Type 0} (merged : Er → Er → Er) (final : Final
   helped b p q f o m n k is a (Halt s) e t = absurd (subst IsAnswer (ap (λ (x : Outcome V Er St). x.verdict) t ∙ e) a)
   helped b p q f o m n k is a (Clash s) e t = absurd (subst IsAnswer (ap (λ (x : Outcome V Er St). x.verdict) t ∙ e) a)
 
-  attempted : (b : Beginning Tok Cx St) (p f o : Outcome V Er St) → part b p → o ≡ as_one merged f → IsAnswer f.verdict → (v : Verdict V Er) → p.verdict ≡ v → ElseHelp merged final back safe (mark b.state) v help b p f
+  attempted : (b : Beginning Tok Cx St) (p f o : Outcome V Er St) → part b p → o ≡ as_one merged f
+      → IsAnswer f.verdict → (v : Verdict V Er) → p.verdict ≡ v
+      → ElseHelp merged final back safe (mark b.state) v help b p f
       → Unneeded merged final mark back part help b o ⊎ Needed merged final mark back part help b o ⊎ InVain merged final mark back part help b o
   attempted b p f o m is a (Yes v) e t = inl (record { value = v; did = p; meant = m; succeeds = e; is = is ∙ ap (as_one merged) t })
   attempted b p f o m is a No e (inl r) = absurd (subst IsAnswer r.1 a)
@@ -91,7 +95,15 @@ module _ {Tok Cx St Mk Er V : Type 0} (merged : Er → Er → Er) (final : Final
         elim (recovered-answers b o k a) [
           | inl u ↦ (
               let g : Agree same p u.did = h b b p u.did (alike_itself b) m u.meant (rw e tt) (rw u.succeeds tt) in
-              let told : Agree same (as_one merged p) (as_one merged u.did) = record { answer = g.answer; end = g.end; state = g.state; events = ap (λ es. option_to_list (primary merged es)) g.events; emitted = g.emitted } in
+              let told : Agree same (as_one merged p) (as_one merged u.did) =
+              record {
+                answer = g.answer;
+                end = g.end;
+                state = g.state;
+                events = ap (λ es. option_to_list (primary merged es)) g.events;
+                emitted = g.emitted;
+              }
+              in
               rw u.is told
               )
           | inr (inl n) ↦ absurd (not_failed b p n.failure v m e n.meant n.fails)

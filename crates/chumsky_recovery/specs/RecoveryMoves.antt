@@ -32,8 +32,11 @@ use Rattle.chumsky_recovery.specs.NestedLaws.{after_role-ends, tokens-end}
 is-no : {V Er St : Type 0} {o p : Outcome V Er St} → o ≡ p → (IsYes p.verdict → ⊥) → IsYes o.verdict → ⊥
 is-no {V} {Er} {St} e n y = n (subst IsYes (ap (λ (x : Outcome V Er St). x.verdict) e) y)
 
-module _ {Tok Cx St Mk Er V : Type 0} (merged : Er → Er → Er) (final : Final Tok Er) (back : St → Mk → St) (safe : Type 0) (mark : Mk) (part help : Meaning Tok Cx St Er V) (hp : Moves part) (hh : Moves help) where
-  helped_moves : (v : Verdict V Er) (b : Beginning Tok Cx St) (p q o : Outcome V Er St) → q.verdict ≡ v → help (record b { state = back p.state mark }) q → Helped merged final back safe mark v b p q o → IsYes o.verdict → b.start < o.end
+module _ {Tok Cx St Mk Er V : Type 0} (merged : Er → Er → Er) (final : Final Tok Er) (back : St → Mk → St)
+    (safe : Type 0) (mark : Mk) (part help : Meaning Tok Cx St Er V) (hp : Moves part) (hh : Moves help) where
+  helped_moves : (v : Verdict V Er) (b : Beginning Tok Cx St) (p q o : Outcome V Er St) → q.verdict ≡ v
+      → help (record b { state = back p.state mark }) q → Helped merged final back safe mark v b p q o
+      → IsYes o.verdict → b.start < o.end
   helped_moves (Yes v) b p q o e m (inl r) y = absurd (subst IsYes r.1 y)
   helped_moves (Yes v) b p q o e m (inr t) y =
       let on : b.start < q.end = hh (record b { state = back p.state mark }) q m (rw e tt) in
@@ -81,7 +84,9 @@ module _ {Tok Cx St Er W X : Type 0} (skip : Meaning Tok Cx St Er W) (ends : End
       let at : o.end ≡ c.start = ap (λ (x : Outcome (Turn X) Er St). x.end) g in
       omega (arith, l, ne, at)
 
-  skipped : (b : Beginning Tok Cx St) (p : Outcome W Er St) (o : Outcome (Turn X) Er St) (v : Verdict W Er) → p.verdict ≡ v → Asked false skip b p → Follows v (λ _ c. GoesOnIf (nat_eq c.start b.start) c) b p o → IsYes o.verdict → b.start < o.end
+  skipped : (b : Beginning Tok Cx St) (p : Outcome W Er St) (o : Outcome (Turn X) Er St) (v : Verdict W Er)
+      → p.verdict ≡ v → Asked false skip b p → Follows v (λ _ c. GoesOnIf (nat_eq c.start b.start) c) b p o
+      → IsYes o.verdict → b.start < o.end
   skipped b p o (Yes v) e m f y =
       let verdict : o.verdict ≡ f.0.verdict = ap (λ (x : Outcome (Turn X) Er St). x.verdict) f.2 in
       let on : b.start ≤ p.end = ends (record b { wanted = false }) p m.run (rw e tt) in
@@ -96,15 +101,21 @@ module _ {Tok Cx St Er W X : Type 0} (skip : Meaning Tok Cx St Er W) (ends : End
   pub skips_on-moves : Moves (SkipsOn {X = X} skip)
   skips_on-moves b o m y = skipped b m.run.first o m.run.first.verdict refl m.run.meant m.run.follows y
 
-module _ {Tok Cx St Mk Er U W : Type 0} (mark : St → Mk) (back : St → Mk → St) (safe : Type 0) (until : Meaning Tok Cx St Er U) (skip : Meaning Tok Cx St Er W) (eu : EndsAfterStart until) (es : EndsAfterStart skip) where
+module _ {Tok Cx St Mk Er U W : Type 0} (mark : St → Mk) (back : St → Mk → St) (safe : Type 0)
+    (until : Meaning Tok Cx St Er U) (skip : Meaning Tok Cx St Er W) (eu : EndsAfterStart until)
+    (es : EndsAfterStart skip) where
   seeks-move : {X : Type 0} → Moves until → Moves (Seeks {X = X} mark back safe until skip)
   seeks-move h b o m y =
-      or_else-moves mark back safe (Chained (Asked false until) (λ _. Given (Some (Last None)))) (SkipsOn skip) (chained-first (Asked false until) _ (asked-moves false until h) (λ v. given-ends (Some (Last None)))) (skips_on-moves skip es) b o m.run y
+      or_else-moves mark back safe (Chained (Asked false until) (λ _. Given (Some (Last None)))) (SkipsOn skip)
+      (chained-first (Asked false until) _ (asked-moves false until h) (λ v. given-ends (Some (Last None))))
+      (skips_on-moves skip es) b o m.run y
 
   -- skipping until something is found that moves
   pub skip_until-moves : {V : Type 0} (gives : V → Type 0) → Moves until → Moves (MeansSkipUntil mark back safe until skip gives)
   skip_until-moves gives h b o m y =
-      chained-first (AllTurns {V = Unit {0}} (Seeks mark back safe until skip)) (λ _. FallsBack gives) (all_turns-move (Seeks mark back safe until skip) (seeks-end mark back safe until skip eu es) (seeks-move h)) (λ v. falls_back-ends gives) b o m.run y
+      chained-first (AllTurns {V = Unit {0}} (Seeks mark back safe until skip)) (λ _. FallsBack gives)
+      (all_turns-move (Seeks mark back safe until skip) (seeks-end mark back safe until skip eu es) (seeks-move h))
+      (λ v. falls_back-ends gives) b o m.run y
 
   module _ {V : Type 0} where
     found-last : (b : Beginning Tok Cx St) (p : Outcome U Er St) (o : Outcome (Turn V) Er St) (v : Verdict U Er) → Follows v (λ _. Given (Some (Last None))) b p o → o.verdict ≡ Yes (Some Again) → ⊥
@@ -116,7 +127,9 @@ module _ {Tok Cx St Mk Er U W : Type 0} (mark : St → Mk) (back : St → Mk →
     found-last b p o (Halt s) f e = is-no f (λ z. z) (rw e tt)
     found-last b p o (Clash x) f e = is-no f (λ z. z) (rw e tt)
 
-    sought : (m : Mk) (v : Verdict (Turn V) Er) (b : Beginning Tok Cx St) (p o : Outcome (Turn V) Er St) → Chained (Asked false until) (λ _. Given (Some (Last None))) b p → ElseFrom back safe m v (SkipsOn skip) b p o → o.verdict ≡ Yes (Some Again) → b.start < o.end
+    sought : (m : Mk) (v : Verdict (Turn V) Er) (b : Beginning Tok Cx St) (p o : Outcome (Turn V) Er St)
+        → Chained (Asked false until) (λ _. Given (Some (Last None))) b p
+        → ElseFrom back safe m v (SkipsOn skip) b p o → o.verdict ≡ Yes (Some Again) → b.start < o.end
     sought m (Yes v) b p o n t e = absurd (found-last b n.first p n.first.verdict n.follows (sym (ap (λ (x : Outcome (Turn V) Er St). x.verdict) t) ∙ e))
     sought m No b p o n (inl r) e = absurd (subst IsYes r.1 (rw e tt))
     sought m No b p o n (inr k) e =
@@ -139,8 +152,12 @@ module _ {St Er V : Type 0} where
   forgets-only (Halt s) p o f = (ap (λ (x : Outcome V Er St). x.verdict) f, ap (λ (x : Outcome V Er St). x.end) f)
   forgets-only (Clash e) p o f = (ap (λ (x : Outcome V Er St). x.verdict) f, ap (λ (x : Outcome V Er St). x.end) f)
 
-module _ {Tok Cx St Mk Er U W V : Type 0} (mark : St → Mk) (back : St → Mk → St) (safe : Type 0) (until : Meaning Tok Cx St Er U) (skip : Meaning Tok Cx St Er W) (part : Meaning Tok Cx St Er V) (eu : EndsAfterStart until) (es : EndsAfterStart skip) (ep : EndsAfterStart part) where
-  retried : (b : Beginning Tok Cx St) (p o : Outcome (Turn V) Er St) (v : Verdict (Turn V) Er) → p.verdict ≡ v → Unheard (Seeks mark back safe until skip) b p → Follows v (AfterSeek mark back safe part) b p o → IsYes o.verdict → b.start < o.end
+module _ {Tok Cx St Mk Er U W V : Type 0} (mark : St → Mk) (back : St → Mk → St) (safe : Type 0)
+    (until : Meaning Tok Cx St Er U) (skip : Meaning Tok Cx St Er W) (part : Meaning Tok Cx St Er V)
+    (eu : EndsAfterStart until) (es : EndsAfterStart skip) (ep : EndsAfterStart part) where
+  retried : (b : Beginning Tok Cx St) (p o : Outcome (Turn V) Er St) (v : Verdict (Turn V) Er) → p.verdict ≡ v
+      → Unheard (Seeks mark back safe until skip) b p → Follows v (AfterSeek mark back safe part) b p o
+      → IsYes o.verdict → b.start < o.end
   retried b p o (Yes (Some (Last v))) e m f y =
       let verdict : o.verdict ≡ f.0.verdict = ap (λ (x : Outcome (Turn V) Er St). x.verdict) f.2 in
       absurd (is-no f.1 (λ z. z) (subst IsYes verdict y))
@@ -164,8 +181,13 @@ module _ {Tok Cx St Mk Er U W V : Type 0} (mark : St → Mk) (back : St → Mk �
   pub skip_then_retry-moves : Moves (MeansSkipThenRetry mark back safe until skip part)
   skip_then_retry-moves = all_turns-move (RetryTurn mark back safe until skip part) (retry_turn-ends mark back safe part until skip eu es ep) retry_turn-moves
 
-module _ {I Tok Sp Cu Er St Mk Cx T : Type 0} (source : input_trait.Ghosts I Cu Tok Sp) (errors : error_trait.Ghosts Er I Tok Sp) (states : inspector_trait.Ghosts St I Mk Tok Sp) (has : T → Tok → Bool) (members : T → List Tok) (pairs : List (T × T)) where
-  fits-move : (r : Option (Role T)) (i : T) (t : Option Tok) (b : Beginning Tok Cx states.Seen) (o : Outcome (Role T) errors.Seen states.Seen) → role_found has pairs i t ≡ r → Fits source errors states has members pairs r i t b o → IsYes o.verdict → b.start < o.end
+module _ {I Tok Sp Cu Er St Mk Cx T : Type 0} (source : input_trait.Ghosts I Cu Tok Sp)
+    (errors : error_trait.Ghosts Er I Tok Sp) (states : inspector_trait.Ghosts St I Mk Tok Sp) (has : T → Tok → Bool)
+    (members : T → List Tok) (pairs : List (T × T)) where
+  fits-move : (r : Option (Role T)) (i : T) (t : Option Tok) (b : Beginning Tok Cx states.Seen)
+      (o : Outcome (Role T) errors.Seen states.Seen)
+      → role_found has pairs i t ≡ r → Fits source errors states has members pairs r i t b o → IsYes o.verdict
+      → b.start < o.end
   fits-move (Some r) i (Some t) b o e h y = let at : o.end ≡ past (Some t) b.start = ap (λ (x : Outcome (Role T) errors.Seen states.Seen). x.end) h in omega (arith, at)
   fits-move (Some r) i None b o e h y = absurd (cc)
   fits-move None i t b o e (inl r) y = absurd (subst IsYes r.1 y)
@@ -177,7 +199,10 @@ module _ {I Tok Sp Cu Er St Mk Cx T : Type 0} (source : input_trait.Ghosts I Cu 
   tokens-move : (n : ℕ) (i : T) (outer_ones : List T) → Moves (TokensUpTo {Cx = Cx} source errors states has members pairs n i outer_ones)
   tokens-move zero i outer_ones = λ b o m y. absurd m
   tokens-move (suc n) i outer_ones =
-      chained-first (TakesFitting source errors states has members pairs i) _ (fitting-moves i) (after_role-ends source errors states has members pairs (TokensUpTo source errors states has members pairs n) (tokens-end source errors states has members pairs n) i outer_ones)
+      chained-first (TakesFitting source errors states has members pairs i) _ (fitting-moves i)
+      (after_role-ends source errors states has members pairs
+      (TokensUpTo source errors states has members pairs n)
+      (tokens-end source errors states has members pairs n) i outer_ones)
 
   -- tokens up to the one that closes what is open
   pub nested-moves : (i : T) → Moves (IgnoringFirst {W = Unit {0}} (TakesNested {Cx = Cx} source errors states has members pairs i) (Gives tt))

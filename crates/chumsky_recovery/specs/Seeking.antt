@@ -75,7 +75,8 @@ module _ {Tok Cx St Mk Er V : Type 0} (mark : St → Mk) (back : St → Mk → S
   AfterSeek part None = λ b o. ⊥
 
   -- one turn: looking and skipping, of which the events are forgotten, and then the part once more
-  pub record RetryTurn {U W : Type 0} (until : Meaning Tok Cx St Er U) (skip : Meaning Tok Cx St Er W) (part : Meaning Tok Cx St Er V) (b : Beginning Tok Cx St) (o : Outcome (Turn V) Er St) : Type 0 where
+  pub record RetryTurn {U W : Type 0} (until : Meaning Tok Cx St Er U) (skip : Meaning Tok Cx St Er W)
+      (part : Meaning Tok Cx St Er V) (b : Beginning Tok Cx St) (o : Outcome (Turn V) Er St) : Type 0 where
     pub run : Chained (Unheard (Seeks {X = V} mark back safe until skip)) (AfterSeek part) b o
 
   -- such turns, until the part succeeds

@@ -21,7 +21,9 @@ module _ {Tok Cx St Er W X : Type 0} (skip : Meaning Tok Cx St Er W) where
   goes_on_if-agrees same false false b c o q alike m n a z = given-agrees (SameTurn same) (Some Again) (Some Again) tt b c o q alike m n a z
 
   pub skips_on-ends : EndsAfterStart skip → EndsAfterStart (SkipsOn {X = X} skip)
-  skips_on-ends h b o m a = chained-ends (Asked false skip) (λ _ c. GoesOnIf (nat_eq c.start b.start) c) (asked-ends false skip h) (λ v c q n z. goes_on_if-ends (nat_eq c.start b.start) c q n z) b o m.run a
+  skips_on-ends h b o m a =
+      chained-ends (Asked false skip) (λ _ c. GoesOnIf (nat_eq c.start b.start) c) (asked-ends false skip h)
+      (λ v c q n z. goes_on_if-ends (nat_eq c.start b.start) c q n z) b o m.run a
 
   pub skips_on-agrees : (sw : W → W → Type 0) (same : X → X → Type 0) → Agreeing sw skip skip → Agreeing (SameTurn same) (SkipsOn skip) (SkipsOn skip)
   skips_on-agrees sw same h b c o q alike m n a z =
@@ -31,13 +33,17 @@ module _ {Tok Cx St Er W X : Type 0} (skip : Meaning Tok Cx St Er W) where
 module _ {Tok Cx St Mk Er V W X : Type 0} (mark : St → Mk) (back : St → Mk → St) (safe : Type 0) (until : Meaning Tok Cx St Er V) (skip : Meaning Tok Cx St Er W) where
   pub seeks-end : EndsAfterStart until → EndsAfterStart skip → EndsAfterStart (Seeks {X = X} mark back safe until skip)
   seeks-end hu hs b o m a =
-      or_else-ends mark back safe (Chained (Asked false until) (λ _. Given (Some (Last None)))) (SkipsOn skip) (chained-ends (Asked false until) _ (asked-ends false until hu) (λ v. given-ends (Some (Last None)))) (skips_on-ends skip hs) b o m.run a
+      or_else-ends mark back safe (Chained (Asked false until) (λ _. Given (Some (Last None)))) (SkipsOn skip)
+      (chained-ends (Asked false until) _ (asked-ends false until hu) (λ v. given-ends (Some (Last None))))
+      (skips_on-ends skip hs) b o m.run a
 
   either_turn : (same : X → X → Type 0) (t u : Turn X) → SameEither (SameTurn same) (SameTurn same) t u → SameTurn same t u
   either_turn same t u (inl e) = e
   either_turn same t u (inr e) = e
 
-  pub seeks-agree : (sv : V → V → Type 0) (sw : W → W → Type 0) (same : X → X → Type 0) → Agreeing sv until until → Agreeing sw skip skip → Agreeing (SameTurn same) (Seeks mark back safe until skip) (Seeks mark back safe until skip)
+  pub seeks-agree : (sv : V → V → Type 0) (sw : W → W → Type 0) (same : X → X → Type 0) → Agreeing sv until until
+      → Agreeing sw skip skip
+      → Agreeing (SameTurn same) (Seeks mark back safe until skip) (Seeks mark back safe until skip)
   seeks-agree sv sw same hu hs b c o q alike m n a z =
       agree-weaker (SameEither (SameTurn same) (SameTurn same)) (SameTurn same) (either_turn same) o q
       (or_else-agrees mark back safe (Chained (Asked false until) (λ _. Given (Some (Last None)))) (SkipsOn skip) (SameTurn same) (SameTurn same)
@@ -67,12 +73,18 @@ module _ {Tok Cx St Er V : Type 0} (gives : V → Type 0) where
 module _ {Tok Cx St Mk Er U W V : Type 0} (mark : St → Mk) (back : St → Mk → St) (safe : Type 0) (until : Meaning Tok Cx St Er U) (skip : Meaning Tok Cx St Er W) (gives : V → Type 0) where
   pub skip_until-ends : EndsAfterStart until → EndsAfterStart skip → EndsAfterStart (MeansSkipUntil mark back safe until skip gives)
   skip_until-ends hu hs b o m a =
-      chained-ends (AllTurns {V = Unit {0}} (Seeks mark back safe until skip)) _ (all_turns-end (Seeks mark back safe until skip) (seeks-end mark back safe until skip hu hs)) (λ v. falls_back-ends gives) b o m.run a
+      chained-ends (AllTurns {V = Unit {0}} (Seeks mark back safe until skip)) _
+      (all_turns-end (Seeks mark back safe until skip) (seeks-end mark back safe until skip hu hs))
+      (λ v. falls_back-ends gives) b o m.run a
 
-  pub skip_until-agrees : (su : U → U → Type 0) (sw : W → W → Type 0) → Agreeing su until until → Agreeing sw skip skip → Agreeing (BothGiven gives) (MeansSkipUntil mark back safe until skip gives) (MeansSkipUntil mark back safe until skip gives)
+  pub skip_until-agrees : (su : U → U → Type 0) (sw : W → W → Type 0) → Agreeing su until until
+      → Agreeing sw skip skip
+      → Agreeing (BothGiven gives) (MeansSkipUntil mark back safe until skip gives) (MeansSkipUntil mark back safe until skip gives)
   skip_until-agrees su sw hu hs b c o q alike m n a z =
       chained-agrees (AllTurns {V = Unit {0}} (Seeks mark back safe until skip)) (AllTurns {V = Unit {0}} (Seeks mark back safe until skip)) _ _ (λ _ _. Unit {0}) (BothGiven gives)
-      (all_turns-agree (Seeks mark back safe until skip) (λ _ _. Unit {0}) (seeks-agree mark back safe until skip su sw (λ _ _. Unit {0}) hu hs)) (λ v w e. falls_back-agrees gives) b c o q alike m.run n.run a z
+      (all_turns-agree (Seeks mark back safe until skip) (λ _ _. Unit {0})
+      (seeks-agree mark back safe until skip su sw (λ _ _. Unit {0}) hu hs))
+      (λ v w e. falls_back-agrees gives) b c o q alike m.run n.run a z
 
 module _ {Tok Cx St Er V : Type 0} (part : Meaning Tok Cx St Er V) where
   forgets-ends : (v : Verdict V Er) (b : Beginning Tok Cx St) (p o : Outcome V Er St) → (IsAnswer p.verdict → b.start ≤ p.end) → Forgets v p o → IsAnswer o.verdict → b.start ≤ o.end
@@ -87,7 +99,9 @@ module _ {Tok Cx St Er V : Type 0} (part : Meaning Tok Cx St Er V) where
   unheard-ends : EndsAfterStart part → EndsAfterStart (Unheard part)
   unheard-ends h b o m a = forgets-ends m.heard.verdict b m.heard o (h b m.heard m.meant) m.forgets a
 
-  forgets-agrees : (s : V → V → Type 0) (v w : Verdict V Er) (p r o q : Outcome V Er St) → p.verdict ≡ v → r.verdict ≡ w → (IsAnswer p.verdict → IsAnswer r.verdict → Agree s p r) → Forgets v p o → Forgets w r q → IsAnswer o.verdict → IsAnswer q.verdict → Agree s o q
+  forgets-agrees : (s : V → V → Type 0) (v w : Verdict V Er) (p r o q : Outcome V Er St) → p.verdict ≡ v
+      → r.verdict ≡ w → (IsAnswer p.verdict → IsAnswer r.verdict → Agree s p r) → Forgets v p o → Forgets w r q
+      → IsAnswer o.verdict → IsAnswer q.verdict → Agree s o q
   forgets-agrees s (Yes v) (Yes w) p r o q e d h f k a z =
       let g : Agree s p r = h (rw e tt) (rw d tt) in
       let told : Agree s (record p { events = [] }) (record r { events = [] }) = record { answer = g.answer; end = g.end; state = g.state; events = refl; emitted = g.emitted } in
@@ -121,7 +135,9 @@ module _ {Tok Cx St Mk Er V : Type 0} (mark : St → Mk) (back : St → Mk → S
   goes_on-ends p b o (inl r) a = absurd (subst IsAnswer r.1 a)
   goes_on-ends p b o (inr t) a = let e = ap (λ (x : Outcome (Turn V) Er St). x.end) t in omega arith
 
-  if_quiet-ends : (v : Verdict V Er) (p : Outcome V Er St) (b : Beginning Tok Cx St) (o : Outcome (Turn V) Er St) → p.verdict ≡ v → (IsAnswer p.verdict → b.start ≤ p.end) → IfQuiet mark back safe v p b o → IsAnswer o.verdict → b.start ≤ o.end
+  if_quiet-ends : (v : Verdict V Er) (p : Outcome V Er St) (b : Beginning Tok Cx St) (o : Outcome (Turn V) Er St)
+      → p.verdict ≡ v → (IsAnswer p.verdict → b.start ≤ p.end) → IfQuiet mark back safe v p b o → IsAnswer o.verdict
+      → b.start ≤ o.end
   if_quiet-ends (Yes v) p b o e h (inl t) a = let on : b.start ≤ p.end = h (rw e tt) in let l = ap (λ (x : Outcome (Turn V) Er St). x.end) t.1 in omega arith
   if_quiet-ends (Yes v) p b o e h (inr t) a = goes_on-ends p b o t.1 a
   if_quiet-ends No p b o e h t a = goes_on-ends p b o t a
@@ -132,7 +148,9 @@ module _ {Tok Cx St Mk Er V : Type 0} (mark : St → Mk) (back : St → Mk → S
   retries-end h b o m a = elim m.cases [ inl r ↦ absurd (subst IsAnswer r.1 a) | inr k ↦ if_quiet-ends k.0.verdict k.0 b o refl (h b k.0 k.1) k.2 a ]
 
   module _ (s : V → V → Type 0) where
-    goes_on-agrees : (b c : Beginning Tok Cx St) (p r : Outcome V Er St) (o q : Outcome (Turn V) Er St) → Alike b c → Agree s p r → GoesOn mark back safe p b o → GoesOn mark back safe r c q → IsAnswer o.verdict → IsAnswer q.verdict → Agree (SameTurn s) o q
+    goes_on-agrees : (b c : Beginning Tok Cx St) (p r : Outcome V Er St) (o q : Outcome (Turn V) Er St) → Alike b c
+        → Agree s p r → GoesOn mark back safe p b o → GoesOn mark back safe r c q → IsAnswer o.verdict
+        → IsAnswer q.verdict → Agree (SameTurn s) o q
     goes_on-agrees b c p r o q alike g (inl m) n a z = absurd (subst IsAnswer m.1 a)
     goes_on-agrees b c p r o q alike g (inr m) (inl n) a z = absurd (subst IsAnswer n.1 z)
     goes_on-agrees b c p r o q alike g (inr m) (inr n) a z =
@@ -142,12 +160,16 @@ module _ {Tok Cx St Mk Er V : Type 0} (mark : St → Mk) (back : St → Mk → S
         let told : Agree (SameTurn s) first second = record { answer = tt; end = alike.start; state = gone; events = refl; emitted = refl } in
         rw (m, n) told
 
-    if_quiet-agrees : (b c : Beginning Tok Cx St) (p r : Outcome V Er St) (o q : Outcome (Turn V) Er St) → Alike b c → (IsAnswer p.verdict → IsAnswer r.verdict → Agree s p r) → (v w : Verdict V Er) → p.verdict ≡ v → r.verdict ≡ w
+    if_quiet-agrees : (b c : Beginning Tok Cx St) (p r : Outcome V Er St) (o q : Outcome (Turn V) Er St) → Alike b c
+        → (IsAnswer p.verdict → IsAnswer r.verdict → Agree s p r) → (v w : Verdict V Er) → p.verdict ≡ v
+        → r.verdict ≡ w
         → IfQuiet mark back safe v p b o → IfQuiet mark back safe w r c q → IsAnswer o.verdict → IsAnswer q.verdict → Agree (SameTurn s) o q
     if_quiet-agrees b c p r o q alike h (Yes v) (Yes w) e d (inl m) (inl n) a z =
         let g : Agree s p r = h (rw e tt) (rw d tt) in
         let same : SameAnswer s p.verdict r.verdict = g.answer in
-        let told : Agree (SameTurn s) (retold (Yes (Some (Last v))) p) (retold (Yes (Some (Last w))) r) = record { answer = rw (e, d) at same; end = g.end; state = g.state; events = g.events; emitted = g.emitted } in
+        let told : Agree (SameTurn s) (retold (Yes (Some (Last v))) p) (retold (Yes (Some (Last w))) r) =
+        record { answer = rw (e, d) at same; end = g.end; state = g.state; events = g.events; emitted = g.emitted }
+        in
         rw (m.1, n.1) told
     if_quiet-agrees b c p r o q alike h (Yes v) (Yes w) e d (inl m) (inr n) a z =
         let g : Agree s p r = h (rw e tt) (rw d tt) in absurd (n.0 (sym g.emitted ∙ m.0))
@@ -181,7 +203,9 @@ module _ {Tok Cx St Mk Er V : Type 0} (mark : St → Mk) (back : St → Mk → S
   after_seek-ends h (Some Again) = retries-end h
   after_seek-ends h None = λ b o m a. absurd m
 
-  after_seek-agrees : (s : V → V → Type 0) → Agreeing s part part → (t u : Option (Turn V)) → SameValue (SameTurn s) t u → Agreeing (SameTurn s) (AfterSeek mark back safe part t) (AfterSeek mark back safe part u)
+  after_seek-agrees : (s : V → V → Type 0) → Agreeing s part part → (t u : Option (Turn V))
+      → SameValue (SameTurn s) t u
+      → Agreeing (SameTurn s) (AfterSeek mark back safe part t) (AfterSeek mark back safe part u)
   after_seek-agrees s h (Some (Last v)) (Some (Last w)) e = says_no-agrees (SameTurn s)
   after_seek-agrees s h (Some (Last v)) (Some Again) e = absurd e
   after_seek-agrees s h (Some Again) (Some (Last w)) e = absurd e
@@ -192,15 +216,23 @@ module _ {Tok Cx St Mk Er V : Type 0} (mark : St → Mk) (back : St → Mk → S
   module _ {U W : Type 0} (until : Meaning Tok Cx St Er U) (skip : Meaning Tok Cx St Er W) where
     pub retry_turn-ends : EndsAfterStart until → EndsAfterStart skip → EndsAfterStart part → EndsAfterStart (RetryTurn mark back safe until skip part)
     retry_turn-ends hu hs hp b o m a =
-        chained-ends (Unheard (Seeks {X = V} mark back safe until skip)) (AfterSeek mark back safe part) (unheard-ends (Seeks mark back safe until skip) (seeks-end mark back safe until skip hu hs)) (after_seek-ends hp) b o m.run a
+        chained-ends (Unheard (Seeks {X = V} mark back safe until skip)) (AfterSeek mark back safe part)
+        (unheard-ends (Seeks mark back safe until skip) (seeks-end mark back safe until skip hu hs))
+        (after_seek-ends hp) b o m.run a
 
-    retry_turn-agrees : (su : U → U → Type 0) (sw : W → W → Type 0) (s : V → V → Type 0) → Agreeing su until until → Agreeing sw skip skip → Agreeing s part part → Agreeing (SameTurn s) (RetryTurn mark back safe until skip part) (RetryTurn mark back safe until skip part)
+    retry_turn-agrees : (su : U → U → Type 0) (sw : W → W → Type 0) (s : V → V → Type 0) → Agreeing su until until
+        → Agreeing sw skip skip → Agreeing s part part
+        → Agreeing (SameTurn s) (RetryTurn mark back safe until skip part) (RetryTurn mark back safe until skip part)
     retry_turn-agrees su sw s hu hs hp b c o q alike m n a z =
-        chained-agrees (Unheard (Seeks {X = V} mark back safe until skip)) (Unheard (Seeks {X = V} mark back safe until skip)) (AfterSeek mark back safe part) (AfterSeek mark back safe part) (SameTurn s) (SameTurn s)
+        chained-agrees (Unheard (Seeks {X = V} mark back safe until skip))
+        (Unheard (Seeks {X = V} mark back safe until skip)) (AfterSeek mark back safe part)
+        (AfterSeek mark back safe part) (SameTurn s) (SameTurn s)
         (unheard-agrees (Seeks mark back safe until skip) (SameTurn s) (seeks-agree mark back safe until skip su sw s hu hs)) (after_seek-agrees s hp) b c o q alike m.run n.run a z
 
     pub skip_then_retry-ends : EndsAfterStart until → EndsAfterStart skip → EndsAfterStart part → EndsAfterStart (MeansSkipThenRetry mark back safe until skip part)
     skip_then_retry-ends hu hs hp = all_turns-end (RetryTurn mark back safe until skip part) (retry_turn-ends hu hs hp)
 
-    pub skip_then_retry-agrees : (su : U → U → Type 0) (sw : W → W → Type 0) (s : V → V → Type 0) → Agreeing su until until → Agreeing sw skip skip → Agreeing s part part → Agreeing s (MeansSkipThenRetry mark back safe until skip part) (MeansSkipThenRetry mark back safe until skip part)
+    pub skip_then_retry-agrees : (su : U → U → Type 0) (sw : W → W → Type 0) (s : V → V → Type 0)
+        → Agreeing su until until → Agreeing sw skip skip → Agreeing s part part
+        → Agreeing s (MeansSkipThenRetry mark back safe until skip part) (MeansSkipThenRetry mark back safe until skip part)
     skip_then_retry-agrees su sw s hu hs hp = all_turns-agree (RetryTurn mark back safe until skip part) s (retry_turn-agrees su sw s hu hs hp)

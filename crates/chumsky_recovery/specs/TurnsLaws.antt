@@ -11,7 +11,8 @@ module _ {Tok Cx St Er V : Type 0} where
   after_turn-ends next h (Some (Last v)) = given-ends v
   after_turn-ends next h None = λ b o m a. absurd m
 
-  after_turn-agrees : (same : V → V → Type 0) (next other : Meaning Tok Cx St Er V) → Agreeing same next other → (t u : Option (Turn V)) → SameValue (SameTurn same) t u → Agreeing same (AfterTurn next t) (AfterTurn other u)
+  after_turn-agrees : (same : V → V → Type 0) (next other : Meaning Tok Cx St Er V) → Agreeing same next other
+      → (t u : Option (Turn V)) → SameValue (SameTurn same) t u → Agreeing same (AfterTurn next t) (AfterTurn other u)
   after_turn-agrees same next other h (Some Again) (Some Again) e = h
   after_turn-agrees same next other h (Some Again) (Some (Last w)) e = absurd e
   after_turn-agrees same next other h (Some (Last v)) (Some Again) e = absurd e
@@ -37,7 +38,8 @@ module _ {Tok Cx St Er V : Type 0} (turn : Meaning Tok Cx St Er (Turn V)) where
     pub all_turns-agree : Agreeing same (AllTurns turn) (AllTurns turn)
     all_turns-agree b c o q alike m r a z = turns-agree m.turns r.turns b c o q alike m.run r.run a z
 
-  unrolled : (b : Beginning Tok Cx St) (p : Outcome (Turn V) Er St) (o : Outcome V Er St) → turn b p → (v : Verdict (Turn V) Er) → p.verdict ≡ v → Follows v (AfterTurn (AllTurns turn)) b p o → AllTurns turn b o
+  unrolled : (b : Beginning Tok Cx St) (p : Outcome (Turn V) Er St) (o : Outcome V Er St) → turn b p
+      → (v : Verdict (Turn V) Er) → p.verdict ≡ v → Follows v (AfterTurn (AllTurns turn)) b p o → AllTurns turn b o
   unrolled b p o m (Yes (Some Again)) e f =
       record { turns = suc f.1.turns; run = record { first = p; meant = m; follows = subst (λ v. Follows v (AfterTurn (TurnsUpTo turn f.1.turns)) b p o) (sym e) (f.0, f.1.run, f.2) } }
   unrolled b p o m (Yes (Some (Last v))) e f = record { turns = 1; run = record { first = p; meant = m; follows = subst (λ v. Follows v (AfterTurn (TurnsUpTo turn 0)) b p o) (sym e) f } }

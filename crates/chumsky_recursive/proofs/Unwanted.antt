@@ -29,7 +29,29 @@ use Rattle.chumsky_rules.specs.declared.kinds.NodeKind.{NodeKind}
 use Rattle.chumsky_rules.specs.declared.kinds.NodeKind.TheVariants.{Leaf, Rule, Then, Choice, Repeated, SeparatedBy, OrNot, Not, AndIs, Rewind, Map, TryMap}
 use Rattle.chumsky_rules.specs.Tables.{Tables}
 use Rattle.chumsky_recursive.specs.InPlace.{InPlace}
-use Rattle.chumsky_recursive.specs.Means.{Acts, AreThose, Values, Listed, bounds_of, Made, VettingOrNone, VettedOrNone, waited_if, waited, in_each_run, for_a_value, is_leaf, waits_for, kind_means, known_means, node_means, body_means, call_means, part_means, last_means}
+use Rattle.chumsky_recursive.specs.Means.{
+  Acts,
+  AreThose,
+  Values,
+  Listed,
+  bounds_of,
+  Made,
+  VettingOrNone,
+  VettedOrNone,
+  waited_if,
+  waited,
+  in_each_run,
+  for_a_value,
+  is_leaf,
+  waits_for,
+  kind_means,
+  known_means,
+  node_means,
+  body_means,
+  call_means,
+  part_means,
+  last_means,
+}
 use Rattle.chumsky_recursive.specs.Staying.{not_halt, not_no, not_clash, or_clash-end, chained_yes}
 use Rattle.chumsky_recursive.proofs.Making.{makes-ran}
 
@@ -67,7 +89,8 @@ module _ {Tok Cx St Er V : Type 0} where
   gives-unwanted u b o w m v y = given_is (wanting b.wanted u) b o m.given v y ∙ ap (λ c. wanting c u) w
 
 module _ {Tok Cx St Er V W : Type 0} where
-  chained-unwanted : (part : Meaning Tok Cx St Er V) (next : Option V → Meaning Tok Cx St Er W) → GivesOnlyWanted part → ((x : Option V) → x ≡ None → GivesOnlyWanted (next x)) → GivesOnlyWanted (Chained part next)
+  chained-unwanted : (part : Meaning Tok Cx St Er V) (next : Option V → Meaning Tok Cx St Er W) → GivesOnlyWanted part
+      → ((x : Option V) → x ≡ None → GivesOnlyWanted (next x)) → GivesOnlyWanted (Chained part next)
   chained-unwanted part next hp hn b o w m v y = let t = chained_yes part next b o m v y in hn t.value (hp b m.first w m.meant t.value t.yes) (from b m.first) t.last w t.meant v t.last_yes
 
   made-unwanted : (gives : V → Option W → Type 0) (u : Option V) → u ≡ None → GivesOnlyWanted (Made {Tok = Tok} {Cx = Cx} {St = St} {Er = Er} gives u)
@@ -75,7 +98,8 @@ module _ {Tok Cx St Er V W : Type 0} where
   made-unwanted gives None e b o w m v y = given_is None b o m.by_value v y
 
 module _ {Tok Cx St Mk Er V : Type 0} (mark : St → Mk) (back : St → Mk → St) (safe : Type 0) (first second : Meaning Tok Cx St Er V) (hf : GivesOnlyWanted first) (hs : GivesOnlyWanted second) where
-  else_unwanted : (b : Beginning Tok Cx St) (p o : Outcome V Er St) (mk : Mk) (u : Verdict V Er) → b.wanted ≡ false → first b p → ElseFrom back safe mk u second b p o → (v : Option V) → o.verdict ≡ Yes v → v ≡ None
+  else_unwanted : (b : Beginning Tok Cx St) (p o : Outcome V Er St) (mk : Mk) (u : Verdict V Er) → b.wanted ≡ false
+      → first b p → ElseFrom back safe mk u second b p o → (v : Option V) → o.verdict ≡ Yes v → v ≡ None
   else_unwanted b p o mk (Yes x) w m f v y = hf b p w m v (sym (ap (λ (z : Outcome V Er St). z.verdict) f) ∙ y)
   else_unwanted b p o mk No w m (inl r) v y = absurd (not_halt o _ v r.1 y)
   else_unwanted b p o mk No w m (inr t) v y = hs (record b { state = back p.state mk }) t.0 w t.1 v (sym (ap (λ (z : Outcome V Er St). z.verdict) t.2) ∙ y)
@@ -86,7 +110,9 @@ module _ {Tok Cx St Mk Er V : Type 0} (mark : St → Mk) (back : St → Mk → S
   or_else-unwanted b o w m v y = elim m.cases [ inl r ↦ absurd (not_halt o _ v r.1 y) | inr t ↦ else_unwanted b t.attempt o (mark b.state) t.attempt.verdict w t.meant t.then_else v y ]
 
 module _ {Tok Cx St Er V : Type 0} (step : ℕ → Meaning Tok Cx St Er (Next ℕ V)) where
-  collected_none : (b : Beginning Tok Cx St) (o : Outcome (List V) Er St) → Collected {Tok = Tok} {Cx = Cx} {St = St} {Er = Er} {V = V} {C = List V} AreThose None b o → (v : Option (List V)) → o.verdict ≡ Yes v → v ≡ None
+  collected_none : (b : Beginning Tok Cx St) (o : Outcome (List V) Er St)
+      → Collected {Tok = Tok} {Cx = Cx} {St = St} {Er = Er} {V = V} {C = List V} AreThose None b o
+      → (v : Option (List V)) → o.verdict ≡ Yes v → v ≡ None
   collected_none b o m v y = given_is m.value b o m.given v y ∙ empty m.value m.is
     where
       empty : (x : Option (List V)) → HoldsAll AreThose None x → x ≡ None
@@ -94,7 +120,10 @@ module _ {Tok Cx St Er V : Type 0} (step : ℕ → Meaning Tok Cx St Er (Next �
       empty None h = refl
 
   -- with no values so far none come
-  after_none : (on : Option V → ℕ → Meaning Tok Cx St Er (List V)) → ((u : Option V) (t : ℕ) (b : Beginning Tok Cx St) (o : Outcome (List V) Er St) → on u t b o → (v : Option (List V)) → o.verdict ≡ Yes v → v ≡ None)
+  after_none : (on : Option V → ℕ → Meaning Tok Cx St Er (List V))
+      →
+      ((u : Option V) (t : ℕ) (b : Beginning Tok Cx St) (o : Outcome (List V) Er St) → on u t b o
+      → (v : Option (List V)) → o.verdict ≡ Yes v → v ≡ None)
       → (x : Option (Next ℕ V)) (b : Beginning Tok Cx St) (o : Outcome (List V) Er St) → AfterStep on (Collected AreThose None) x b o → (v : Option (List V)) → o.verdict ≡ Yes v → v ≡ None
   after_none on h (Some (More u t)) b o m v y = h u t b o m v y
   after_none on h (Some End) b o m v y = collected_none b o m v y
@@ -103,7 +132,10 @@ module _ {Tok Cx St Er V : Type 0} (step : ℕ → Meaning Tok Cx St Er (Next �
   abbrev Empty : ℕ → ℕ → Type 0
   Empty room k = (b : Beginning Tok Cx St) (o : Outcome (List V) Er St) → AllSteps step (Appends ⊥) (Collected AreThose) room None k b o → (v : Option (List V)) → o.verdict ≡ Yes v → v ≡ None
 
-  appended_none : (room : ℕ) → ((k : ℕ) → Empty room k) → (u : Option V) (t : ℕ) (b : Beginning Tok Cx St) (o : Outcome (List V) Er St) → Chained (Appends {Tok = Tok} {Cx = Cx} {St = St} {Er = Er} ⊥ None u) (λ c. AllSteps step (Appends ⊥) (Collected AreThose) room c t) b o
+  appended_none : (room : ℕ) → ((k : ℕ) → Empty room k)
+      → (u : Option V) (t : ℕ) (b : Beginning Tok Cx St) (o : Outcome (List V) Er St)
+      → Chained (Appends {Tok = Tok} {Cx = Cx} {St = St} {Er = Er} ⊥ None u)
+      (λ c. AllSteps step (Appends ⊥) (Collected AreThose) room c t) b o
       → (v : Option (List V)) → o.verdict ≡ Yes v → v ≡ None
   appended_none room h u t b o m v y =
       let a = chained_yes (Given None) (λ c. AllSteps step (Appends ⊥) (Collected AreThose) room c t) b o m v y in
@@ -113,12 +145,18 @@ module _ {Tok Cx St Er V : Type 0} (step : ℕ → Meaning Tok Cx St Er (Next �
   all_none : (room k : ℕ) → Empty room k
   all_none zero k b o m v y =
       let t = chained_yes (step k) _ b o m v y in
-      after_none (λ _ _. Stops CountTooLarge) (λ u t c p n w z. absurd (not_halt p CountTooLarge w (ap (λ (q : Outcome (List V) Er St). q.verdict) n) z)) t.value (from b m.first) t.last t.meant v t.last_yes
+      after_none (λ _ _. Stops CountTooLarge)
+      (λ u t c p n w z. absurd (not_halt p CountTooLarge w (ap (λ (q : Outcome (List V) Er St). q.verdict) n) z))
+      t.value (from b m.first) t.last t.meant v t.last_yes
   all_none (suc room) k b o m v y =
       let t = chained_yes (step k) _ b o m v y in
-      after_none (λ u t. Chained (Appends ⊥ None u) (λ c. AllSteps step (Appends ⊥) (Collected AreThose) room c t)) (appended_none room (all_none room)) t.value (from b m.first) t.last t.meant v t.last_yes
+      after_none (λ u t. Chained (Appends ⊥ None u) (λ c. AllSteps step (Appends ⊥) (Collected AreThose) room c t))
+      (appended_none room (all_none room)) t.value (from b m.first) t.last t.meant v t.last_yes
 
-  from_none : (room : ℕ) (a : Option (List V)) (x : Option ℕ) → a ≡ None → (b : Beginning Tok Cx St) (o : Outcome (List V) Er St) → FromMade step (Appends ⊥) (Collected AreThose) room a x b o → (v : Option (List V)) → o.verdict ≡ Yes v → v ≡ None
+  from_none : (room : ℕ) (a : Option (List V)) (x : Option ℕ) → a ≡ None
+      → (b : Beginning Tok Cx St) (o : Outcome (List V) Er St)
+      → FromMade step (Appends ⊥) (Collected AreThose) room a x b o → (v : Option (List V)) → o.verdict ≡ Yes v
+      → v ≡ None
   from_none room (Some xs) x e b o m v y = absurd cc
   from_none room None (Some k) e b o m v y = all_none room k b o (unlisted step (Appends ⊥) (Collected AreThose) room None k b o m) v y
   from_none room None None e b o m v y = absurd m
@@ -144,7 +182,9 @@ module _ {Tok Cx St Mk Er V : Type 0} (mark : St → Mk) (back : St → Mk → S
       told u.last _ t.value v u.meant refl u.last_yes ∙ or_else-unwanted mark back safe part SaysNo h no-unwanted b m.run.first w m.run.meant t.value t.yes
 
 module _ {Tok Cx St Er V : Type 0} (merged : Er → Er → Er) (part : Meaning Tok Cx St Er V) (h : GivesOnlyWanted part) where
-  rewound : (u : Verdict V Er) (b : Beginning Tok Cx St) (p o : Outcome V Er St) → b.wanted ≡ false → part b p → p.verdict ≡ u → ByVerdict u (Rewinds merged) (NoAsOne merged) b p o → (v : Option V) → o.verdict ≡ Yes v → v ≡ None
+  rewound : (u : Verdict V Er) (b : Beginning Tok Cx St) (p o : Outcome V Er St) → b.wanted ≡ false → part b p
+      → p.verdict ≡ u → ByVerdict u (Rewinds merged) (NoAsOne merged) b p o → (v : Option V) → o.verdict ≡ Yes v
+      → v ≡ None
   rewound (Yes x) b p o w m e (inl j) v y = told o _ x v (or_clash-end _ o v j.1 y) refl y ∙ h b p w m x e
   rewound (Yes x) b p o w m e (inr j) v y = told o _ x v (or_clash-end _ o v j.1 y) refl y ∙ h b p w m x e
   rewound No b p o w m e c v y = absurd (not_no o v (ap (λ (z : Outcome V Er St). z.verdict) (or_clash-end _ o v c y)) y)
@@ -155,12 +195,15 @@ module _ {Tok Cx St Er V : Type 0} (merged : Er → Er → Er) (part : Meaning T
   rewind-unwanted b o w m v y = rewound m.run.first.verdict b m.run.first o w m.run.meant refl m.run.judges v y
 
 module _ {Tok Cx St Er V W : Type 0} (merged : Er → Er → Er) (lacks : Type 0) (vets : Vets Tok Cx St Er V W) (part : Meaning Tok Cx St Er V) where
-  ruled : (r : Result W Er) (t : St) (b : Beginning Tok Cx St) (p : Outcome V Er St) (o : Outcome W Er St) → b.wanted ≡ false → OnRuling merged ⊤ r t b p o → (v : Option W) → o.verdict ≡ Yes v → v ≡ None
+  ruled : (r : Result W Er) (t : St) (b : Beginning Tok Cx St) (p : Outcome V Er St) (o : Outcome W Er St)
+      → b.wanted ≡ false → OnRuling merged ⊤ r t b p o → (v : Option W) → o.verdict ≡ Yes v → v ≡ None
   ruled (Ok x) t b p o w c v y = told o _ (wanting b.wanted x) v (or_clash-end _ o v c y) refl y ∙ ap (λ c. wanting c x) w
   ruled (Err e) t b p o w (inl r) v y = absurd (not_halt o _ v r.1 y)
   ruled (Err e) t b p o w (inr c) v y = absurd (not_no o v (ap (λ (z : Outcome W Er St). z.verdict) (or_clash-end _ o v c y)) y)
 
-  judged : (u : Verdict V Er) (b : Beginning Tok Cx St) (p : Outcome V Er St) (o : Outcome W Er St) → b.wanted ≡ false → ByVerdict u (VettingOrNone merged lacks vets) (NoAsOne merged) b p o → (v : Option W) → o.verdict ≡ Yes v → v ≡ None
+  judged : (u : Verdict V Er) (b : Beginning Tok Cx St) (p : Outcome V Er St) (o : Outcome W Er St) → b.wanted ≡ false
+      → ByVerdict u (VettingOrNone merged lacks vets) (NoAsOne merged) b p o → (v : Option W) → o.verdict ≡ Yes v
+      → v ≡ None
   judged (Yes x) b p o w (inl r) v y = absurd (not_halt o _ v r.1 y)
   judged (Yes (Some x)) b p o w (inr j) v y = ruled j.0 j.1 b p o w j.3 v y
   judged (Yes None) b p o w (inr j) v y = absurd j
@@ -175,7 +218,12 @@ module _ {Tok Cx St Mk Er V : Type 0} (back : St → Mk → St) (safe : Type 0) 
   stands-unwanted : (k n : ℕ) (ns : List ℕ) → GivesOnlyWanted (Stands back safe mark k (part n) (map part ns))
   stands-unwanted zero n ns b o w s v y = h n b o w s.0 v y
   stands-unwanted (suc k) n [] b o w s v y = absurd s
-  stands-unwanted (suc k) n (x ∷ xs) b o w s v y = elim s.3 [ inl r ↦ absurd (not_halt o _ v r.1 y) | inr t ↦ stands-unwanted k x xs (record b { state = back s.0.state mark }) t.0 w t.1 v (sym (ap (λ (z : Outcome V Er St). z.verdict) t.2) ∙ y) ]
+  stands-unwanted (suc k) n (x ∷ xs) b o w s v y =
+      elim s.3 [
+        | inl r ↦ absurd (not_halt o _ v r.1 y)
+        | inr t ↦ stands-unwanted k x xs (record b { state = back s.0.state mark }) t.0 w t.1 v
+            (sym (ap (λ (z : Outcome V Er St). z.verdict) t.2) ∙ y)
+      ]
 
 module _ {Tok Cx St Er V : Type 0} (may_lack : Bool → Type 0) where
   waited_if-unwanted : (c : Bool) (m : Meaning Tok Cx St Er V) → GivesOnlyWanted m → GivesOnlyWanted (waited_if may_lack c m)
@@ -186,7 +234,10 @@ module _ {Tok Cx St Er V : Type 0} (may_lack : Bool → Type 0) where
   waited-unwanted waits part h n = waited_if-unwanted (waits n) (part n) (h n)
 
 module _ {I Tok Sp Cu Er St Mk Cx V : Type 0} (source : input_trait.Ghosts I Cu Tok Sp) (errors : error_trait.Ghosts Er I Tok Sp) (states : inspector_trait.Ghosts St I Mk Tok Sp) where
-  not_from : (u : Verdict V errors.Seen) (b : Beginning Tok Cx states.Seen) (p : Outcome V errors.Seen states.Seen) (o : Outcome (Unit {0}) errors.Seen states.Seen) → b.wanted ≡ false → ByVerdict u (Denies source errors states (states.mark b.state)) (Allows source errors states (states.mark b.state)) b p o
+  not_from : (u : Verdict V errors.Seen) (b : Beginning Tok Cx states.Seen) (p : Outcome V errors.Seen states.Seen)
+      (o : Outcome (Unit {0}) errors.Seen states.Seen)
+      → b.wanted ≡ false
+      → ByVerdict u (Denies source errors states (states.mark b.state)) (Allows source errors states (states.mark b.state)) b p o
       → (v : Option (Unit {0})) → o.verdict ≡ Yes v → v ≡ None
   not_from (Yes x) b p o w (inl r) v y = absurd (not_halt o _ v r.1 y)
   not_from (Yes x) b p o w (inr (inl r)) v y = absurd (not_halt o _ v r.1 y)
@@ -202,10 +253,15 @@ module _ {I Tok Sp Cu Er St Mk Cx V : Type 0} (source : input_trait.Ghosts I Cu 
   among-unwanted : (part : ℕ → Meaning Tok Cx states.Seen errors.Seen V) → ((n : ℕ) → GivesOnlyWanted (part n)) → (ns : List ℕ) → GivesOnlyWanted (FirstAmong source errors states (map part ns))
   among-unwanted part h [] b o w m v y = elim m.cases [ inl r ↦ absurd (not_halt o _ v r.1 y) | inr f ↦ elim f.by [ inl n ↦ absurd (not_no o v n.0 y) | inr c ↦ absurd (not_clash o _ v c.0 y) ] ]
   among-unwanted part h (n ∷ []) b o w m v y = h n b o w m.cases.cases v y
-  among-unwanted part h (n ∷ x ∷ xs) b o w m v y = elim m.cases.cases [ inl r ↦ absurd (not_halt o _ v r.1 y) | inr t ↦ stands-unwanted states.back states.takes_no_memory (states.mark b.state) part h t.k n (x ∷ xs) b o w t.stands v y ]
+  among-unwanted part h (n ∷ x ∷ xs) b o w m v y =
+      elim m.cases.cases [
+        | inl r ↦ absurd (not_halt o _ v r.1 y)
+        | inr t ↦ stands-unwanted states.back states.takes_no_memory (states.mark b.state) part h t.k n (x ∷ xs) b o w t.stands v y
+      ]
 
   module _ (a : Acts Tok Cx states.Seen errors.Seen V) (leaf : (n : ℕ) → GivesOnlyWanted (a.leaf n)) where
-    module _ (call part last : ℕ → Meaning Tok Cx states.Seen errors.Seen V) (hc : (r : ℕ) → GivesOnlyWanted (call r)) (hp : (n : ℕ) → GivesOnlyWanted (part n)) (hl : (n : ℕ) → GivesOnlyWanted (last n)) where
+    module _ (call part last : ℕ → Meaning Tok Cx states.Seen errors.Seen V) (hc : (r : ℕ) → GivesOnlyWanted (call r))
+        (hp : (n : ℕ) → GivesOnlyWanted (part n)) (hl : (n : ℕ) → GivesOnlyWanted (last n)) where
       kind-unwanted : (k : NodeKind) → GivesOnlyWanted (kind_means source errors states a call part last k)
       kind-unwanted (Leaf n) = leaf n
       kind-unwanted (Rule r) = hc r
@@ -213,14 +269,19 @@ module _ {I Tok Sp Cu Er St Mk Cx V : Type 0} (source : input_trait.Ghosts I Cu 
       kind-unwanted (Choice c) = among-unwanted part hp c.items
       kind-unwanted (Repeated x least most) = listed-unwanted (Repeats states.mark states.back states.takes_no_memory (part x) false least most) a.lists
       kind-unwanted (SeparatedBy x z cfg) = listed-unwanted (Separates states.mark states.back states.takes_no_memory (part z) (part x) (bounds_of cfg)) a.lists
-      kind-unwanted (OrNot x) = chained-unwanted (OrNone states.mark states.back states.takes_no_memory (part x)) _ (or_none-unwanted states.mark states.back states.takes_no_memory (part x) (hp x)) (made-unwanted a.options)
+      kind-unwanted (OrNot x) =
+          chained-unwanted (OrNone states.mark states.back states.takes_no_memory (part x)) _
+          (or_none-unwanted states.mark states.back states.takes_no_memory (part x) (hp x))
+          (made-unwanted a.options)
       kind-unwanted (Not x) = chained-unwanted (MeansNot source errors states (part x)) _ (not-unwanted (part x)) (made-unwanted a.units)
       kind-unwanted (AndIs x z) = and_is-unwanted states.mark states.back states.takes_no_memory (part x) (hp x) (part z)
       kind-unwanted (Rewind x) = rewind-unwanted errors.merged (part x) (hp x)
       kind-unwanted (Map x f) = chained-unwanted (last x) _ (hl x) (made-unwanted (a.maps f))
       kind-unwanted (TryMap x f) = vetted-unwanted errors.merged (a.tries_lack f) (a.tries f) (part x)
 
-    known-unwanted : (nodes : List NodeKind) (call part : ℕ → Meaning Tok Cx states.Seen errors.Seen V) → ((r : ℕ) → GivesOnlyWanted (call r)) → ((n : ℕ) → GivesOnlyWanted (part n)) → (k : Option NodeKind) → GivesOnlyWanted (known_means source errors states a nodes call part k)
+    known-unwanted : (nodes : List NodeKind) (call part : ℕ → Meaning Tok Cx states.Seen errors.Seen V)
+        → ((r : ℕ) → GivesOnlyWanted (call r)) → ((n : ℕ) → GivesOnlyWanted (part n)) → (k : Option NodeKind)
+        → GivesOnlyWanted (known_means source errors states a nodes call part k)
     known-unwanted nodes call part hc hp None b o w m v y = absurd m
     known-unwanted nodes call part hc hp (Some k) b o w m v y =
         let waits = waits_for (is_leaf nodes) k in
@@ -243,7 +304,9 @@ module _ {I Tok Sp Cu Er St Mk Cx V : Type 0} (source : input_trait.Ghosts I Cu 
     call-unwanted g (suc more) r b o w m v y = body-unwanted (call_means source errors states a g more) (call-unwanted g more) g.nodes (slice_get g.bodies r) b o w m v y
 
     part-unwanted : (g : Tables) (more n : ℕ) → GivesOnlyWanted (last_means source errors states a g more n)
-    part-unwanted g more n = waited_if-unwanted for_a_value (not (is_leaf g.nodes n)) (part_means source errors states a g more n) (node-unwanted (call_means source errors states a g more) (call-unwanted g more) g.nodes (suc n) n)
+    part-unwanted g more n =
+        waited_if-unwanted for_a_value (not (is_leaf g.nodes n)) (part_means source errors states a g more n)
+        (node-unwanted (call_means source errors states a g more) (call-unwanted g more) g.nodes (suc n) n)
 
 module _ {Er V : Type 0} where
   yes_of : (u : Verdict V Er) (v : Option V) → Ok v ≡ answer u → u ≡ Yes v
@@ -254,7 +317,10 @@ module _ {Er V : Type 0} where
 
 module _ {Tok Cx St Er V : Type 0} (merged : Er → Er → Er) (safe : Type 0) (wanted : Bool) (w : wanted ≡ false) where
   -- where no value is wanted of a part and nothing is made of none, the whole does what the part does
-  makes_nothing : (part : Meaning Tok Cx St Er V) (next : Option V → Meaning Tok Cx St Er V) (old new : Held Tok Cx St Er) (r : Result (Option V) Fault) → GivesOnlyWanted part → Ran merged safe (next None) wanted new new (Ok None) → Ran merged safe part wanted old new r → Ran merged safe (Chained part next) wanted old new r
+  makes_nothing : (part : Meaning Tok Cx St Er V) (next : Option V → Meaning Tok Cx St Er V)
+      (old new : Held Tok Cx St Er) (r : Result (Option V) Fault)
+      → GivesOnlyWanted part → Ran merged safe (next None) wanted new new (Ok None)
+      → Ran merged safe part wanted old new r → Ran merged safe (Chained part next) wanted old new r
   makes_nothing part next old new (Ok v) gives h ran =
       let e : v ≡ None = gives (begin wanted old) ran.outcome w ran.meant v (yes_of ran.outcome.verdict v ran.answered) in
       rw e (chained ran (ap Ok e) h)
@@ -264,12 +330,28 @@ module _ {Tok Cx St Er V : Type 0} (merged : Er → Er → Er) (safe : Type 0) (
   made_of_none gives (Some x) now e = absurd cc
   made_of_none gives None now e = makes-ran merged safe gives wanted now None (Ok None) (sym w) refl
 
-module _ {I Tok Sp Cu Er St Mk Cx V : Type 0} (source : input_trait.Ghosts I Cu Tok Sp) (errors : error_trait.Ghosts Er I Tok Sp) (states : inspector_trait.Ghosts St I Mk Tok Sp) (a : Acts Tok Cx states.Seen errors.Seen V) (leaf : (n : ℕ) → GivesOnlyWanted (a.leaf n)) (g : Tables) (more n : ℕ) (wanted : Bool) (old new : Held Tok Cx states.Seen errors.Seen) (r : Result (Option V) Fault) (w : wanted ≡ false) where
+module _ {I Tok Sp Cu Er St Mk Cx V : Type 0} (source : input_trait.Ghosts I Cu Tok Sp)
+    (errors : error_trait.Ghosts Er I Tok Sp) (states : inspector_trait.Ghosts St I Mk Tok Sp)
+    (a : Acts Tok Cx states.Seen errors.Seen V) (leaf : (n : ℕ) → GivesOnlyWanted (a.leaf n)) (g : Tables)
+    (more n : ℕ) (wanted : Bool) (old new : Held Tok Cx states.Seen errors.Seen) (r : Result (Option V) Fault)
+    (w : wanted ≡ false) where
   -- so of the part of `map`
-  pub maps_nothing : (f : ℕ) → Ran errors.merged errors.takes_no_memory (last_means source errors states a g more n) wanted old new r → Ran errors.merged errors.takes_no_memory (Chained (last_means source errors states a g more n) (Made (a.maps f))) wanted old new r
-  maps_nothing f ran = makes_nothing errors.merged errors.takes_no_memory wanted w (last_means source errors states a g more n) (Made (a.maps f)) old new r (part-unwanted source errors states a leaf g more n) (made_of_none errors.merged errors.takes_no_memory wanted w (a.maps f) None new refl) ran
+  pub maps_nothing : (f : ℕ)
+      → Ran errors.merged errors.takes_no_memory (last_means source errors states a g more n) wanted old new r
+      → Ran errors.merged errors.takes_no_memory (Chained (last_means source errors states a g more n) (Made (a.maps f))) wanted old new r
+  maps_nothing f ran =
+      makes_nothing errors.merged errors.takes_no_memory wanted w (last_means source errors states a g more n)
+      (Made (a.maps f)) old new r (part-unwanted source errors states a leaf g more n)
+      (made_of_none errors.merged errors.takes_no_memory wanted w (a.maps f) None new refl) ran
 
   -- and of the second of `then`, after a first that gave no value
-  pub joins_nothing : (v : Option V) → is_some v ≡ wanted → Ran errors.merged errors.takes_no_memory (last_means source errors states a g more n) wanted old new r → Ran errors.merged errors.takes_no_memory (Chained (last_means source errors states a g more n) (λ x. Made a.pairs (both v x))) wanted old new r
+  pub joins_nothing : (v : Option V) → is_some v ≡ wanted
+      → Ran errors.merged errors.takes_no_memory (last_means source errors states a g more n) wanted old new r
+      → Ran errors.merged errors.takes_no_memory
+      (Chained (last_means source errors states a g more n) (λ x. Made a.pairs (both v x))) wanted old new r
   joins_nothing v there ran =
-      makes_nothing errors.merged errors.takes_no_memory wanted w (last_means source errors states a g more n) (λ x. Made a.pairs (both v x)) old new r (part-unwanted source errors states a leaf g more n) (made_of_none errors.merged errors.takes_no_memory wanted w a.pairs (both v None) new (both_none v None (not_there v (there ∙ w)))) ran
+      makes_nothing errors.merged errors.takes_no_memory wanted w (last_means source errors states a g more n)
+      (λ x. Made a.pairs (both v x)) old new r (part-unwanted source errors states a leaf g more n)
+      (made_of_none errors.merged errors.takes_no_memory wanted w a.pairs (both v None) new
+      (both_none v None (not_there v (there ∙ w))))
+      ran

@@ -11,7 +11,9 @@ use Rattle.chumsky_recursive.specs.declared.actions.Actions as actions_trait
 use Rattle.chumsky_recursive.specs.declared.grammar.Grammar.{Grammar}
 use Rattle.chumsky_recursive.specs.Means.{Acts, acts_of, body_means, call_means}
 
-module _ {I Tok Sp Cu Er St Mk Cx V : Type 0} (source : input_trait.Ghosts I Cu Tok Sp) (errors : error_trait.Ghosts Er I Tok Sp) (states : inspector_trait.Ghosts St I Mk Tok Sp) (a : Acts Tok Cx states.Seen errors.Seen V) where
+module _ {I Tok Sp Cu Er St Mk Cx V : Type 0} (source : input_trait.Ghosts I Cu Tok Sp)
+    (errors : error_trait.Ghosts Er I Tok Sp) (states : inspector_trait.Ghosts St I Mk Tok Sp)
+    (a : Acts Tok Cx states.Seen errors.Seen V) where
   -- a derivation of this outcome: under some number of open rules the rule has it, and it is an answer, so no stop. The tree is
   -- what `call_means` unfolds to: a level for each rule that is open, and as far down as some number
   pub record Derives (g : Tables) (r : ℕ) (b : Beginning Tok Cx states.Seen) (o : Outcome V errors.Seen states.Seen) : Type 0 where
@@ -25,7 +27,9 @@ module _ {I Tok Sp Cu Er St Mk Cx V : Type 0} (source : input_trait.Ghosts I Cu 
   calls_along related g zero r = Stops TooDeep
   calls_along related g (suc more) r = λ b. body_means source errors states a (λ s c o. related b.start c.start × calls_along related g more s c o) g.nodes (slice_get g.bodies r) b
 
-module _ {A I X V Cu Tok Sp Er St Cx Mk : Type 0} (source : input_trait.Ghosts I Cu Tok Sp) (errors : error_trait.Ghosts Er I Tok Sp) (states : inspector_trait.Ghosts St I Mk Tok Sp) (actions : actions_trait.Ghosts A I X V Cu Tok Sp Er St Cx Mk) (grammar : Grammar A) where
+module _ {A I X V Cu Tok Sp Er St Cx Mk : Type 0} (source : input_trait.Ghosts I Cu Tok Sp)
+    (errors : error_trait.Ghosts Er I Tok Sp) (states : inspector_trait.Ghosts St I Mk Tok Sp)
+    (actions : actions_trait.Ghosts A I X V Cu Tok Sp Er St Cx Mk) (grammar : Grammar A) where
   -- what the rules of a grammar derive from its start, however deep
   abbrev pub derived_by : Meaning Tok Cx states.Seen errors.Seen V
   derived_by = Derives source errors states (acts_of actions grammar.actions.now source errors states) grammar.rules.rules.now grammar.rules.start

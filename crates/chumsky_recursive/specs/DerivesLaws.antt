@@ -11,7 +11,9 @@ use Rattle.chumsky_recursive.specs.Going.{call-goes}
 use Rattle.chumsky_recursive.specs.LimitLaws.{HasAnswers, Carries, carries, carries_on, StaysIn, body-has, limits-agree}
 use Rattle.chumsky_recursive.specs.Derives.{Derives, calls_along}
 
-module _ {I Tok Sp Cu Er St Mk Cx V : Type 0} (source : input_trait.Ghosts I Cu Tok Sp) (errors : error_trait.Ghosts Er I Tok Sp) (states : inspector_trait.Ghosts St I Mk Tok Sp) (a : Acts Tok Cx states.Seen errors.Seen V) where
+module _ {I Tok Sp Cu Er St Mk Cx V : Type 0} (source : input_trait.Ghosts I Cu Tok Sp)
+    (errors : error_trait.Ghosts Er I Tok Sp) (states : inspector_trait.Ghosts St I Mk Tok Sp)
+    (a : Acts Tok Cx states.Seen errors.Seen V) where
   -- an answer under a limit is derived
   pub derived : (g : Tables) (limit r : ℕ) → HasAnswers (call_means source errors states a g limit r) (Derives source errors states a g r)
   derived g limit r b o y m = record { depth = limit; meant = m; answers = y }
@@ -31,4 +33,7 @@ module _ {I Tok Sp Cu Er St Mk Cx V : Type 0} (source : input_trait.Ghosts I Cu 
     calls-onward zero r b o y m = m
     calls-onward (suc more) r b o y m =
         let from : ℕ → Type 0 = λ q. b.start ≤ q in
-        body-has from source errors states a (leaf_stays b.start) (call_means source errors states a g more) (λ s c q. (b.start ≤ c.start) × calls_along source errors states a (λ outer inner. outer ≤ inner) g more s c q) (call-goes (Carries from) (carries from) (carries_on from) source errors states a (leaf_stays b.start) g more) (λ s c q i z x. (i, calls-onward more s c q z x)) g.nodes (slice_get g.bodies r) b o (omega arith) y m
+        body-has from source errors states a (leaf_stays b.start) (call_means source errors states a g more)
+        (λ s c q. (b.start ≤ c.start) × calls_along source errors states a (λ outer inner. outer ≤ inner) g more s c q)
+        (call-goes (Carries from) (carries from) (carries_on from) source errors states a (leaf_stays b.start) g more)
+        (λ s c q i z x. (i, calls-onward more s c q z x)) g.nodes (slice_get g.bodies r) b o (omega arith) y m

@@ -31,5 +31,7 @@ module _ {Tok Cx St Er V : Type 0} where
   marked_or f m count x l h false e b o k v y s = let w = h e b o k.meant (subst IsYes (sym y) tt) in absurd (omega arith)
 
   -- a leaf node of closed rules stays where it begins only if its answer says so
-  pub leaf-moves : (f : ℕ → Bool) (leaf : ℕ → Meaning Tok Cx St Er V) (count : ℕ) (g : Tables) → IsKnown g count → ((x : ℕ) → f x ≡ false → Moves (leaf x)) → (n x : ℕ) → IsNode g n (Leaf x) → StaysOnlyIf (IsMarked (answers_of f count) x) (InPlace (leaf x))
+  pub leaf-moves : (f : ℕ → Bool) (leaf : ℕ → Meaning Tok Cx St Er V) (count : ℕ) (g : Tables) → IsKnown g count
+      → ((x : ℕ) → f x ≡ false → Moves (leaf x)) → (n x : ℕ) → IsNode g n (Leaf x)
+      → StaysOnlyIf (IsMarked (answers_of f count) x) (InPlace (leaf x))
   leaf-moves f leaf count g known h n x is = marked_or f (leaf x) count x (known n x is) (h x) (f x) refl

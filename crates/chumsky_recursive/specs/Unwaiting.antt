@@ -59,16 +59,21 @@ clash_memory o c e h = cc
 deep_memory : {V Er St : Type 0} (o : Outcome V Er St) → o.verdict ≡ Halt TooDeep → o.verdict ≡ Halt Memory → ⊥
 deep_memory o e h = cc
 
-module _ {Tok Cx St Er V W : Type 0} (P : Type 0) (part : Meaning Tok Cx St Er V) (next : Option V → Meaning Tok Cx St Er W) (b : Beginning Tok Cx St) (hf : (p : Outcome V Er St) → part b p → p.verdict ≡ Halt Memory → P) (hn : (p : Outcome V Er St) (v : Option V) → part b p → p.verdict ≡ Yes v → (o : Outcome W Er St) → next v (from b p) o → o.verdict ≡ Halt Memory → P) where
-  chain_asks : (p : Outcome V Er St) (o : Outcome W Er St) (u : Verdict V Er) → p.verdict ≡ u → part b p → Follows u next b p o → o.verdict ≡ Halt Memory → P
-  chain_asks p o (Yes x) e m f h = hn p x m e f.0 f.1 (sym (ap (λ (z : Outcome W Er St). z.verdict) f.2) ∙ h)
-  chain_asks p o No e m f h = absurd (no_memory o (ap (λ (z : Outcome W Er St). z.verdict) f) h)
-  chain_asks p o (Halt t) e m f h = let q : o.verdict ≡ Halt t = ap (λ (z : Outcome W Er St). z.verdict) f in let same : t ≡ Memory = cc (q, h) in hf p m (e ∙ ap Halt same)
-  chain_asks p o (Clash c) e m f h = absurd (clash_memory o c (ap (λ (z : Outcome W Er St). z.verdict) f) h)
+module _ {Tok Cx St Er V W : Type 0} (P : Type 0) (part : Meaning Tok Cx St Er V)
+    (next : Option V → Meaning Tok Cx St Er W) (b : Beginning Tok Cx St)
+    (hf : (p : Outcome V Er St) → part b p → p.verdict ≡ Halt Memory → P)
+    (hn : (p : Outcome V Er St) (v : Option V) → part b p → p.verdict ≡ Yes v → (o : Outcome W Er St)
+    → next v (from b p) o → o.verdict ≡ Halt Memory → P)
+  where
+    chain_asks : (p : Outcome V Er St) (o : Outcome W Er St) (u : Verdict V Er) → p.verdict ≡ u → part b p → Follows u next b p o → o.verdict ≡ Halt Memory → P
+    chain_asks p o (Yes x) e m f h = hn p x m e f.0 f.1 (sym (ap (λ (z : Outcome W Er St). z.verdict) f.2) ∙ h)
+    chain_asks p o No e m f h = absurd (no_memory o (ap (λ (z : Outcome W Er St). z.verdict) f) h)
+    chain_asks p o (Halt t) e m f h = let q : o.verdict ≡ Halt t = ap (λ (z : Outcome W Er St). z.verdict) f in let same : t ≡ Memory = cc (q, h) in hf p m (e ∙ ap Halt same)
+    chain_asks p o (Clash c) e m f h = absurd (clash_memory o c (ap (λ (z : Outcome W Er St). z.verdict) f) h)
 
-  -- where a part and what follows it are refused for memory, one of them is
-  chained-asks : (o : Outcome W Er St) → Chained part next b o → o.verdict ≡ Halt Memory → P
-  chained-asks o m h = chain_asks m.first o m.first.verdict refl m.meant m.follows h
+    -- where a part and what follows it are refused for memory, one of them is
+    chained-asks : (o : Outcome W Er St) → Chained part next b o → o.verdict ≡ Halt Memory → P
+    chained-asks o m h = chain_asks m.first o m.first.verdict refl m.meant m.follows h
 
 module _ {Tok Cx St Er V : Type 0} (may_lack : Bool → Type 0) (m : Meaning Tok Cx St Er V) where
   -- a part that is a leaf is not waited for
@@ -86,7 +91,12 @@ module _ {Tok Cx St Er V W : Type 0} (gives : V → Option W → Type 0) where
   made-asks : (v : Option V) (b : Beginning Tok Cx St) (o : Outcome W Er St) → Made gives v b o → o.verdict ≡ Halt Memory → (b.wanted ≡ true) × (x : V) × gives x None
   made-asks v b o m h = made_of-asks v b o m.by_value h
 
-module _ {I Tok Sp Cu Er St Mk Cx V : Type 0} (source : input_trait.Ghosts I Cu Tok Sp) (errors : error_trait.Ghosts Er I Tok Sp) (states : inspector_trait.Ghosts St I Mk Tok Sp) (a : Acts Tok Cx states.Seen errors.Seen V) (g : Tables) (never : NeverWaits g) (quiet : TakesNoMemory) (pairs : (v : V × V) → a.pairs v None → quiet.pair → ⊥) (maps : (f : ℕ) (v : V) → a.maps f v None → quiet.map f → ⊥) (within : (n : ℕ) → SucceedsBy Reach Reach-refl Reach-trans (a.leaf n)) where
+module _ {I Tok Sp Cu Er St Mk Cx V : Type 0} (source : input_trait.Ghosts I Cu Tok Sp)
+    (errors : error_trait.Ghosts Er I Tok Sp) (states : inspector_trait.Ghosts St I Mk Tok Sp)
+    (a : Acts Tok Cx states.Seen errors.Seen V) (g : Tables) (never : NeverWaits g) (quiet : TakesNoMemory)
+    (pairs : (v : V × V) → a.pairs v None → quiet.pair → ⊥)
+    (maps : (f : ℕ) (v : V) → a.maps f v None → quiet.map f → ⊥)
+    (within : (n : ℕ) → SucceedsBy Reach Reach-refl Reach-trans (a.leaf n)) where
   -- a leaf of these rules is refused for memory on these tokens, or an error takes memory, or a value that is wanted does
   abbrev pub Asks : Layout Tok → Bool → Type 0
   Asks tokens wanted = LeafHalts a.leaf g tokens Memory ⊎ (errors.takes_no_memory → ⊥) ⊎ ((wanted ≡ true) × CallsAsk g quiet)
@@ -122,13 +132,25 @@ module _ {I Tok Sp Cu Er St Mk Cx V : Type 0} (source : input_trait.Ghosts I Cu 
           (λ p v k y q l i. let asks = made-asks (a.maps f) v (from b p) q l i in inr (inr (asks.0, record { cases = inr (n, x, f, is, maps f asks.1 asks.2) })))
           o m h
 
-      kind-asks : (n : ℕ) (k : NodeKind) → IsNode g n k → DoesNotWait (is_leaf g.nodes) k → OnlyIfAsked (kind_means source errors states a call (waited in_each_run (waits_for (is_leaf g.nodes) k) part) (waited for_a_value (waits_for (is_leaf g.nodes) k) part) k)
+      kind-asks : (n : ℕ) (k : NodeKind) → IsNode g n k → DoesNotWait (is_leaf g.nodes) k
+          → OnlyIfAsked
+          (kind_means source errors states a call (waited in_each_run (waits_for (is_leaf g.nodes) k) part)
+          (waited for_a_value (waits_for (is_leaf g.nodes) k) part) k)
       kind-asks n (Leaf x) is f b o w m h = inl (record { number = x; node = n; is = is; begun = b; on = refl; there = w; out = o; meant = m; halts = h })
       kind-asks n (Rule r) is f b o w m h = hc r b o w m h
       kind-asks n (Choice v) is f b o w m h = among-asks v.items f b o w m h
       kind-asks n (Then x z) is f b o w m h =
-          let first = subst (λ (y : Meaning Tok Cx states.Seen errors.Seen V). Chained y (λ v. Chained (waited_if for_a_value (not (is_leaf g.nodes z)) (part z)) (λ u. Made a.pairs (both v u))) b o) (leaf_alone in_each_run (part x) (is_leaf g.nodes x) f.0) m in
-          then-asks n x z is b o w (subst (λ (y : Meaning Tok Cx states.Seen errors.Seen V). Chained (part x) (λ v. Chained y (λ u. Made a.pairs (both v u))) b o) (leaf_alone for_a_value (part z) (is_leaf g.nodes z) f.1) first) h
+          let first =
+          subst
+          (λ (y : Meaning Tok Cx states.Seen errors.Seen V). Chained y
+          (λ v. Chained (waited_if for_a_value (not (is_leaf g.nodes z)) (part z)) (λ u. Made a.pairs (both v u)))
+          b o)
+          (leaf_alone in_each_run (part x) (is_leaf g.nodes x) f.0) m in
+          then-asks n x z is b o w
+          (subst
+          (λ (y : Meaning Tok Cx states.Seen errors.Seen V). Chained (part x) (λ v. Chained y (λ u. Made a.pairs (both v u))) b o)
+          (leaf_alone for_a_value (part z) (is_leaf g.nodes z) f.1) first)
+          h
       kind-asks n (Map x t) is f b o w m h =
           map-asks n x t is b o w (subst (λ (y : Meaning Tok Cx states.Seen errors.Seen V). Chained y (Made (a.maps t)) b o) (leaf_alone for_a_value (part x) (is_leaf g.nodes x) f) m) h
       kind-asks n (Repeated x least most) is f b o w m h = absurd f
@@ -146,7 +168,10 @@ module _ {I Tok Sp Cu Er St Mk Cx V : Type 0} (source : input_trait.Ghosts I Cu 
     node-asks : (bound n : ℕ) → OnlyIfAsked (node_means source errors states a call g.nodes bound n)
     unfolding node_means
     node-asks zero n b o w m h = absurd m
-    node-asks (suc bound) n b o w m h = known-asks (node_means source errors states a call g.nodes bound) (node-goes Reach Reach-refl Reach-trans source errors states a within call gc g.nodes bound) (node-asks bound) n (slice_get g.nodes n) refl b o w m h
+    node-asks (suc bound) n b o w m h =
+        known-asks (node_means source errors states a call g.nodes bound)
+        (node-goes Reach Reach-refl Reach-trans source errors states a within call gc g.nodes bound)
+        (node-asks bound) n (slice_get g.nodes n) refl b o w m h
 
     body-asks : (body : Option (Option ℕ)) → OnlyIfAsked (body_means source errors states a call g.nodes body)
     body-asks None b o w m h = absurd m
@@ -157,12 +182,19 @@ module _ {I Tok Sp Cu Er St Mk Cx V : Type 0} (source : input_trait.Ghosts I Cu 
   pub call-asks : (more r : ℕ) → OnlyIfAsked (call_means source errors states a g more r)
   unfolding call_means
   call-asks zero r b o w m h = absurd (deep_memory o (ap (λ (z : Outcome V errors.Seen states.Seen). z.verdict) m) h)
-  call-asks (suc more) r b o w m h = body-asks (call_means source errors states a g more) (call-goes Reach Reach-refl Reach-trans source errors states a within g more) (call-asks more) (slice_get g.bodies r) b o w m h
+  call-asks (suc more) r b o w m h =
+      body-asks (call_means source errors states a g more)
+      (call-goes Reach Reach-refl Reach-trans source errors states a within g more) (call-asks more)
+      (slice_get g.bodies r) b o w m h
 
-module _ {A I X V Cu Tok Sp Er St Cx Mk : Type 0} (errors : error_trait.Ghosts Er I Tok Sp) (states : inspector_trait.Ghosts St I Mk Tok Sp) (actions : actions_trait.Ghosts A I X V Cu Tok Sp Er St Cx Mk) (grammar : Grammar A) where
+module _ {A I X V Cu Tok Sp Er St Cx Mk : Type 0} (errors : error_trait.Ghosts Er I Tok Sp)
+    (states : inspector_trait.Ghosts St I Mk Tok Sp) (actions : actions_trait.Ghosts A I X V Cu Tok Sp Er St Cx Mk)
+    (grammar : Grammar A) where
   -- begun at a place of its tokens, it is refused for memory only where a leaf is, or errors take memory, or a value is wanted and its
   -- function may take some
   abbrev pub HaltsForMemory : Does I Tok Sp Er St Mk Cx V → Type 0
   HaltsForMemory m =
       (b : Beginning Tok Cx states.Seen) (o : Outcome V errors.Seen states.Seen) → b.start ≤ length b.tokens.list → m errors states b o → o.verdict ≡ Halt Memory
-      → LeafHalts (λ n. actions.leaf_meaning grammar.actions.now n errors states) grammar.rules.rules.now b.tokens Memory ⊎ (errors.takes_no_memory → ⊥) ⊎ ((b.wanted ≡ true) × CallsAsk grammar.rules.rules.now (actions.takes_no_memory grammar.actions.now))
+      → LeafHalts (λ n. actions.leaf_meaning grammar.actions.now n errors states) grammar.rules.rules.now b.tokens Memory
+      ⊎ (errors.takes_no_memory → ⊥)
+      ⊎ ((b.wanted ≡ true) × CallsAsk grammar.rules.rules.now (actions.takes_no_memory grammar.actions.now))

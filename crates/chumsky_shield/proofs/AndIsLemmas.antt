@@ -70,14 +70,18 @@ module _ {Tok Cx St Mk Er V W : Type 0} {merged : Er → Er → Er} {safe : Type
         → new ≡ record far { tokens = mid.tokens; place = mid.place }
         → Ran merged safe (MeansAndIs mark back quiet part other) w old new (Ok v)
     and_is_yes {x} {far} {new} k e =
-        let there : Ran merged safe other false (record mid { place = old.place }) far (Ok x) = subst (λ (z : Held Tok Cx St Er). Ran merged safe other false z far (Ok x)) (moved_back merged safe mark back quiet part other w old v mid here h n) k in
+        let there : Ran merged safe other false (record mid { place = old.place }) far (Ok x) =
+        subst (λ (z : Held Tok Cx St Er). Ran merged safe other false z far (Ok x))
+        (moved_back merged safe mark back quiet part other w old v mid here h n) k in
         looks merged safe mark back quiet part other w old v mid here h n new (Ok v)
         (rw (e ∙ ap (λ t. record far { tokens = t; place = mid.place }) (sym there.same.tokens))
         (chained (ran-asked there) refl (ran-yes merged safe (GivenAt v mid.place) w far v mid.place far.state refl)))
 
     pub and_is_missing : {f : Fault} {new : Held Tok Cx St Er} → Ran merged safe other false here new (Err f) → Ran merged safe (MeansAndIs mark back quiet part other) w old new (Err f)
     and_is_missing {f} {new} k =
-        let there : Ran merged safe other false (record mid { place = old.place }) new (Err f) = subst (λ (z : Held Tok Cx St Er). Ran merged safe other false z new (Err f)) (moved_back merged safe mark back quiet part other w old v mid here h n) k in
+        let there : Ran merged safe other false (record mid { place = old.place }) new (Err f) =
+        subst (λ (z : Held Tok Cx St Er). Ran merged safe other false z new (Err f))
+        (moved_back merged safe mark back quiet part other w old v mid here h n) k in
         looks merged safe mark back quiet part other w old v mid here h n new (Err f) (failed (ran-asked there) refl refl)
 
 module _ {Tok Cx St Er V : Type 0} (merged : Er → Er → Er) (safe : Type 0) (part : Meaning Tok Cx St Er V) (w : Bool)
@@ -111,7 +115,8 @@ module _ {Tok Cx St Er V : Type 0} {merged : Er → Er → Er} {safe : Type 0} {
         → Ran merged safe (MeansRewind merged part) w old new (Ok v)
     rewind_past {new} k e =
         let went = went_yes merged safe part w old mid v h in
-        rewound merged safe part w old mid new _ (shield_whole went (at_start merged (begin w old) v went.first None) new tt (inl (subst (KeepsPast old.place) (kept_is merged safe part w old mid v h) k, inl refl))
+        rewound merged safe part w old mid new _
+        (shield_whole went (at_start merged (begin w old) v went.first None) new tt (inl (subst (KeepsPast old.place) (kept_is merged safe part w old mid v h) k, inl refl))
         (e ∙ ap (λ (z : Held Tok Cx St Er). record z { tokens = old.tokens; place = old.place; kept = old.kept })
         went.left
         ∙ ap (λ z. record old { state = went.first.state; kept = z; emitted = old.emitted ++ went.first.emitted })
@@ -123,7 +128,8 @@ module _ {Tok Cx St Er V : Type 0} {merged : Er → Er → Er} {safe : Type 0} {
         → Ran merged safe (MeansRewind merged part) w old new (Ok v)
     rewind_here {here} {new} k e n =
         let went = went_yes merged safe part w old mid v h in
-        rewound merged safe part w old mid new _ (shield_whole went (at_start merged (begin w old) v went.first (primary merged went.first.events)) new tt (inr ((λ z. k (subst (KeepsPast old.place) (sym (kept_is merged safe part w old mid v h)) z)), inl refl))
+        rewound merged safe part w old mid new _
+        (shield_whole went (at_start merged (begin w old) v went.first (primary merged went.first.events)) new tt (inr ((λ z. k (subst (KeepsPast old.place) (sym (kept_is merged safe part w old mid v h)) z)), inl refl))
         (n ∙ ap (kept_after merged old.kept) (e ∙ ap (λ (z : Held Tok Cx St Er). record z { tokens = old.tokens; place = old.place }) went.left)))
 
     pub rewind_here_refused : {here new : Held Tok Cx St Er} → (KeepsPast old.place mid.kept → ⊥)

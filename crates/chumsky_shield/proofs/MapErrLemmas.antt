@@ -72,7 +72,10 @@ module _ {Tok Cx St Er V : Type 0} {merged : Er → Er → Er} {safe : Type 0} {
       → Ran merged safe (MeansMapErr merged maps part) w old new (Err f)
   map_err_no {new} {f} {x} h e m =
       let went = went_no merged safe part w old mid h in
-      inside merged safe maps part w old mid new _ (no_mapped merged safe maps part w old mid went new f mid.kept (sym (ap (λ (z : Held Tok Cx St Er). z.kept) went.left)) (subst (λ y. MapsKept merged safe (maps y) mid.kept old.kept mid new f) e m))
+      inside merged safe maps part w old mid new _
+      (no_mapped merged safe maps part w old mid went new f mid.kept
+      (sym (ap (λ (z : Held Tok Cx St Er). z.kept) went.left))
+      (subst (λ y. MapsKept merged safe (maps y) mid.kept old.kept mid new f) e m))
 
 module _ {Tok Cx St Er : Type 0} where
   -- what is shown of a run doesn't hang on what is kept

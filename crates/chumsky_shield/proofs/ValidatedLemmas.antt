@@ -36,7 +36,10 @@ module _ {Tok Cx St Er V W : Type 0} {merged : Er → Er → Er} {safe : Type 0}
   pub validate_fails : {f : Fault} {r : Result V Fault} {q : Result W Fault}
       → Ran merged safe part true old mid (with_value r) → r ≡ Err f → q ≡ Err f
       → Ran merged safe (MeansValidate emits part) w old mid (asked w q)
-  validate_fails {f} h e d = rw d (whole merged safe emits part w old mid mid (Err f) (ran-chained_err merged safe (Asked true part) (Validated emits old.place) w old mid f (ran-asked (rw (emit_err e) at h))))
+  validate_fails {f} h e d =
+      rw d
+      (whole merged safe emits part w old mid mid (Err f)
+      (ran-chained_err merged safe (Asked true part) (Validated emits old.place) w old mid f (ran-asked (rw (emit_err e) at h))))
 
   module _ {v : V} (h : Ran merged safe part true old mid (Ok (Some v))) (x : W) (here : Held Tok Cx St Er)
       (n : here ≡ record mid { state = here.state }) (r : Option (List Er))

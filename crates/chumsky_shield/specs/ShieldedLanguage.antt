@@ -13,7 +13,21 @@ use Rattle.chumsky_parser.specs.Progress.{Moves}
 use Rattle.chumsky_parser.specs.ProgressLaws.{both-true}
 use Rattle.chumsky_shield.specs.AndIs.{MeansAndIs, MeansRewind}
 use Rattle.chumsky_shield.specs.Looking.{rewind_ends, not_ends, and_is_ends, PartFollows, MayBeThere, KnownByWord}
-use Rattle.chumsky_shield.specs.LookingLaws.{rewind-takes_only, rewind-gives_only, rewind-takes_each, rewind-decided, not-takes_only, not-gives_only, not-takes_each, not-decided, and_is-takes_only, and_is-gives_only, and_is-takes_each, and_is-further, and_is-decided}
+use Rattle.chumsky_shield.specs.LookingLaws.{
+  rewind-takes_only,
+  rewind-gives_only,
+  rewind-takes_each,
+  rewind-decided,
+  not-takes_only,
+  not-gives_only,
+  not-takes_each,
+  not-decided,
+  and_is-takes_only,
+  and_is-gives_only,
+  and_is-takes_each,
+  and_is-further,
+  and_is-decided,
+}
 use Rattle.chumsky_shield.specs.MapErr.{ErrMaps, MeansMapErr}
 use Rattle.chumsky_shield.specs.Not.{MeansNot}
 use Rattle.chumsky_shield.specs.ShieldedEndings.{map_err-by, rewind-by, not-by, and_is-by}
@@ -71,7 +85,9 @@ and_is_language F G = record {
 }
 
 -- what ends where its part does, with its values, and moves and takes memory only as it does, accepts the part's language
-pub same-accepts : {Tok Cx St Er V : Type 0} (part m : Meaning Tok Cx St Er V) {F : Language Tok V} {spare : Type 0} → (Reads part F.ends F.value → Reads m F.ends F.value) → (Moves part → Moves m) → (spare → NeverOutOfMemory part → NeverOutOfMemory m) → Accepts part F spare → Accepts m F spare
+pub same-accepts : {Tok Cx St Er V : Type 0} (part m : Meaning Tok Cx St Er V) {F : Language Tok V} {spare : Type 0}
+    → (Reads part F.ends F.value → Reads m F.ends F.value) → (Moves part → Moves m)
+    → (spare → NeverOutOfMemory part → NeverOutOfMemory m) → Accepts part F spare → Accepts m F spare
 same-accepts part m reads moving sparing h = record {
   described = λ s. let d = h.described s in record { reads = reads d.reads; only = d.only; given = d.given; each = d.each; decided = d.decided; further = d.further };
   moving = λ e. moving (h.moving e);
@@ -100,9 +116,13 @@ module _ {Tok Cx St Er V : Type 0} (merged : Er → Er → Er) (part : Meaning T
     sparing = λ q t. rewind-spares merged part (h.sparing q t);
   }
 
-module _ {I Tok Sp Cu Er St Mk Cx V : Type 0} (source : input_trait.Ghosts I Cu Tok Sp) (errors : error_trait.Ghosts Er I Tok Sp) (states : inspector_trait.Ghosts St I Mk Tok Sp) (part : Meaning Tok Cx states.Seen errors.Seen V) where
+module _ {I Tok Sp Cu Er St Mk Cx V : Type 0} (source : input_trait.Ghosts I Cu Tok Sp)
+    (errors : error_trait.Ghosts Er I Tok Sp) (states : inspector_trait.Ghosts St I Mk Tok Sp)
+    (part : Meaning Tok Cx states.Seen errors.Seen V) where
   -- `part.not()`
-  pub not-accepts : {F : Language Tok V} → let spare : Type 0 = errors.takes_no_memory × states.takes_no_memory in Accepts part F spare → Accepts (MeansNot source errors states part) (not_language F) spare
+  pub not-accepts : {F : Language Tok V} →
+      let spare : Type 0 = errors.takes_no_memory × states.takes_no_memory in
+      Accepts part F spare → Accepts (MeansNot source errors states part) (not_language F) spare
   not-accepts {F} h = record {
     described = λ s.
         let d = h.described s in

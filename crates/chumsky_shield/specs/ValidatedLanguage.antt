@@ -56,7 +56,8 @@ module _ {Tok Cx St Er V W : Type 0} (emits : Emits Tok Cx St Er V W) where
     validated-spares : EmitsNothing → NeverOutOfMemory part → NeverOutOfMemory (MeansValidate emits part)
     validated-spares n h b o m = chained-spares (Asked true part) (Validated emits b.start) (asked-spares true part h) (validated_each-spares n b.start) b o m.run
 
-    validated_each-here : (P : V → Type 0) (start : ℕ) (v : Option V) → IfValue P v → (c : Beginning Tok Cx St) → Within c → Here (ValidatedAs P) (Validated emits start v) (At (drop c.start c.tokens.list)) c
+    validated_each-here : (P : V → Type 0) (start : ℕ) (v : Option V) → IfValue P v → (c : Beginning Tok Cx St)
+        → Within c → Here (ValidatedAs P) (Validated emits start v) (At (drop c.start c.tokens.list)) c
     validated_each-here P start (Some v) i c y o m = by_case m.4
       where
         answered : ValidatedAs P m.0
@@ -73,7 +74,8 @@ module _ {Tok Cx St Er V W : Type 0} (emits : Emits Tok Cx St Er V W) where
           let ts : List Tok = drop b.start b.tokens.list in
           let Q : W → Type 0 = ValidatedAs (va ts) in
           let z : Answers Q (and_then (λ us. At us) (f ts)) b.tokens.list o.verdict o.end =
-          chained-here (va ts) Q (Asked true part) (Validated emits b.start) (f ts) (λ us. At us) b w (asked-here (va ts) b true part (f ts) (h.here (record b { wanted = true }) (record { start = w.start; few = w.few })))
+          chained-here (va ts) Q (Asked true part) (Validated emits b.start) (f ts) (λ us. At us) b w
+          (asked-here (va ts) b true part (f ts) (h.here (record b { wanted = true }) (record { start = w.start; few = w.few })))
           (λ v c y e i. validated_each-here (va ts) b.start v i c y) o m.run in
           subst (λ q. Answers Q q b.tokens.list o.verdict o.end) (and_then_some (f ts)) z;
     }

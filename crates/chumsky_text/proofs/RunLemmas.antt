@@ -54,14 +54,20 @@ module _ {I Tok Sp Cu Er Cx St : Type 0} (source : input_trait.Ghosts I Cu Tok S
   ends_told (w ∷ ws) old new f e a = a
 
   -- a stop there is one for want of memory
-  pub ends_memory : (what : List (Wanted Tok)) (old new : Held Tok Cx St errors.Seen) (f : Fault) → (f ≡ fault.Fail → ⊥) → EndsRun source errors what old new f → EndsRun source errors what old new (fault.Stop Memory)
+  pub ends_memory : (what : List (Wanted Tok)) (old new : Held Tok Cx St errors.Seen) (f : Fault)
+      → (f ≡ fault.Fail → ⊥) → EndsRun source errors what old new f
+      → EndsRun source errors what old new (fault.Stop Memory)
   ends_memory [] old new f n a = absurd (n a.0)
   ends_memory (w ∷ ws) old new fault.Fail n a = absurd (n refl)
   ends_memory (w ∷ ws) old new (fault.Stop s) n (inl a) = inl (refl, a.1, a.2, a.3)
   ends_memory (w ∷ ws) old new (fault.Stop s) n (inr a) = inr (refl, a.1, a.2)
 
-module _ {I Tok Sp Cu Er St Mk Cx W : Type 0} (source : input_trait.Ghosts I Cu Tok Sp) (is : Layout Tok → ℕ → ℕ → W → Type 0) (errors : error_trait.Ghosts Er I Tok Sp) (states : inspector_trait.Ghosts St I Mk Tok Sp) where
-  module _ (w : Bool) (old mid : Held Tok Cx states.Seen errors.Seen) (from end : ℕ) (state : states.Seen) (v : Option W) (k : IsWanted (is old.tokens from end) w v) (moved : mid ≡ record old { place = end; state = state }) where
+module _ {I Tok Sp Cu Er St Mk Cx W : Type 0} (source : input_trait.Ghosts I Cu Tok Sp)
+    (is : Layout Tok → ℕ → ℕ → W → Type 0) (errors : error_trait.Ghosts Er I Tok Sp)
+    (states : inspector_trait.Ghosts St I Mk Tok Sp) where
+  module _ (w : Bool) (old mid : Held Tok Cx states.Seen errors.Seen) (from end : ℕ) (state : states.Seen)
+      (v : Option W) (k : IsWanted (is old.tokens from end) w v)
+      (moved : mid ≡ record old { place = end; state = state }) where
     abbrev whole : Event errors.Seen → Outcome W errors.Seen states.Seen
     whole e = record { verdict = Yes v; end = end; state = state; events = e ∷ []; emitted = [] }
 
@@ -74,7 +80,13 @@ module _ {I Tok Sp Cu Er St Mk Cx W : Type 0} (source : input_trait.Ghosts I Cu 
           meant = record { value = v; is_value = k; outcome = inr (inl refl) };
           answered = refl;
           state = ap (λ (h : Held Tok Cx states.Seen errors.Seen). h.state) a;
-          left = record { end = ap (λ (h : Held Tok Cx states.Seen errors.Seen). h.place) a; kept = ap (λ (h : Held Tok Cx states.Seen errors.Seen). h.kept) a; emitted = ap (λ (h : Held Tok Cx states.Seen errors.Seen). h.emitted) a ∙ sym (append-nil old.emitted); stopped = ap (λ (h : Held Tok Cx states.Seen errors.Seen). h.stopped) a };
+          left =
+              record {
+                end = ap (λ (h : Held Tok Cx states.Seen errors.Seen). h.place) a;
+                kept = ap (λ (h : Held Tok Cx states.Seen errors.Seen). h.kept) a;
+                emitted = ap (λ (h : Held Tok Cx states.Seen errors.Seen). h.emitted) a ∙ sym (append-nil old.emitted);
+                stopped = ap (λ (h : Held Tok Cx states.Seen errors.Seen). h.stopped) a;
+              };
           same = record { tokens = ap (λ (h : Held Tok Cx states.Seen errors.Seen). h.tokens) a; context = ap (λ (h : Held Tok Cx states.Seen errors.Seen). h.context) a };
         }
     goes x xs new (inr l) = let no : ⊥ = (let z = l.0 in cc) in absurd no
@@ -114,7 +126,9 @@ module _ {I Tok Sp Cu Er St Mk Cx W : Type 0} (source : input_trait.Ghosts I Cu 
     cut_lacks [] new a = let no : ⊥ = (let z = a.0 in cc) in absurd no
     cut_lacks (x ∷ xs) new a = halts x xs new (rw moved at a)
 
-  module _ (test : Tok → Bool) (what : List (Wanted Tok)) (w : Bool) (old mid new : Held Tok Cx states.Seen errors.Seen) (v : Option W) (k : IsWanted (is old.tokens old.place mid.place) w v) (moved : mid ≡ ran_on states.after test old) where
+  module _ (test : Tok → Bool) (what : List (Wanted Tok)) (w : Bool)
+      (old mid new : Held Tok Cx states.Seen errors.Seen) (v : Option W)
+      (k : IsWanted (is old.tokens old.place mid.place) w v) (moved : mid ≡ ran_on states.after test old) where
     run_value : IsWanted (is old.tokens old.place (run_end test old.tokens old.place)) w v
     run_value = rw (place_of states.after test old mid moved) at k
 
@@ -129,7 +143,8 @@ module _ {I Tok Sp Cu Er St Mk Cx W : Type 0} (source : input_trait.Ghosts I Cu 
         (cut_lacks w old mid old.place (run_end test old.tokens old.place) (run_state states.after test old.tokens old.place old.state) v run_value moved what new a)
 
   module _ (begins : Tok → Bool) (next : Tok → ℕ → Meaning Tok Cx states.Seen errors.Seen W) (what : List (Wanted Tok)) (w : Bool) (old : Held Tok Cx states.Seen errors.Seen) where
-    misses_by : (t : Option Tok) (o : Outcome W errors.Seen states.Seen) → passes begins t ≡ false → Misses errors.takes_no_memory (expected_at source errors what old.tokens old.place) old.place old.state o
+    misses_by : (t : Option Tok) (o : Outcome W errors.Seen states.Seen) → passes begins t ≡ false
+        → Misses errors.takes_no_memory (expected_at source errors what old.tokens old.place) old.place old.state o
         → AfterFirst source is errors states begins next what t (begin w old) o
     misses_by None o p m = m
     misses_by (Some t) o p m = rw p m
@@ -141,7 +156,9 @@ module _ {I Tok Sp Cu Er St Mk Cx W : Type 0} (source : input_trait.Ghosts I Cu 
     begun_misses mid new f p e a = ran-misses errors.merged errors.takes_no_memory _ w old _ new f (rw e at a) (λ o m. record { by_token = misses_by _ o p m })
 
     -- a first token was taken, and then what it leads to
-    begun : {R : Type 0} {rest_after : Tok → R} {fits : R → Type 0} {r : R} (mid new : Held Tok Cx states.Seen errors.Seen) (b : Begins states.after begins rest_after fits old mid r) (x : Result (Option W) Fault)
+    begun : {R : Type 0} {rest_after : Tok → R} {fits : R → Type 0} {r : R}
+        (mid new : Held Tok Cx states.Seen errors.Seen) (b : Begins states.after begins rest_after fits old mid r)
+        (x : Result (Option W) Fault)
         → Ran errors.merged errors.takes_no_memory (next b.first old.place) w mid new x
         → Ran errors.merged errors.takes_no_memory (MeansBegun source is errors states begins next what) w old new x
     begun mid new b x h =
@@ -150,7 +167,9 @@ module _ {I Tok Sp Cu Er St Mk Cx W : Type 0} (source : input_trait.Ghosts I Cu 
         (ap (λ (z : Held Tok Cx states.Seen errors.Seen). z.kept) n) (ap (λ (z : Held Tok Cx states.Seen errors.Seen). z.emitted) n) (ap (λ (z : Held Tok Cx states.Seen errors.Seen). z.stopped) n)
         (λ o m. record { by_token = rw (b.there, b.passes) (rw n at m) }) h
 
-  module _ {R : Type 0} (holds : R → Tok → Bool) (rest_after : Tok → R) (fits : R → Type 0) (begins : Tok → Bool) (what : List (Wanted Tok)) (w : Bool) (old mid there new : Held Tok Cx states.Seen errors.Seen) (r : R) (b : Begins states.after begins rest_after fits old mid r) where
+  module _ {R : Type 0} (holds : R → Tok → Bool) (rest_after : Tok → R) (fits : R → Type 0) (begins : Tok → Bool)
+      (what : List (Wanted Tok)) (w : Bool) (old mid there new : Held Tok Cx states.Seen errors.Seen) (r : R)
+      (b : Begins states.after begins rest_after fits old mid r) where
     abbrev goes_on : Tok → Tok → Bool
     goes_on t = holds (rest_after t)
 
@@ -206,32 +225,48 @@ module _ {I Tok Sp Cu Er St Mk Cx W : Type 0} (source : input_trait.Ghosts I Cu 
           → Ran errors.merged errors.takes_no_memory (Spells source is errors states spells old.place (holds r) what) w mid new (Err f)
       misspelled f off a =
           ran-moved (record { tokens = refl; context = refl }) refl refl refl (λ o m. rw off m)
-          (ran-misses errors.merged errors.takes_no_memory (λ b o. Misses errors.takes_no_memory (expects source errors mid.tokens what None old.place (run_end (holds r) mid.tokens mid.place)) (run_end (holds r) mid.tokens mid.place) (run_state states.after (holds r) mid.tokens mid.place mid.state) o) w (ran_on states.after (holds r) mid) _ new f a (λ o m. m))
+          (ran-misses errors.merged errors.takes_no_memory
+          (λ b o. Misses errors.takes_no_memory
+          (expects source errors mid.tokens what None old.place (run_end (holds r) mid.tokens mid.place))
+          (run_end (holds r) mid.tokens mid.place)
+          (run_state states.after (holds r) mid.tokens mid.place mid.state) o)
+          w (ran_on states.after (holds r) mid) _ new f a (λ o m. m))
 
       -- a word was begun, and its run does not spell the keyword
       pub keyword_misses : (f : Fault) → there ≡ ran_on states.after (holds r) mid → spells (slice_range old.tokens.list old.place there.place) ≡ false
           → Fails errors.merged errors.takes_no_memory (expects source errors old.tokens what None old.place there.place) there new f
           → Ran errors.merged errors.takes_no_memory (MeansKeyword source is errors states spells begins goes_on what) w old new (Err f)
       keyword_misses f moved off a =
-          let wrong : spells (slice_range mid.tokens.list old.place (run_end (holds r) mid.tokens mid.place)) ≡ false = rw tokens (rw (place_of states.after (holds r) mid there moved, tokens) at off) in
-          let fails : Fails errors.merged errors.takes_no_memory (expects source errors mid.tokens what None old.place (run_end (holds r) mid.tokens mid.place)) (ran_on states.after (holds r) mid) new f = rw (sym tokens) at (rw moved at a) in
+          let wrong : spells (slice_range mid.tokens.list old.place (run_end (holds r) mid.tokens mid.place)) ≡ false =
+          rw tokens (rw (place_of states.after (holds r) mid there moved, tokens) at off) in
+          let fails : Fails errors.merged errors.takes_no_memory
+          (expects source errors mid.tokens what None old.place (run_end (holds r) mid.tokens mid.place))
+          (ran_on states.after (holds r) mid) new f =
+          rw (sym tokens) at (rw moved at a) in
           begun begins _ what w old mid new b (Err f) (rw b.rest at (misspelled f wrong fails))
 
-module _ {I Tok Sp Er St Mk Cx V : Type 0} (errors : error_trait.Ghosts Er I Tok Sp) (states : inspector_trait.Ghosts St I Mk Tok Sp) (test : Tok → Bool) (part : Meaning Tok Cx states.Seen errors.Seen V) (w : Bool) (old mid : Held Tok Cx states.Seen errors.Seen) (moved : mid ≡ ran_on states.after test old) where
+module _ {I Tok Sp Er St Mk Cx V : Type 0} (errors : error_trait.Ghosts Er I Tok Sp)
+    (states : inspector_trait.Ghosts St I Mk Tok Sp) (test : Tok → Bool)
+    (part : Meaning Tok Cx states.Seen errors.Seen V) (w : Bool) (old mid : Held Tok Cx states.Seen errors.Seen)
+    (moved : mid ≡ ran_on states.after test old) where
   skips : (o m : Held Tok Cx states.Seen errors.Seen) → m ≡ ran_on states.after test o → Ran errors.merged errors.takes_no_memory (SkipsRun errors states test) w o m (Ok None)
   skips o m e = rw e (ran-yes errors.merged errors.takes_no_memory _ w o None (run_end test o.tokens o.place) (run_state states.after test o.tokens o.place o.state) (record { outcome = refl }))
 
-  pad : {new : Held Tok Cx states.Seen errors.Seen} {r : Result (Option V) Fault} → Ran errors.merged errors.takes_no_memory (Chained part (λ v. Chained (SkipsRun errors states test) (λ _. Given v))) w mid new r
+  pad : {new : Held Tok Cx states.Seen errors.Seen} {r : Result (Option V) Fault}
+      → Ran errors.merged errors.takes_no_memory (Chained part (λ v. Chained (SkipsRun errors states test) (λ _. Given v))) w mid new r
       → Ran errors.merged errors.takes_no_memory (MeansPadded errors states test part) w old new r
   pad {new} {r} h =
       ran-weaker errors.merged errors.takes_no_memory _ _ w old new r (λ o m. record { run = m })
-      (ran-chained errors.merged errors.takes_no_memory (SkipsRun errors states test) (λ _. Chained part (λ v. Chained (SkipsRun errors states test) (λ _. Given v))) w old None mid new r (skips old mid moved) h)
+      (ran-chained errors.merged errors.takes_no_memory (SkipsRun errors states test)
+      (λ _. Chained part (λ v. Chained (SkipsRun errors states test) (λ _. Given v))) w old None mid new r
+      (skips old mid moved) h)
 
   pub padded_failed : {new : Held Tok Cx states.Seen errors.Seen} {x y : Result (Option V) Fault} {f : Fault} → Ran errors.merged errors.takes_no_memory part w mid new x → x ≡ Err f → y ≡ Err f
       → Ran errors.merged errors.takes_no_memory (MeansPadded errors states test part) w old new y
   padded_failed {new} {x} {y} {f} h e d = rw d (pad (ran-chained_err errors.merged errors.takes_no_memory part _ w mid new f (rw e at h)))
 
-  pub padded_given : {there new : Held Tok Cx states.Seen errors.Seen} {x : Result (Option V) Fault} {v : Option V} → Ran errors.merged errors.takes_no_memory part w mid there x → x ≡ Ok v → new ≡ ran_on states.after test there
+  pub padded_given : {there new : Held Tok Cx states.Seen errors.Seen} {x : Result (Option V) Fault} {v : Option V}
+      → Ran errors.merged errors.takes_no_memory part w mid there x → x ≡ Ok v → new ≡ ran_on states.after test there
       → Ran errors.merged errors.takes_no_memory (MeansPadded errors states test part) w old new (Ok v)
   padded_given {there} {new} {x} {v} h e n =
       pad (ran-chained errors.merged errors.takes_no_memory part (λ u. Chained (SkipsRun errors states test) (λ _. Given u)) w mid v there new (Ok v) (rw e at h)

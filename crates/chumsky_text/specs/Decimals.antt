@@ -1,6 +1,37 @@
 -- Numbers in decimal digits: which words write one, and what `parse` picks of them.
 -- Main words: IsDecimal, unsigned_of, fixed_of, below. Main laws: int-decimal, decimal-int, numeral-picked, numeral-value, numeral-fits, fixed-value, fixed-fits.
-use Rattle.std.proofs.Common.{◌≡◌, ℕ, zero, suc, ◌+◌, ◌<◌, ◌≤◌, ◌^◌, Bool, true, false, cond, nat_eq, nat_lt, nat_le, ◌&&◌, Option, Some, None, List, [], ◌∷◌, ◌++◌, length, refl, sym, ◌∙◌, ap, subst, arith}
+use Rattle.std.proofs.Common.{
+  ◌≡◌,
+  ℕ,
+  zero,
+  suc,
+  ◌+◌,
+  ◌<◌,
+  ◌≤◌,
+  ◌^◌,
+  Bool,
+  true,
+  false,
+  cond,
+  nat_eq,
+  nat_lt,
+  nat_le,
+  ◌&&◌,
+  Option,
+  Some,
+  None,
+  List,
+  [],
+  ◌∷◌,
+  ◌++◌,
+  length,
+  refl,
+  sym,
+  ◌∙◌,
+  ap,
+  subst,
+  arith,
+}
 use Rattle.std.specs.Prelude.{⊤, Result, Ok, Err, slice_index, slice_range}
 use Rattle.std.specs.Result.{result_ok}
 use Rattle.std.specs.Char.{digit_value, is_digit}
@@ -76,7 +107,9 @@ module _ (bits : ℕ) where
   parsed-is bs (Ok x) h = let a = fits_yes (without_leading_plus bs) h.0.0 h.0.1 in let b = h.1 in rw (a, b) refl
   parsed-is bs (Err e) h = by_test (some_digits (without_leading_plus bs) && nat_lt (digits_value 10 (without_leading_plus bs)) (2 ^ bits)) refl
     where
-      by_test : (t : Bool) → (some_digits (without_leading_plus bs) && nat_lt (digits_value 10 (without_leading_plus bs)) (2 ^ bits)) ≡ t → None ≡ cond t (Some (digits_value 10 (without_leading_plus bs))) None
+      by_test : (t : Bool)
+          → (some_digits (without_leading_plus bs) && nat_lt (digits_value 10 (without_leading_plus bs)) (2 ^ bits)) ≡ t
+          → None ≡ cond t (Some (digits_value 10 (without_leading_plus bs))) None
       by_test true e = absurd (h (fits_is (without_leading_plus bs) e))
       by_test false e = refl
 
@@ -196,13 +229,16 @@ pub fixed-by_word : (digits least most : ℕ) (w bytes : List ℕ) (x : Option �
 fixed-by_word digits least most w bytes x e g = g ∙ ap (fixed_of digits least most) e
 
 -- a number that is picked is the value of so many digits, and within the bounds
-pub fixed-value : (digits least most : ℕ) (w : List ℕ) (n : ℕ) → IsNumeral 10 w → fixed_of digits least most (encode_utf8_all w) ≡ Some n → (length w ≡ digits) × (n ≡ digits_value 10 w) × (least ≤ n) × (n ≤ most)
+pub fixed-value : (digits least most : ℕ) (w : List ℕ) (n : ℕ) → IsNumeral 10 w
+    → fixed_of digits least most (encode_utf8_all w) ≡ Some n
+    → (length w ≡ digits) × (n ≡ digits_value 10 w) × (least ≤ n) × (n ≤ most)
 fixed-value digits least most w n h e =
     let b : encode_utf8_all w ≡ w = numeral-bytes w h in
     let f : cond (nat_eq (length w) digits) (bounded least most (below 32 (digits_value 10 w))) None ≡ Some n = cc (by_bytes (encode_utf8_all w) b (numeral-picked 32 w h), e) in
     by_length (nat_eq (length w) digits) refl f
   where
-    by_bytes : (bs : List ℕ) → bs ≡ w → unsigned_of 32 bs ≡ below 32 (digits_value 10 w) → fixed_of digits least most bs ≡ cond (nat_eq (length w) digits) (bounded least most (below 32 (digits_value 10 w))) None
+    by_bytes : (bs : List ℕ) → bs ≡ w → unsigned_of 32 bs ≡ below 32 (digits_value 10 w)
+        → fixed_of digits least most bs ≡ cond (nat_eq (length w) digits) (bounded least most (below 32 (digits_value 10 w))) None
     by_bytes bs b p = rw p (ap (λ z. cond (nat_eq (length z) digits) (bounded least most (below 32 (digits_value 10 w))) None) b)
 
     by_bounds : (m : ℕ) (c : Bool) → (nat_le least m && nat_le m most) ≡ c → cond c (Some m) None ≡ Some n → (n ≡ m) × (least ≤ m) × (m ≤ most)
@@ -217,7 +253,9 @@ fixed-value digits least most w n h e =
     by_fit false g = absurd (cc g)
     by_fit true g = by_bounds (digits_value 10 w) (nat_le least (digits_value 10 w) && nat_le (digits_value 10 w) most) refl g
 
-    by_length : (c : Bool) → nat_eq (length w) digits ≡ c → cond c (bounded least most (below 32 (digits_value 10 w))) None ≡ Some n → (length w ≡ digits) × (n ≡ digits_value 10 w) × (least ≤ n) × (n ≤ most)
+    by_length : (c : Bool) → nat_eq (length w) digits ≡ c
+        → cond c (bounded least most (below 32 (digits_value 10 w))) None ≡ Some n
+        → (length w ≡ digits) × (n ≡ digits_value 10 w) × (least ≤ n) × (n ≤ most)
     by_length false d g = absurd (cc g)
     by_length true d g =
         let l : length w ≡ digits = grind (arith, nat_tests) in
@@ -228,7 +266,8 @@ fixed-value digits least most w n h e =
         (l, e, omega (arith, a, e), omega (arith, b, e))
 
 -- and each such number is picked
-pub fixed-fits : (digits least most : ℕ) (w : List ℕ) → IsNumeral 10 w → length w ≡ digits → least ≤ digits_value 10 w → digits_value 10 w ≤ most → most < 2 ^ 32 → IsPick (fixed_of digits least most (encode_utf8_all w))
+pub fixed-fits : (digits least most : ℕ) (w : List ℕ) → IsNumeral 10 w → length w ≡ digits → least ≤ digits_value 10 w
+    → digits_value 10 w ≤ most → most < 2 ^ 32 → IsPick (fixed_of digits least most (encode_utf8_all w))
 fixed-fits digits least most w h l a b f =
     let e : encode_utf8_all w ≡ w = numeral-bytes w h in
     let u : unsigned_of 32 (encode_utf8_all w) ≡ Some (digits_value 10 w) = numeral-fits 32 w h (omega (arith, b, f)) in

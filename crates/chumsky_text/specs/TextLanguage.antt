@@ -86,7 +86,9 @@ module _ {Tok V : Type 0} (is : Layout Tok → ℕ → ℕ → V → Type 0) whe
 
   -- a word that is spelled so
   abbrev pub keyword_language : (List Tok → Bool) → (Tok → Bool) → (Tok → Tok → Bool) → Language Tok V
-  keyword_language spells begins goes_on = front_language is (begun_ends begins (word_front goes_on) spells) (word_front goes_on) (λ w. IsWord begins goes_on w × (spells w ≡ true)) (StopsAll goes_on) true
+  keyword_language spells begins goes_on =
+      front_language is (begun_ends begins (word_front goes_on) spells) (word_front goes_on)
+      (λ w. IsWord begins goes_on w × (spells w ≡ true)) (StopsAll goes_on) true
 
   -- one end of a line
   abbrev pub newline_language : (Tok → Bool) → (Tok → Tok → Bool) → Language Tok V

@@ -18,7 +18,9 @@ module _ {I Tok Sp Cu Er S W : Type 0} (source : input_trait.Ghosts I Cu Tok Sp)
   EndsBy [] ts whole o = o ≡ whole
   EndsBy (w ∷ ws) ts whole o = OrLacks errors.takes_no_memory (record whole { events = expected_at source errors (w ∷ ws) ts whole.end ∷ [] }) o
 
-module _ {I Tok Sp Cu Er St Mk Cx W : Type 0} (source : input_trait.Ghosts I Cu Tok Sp) (is : Layout Tok → ℕ → ℕ → W → Type 0) (errors : error_trait.Ghosts Er I Tok Sp) (states : inspector_trait.Ghosts St I Mk Tok Sp) where
+module _ {I Tok Sp Cu Er St Mk Cx W : Type 0} (source : input_trait.Ghosts I Cu Tok Sp)
+    (is : Layout Tok → ℕ → ℕ → W → Type 0) (errors : error_trait.Ghosts Er I Tok Sp)
+    (states : inspector_trait.Ghosts St I Mk Tok Sp) where
   -- yes, with what there is of the tokens from one place to another, where it ends, and where this would have gone on
   pub record Cut (what : List (Wanted Tok)) (from end : ℕ) (state : states.Seen) (b : Beginning Tok Cx states.Seen) (o : Outcome W errors.Seen states.Seen) : Type 0 where
     pub value : Option W

@@ -7,7 +7,9 @@ use Rattle.chumsky.proofs.run.parse_with_state.Goals as goal
 pub returns-in-Ok : goal.returns-in-Ok
 returns-in-Ok g c =
     parses g.I.Input g.E.Error.Error g.E.State.Inspector (λ w. Some w) (g.I.Input.tokens c.args.input)
-    (held g.I.Input g.E.Error.Error g.E.State.Inspector c.new-inp.result) (held g.I.Input g.E.Error.Error g.E.State.Inspector c.whole_emit-answer.new.inp) (held g.I.Input g.E.Error.Error g.E.State.Inspector c.settle-output.new.inp)
+    (held g.I.Input g.E.Error.Error g.E.State.Inspector c.new-inp.result)
+    (held g.I.Input g.E.Error.Error g.E.State.Inspector c.whole_emit-answer.new.inp)
+    (held g.I.Input g.E.Error.Error g.E.State.Inspector c.settle-output.new.inp)
     c.whole_emit-answer.result c.settle-output.result c.new-inp.ensures.begins c.default-context.ensures c.whole_emit-answer.ensures.ran (told-with _) c.settle-output.ensures.settles
     (search rules) (rw c.in-Ok.is (_, refl, refl, rw c.finish-last.ensures.emitted refl))
     (λ y. whole-agrees g.I.Input g.E.Error.Error g.E.State.Inspector _ _ ((g.met.P.Parser c.lifetimes (search rules)).agrees c.args.parser.now y))
@@ -17,7 +19,9 @@ returns-in-Ok g c =
 pub returns : goal.returns
 returns g c =
     parses g.I.Input g.E.Error.Error g.E.State.Inspector (λ w. Some w) (g.I.Input.tokens c.args.input)
-    (held g.I.Input g.E.Error.Error g.E.State.Inspector c.new-inp.result) (held g.I.Input g.E.Error.Error g.E.State.Inspector c.whole_emit-answer.new.inp) (held g.I.Input g.E.Error.Error g.E.State.Inspector c.settle-output.new.inp)
+    (held g.I.Input g.E.Error.Error g.E.State.Inspector c.new-inp.result)
+    (held g.I.Input g.E.Error.Error g.E.State.Inspector c.whole_emit-answer.new.inp)
+    (held g.I.Input g.E.Error.Error g.E.State.Inspector c.settle-output.new.inp)
     c.whole_emit-answer.result c.settle-output.result c.new-inp.ensures.begins c.default-context.ensures c.whole_emit-answer.ensures.ran (told-with _) c.settle-output.ensures.settles
     (search rules) (rw c.in-Err.is refl)
     (λ y. whole-agrees g.I.Input g.E.Error.Error g.E.State.Inspector _ _ ((g.met.P.Parser c.lifetimes (search rules)).agrees c.args.parser.now y))

@@ -8,7 +8,9 @@ use Rattle.chumsky_choice.proofs.among.emit_several.Goals as goal
 pub returns-in_err-before-clause-ran : goal.returns-in_err-before-clause-ran
 returns-in_err-before-clause-ran g c =
     let e : c.from_residual.result ≡ Err (fault.Stop Memory) = search rules in
-    several-unmarked {quiet = g.E.State.Inspector.takes_no_memory} (λ p. g.P.Parser.meaning p g.E.Error.Error g.E.State.Inspector) c.args.others.now c.requires.several (emit_err e) c.in_err-before.ensures
+    several-unmarked {quiet = g.E.State.Inspector.takes_no_memory}
+    (λ p. g.P.Parser.meaning p g.E.Error.Error g.E.State.Inspector) c.args.others.now c.requires.several
+    (emit_err e) c.in_err-before.ensures
 
 pub returns-in-Ok-clause-ran : goal.returns-in-Ok-clause-ran
 returns-in-Ok-clause-ran g c =
@@ -49,4 +51,6 @@ loop-next-preserved g c =
 
 pub returns-clause-ran : goal.returns-clause-ran
 returns-clause-ran g c =
-    several-all {quiet = g.E.State.Inspector.takes_no_memory} (λ p. g.P.Parser.meaning p g.E.Error.Error g.E.State.Inspector) c.requires.several c.in_ok-before.ensures c.loop-next.invariant.some (left-none c.args.others.now c.loop-next.next-index (omega arith))
+    several-all {quiet = g.E.State.Inspector.takes_no_memory}
+    (λ p. g.P.Parser.meaning p g.E.Error.Error g.E.State.Inspector) c.requires.several c.in_ok-before.ensures
+    c.loop-next.invariant.some (left-none c.args.others.now c.loop-next.next-index (omega arith))

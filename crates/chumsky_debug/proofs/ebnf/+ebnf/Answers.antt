@@ -56,7 +56,9 @@ write_choice-loop-other-preserved g t c plain =
     let after : ℕ → List ℕ = λ m. codes " | " ++ part m in
     let others = others_of c.args.parts.now in
     let i = c.loop-other.other-index in
-    has_written_of_eq _ _ _ _ _ (append_assoc first (flat_map after (take i others)) (after c.other-item.result) ∙ ap (λ text. first ++ text) (sym (each_more after others i c.other-item.result c.loop-other-test.true c.other-item.is)))
+    has_written_of_eq _ _ _ _ _
+    (append_assoc first (flat_map after (take i others)) (after c.other-item.result) ∙ ap (λ text. first ++ text)
+    (sym (each_more after others i c.other-item.result c.loop-other-test.true c.other-item.is)))
     (has_written_append _ _ _ _ _ _ before (has_written_append _ _ _ _ _ _ bar (c.in_ok-write_at-2.ensures bar.plain refl)))
 
 pub write_choice-returns : goal.write_choice-returns

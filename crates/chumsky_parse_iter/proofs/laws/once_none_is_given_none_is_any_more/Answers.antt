@@ -5,5 +5,7 @@ use Rattle.chumsky_parse_iter.proofs.laws.once_none_is_given_none_is_any_more.Go
 
 pub returns : goal.returns
 returns g c gave h =
-    stays-none g.E.Error.Error.merged g.E.Error.Error.takes_no_memory (λ p. g.P.IterParser.begins p.now g.E.Error.Error g.E.State.Inspector) (λ p s. g.P.IterParser.gives p.now (record { nonconsumption_is_ok = false }) s g.E.Error.Error g.E.State.Inspector)
+    stays-none g.E.Error.Error.merged g.E.Error.Error.takes_no_memory
+    (λ p. g.P.IterParser.begins p.now g.E.Error.Error g.E.State.Inspector)
+    (λ p s. g.P.IterParser.gives p.now (record { nonconsumption_is_ok = false }) s g.E.Error.Error g.E.State.Inspector)
     _ (λ w. w.parser) (λ w. w.phase) (λ w. held_in g.I.Input g.E.Error.Error g.E.State.Inspector w.parts) (λ w. w.given) (λ w r v y. y.1) gave c.args.run.now c.args.last.now h

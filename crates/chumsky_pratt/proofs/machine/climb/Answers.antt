@@ -12,7 +12,12 @@ steps-init g c =
     }
 
 pub steps-preserved : goal.steps-preserved
-steps-preserved g c = record { climbs = c.in-Ok.ensures.goes _ c.steps.invariant.climbs; may = (_, c.in-Ok.ensures.goes _ c.steps.invariant.climbs); lent = c.step.ensures.lent ∙ c.steps.invariant.lent }
+steps-preserved g c =
+    record {
+      climbs = c.in-Ok.ensures.goes _ c.steps.invariant.climbs;
+      may = (_, c.in-Ok.ensures.goes _ c.steps.invariant.climbs);
+      lent = c.step.ensures.lent ∙ c.steps.invariant.lent;
+    }
 
 pub steps-smaller : goal.steps-smaller
 steps-smaller g c =

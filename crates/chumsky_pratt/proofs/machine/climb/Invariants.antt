@@ -9,8 +9,16 @@ use Rattle.chumsky_pratt.proofs.machine.climb.Given as goal
 abbrev pub invariant-steps : goal.invariant-steps
 invariant-steps g l =
     record {
-      climbs : Climbs g.I.Input g.E.Error.Error g.E.State.Inspector (syntax_of (g.P.Parser.meaning l.atom) (g.R.Operators.number l.operators) (g.R.Operators.stands l.operators) (g.R.Operators.reads l.operators) (g.R.Operators.gives l.operators) g.E.Error.Error g.E.State.Inspector) g.D.Way.wanted g.D.Way.shown g.D.Way.found (record { least = 0; held = held g.I.Input g.E.Error.Error g.E.State.Inspector l.fn.inp }) (reverse l.stack.items) (held g.I.Input g.E.Error.Error g.E.State.Inspector l.inp) l.todo;
-      may : MayGo g.I.Input g.E.Error.Error g.E.State.Inspector (syntax_of (g.P.Parser.meaning l.atom) (g.R.Operators.number l.operators) (g.R.Operators.stands l.operators) (g.R.Operators.reads l.operators) (g.R.Operators.gives l.operators) g.E.Error.Error g.E.State.Inspector) g.D.Way.wanted g.D.Way.shown g.D.Way.found (reverse l.stack.items) l.inp l.todo;
+      climbs : Climbs g.I.Input g.E.Error.Error g.E.State.Inspector
+          (syntax_of (g.P.Parser.meaning l.atom) (g.R.Operators.number l.operators) (g.R.Operators.stands l.operators)
+          (g.R.Operators.reads l.operators) (g.R.Operators.gives l.operators) g.E.Error.Error g.E.State.Inspector)
+          g.D.Way.wanted g.D.Way.shown g.D.Way.found
+          (record { least = 0; held = held g.I.Input g.E.Error.Error g.E.State.Inspector l.fn.inp })
+          (reverse l.stack.items) (held g.I.Input g.E.Error.Error g.E.State.Inspector l.inp) l.todo;
+      may : MayGo g.I.Input g.E.Error.Error g.E.State.Inspector
+          (syntax_of (g.P.Parser.meaning l.atom) (g.R.Operators.number l.operators) (g.R.Operators.stands l.operators)
+          (g.R.Operators.reads l.operators) (g.R.Operators.gives l.operators) g.E.Error.Error g.E.State.Inspector)
+          g.D.Way.wanted g.D.Way.shown g.D.Way.found (reverse l.stack.items) l.inp l.todo;
       lent : l.inp.state.ghost_name ≡ l.fn.inp.state.ghost_name;
     }
 

@@ -16,17 +16,26 @@ returns-in_err-before-clause-ran g c =
 pub returns-in-None-clause-ran : goal.returns-in-None-clause-ran
 returns-in-None-clause-ran g c =
     λ w. select_ends_input g.I.Input (λ _. ⊤) g.E.Error.Error g.E.State.Inspector (PicksRef g.I.Input g.E.State.Inspector g.F.Fn c.args.filter.now) w
-    (held g.I.Input g.E.Error.Error g.E.State.Inspector c.args.inp.now) (held g.I.Input g.E.Error.Error g.E.State.Inspector c.next_ref.new.self) _ _ c.in-None.ensures.taken c.in-None.ensures.moves c.expected.ensures.fails
+    (held g.I.Input g.E.Error.Error g.E.State.Inspector c.args.inp.now)
+    (held g.I.Input g.E.Error.Error g.E.State.Inspector c.next_ref.new.self) _ _ c.in-None.ensures.taken
+    c.in-None.ensures.moves c.expected.ensures.fails
 
 pub returns-in-Some-call_with_extra-clause-ran : goal.returns-in-Some-call_with_extra-clause-ran
 returns-in-Some-call_with_extra-clause-ran g c =
     λ w. select_takes g.I.Input (λ _. ⊤) g.E.Error.Error g.E.State.Inspector (PicksRef g.I.Input g.E.State.Inspector g.F.Fn c.args.filter.now) w
-    (held g.I.Input g.E.Error.Error g.E.State.Inspector c.args.inp.now) c.in-Some.token.now c.in-Some.ensures.taken (held g.I.Input g.E.Error.Error g.E.State.Inspector c.next_ref.new.self) c.in-Some.ensures.moves
-    (marks g.I.Input g.E.State.Inspector c.in_ok-before.before) c.in_ok-before.ensures _ _ c.in-Some-call_with_extra.ensures.moves _ (record { token = _; is_there = refl; answers = c.in-Some-call_with_extra.ensures.answers })
+    (held g.I.Input g.E.Error.Error g.E.State.Inspector c.args.inp.now) c.in-Some.token.now c.in-Some.ensures.taken
+    (held g.I.Input g.E.Error.Error g.E.State.Inspector c.next_ref.new.self) c.in-Some.ensures.moves
+    (marks g.I.Input g.E.State.Inspector c.in_ok-before.before) c.in_ok-before.ensures _ _
+    c.in-Some-call_with_extra.ensures.moves _
+    (record { token = _; is_there = refl; answers = c.in-Some-call_with_extra.ensures.answers })
 
 pub returns-clause-ran : goal.returns-clause-ran
 returns-clause-ran g c =
     λ w. select_not_picked g.I.Input (λ _. ⊤) g.E.Error.Error g.E.State.Inspector (PicksRef g.I.Input g.E.State.Inspector g.F.Fn c.args.filter.now) w
-    (held g.I.Input g.E.Error.Error g.E.State.Inspector c.args.inp.now) c.in-Some.token.now c.in-Some.ensures.taken (held g.I.Input g.E.Error.Error g.E.State.Inspector c.next_ref.new.self) c.in-Some.ensures.moves
-    (marks g.I.Input g.E.State.Inspector c.in_ok-before.before) c.in_ok-before.ensures (held g.I.Input g.E.Error.Error g.E.State.Inspector c.call_with_extra.new.inp) (held g.I.Input g.E.Error.Error g.E.State.Inspector c.call_with_extra.new.inp).state c.in-None-call_with_extra.ensures.moves
+    (held g.I.Input g.E.Error.Error g.E.State.Inspector c.args.inp.now) c.in-Some.token.now c.in-Some.ensures.taken
+    (held g.I.Input g.E.Error.Error g.E.State.Inspector c.next_ref.new.self) c.in-Some.ensures.moves
+    (marks g.I.Input g.E.State.Inspector c.in_ok-before.before) c.in_ok-before.ensures
+    (held g.I.Input g.E.Error.Error g.E.State.Inspector c.call_with_extra.new.inp)
+    (held g.I.Input g.E.Error.Error g.E.State.Inspector c.call_with_extra.new.inp).state
+    c.in-None-call_with_extra.ensures.moves
     _ _ (record { token = _; is_there = refl; answers = c.in-None-call_with_extra.ensures.answers }) c.miss.ensures.misses

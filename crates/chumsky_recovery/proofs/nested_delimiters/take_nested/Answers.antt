@@ -18,20 +18,28 @@ returns-in_err-put-in-Opens-clause-ran g c w =
     nested-full (c.loop-open.invariant.from w) (c.take_fitting.ensures.ran w) c.in-Opens.closing (emit_ok c.in_ok-role.was ∙ ap (λ z. Ok (Some z)) c.in-Opens.is) (check_err e)
 
 pub loop-open-smaller-in-Opens : goal.loop-open-smaller-in-Opens
-loop-open-smaller-in-Opens g c = fewer_left _ _ _ _ (c.take_fitting.ensures.ran true).same.tokens c.in_ok-role.ensures.onward ((g.met.I.Input c.lifetimes (search rules)).within c.take_fitting.new.inp.cursor)
+loop-open-smaller-in-Opens g c =
+    fewer_left _ _ _ _ (c.take_fitting.ensures.ran true).same.tokens c.in_ok-role.ensures.onward
+    ((g.met.I.Input c.lifetimes (search rules)).within c.take_fitting.new.inp.cursor)
 
 pub loop-open-preserved-in-Opens : goal.loop-open-preserved-in-Opens
 loop-open-preserved-in-Opens g c = record {
-  from = λ w. nested-opened (c.loop-open.invariant.from w) (c.take_fitting.ensures.ran w) c.in-Opens.closing _ (emit_ok c.in_ok-role.was ∙ ap (λ z. Ok (Some z)) c.in-Opens.is) c.in_ok-put-in-Opens.ensures;
+  from =
+      λ w. nested-opened (c.loop-open.invariant.from w) (c.take_fitting.ensures.ran w) c.in-Opens.closing _
+      (emit_ok c.in_ok-role.was ∙ ap (λ z. Ok (Some z)) c.in-Opens.is) c.in_ok-put-in-Opens.ensures;
   lent = search rules;
 }
 
 pub loop-open-smaller-in-Some : goal.loop-open-smaller-in-Some
-loop-open-smaller-in-Some g c = fewer_left _ _ _ _ (c.take_fitting.ensures.ran true).same.tokens c.in_ok-role.ensures.onward ((g.met.I.Input c.lifetimes (search rules)).within c.take_fitting.new.inp.cursor)
+loop-open-smaller-in-Some g c =
+    fewer_left _ _ _ _ (c.take_fitting.ensures.ran true).same.tokens c.in_ok-role.ensures.onward
+    ((g.met.I.Input c.lifetimes (search rules)).within c.take_fitting.new.inp.cursor)
 
 pub loop-open-preserved-in-Some : goal.loop-open-preserved-in-Some
 loop-open-preserved-in-Some g c = record {
-  from = λ w. nested-back (c.loop-open.invariant.from w) (c.take_fitting.ensures.ran w) c.in-Some.outer _ (emit_ok c.in_ok-role.was ∙ ap (λ z. Ok (Some z)) c.in-Closes.is) (rw c.in-Some.is at c.pop.ensures.items);
+  from =
+      λ w. nested-back (c.loop-open.invariant.from w) (c.take_fitting.ensures.ran w) c.in-Some.outer _
+      (emit_ok c.in_ok-role.was ∙ ap (λ z. Ok (Some z)) c.in-Closes.is) (rw c.in-Some.is at c.pop.ensures.items);
   lent = search rules;
 }
 

@@ -15,6 +15,7 @@ loop-item-preserved g c =
     ≡ true =
     ap (λ q. is_labelled g.T.Symbol.number g.T.Symbol.text g.T.Symbol.word all q) (sym front)
     ∙ (sym c.is_labelled.ensures ∙ found) in (
-      ap (λ q. items g.T.Symbol.number g.T.Symbol.text g.T.Symbol.word all 0 q) back ∙ (sym (labelled_step g.T.Symbol.number g.T.Symbol.text g.T.Symbol.word all ps (search rules) is) ∙ c.loop-item.invariant.0),
+      ap (λ q. items g.T.Symbol.number g.T.Symbol.text g.T.Symbol.word all 0 q) back
+          ∙ (sym (labelled_step g.T.Symbol.number g.T.Symbol.text g.T.Symbol.word all ps (search rules) is) ∙ c.loop-item.invariant.0),
       search rules,
     )

@@ -13,4 +13,16 @@ returns-in_err-before-clause-ran g c =
 pub returns-clause-ran : goal.returns-clause-ran
 returns-clause-ran g c =
     tried-all c.in_ok-before.ensures
-    (tried-next (tried-next (tried-next (tried-next (tried-next (tried-next (tried-next (tried-first g.E.State.Inspector.mark c.in_ok-before.ensures c.go_check-tried.ensures.ran) c.check_next-tried.ensures.tries) c.check_next-tried-2.ensures.tries) c.check_next-tried-3.ensures.tries) c.check_next-tried-4.ensures.tries) c.check_next-tried-5.ensures.tries) c.check_next-tried-6.ensures.tries) c.check_next.ensures.tries)
+    (tried-next
+    (tried-next
+    (tried-next
+    (tried-next
+    (tried-next
+    (tried-next
+    (tried-next (tried-first g.E.State.Inspector.mark c.in_ok-before.ensures c.go_check-tried.ensures.ran) c.check_next-tried.ensures.tries)
+    c.check_next-tried-2.ensures.tries)
+    c.check_next-tried-3.ensures.tries)
+    c.check_next-tried-4.ensures.tries)
+    c.check_next-tried-5.ensures.tries)
+    c.check_next-tried-6.ensures.tries)
+    c.check_next.ensures.tries)

@@ -7,7 +7,10 @@ pub loop-parser-init : goal.loop-parser-init
 loop-parser-init g c = record { from = rw c.new-outputs.ensures emits-start; filled = rw c.new-outputs.ensures refl; sized = c.slice_of-parsers.ensures.sized; lent = refl }
 
 pub returns-in_err-go_emit-clause-ran : goal.returns-in_err-go_emit-clause-ran
-returns-in_err-go_emit-clause-ran g c = rw (← c.slice_of-parsers.ensures.all) (emits-failed (omega arith) c.parser-item.is c.loop-parser.invariant.from c.go_emit.ensures.ran (emit_err c.in_err-go_emit.was) (emit_err (search rules)))
+returns-in_err-go_emit-clause-ran g c =
+    rw (← c.slice_of-parsers.ensures.all)
+    (emits-failed (omega arith) c.parser-item.is c.loop-parser.invariant.from c.go_emit.ensures.ran
+    (emit_err c.in_err-go_emit.was) (emit_err (search rules)))
 
 pub loop-parser-preserved : goal.loop-parser-preserved
 loop-parser-preserved g c = record {

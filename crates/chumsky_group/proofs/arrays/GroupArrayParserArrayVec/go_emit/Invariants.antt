@@ -5,7 +5,10 @@ use Rattle.chumsky_group.proofs.arrays.GroupArrayParserArrayVec.go_emit.Given as
 
 abbrev pub invariant-loop-parser : goal.invariant-loop-parser
 invariant-loop-parser g l = record {
-  from : EmitsFrom g.E.Error.Error.merged g.E.Error.Error.takes_no_memory (λ q. g.P.Parser.meaning q g.E.Error.Error g.E.State.Inspector) l.parsers l.parser-index l.outputs.items (held g.I.Input g.E.Error.Error g.E.State.Inspector l.fn.inp) (held g.I.Input g.E.Error.Error g.E.State.Inspector l.inp);
+  from : EmitsFrom g.E.Error.Error.merged g.E.Error.Error.takes_no_memory
+      (λ q. g.P.Parser.meaning q g.E.Error.Error g.E.State.Inspector) l.parsers l.parser-index l.outputs.items
+      (held g.I.Input g.E.Error.Error g.E.State.Inspector l.fn.inp)
+      (held g.I.Input g.E.Error.Error g.E.State.Inspector l.inp);
   filled : length l.outputs.items ≡ l.parser-index;
   sized : length l.parsers ≡ g.row.N;
   lent : l.inp.state.ghost_name ≡ l.fn.inp.state.ghost_name;

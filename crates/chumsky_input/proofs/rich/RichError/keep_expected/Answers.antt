@@ -17,6 +17,9 @@ returns-in_ok-replace_by_one-in-Some g c =
 pub returns-in_ok-merge_one-in-Some : goal.returns-in_ok-merge_one-in-Some
 returns-in_ok-merge_one-in-Some g c =
     record {
-      keeps = keeps_there (rich_merged g.T.SameClone.same) (rich_seen g.T.SameClone.seen) (sym c.in-Some.is) c.requires.near (search rules) (c.in_ok-merge_one-in-Some.ensures.merges (option_copied c.args.found) c.args.span);
+      keeps =
+          keeps_there (rich_merged g.T.SameClone.same) (rich_seen g.T.SameClone.seen) (sym c.in-Some.is)
+          c.requires.near (search rules)
+          (c.in_ok-merge_one-in-Some.ensures.merges (option_copied c.args.found) c.args.span);
       refused = tt;
     }

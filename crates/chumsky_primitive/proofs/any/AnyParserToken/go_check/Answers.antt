@@ -6,7 +6,9 @@ use Rattle.chumsky_primitive.proofs.any.AnyParserToken.go_check.Goals as goal
 
 pub returns-then-advance-clause-ran : goal.returns-then-advance-clause-ran
 returns-then-advance-clause-ran g c =
-    any_skips g.I.Input (CountsAs g.I.ValueInput.seen) g.I.ValueInput.takes_no_memory g.E.Error.Error g.E.State.Inspector (held g.I.Input g.E.Error.Error g.E.State.Inspector c.args.inp.now) _ (search rules) c.advance.ensures.moves
+    any_skips g.I.Input (CountsAs g.I.ValueInput.seen) g.I.ValueInput.takes_no_memory g.E.Error.Error
+    g.E.State.Inspector (held g.I.Input g.E.Error.Error g.E.State.Inspector c.args.inp.now) _ (search rules)
+    c.advance.ensures.moves
 
 pub returns-clause-ran : goal.returns-clause-ran
 returns-clause-ran g c =

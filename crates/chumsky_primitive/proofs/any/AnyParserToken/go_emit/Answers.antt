@@ -7,13 +7,18 @@ use Rattle.chumsky_primitive.proofs.any.AnyParserToken.go_emit.Goals as goal
 pub returns-in-Ok-Some-clause-ran : goal.returns-in-Ok-Some-clause-ran
 returns-in-Ok-Some-clause-ran g c =
     let k = rw c.in-Ok-Some.field-0-is at c.in-Ok-Some.ensures.takes in
-    any_takes g.I.Input (CountsAs g.I.ValueInput.seen) g.I.ValueInput.takes_no_memory g.E.Error.Error g.E.State.Inspector (held g.I.Input g.E.Error.Error g.E.State.Inspector c.args.inp.now) k.0 _ _ k.1 k.2 k.3
+    any_takes g.I.Input (CountsAs g.I.ValueInput.seen) g.I.ValueInput.takes_no_memory g.E.Error.Error
+    g.E.State.Inspector (held g.I.Input g.E.Error.Error g.E.State.Inspector c.args.inp.now) k.0 _ _ k.1 k.2 k.3
 
 pub returns-in-Ok-None-clause-ran : goal.returns-in-Ok-None-clause-ran
 returns-in-Ok-None-clause-ran g c =
     let t = rw c.in-Ok-None.field-0-is at c.in-Ok-None.ensures.takes in
-    any_misses g.I.Input (CountsAs g.I.ValueInput.seen) g.I.ValueInput.takes_no_memory g.E.Error.Error g.E.State.Inspector (held g.I.Input g.E.Error.Error g.E.State.Inspector c.args.inp.now) true (held g.I.Input g.E.Error.Error g.E.State.Inspector c.next.new.self) _ _ t.0 t.1 c.expected.ensures.fails
+    any_misses g.I.Input (CountsAs g.I.ValueInput.seen) g.I.ValueInput.takes_no_memory g.E.Error.Error
+    g.E.State.Inspector (held g.I.Input g.E.Error.Error g.E.State.Inspector c.args.inp.now) true
+    (held g.I.Input g.E.Error.Error g.E.State.Inspector c.next.new.self) _ _ t.0 t.1 c.expected.ensures.fails
 
 pub returns-in-Err-clause-ran : goal.returns-in-Err-clause-ran
 returns-in-Err-clause-ran g c =
-    any_lacks g.I.Input (CountsAs g.I.ValueInput.seen) g.I.ValueInput.takes_no_memory g.E.Error.Error g.E.State.Inspector (held g.I.Input g.E.Error.Error g.E.State.Inspector c.args.inp.now) _ c.in-Err.ensures.takes
+    any_lacks g.I.Input (CountsAs g.I.ValueInput.seen) g.I.ValueInput.takes_no_memory g.E.Error.Error
+    g.E.State.Inspector (held g.I.Input g.E.Error.Error g.E.State.Inspector c.args.inp.now) _
+    c.in-Err.ensures.takes

@@ -12,13 +12,20 @@ returns-in_err-before-clause-ran g c =
     rw (emit_err e) (end_unmarked g.I.Input g.E.Error.Error g.E.State.Inspector true (held g.I.Input g.E.Error.Error g.E.State.Inspector c.args.inp.now) _ refl c.in_err-before.ensures)
 
 pub returns-in-None-clause-ran : goal.returns-in-None-clause-ran
-returns-in-None-clause-ran g c = end_there g.I.Input g.E.Error.Error g.E.State.Inspector true (held g.I.Input g.E.Error.Error g.E.State.Inspector c.args.inp.now) _ c.in-None.ensures.taken c.in-None.ensures.moves
+returns-in-None-clause-ran g c =
+    end_there g.I.Input g.E.Error.Error g.E.State.Inspector true
+    (held g.I.Input g.E.Error.Error g.E.State.Inspector c.args.inp.now) _ c.in-None.ensures.taken
+    c.in-None.ensures.moves
 
 pub returns-in_err-rewind-in-Some-clause-ran : goal.returns-in_err-rewind-in-Some-clause-ran
 returns-in_err-rewind-in-Some-clause-ran g c =
     let e : c.from_residual-in_err-rewind-in-Some.result ≡ Err (fault.Stop Memory) = search rules in
     let h = c.in_err-rewind-in-Some.ensures.back in
-    rw (emit_err e) (end_unrestored g.I.Input g.E.Error.Error g.E.State.Inspector true (held g.I.Input g.E.Error.Error g.E.State.Inspector c.args.inp.now) _ (held g.I.Input g.E.Error.Error g.E.State.Inspector c.next_maybe.new.self) _ c.in-Some.ensures.taken c.in-Some.ensures.moves h.0 h.1)
+    rw (emit_err e)
+    (end_unrestored g.I.Input g.E.Error.Error g.E.State.Inspector true
+    (held g.I.Input g.E.Error.Error g.E.State.Inspector c.args.inp.now) _
+    (held g.I.Input g.E.Error.Error g.E.State.Inspector c.next_maybe.new.self) _ c.in-Some.ensures.taken
+    c.in-Some.ensures.moves h.0 h.1)
 
 pub returns-clause-ran : goal.returns-clause-ran
 returns-clause-ran g c =

@@ -6,7 +6,13 @@ use Rattle.chumsky_recovery.proofs.skip_then_retry_until.SkipThenRetryUntilStrat
 
 abbrev pub invariant-loop-answer : goal.invariant-loop-answer
 invariant-loop-answer g l = record {
-  from : TurnsFrom g.E.Error.Error.merged g.E.Error.Error.takes_no_memory (RetryTurn g.E.State.Inspector.mark g.E.State.Inspector.back g.E.State.Inspector.takes_no_memory (g.U.Parser.meaning l.self.until g.E.Error.Error g.E.State.Inspector) (g.S.Parser.meaning l.self.skip g.E.Error.Error g.E.State.Inspector) (g.A.Parser.meaning l.parser g.E.Error.Error g.E.State.Inspector)) false (held g.I.Input g.E.Error.Error g.E.State.Inspector l.fn.inp) (held g.I.Input g.E.Error.Error g.E.State.Inspector l.inp);
+  from : TurnsFrom g.E.Error.Error.merged g.E.Error.Error.takes_no_memory
+      (RetryTurn g.E.State.Inspector.mark g.E.State.Inspector.back g.E.State.Inspector.takes_no_memory
+      (g.U.Parser.meaning l.self.until g.E.Error.Error g.E.State.Inspector)
+      (g.S.Parser.meaning l.self.skip g.E.Error.Error g.E.State.Inspector)
+      (g.A.Parser.meaning l.parser g.E.Error.Error g.E.State.Inspector))
+      false (held g.I.Input g.E.Error.Error g.E.State.Inspector l.fn.inp)
+      (held g.I.Input g.E.Error.Error g.E.State.Inspector l.inp);
   none : (held g.I.Input g.E.Error.Error g.E.State.Inspector l.inp).kept ≡ None;
   lent : l.inp.state.ghost_name ≡ l.fn.inp.state.ghost_name;
 }

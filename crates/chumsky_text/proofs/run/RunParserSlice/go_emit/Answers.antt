@@ -9,7 +9,14 @@ use Rattle.chumsky_text.proofs.run.RunParserSlice.go_emit.Goals as goal
 pub returns-in_err-end_run-clause-ran : goal.returns-in_err-end_run-clause-ran
 returns-in_err-end_run-clause-ran g c =
     let e : c.from_residual.result ≡ Err (fault.Stop Memory) = search rules in
-    rw (emit_err e) (run_lacks _ _ _ _ _ _ _ (held g.I.Input g.E.Error.Error g.E.State.Inspector c.args.inp.now) (held g.I.Input g.E.Error.Error g.E.State.Inspector c.skip_run.new.inp) _ (Some c.slice_since-taken.result) c.slice_since-taken.ensures c.skip_run.ensures.moves c.in_err-end_run.ensures.ends)
+    rw (emit_err e)
+    (run_lacks _ _ _ _ _ _ _ (held g.I.Input g.E.Error.Error g.E.State.Inspector c.args.inp.now)
+    (held g.I.Input g.E.Error.Error g.E.State.Inspector c.skip_run.new.inp) _
+    (Some c.slice_since-taken.result) c.slice_since-taken.ensures c.skip_run.ensures.moves
+    c.in_err-end_run.ensures.ends)
 
 pub returns-clause-ran : goal.returns-clause-ran
-returns-clause-ran g c = run_ran _ _ _ _ _ _ _ (held g.I.Input g.E.Error.Error g.E.State.Inspector c.args.inp.now) (held g.I.Input g.E.Error.Error g.E.State.Inspector c.skip_run.new.inp) _ (Some c.slice_since-taken.result) c.slice_since-taken.ensures c.skip_run.ensures.moves c.in_ok-end_run.ensures.ends
+returns-clause-ran g c =
+    run_ran _ _ _ _ _ _ _ (held g.I.Input g.E.Error.Error g.E.State.Inspector c.args.inp.now)
+    (held g.I.Input g.E.Error.Error g.E.State.Inspector c.skip_run.new.inp) _ (Some c.slice_since-taken.result)
+    c.slice_since-taken.ensures c.skip_run.ensures.moves c.in_ok-end_run.ensures.ends

@@ -7,12 +7,27 @@ use Rattle.chumsky_text.proofs.RunLemmas.{begun_misses, word_ran, word_lacks}
 use Rattle.chumsky_text.proofs.word.WordParserSlice.go_emit.Goals as goal
 
 pub returns-in-None-clause-ran : goal.returns-in-None-clause-ran
-returns-in-None-clause-ran g c = begun_misses _ _ _ _ _ _ _ _ (held g.I.Input g.E.Error.Error g.E.State.Inspector c.args.inp.now) (held g.I.Input g.E.Error.Error g.E.State.Inspector c.take_first.new.inp) _ _ c.in-None.ensures.takes.0 c.in-None.ensures.takes.1 (rw c.expected.ensures at c.expect_here.ensures.fails)
+returns-in-None-clause-ran g c =
+    begun_misses _ _ _ _ _ _ _ _ (held g.I.Input g.E.Error.Error g.E.State.Inspector c.args.inp.now)
+    (held g.I.Input g.E.Error.Error g.E.State.Inspector c.take_first.new.inp) _ _ c.in-None.ensures.takes.0
+    c.in-None.ensures.takes.1 (rw c.expected.ensures at c.expect_here.ensures.fails)
 
 pub returns-in_err-end_run-in-Some-clause-ran : goal.returns-in_err-end_run-in-Some-clause-ran
 returns-in_err-end_run-in-Some-clause-ran g c =
     let e : c.from_residual.result ≡ Err (fault.Stop Memory) = search rules in
-    rw (emit_err e) (word_lacks _ _ _ _ g.K.Rest.Kind.holds (λ t. g.K.Lexeme.rest_after c.args.self.now.kind t) g.K.Rest.Kind.fits _ _ _ (held g.I.Input g.E.Error.Error g.E.State.Inspector c.args.inp.now) (held g.I.Input g.E.Error.Error g.E.State.Inspector c.take_first.new.inp) (held g.I.Input g.E.Error.Error g.E.State.Inspector c.skip_run.new.inp) _ c.in-Some.rest c.in-Some.ensures.takes (Some c.slice_since-taken.result) c.slice_since-taken.ensures g.K.Rest.Kind.wants c.skip_run.ensures.moves c.in_err-end_run-in-Some.ensures.ends)
+    rw (emit_err e)
+    (word_lacks _ _ _ _ g.K.Rest.Kind.holds (λ t. g.K.Lexeme.rest_after c.args.self.now.kind t) g.K.Rest.Kind.fits
+    _ _ _ (held g.I.Input g.E.Error.Error g.E.State.Inspector c.args.inp.now)
+    (held g.I.Input g.E.Error.Error g.E.State.Inspector c.take_first.new.inp)
+    (held g.I.Input g.E.Error.Error g.E.State.Inspector c.skip_run.new.inp) _ c.in-Some.rest
+    c.in-Some.ensures.takes (Some c.slice_since-taken.result) c.slice_since-taken.ensures g.K.Rest.Kind.wants
+    c.skip_run.ensures.moves c.in_err-end_run-in-Some.ensures.ends)
 
 pub returns-in_ok-end_run-in-Some-clause-ran : goal.returns-in_ok-end_run-in-Some-clause-ran
-returns-in_ok-end_run-in-Some-clause-ran g c = word_ran _ _ _ _ g.K.Rest.Kind.holds (λ t. g.K.Lexeme.rest_after c.args.self.now.kind t) g.K.Rest.Kind.fits _ _ _ (held g.I.Input g.E.Error.Error g.E.State.Inspector c.args.inp.now) (held g.I.Input g.E.Error.Error g.E.State.Inspector c.take_first.new.inp) (held g.I.Input g.E.Error.Error g.E.State.Inspector c.skip_run.new.inp) _ c.in-Some.rest c.in-Some.ensures.takes (Some c.slice_since-taken.result) c.slice_since-taken.ensures g.K.Rest.Kind.wants c.skip_run.ensures.moves c.in_ok-end_run-in-Some.ensures.ends
+returns-in_ok-end_run-in-Some-clause-ran g c =
+    word_ran _ _ _ _ g.K.Rest.Kind.holds (λ t. g.K.Lexeme.rest_after c.args.self.now.kind t) g.K.Rest.Kind.fits _ _ _
+    (held g.I.Input g.E.Error.Error g.E.State.Inspector c.args.inp.now)
+    (held g.I.Input g.E.Error.Error g.E.State.Inspector c.take_first.new.inp)
+    (held g.I.Input g.E.Error.Error g.E.State.Inspector c.skip_run.new.inp) _ c.in-Some.rest
+    c.in-Some.ensures.takes (Some c.slice_since-taken.result) c.slice_since-taken.ensures g.K.Rest.Kind.wants
+    c.skip_run.ensures.moves c.in_ok-end_run-in-Some.ensures.ends
