@@ -7,3 +7,4 @@ pub mod context;
 pub mod make;
 pub mod prefixed;
 pub mod so_many;
+pub mod steady;

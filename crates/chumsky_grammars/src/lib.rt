@@ -2,3 +2,4 @@
 #![tactic(auto)]
 
 pub mod exact;
+pub mod steady;
