@@ -219,7 +219,7 @@ fn what_is_nested_too_deeply_is_refused(rt: HostRuntime) -> Result<(), Fail> {
         &[("", lists.as_str().as_bytes(), 3, "", told)],
     );
     assert_ran(&rt, &Calc, &[("", lists.as_str().as_bytes(), 3, "", told)]);
-    let lists = opened(rt.alloc(), '[', 2_000)?;
+    let lists = opened(rt.alloc(), '[', 200)?;
     assert_ran(
         &rt,
         &FormatJson,

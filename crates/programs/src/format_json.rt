@@ -2,12 +2,9 @@
 use console::failure::Failure;
 use console::run::Program;
 use console::text::{print_line, read_text, report};
-use json_tree::{JsonText, read_json_within};
+use json_tree::{JsonText, read_json};
 use std::alloc::Global;
 use std::io::{Read, Write};
-
-/// How many lists and objects may stand within one another.
-const LEVELS: usize = 1_000;
 
 /// Prints the JSON that the input has, in one line or indented.
 #[derive(Clone, Copy)]
@@ -28,7 +25,7 @@ impl Program for FormatJson {
     ) -> Result<bool, Failure> {
         let indented = indented(words).ok_or(Failure::Words)?;
         let text = read_text(alloc, input)?;
-        let parsed = read_json_within(alloc, text.as_str(), LEVELS)?;
+        let parsed = read_json(alloc, text.as_str())?;
         if let Some(json) = parsed.output() {
             print_line(out, JsonText { json, indented })?;
         }
