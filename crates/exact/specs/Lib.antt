@@ -1,6 +1,5 @@
 pub mod AtomLaws
 pub mod Bits
-pub mod BitsLaws
 pub mod Date
 pub mod DateLaws
 pub mod Deep
