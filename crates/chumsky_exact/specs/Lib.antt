@@ -8,3 +8,9 @@ pub mod ReadBack
 pub mod SoMany
 pub mod Table
 pub mod TableLaws
+pub mod Answered
+pub mod Chosen
+pub mod Collected
+pub mod Members
+pub mod Numerals
+pub mod Parts

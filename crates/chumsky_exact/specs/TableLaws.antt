@@ -10,7 +10,7 @@ use Rattle.chumsky_combinator.specs.MappedLanguage.{to_language}
 use Rattle.chumsky_choice.specs.ChoiceLanguages.{among_language, one_of_language}
 use Rattle.chumsky_exact.specs.Table.{Names, differ, differs_from_each, apart, BeginsNone, Spelled, IsOfTable}
 
-both_true : (a b : Bool) → (a && b) ≡ true → (a ≡ true) × (b ≡ true)
+pub both_true : (a b : Bool) → (a && b) ≡ true → (a ≡ true) × (b ≡ true)
 both_true true b e = (refl, e)
 both_true false b e = absurd (cc e)
 
@@ -33,7 +33,7 @@ word-spelled word value copies safe free = record {
 }
 
 -- a word is not found where one begins that differs from it
-differ-fails : (w u rest : List ℕ) → differ w u ≡ true → literal_ends nat_eq w (u ++ rest) ≡ Nowhere
+pub differ-fails : (w u rest : List ℕ) → differ w u ≡ true → literal_ends nat_eq w (u ++ rest) ≡ Nowhere
 differ-fails [] u rest e = absurd (cc e)
 differ-fails (c ∷ cs) [] rest e = absurd (cc e)
 differ-fails (c ∷ cs) (d ∷ ds) rest e = by_first (λ g. differ-fails cs ds rest g) (nat_eq c d) refl e

@@ -1,5 +1,5 @@
 -- How a date is written, as `2026-11-27`.
--- Main words: IsDate. Laws: DateLaws.antt. Read first: Fields.antt of chumsky_exact.
+-- Main words: IsDate. Read first: Fields.antt of chumsky_exact.
 use Rattle.std.specs.Prelude.{◌≡◌, ℕ, List, ◌++◌, codes}
 use Rattle.chumsky_exact.specs.Fields.{IsField}
 

@@ -2,7 +2,6 @@ pub mod AtomLaws
 pub mod Bits
 pub mod BitsLaws
 pub mod Date
-pub mod DateLaws
 pub mod Deep
 pub mod Expressions
 pub mod ExpressionsLaws
@@ -28,7 +27,6 @@ pub mod JsonWritten
 pub mod JsonWrittenLaws
 pub mod Lawfully
 pub mod Level
-pub mod LevelLaws
 pub mod Nested
 pub mod NestedLaws
 pub mod Number

@@ -1,10 +1,15 @@
-use Rattle.std.proofs.Common.{refl}
+use Rattle.std.proofs.Common.{true, nat_eq, refl, arith}
+use Rattle.std.specs.Prelude.{codes}
 use Rattle.std.specs.Str.{chars}
 use Rattle.chumsky_parser.specs.ProgressLaws.{never}
+use Rattle.chumsky_primitive.specs.Literals.{equals-same, same-equals}
 use Rattle.chumsky.specs.AcceptedLaws.{exactly-by_words}
+use Rattle.chumsky_exact.specs.Collected.{collected-separated}
+use Rattle.chumsky_exact.specs.Parts.{stops-at, never_goes_on}
 use Rattle.chumsky_exact.specs.ReadBack.{gives_back-by_words}
-use Rattle.exact.specs.Pairs.{IsPairs, HoldsPairs, pairs_of}
-use Rattle.exact.specs.PairsLaws.{pairs-sound, pairs-complete, pairs-once, eq_stops, newline_stops}
+use Rattle.chumsky_exact.specs.Rendered.{written-separated}
+use Rattle.exact.specs.Pairs.{IsPair, line, IsPairs, HoldsPairs, pairs_of}
+use Rattle.exact.specs.PairsLaws.{text_of, LineOf, line-is, is-line, pairs-once}
 use Rattle.exact.proofs.pairs.parse_pairs.Goals as goal
 
 pub returns : goal.returns
@@ -18,6 +23,13 @@ returns c =
     let parts = rw (p.first, p.second) at bounds in
     let a = rw (c.then_ignore.ensures.second, c.just.ensures, c.just-2.ensures, c.int.ensures) at parts in
     record {
-      exact = exactly-by_words HoldsPairs a refl (((tt, tt, λ w rest h f. eq_stops w rest h), tt, λ w rest h f. tt), tt, λ w rest h f. newline_stops w rest h, λ w rest h f. tt, λ z. never z) (λ t. tt, tt, tt, tt) (λ v w s. pairs-sound cs v s) (λ v i. pairs-complete cs (pairs_of v) i);
-      read_back = gives_back-by_words pairs_of IsPairs a refl (((tt, tt, λ w rest h f. eq_stops w rest h), tt, λ w rest h f. tt), tt, λ w rest h f. newline_stops w rest h, λ w rest h f. tt, λ z. never z) (λ t. tt, tt, tt, tt) (λ v w s. pairs-sound cs v s) (pairs-once cs) (pairs-complete cs);
+      exact = exactly-by_words HoldsPairs a refl
+          (((tt, tt, λ w rest h f. stops-at _ (codes "=") (λ r t. refl) w rest h), tt, λ w rest h f. tt), tt, λ w rest h f. stops-at _ (codes "\n") (λ r t. never_goes_on (nat_eq t 48)) w rest h, λ w rest h f. tt, λ z. never z) (λ t. tt, tt, tt, tt)
+          (λ v w s. (collected-separated text_of line (codes "\n") 0 IsPair _ LineOf line-is (equals-same (codes "\n")) true cs v s).0)
+          (λ v i. written-separated line (codes "\n") 0 IsPair _ _ is-line (same-equals (codes "\n")) true (pairs_of v) cs i.0 i.1 (omega arith));
+      read_back = gives_back-by_words pairs_of IsPairs a refl
+          (((tt, tt, λ w rest h f. stops-at _ (codes "=") (λ r t. refl) w rest h), tt, λ w rest h f. tt), tt, λ w rest h f. stops-at _ (codes "\n") (λ r t. never_goes_on (nat_eq t 48)) w rest h, λ w rest h f. tt, λ z. never z) (λ t. tt, tt, tt, tt)
+          (λ v w s. (collected-separated text_of line (codes "\n") 0 IsPair _ LineOf line-is (equals-same (codes "\n")) true cs v s).0)
+          (pairs-once cs)
+          (λ ps i. written-separated line (codes "\n") 0 IsPair _ _ is-line (same-equals (codes "\n")) true ps cs i.0 i.1 (omega arith));
     }

@@ -1,0 +1,53 @@
+-- Parts of a text, one after another: how they are put together, what stands before fixed text, and which tokens end a part.
+-- Main laws: joined, one, one-is, before, and the rules `stops`; name-lacks, int-lacks. Read first: Words.antt of chumsky_parser.
+use Rattle.std.proofs.Common.{◌≡◌, ℕ, Bool, true, false, cond, nat_eq, List, [], ◌∷◌, ◌++◌, refl, ◌∙◌, ap}
+use Rattle.std.specs.Prelude.{⊤}
+use Rattle.std.specs.Char.{is_digit}
+use Rattle.chumsky_parser.specs.Words.{Joined, IsOne, StopsAt}
+use Rattle.chumsky_primitive.specs.Literals.{equals-same}
+use Rattle.chumsky_primitive.specs.PrimitiveLanguage.{Equals}
+use Rattle.chumsky_text.specs.Decimals.{IsInt}
+use Rattle.chumsky_text.specs.Names.{IsName, begins_name, in_name}
+use Rattle.chumsky_exact.specs.RenderedOnce.{Lacks, pass-lacks}
+
+-- a word with P, and after it one with Q
+pub joined : {Tok : Type 0} {P Q : List Tok → Type 0} (a b : List Tok) → P a → Q b → Joined P Q (a ++ b)
+joined a b p q = record { first = a; second = b; all = refl; is_first = p; is_second = q }
+
+-- a token alone, of a parser as `any()` or `one_of(..)`
+pub one : {Tok : Type 0} {test : Tok → Bool} (t : Tok) → test t ≡ true → IsOne test (λ t. ⊤) (t ∷ [])
+one t p = record { token = t; all = refl; passes = p; is = tt }
+
+-- such a token is the value of its word, and passes
+pub one-is : {Tok : Type 0} {test : Tok → Bool} {v : Tok} {w : List Tok} → IsOne test (λ t. v ≡ t) w → (w ≡ v ∷ []) × (test v ≡ true)
+one-is {test = test} i = (cc (i.all, i.is), ap test i.is ∙ i.passes)
+
+-- what stands before fixed text
+pub before : {P : List ℕ → Type 0} {w : List ℕ} (s : List ℕ) → Joined P (Equals nat_eq s) w → (u : List ℕ) × (w ≡ u ++ s) × P u
+before s j = (j.first, j.all ∙ ap (λ z. j.first ++ z) (equals-same s j.second j.is_second), j.is_first)
+
+-- a part ends where fixed text stands that doesn't go on with it
+pub stops-at : (goes_on : ℕ → ℕ → Bool) (s : List ℕ) → ((rest : List ℕ) (t : ℕ) → StopsAt (goes_on t) (s ++ rest)) → (w rest : List ℕ) → Equals nat_eq s w → (t : ℕ) → StopsAt (goes_on t) (w ++ rest)
+stops-at goes_on s h w rest e t = let same : w ≡ s = equals-same s w e in rw same (h rest t)
+
+-- nothing goes on with a zero of `int(10)`, and no digit with another first digit where none stands
+pub never_goes_on : (z : Bool) → cond z false false ≡ false
+never_goes_on true = refl
+never_goes_on false = refl
+
+-- `search (rules, stops)` shows that a sequence is unambiguous whose runs and words are ended by fixed text
+pub ruleset stops = (stops-at, never_goes_on)
+
+-- what is in no name is not in this one
+pub name-lacks : (t : ℕ) (w : List ℕ) → begins_name t ≡ false → in_name t ≡ false → IsName w → Lacks t w
+name-lacks t [] b i h = absurd h
+name-lacks t (c ∷ cs) b i h = (λ e. (let p = h.0 in absurd (cc (e, p, b))), pass-lacks t in_name cs i h.1)
+
+-- what is no digit is not in a number
+pub int-lacks : (t : ℕ) (w : List ℕ) → is_digit t 10 ≡ false → IsInt w → Lacks t w
+int-lacks t [] n h = absurd h
+int-lacks t (c ∷ cs) n h = (λ e. (let p : is_digit c 10 ≡ true = h.0 in absurd (cc (e, p, n))), pass-lacks t (λ d. cond (nat_eq c 48) false (is_digit d 10)) cs (by_zero (nat_eq c 48)) h.1)
+  where
+    by_zero : (z : Bool) → cond z false (is_digit t 10) ≡ false
+    by_zero true = refl
+    by_zero false = n
