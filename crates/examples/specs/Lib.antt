@@ -10,3 +10,7 @@ pub mod QueryPicks
 pub mod QueryPicksLaws
 pub mod QueryLaws
 pub mod QueryParts
+pub mod Ini
+pub mod IniReading
+pub mod IniLaws
+pub mod IniLawful

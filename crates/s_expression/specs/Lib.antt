@@ -1,7 +1,6 @@
 pub mod Calling
 pub mod Lisp
 pub mod LispLawful
-pub mod ListEnds
 pub mod Picks
 pub mod PieceLaws
 pub mod ReaderLaws
