@@ -2,7 +2,6 @@ pub mod Capped
 pub mod Contexts
 pub mod ContextsLaws
 pub mod Fields
-pub mod ListEnds
 pub mod Rendered
 pub mod RenderedOnce
 pub mod ReadBack

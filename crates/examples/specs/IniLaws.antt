@@ -32,7 +32,7 @@ use Rattle.examples.specs.Ini.{in_line, marks_comment, begins_gap, in_name, begi
 use Rattle.examples.specs.IniReading.{Slice, Entries, Holds, fixed, Trims, words, names, values, goes_on, pieces, gaps, entries, heads, headed, wholes}
 use Rattle.chumsky.specs.Accepted.{FallsShort, AnswersText, IsOutputOf, IsAnswerOf}
 use Rattle.chumsky.specs.AcceptedLaws.{decided_by}
-use Rattle.chumsky_exact.specs.ListEnds.{Took, none, more, Goes, stops, steps, then_at, literal_at, list-took, list-went, list-goes}
+use Rattle.examples.specs.ListEnds.{Took, none, more, Goes, stops, steps, then_at, literal_at, list-took, list-went, list-goes}
 
 -- what is said of maps
 

@@ -12,5 +12,7 @@ pub mod QueryLaws
 pub mod QueryParts
 pub mod Ini
 pub mod IniReading
+pub mod ListEnds
 pub mod IniLaws
+pub mod IniOnce
 pub mod IniLawful

@@ -1,5 +1,5 @@
 //! Settings in sections, as INI files have them. A line that can't be read is an error of its own, and the lines after it are read.
-ghost use Rattle.std.specs.Prelude.{◌≡◌, [], List, IfOk, IfErr, IsSomeAnd};
+ghost use Rattle.std.specs.Prelude.{◌≡◌, [], List, IfOk, IfErr, IsSomeAnd, IsTrue, is_some};
 ghost use Rattle.std.specs.Str.{chars};
 ghost use Rattle.chumsky_input.specs.declared.stop.Stop.TheVariants.{Memory};
 ghost use Rattle.examples.specs.Ini.{Section, IsIni, HoldsIni};
@@ -190,22 +190,29 @@ fn recovered<'src>(
     ensures told { IfOk result (λ parsed. parsed.errors.items ≡ [] → ⊥) }
     ensures memory { IfErr result (λ stop. stop ≡ Memory) }
 {
-    let sections = part_of(Headed).repeated().flatten().collect::<Ini<'src>>();
-    let parsed = match part_of(Gap).ignore_then(sections).parse(alloc, text) {
-        Ok(parsed) => parsed,
+    let (output, errors) = match read_lines(alloc, text) {
+        Ok(parsed) => parsed.into_output_errors(),
         Err(Stop::Memory) => return Err(Stop::Memory),
-        Err(_) => ParseResult {
-            output: None,
-            errors: no_ini(alloc, text)?,
-        },
+        Err(_) => (None, Vec::new(alloc)),
     };
-    if parsed.errors.is_empty() {
+    if errors.is_empty() {
         return Ok(ParseResult {
             output: None,
             errors: no_ini(alloc, text)?,
         });
     }
-    Ok(parsed)
+    Ok(ParseResult { output, errors })
+}
+
+/// Reads the sections of a text line by line. Each line that can't be read is an error, and those after it are read.
+pub fn read_lines<'src>(
+    alloc: Global,
+    text: &'src str,
+) -> Result<ParseResult<Ini<'src>, Rich<char>>, Stop>
+    ensures { IfOk result (λ parsed. parsed.errors.items ≡ [] → IsTrue (is_some parsed.output)) }
+{
+    let sections = part_of(Headed).repeated().flatten().collect::<Ini<'src>>();
+    part_of(Gap).ignore_then(sections).parse(alloc, text)
 }
 
 /// The error of a whole text.

@@ -1,7 +1,7 @@
 //! Settings in sections, by a reader that keeps no errors, of which it is known exactly which texts it reads.
 ghost use Rattle.std.specs.Prelude.{◌≡◌, None};
 ghost use Rattle.std.specs.Str.{chars};
-ghost use Rattle.examples.specs.Ini.{ReadsIni};
+ghost use Rattle.examples.specs.Ini.{ReadsIni, marks_comment};
 
 use crate::words::Trimmed;
 use chumsky::combinator::{Collect, DelimitedBy, Map, Repeated, Then, ThenIgnore};

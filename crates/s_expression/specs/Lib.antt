@@ -1,6 +1,7 @@
 pub mod Calling
 pub mod Lisp
 pub mod LispLawful
+pub mod ListEnds
 pub mod Picks
 pub mod PieceLaws
 pub mod ReaderLaws

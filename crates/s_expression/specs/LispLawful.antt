@@ -35,7 +35,7 @@ use Rattle.chumsky_text.specs.TextRun.{MeansRun}
 use Rattle.chumsky_descent.specs.Lawful.{Lawful, AnyTwo, ignore_then-lawful, between-lawful, map-lawful, or-lawful, repeated-lawful, just-lawful, pick-lawful, run-lawful}
 use Rattle.s_expression.specs.declared.expression.Expression.{Expression}
 use Rattle.s_expression.specs.Lisp.{in_word, escaped, is_plain, in_line}
-use Rattle.chumsky_exact.specs.ListEnds.{some-further}
+use Rattle.s_expression.specs.ListEnds.{some-further}
 use Rattle.s_expression.specs.Picks.{passing, one-by_word}
 use Rattle.s_expression.specs.PieceLaws.{pick-further}
 use Rattle.s_expression.specs.Reading.{any_one, picked, words}

@@ -3,6 +3,7 @@
 use Rattle.std.proofs.Common.{◌≡◌, ℕ, suc, ◌≤◌, ◌<◌, cond, nat_eq, Bool, true, false, Option, Some, None, List, [], ◌∷◌, ◌++◌, length, drop, append_assoc, refl, sym, ◌∙◌, ap, subst, arith, inl, inr}
 use Rattle.std.specs.Prelude.{⊤, ◌⊎◌}
 use Rattle.std.specs.Char.{is_whitespace}
+use Rattle.std.proofs.lemmas.Bool.Decides.{nat_tests}
 use Rattle.std.proofs.Math.Seq.{drop-append_seam}
 use Rattle.chumsky_parser.specs.Ending.{Ending, At, Nowhere, Refused, Ender, and_then, or_else, Ends, DoesNotEnd}
 use Rattle.chumsky_parser.specs.Language.{EndsFurther}
@@ -14,7 +15,7 @@ use Rattle.chumsky_text.specs.Leading.{leading}
 use Rattle.chumsky_text.specs.TextLanguage.{past_ends}
 use Rattle.chumsky_text.specs.TextLanguageLaws.{take_leading, front_rest, leading_pass, leading_stops}
 use Rattle.s_expression.specs.Lisp.{escaped, is_plain, AreCharacters, no_character, plain, escape, in_line, IsGap, no_gap, space, comment}
-use Rattle.chumsky_exact.specs.ListEnds.{Took, none, more, Goes, stops, steps, then_at, either_at, literal_at}
+use Rattle.s_expression.specs.ListEnds.{Took, none, more, Goes, stops, steps, then_at, either_at}
 use Rattle.s_expression.specs.Picks.{passing, of_one}
 use Rattle.s_expression.specs.Reading.{any_one, picked, comments, gap_pieces, characters}
 
@@ -98,6 +99,15 @@ module _ (test : ℕ → Bool) where
   pub run-goes : (w rest : List ℕ) → AllPass test w → StopsAt test rest → Goes (picked (passing test)).ends (w ++ rest) rest
   run-goes [] rest p s = let e = none_there rest s in stops (rw e tt)
   run-goes (c ∷ cs) rest p s = steps (inl (pick_ends (passing test) c c (cs ++ rest) (passes c p.0))) (omega arith) (run-goes cs rest p.1 s)
+
+-- a fixed character
+pub literal_at : (m : ℕ) (ts rest : List ℕ) → literal_ends nat_eq (m ∷ []) ts ≡ At rest → ts ≡ m ∷ rest
+literal_at m [] rest e = absurd (cc e)
+literal_at m (c ∷ cs) rest e = by_test (nat_eq m c) refl e
+  where
+    by_test : (b : Bool) → nat_eq m c ≡ b → cond b (At cs) Nowhere ≡ At rest → c ∷ cs ≡ m ∷ rest
+    by_test true d z = let q : cs ≡ rest = cc z in let h : c ≡ m = grind (arith, nat_tests) in cc (q, h)
+    by_test false d z = absurd (cc z)
 
 -- a comment, to the end of its line
 line_past : (cs rest : List ℕ) → AllPass in_line cs → past_ends (leading in_line (cs ++ (10 ∷ rest))) (cs ++ (10 ∷ rest)) ≡ At (10 ∷ rest)

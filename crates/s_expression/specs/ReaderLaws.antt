@@ -20,10 +20,10 @@ use Rattle.s_expression.specs.declared.expression.Expression.{Expression, the_le
 use Rattle.s_expression.specs.declared.expression.Expression as expression
 use Rattle.s_expression.specs.Lisp.{Form, symbol, number, text, list, quoted, Forms, no_forms, form, forms_of, form_of, in_word, IsWord, is_integer, AreCharacters, in_line, IsGap, ends_in_word, IsApart}
 use Rattle.s_expression.specs.Lisp.{IsExpression, is_symbol, is_number, is_text, is_list, is_quoted, AreExpressions, no_expression, more_expressions}
-use Rattle.chumsky_exact.specs.ListEnds.{Took, none, more, Goes, stops, steps, then_at, either_at, then_none, neither_ends, list-took, list-went, list-goes, some-goes, some-fails, some-given, one-took, one-goes, literal_at}
+use Rattle.s_expression.specs.ListEnds.{Took, none, more, Goes, stops, steps, then_at, either_at, then_none, neither_ends, list-took, list-went, list-goes, some-goes, some-fails, some-given, one-took, one-goes}
 use Rattle.s_expression.specs.Picks.{passing}
 use Rattle.s_expression.specs.Reading.{picked, gap_pieces, gaps, words, characters, texts, atom_of, atoms, closing, lists, quotes, bare, expressions}
-use Rattle.s_expression.specs.PieceLaws.{first_value, other_value, pick_ends, passes, none_there, run-took, run-goes, gap_stops, last_comment_stops, gap-sound, gap-goes, characters-sound, characters-go}
+use Rattle.s_expression.specs.PieceLaws.{first_value, other_value, pick_ends, passes, none_there, run-took, run-goes, literal_at, gap_stops, last_comment_stops, gap-sound, gap-goes, characters-sound, characters-go}
 
 -- what an expression says, level by level
 form-symbol : (s : String Global) → form_of (expression.Symbol s) ≡ symbol (chars (string_bytes s))

@@ -23,8 +23,9 @@ use Rattle.chumsky_text.specs.TextLanguage.{past_ends}
 use Rattle.chumsky_text.specs.TextLanguageLaws.{take_leading, front_rest, leading_pass}
 use Rattle.s_expression.specs.declared.expression.Expression.{Expression}
 use Rattle.s_expression.specs.Lisp.{forms_of, form_of, in_line, IsGap, AreExpressions, IsLastComment, IsLisp, HoldsLisp}
-use Rattle.chumsky_exact.specs.ListEnds.{then_at, either_at, literal_at, list-took, list-goes}
+use Rattle.s_expression.specs.ListEnds.{then_at, either_at, list-took, list-goes}
 use Rattle.s_expression.specs.Reading.{fixed, line, gaps}
+use Rattle.s_expression.specs.PieceLaws.{literal_at}
 use Rattle.s_expression.specs.ReaderLaws.{IsClosing, IsReader, gap_at, gap_each, closing_begins, items-sound, items-go}
 
 -- the comment that a text may end in; a gap and it, and the end; and a whole text, where a call reads its expressions

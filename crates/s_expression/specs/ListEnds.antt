@@ -1,12 +1,11 @@
 -- Where items ran one after another, each from where the one before it ended: what each took and gave, and where they end.
--- Main words: Took, Goes. Main laws: list-took, list-goes, some-goes, one-took, one-goes, literal_at. Read first: ListWords.antt of chumsky_items.
-use Rattle.std.proofs.Common.{◌≡◌, ℕ, zero, suc, ◌≤◌, ◌<◌, nat_lt, nat_eq, cond, Bool, true, false, Option, Some, None, List, [], ◌∷◌, ◌++◌, length, refl, sym, ◌∙◌, ap, subst, arith, inl, inr}
+-- Main words: Took, Goes. Main laws: list-took, list-goes, some-goes, one-took, one-goes. Read first: ListWords.antt of chumsky_items.
+use Rattle.std.proofs.Common.{◌≡◌, ℕ, zero, suc, ◌≤◌, ◌<◌, nat_lt, Bool, true, false, Option, Some, None, List, [], ◌∷◌, ◌++◌, length, refl, sym, ◌∙◌, ap, subst, arith, inl, inr}
 use Rattle.std.specs.Prelude.{⊤, ◌⊎◌}
 use Rattle.std.proofs.lemmas.Bool.Decides.{nat_tests}
 use Rattle.chumsky_parser.specs.Ending.{Ending, At, Nowhere, Refused, Ender, and_then, or_else, EndsOrRefused, DoesNotEnd}
 use Rattle.chumsky_parser.specs.Language.{EndsFurther}
 use Rattle.chumsky_parser.specs.ItemsLanguage.{Stepped, One, Over, stepped_on, list_until, list_ends, OfOne, IsOver, GivesFrom}
-use Rattle.chumsky_primitive.specs.PrimitiveLanguage.{literal_ends}
 use Rattle.chumsky_items.specs.ListWords.{overs, one_or, unless_few, repeated_next}
 
 -- items with these values were taken one after another, from these tokens to those, where none more is
@@ -43,15 +42,6 @@ pub neither_ends : {X : Type 0} (x y : Ending X) → DoesNotEnd x → DoesNotEnd
 neither_ends (At r) y h k = absurd h
 neither_ends Nowhere y h k = k
 neither_ends Refused y h k = tt
-
--- where a fixed token ends
-pub literal_at : (m : ℕ) (ts rest : List ℕ) → literal_ends nat_eq (m ∷ []) ts ≡ At rest → ts ≡ m ∷ rest
-literal_at m [] rest e = absurd (cc e)
-literal_at m (c ∷ cs) rest e = by_test (nat_eq m c) refl e
-  where
-    by_test : (b : Bool) → nat_eq m c ≡ b → cond b (At cs) Nowhere ≡ At rest → c ∷ cs ≡ m ∷ rest
-    by_test true d z = let q : cs ≡ rest = cc z in let h : c ≡ m = grind (arith, nat_tests) in cc (q, h)
-    by_test false d z = absurd (cc z)
 
 over_stays : {Tok : Type 0} (few : Bool) (ts rest : List Tok) (on : List Tok → Ending (List Tok)) → stepped_on on (overs (unless_few few ts)) ≡ At rest → ts ≡ rest
 over_stays true ts rest on e = absurd (cc e)

@@ -1,4 +1,4 @@
-use Rattle.examples.proofs.sections.HeadedParserRefStrTuple2RefStrBTreeMapRefStrRefStrEmptyText.go_check.Goals as goal
+use Rattle.examples.proofs.sections.HeadedParserRefStrTuple2RefStrSectionEmptyText.go_check.Goals as goal
 
 pub returns : goal.returns
 returns c =

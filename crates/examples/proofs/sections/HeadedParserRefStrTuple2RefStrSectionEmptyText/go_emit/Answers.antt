@@ -1,4 +1,4 @@
-use Rattle.examples.proofs.sections.HeadedParserRefStrTuple2RefStrBTreeMapRefStrRefStrEmptyText.go_emit.Goals as goal
+use Rattle.examples.proofs.sections.HeadedParserRefStrTuple2RefStrSectionEmptyText.go_emit.Goals as goal
 
 pub returns : goal.returns
 returns c =
