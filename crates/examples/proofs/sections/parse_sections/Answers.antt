@@ -7,5 +7,5 @@ pub returns : goal.returns
 returns c =
     let s = c.repeated.ensures in
     let a0 = rw (c.ignore_then.ensures.second, c.collect-sections.ensures.parser) at (c.parse.ensures.3.reads refl) in
-    let a = rw (s.parser, s.at_least, s.at_most) at a0 in
+    let a = rw (s.at_least, s.at_most) at a0 in
     reads-ini (chars c.args.text.now) a
