@@ -19,6 +19,8 @@ mod grammars;
 #[cfg(test)]
 mod guide_tokens;
 #[cfg(test)]
+mod ini;
+#[cfg(test)]
 mod input_ref;
 #[cfg(test)]
 mod json;

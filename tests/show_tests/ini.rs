@@ -15,6 +15,10 @@ fn sections_hold_names_and_values(rt: HostRuntime) {
         ("[a]\nx = y = z\n", 0, "[a]\nx = y = z\n"),
         ("[a]\nx = 1\nx = 2\n", 0, "[a]\nx = 2\n"),
         ("[a]\nx = 1\n[b]\n[a]\ny = 2\n", 0, "[a]\ny = 2\n[b]\n"),
+        ("[b]\r\nx=1\r\n\r\n[a]\r\n", 0, "[a]\n[b]\nx = 1\n"),
+        ("[a]\nx=\n#last", 0, "[a]\nx = \n"),
+        ("[ ]\ny==\n;", 0, "[]\ny = =\n"),
+        ("[a] [b] ; c\n[c] x = 1", 0, "[a]\n[b]\n[c]\nx = 1\n"),
     ];
     assert_shown(&rt, "ini", &rows);
 }

@@ -10,3 +10,9 @@ pub mod QueryPicks
 pub mod QueryPicksLaws
 pub mod QueryLaws
 pub mod QueryParts
+pub mod Ini
+pub mod IniReading
+pub mod ListEnds
+pub mod IniLaws
+pub mod IniOnce
+pub mod IniLawful

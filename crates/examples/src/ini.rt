@@ -1,22 +1,20 @@
 //! Settings in sections, as INI files have them. A line that can't be read is an error of its own, and the lines after it are read.
-ghost use Rattle.std.specs.Prelude.{◌≡◌, [], IfOk, IsTrue, is_some};
+ghost use Rattle.std.specs.Prelude.{◌≡◌, [], List, IfOk, IfErr, IsSomeAnd, IsTrue, is_some};
+ghost use Rattle.std.specs.Str.{chars};
+ghost use Rattle.chumsky_input.specs.declared.stop.Stop.TheVariants.{Memory};
+ghost use Rattle.examples.specs.Ini.{Section, IsIni, HoldsIni};
 
+use crate::sections::parse_sections;
+pub use crate::sections::{Ini, Section};
 use crate::words::{ToSome, Trimmed};
 use chumsky::combinator::{Mapper, Part, part_of, run_part};
 use chumsky::extra::RichText;
 use chumsky::input::TextRef;
 use chumsky::prelude::*;
 use chumsky::{PResult, Stop};
-use std::alloc::Global;
-use std::collections::BTreeMap;
+use std::alloc::{AllocError, Global};
 use std::fmt;
 use std::fmt::{Display, Formatter};
-
-/// The values of a section, by name.
-pub type Section<'src> = BTreeMap<&'src str, &'src str>;
-
-/// Sections by name.
-pub type Ini<'src> = BTreeMap<&'src str, Section<'src>>;
 
 /// White space, ends of lines too, and comments: what follows a `;` or a `#` on its line.
 #[derive(Clone, Copy)]
@@ -163,7 +161,51 @@ impl<'src> Part<'src, &'src str, Option<(&'src str, Section<'src>)>, RichText> f
 
 /// Sections by name, each a map of names to values. Of two sections of one name, and of two values, the later stands. Each line
 /// that can't be read is an error; where it should have been the name of a section, the entries below it are left out.
+///
+/// A reader that keeps no errors tells whether the text is such, and which sections it has. Only a text that is none is read once
+/// more, by a reader that does, and goes on after each.
 pub fn parse_ini<'src>(
+    alloc: Global,
+    text: &'src str,
+) -> Result<ParseResult<Ini<'src>, Rich<char>>, Stop>
+    ensures read { IfOk result (λ parsed. parsed.errors.items ≡ [] → IsSomeAnd parsed.output (λ ini. HoldsIni (chars text.now) ini)) }
+    ensures quiet { IfOk result (λ parsed. (sections : List Section) → IsIni (chars text.now) sections → parsed.errors.items ≡ []) }
+    ensures memory { IfErr result (λ stop. stop ≡ Memory) }
+{
+    let parsed = parse_sections(alloc, text)?;
+    match parsed.into_output() {
+        Some(ini) => Ok(ParseResult {
+            output: Some(ini),
+            errors: Vec::new(alloc),
+        }),
+        None => recovered(alloc, text),
+    }
+}
+
+/// What can be read of a text that is no INI, and what is wrong with it: one error at least.
+fn recovered<'src>(
+    alloc: Global,
+    text: &'src str,
+) -> Result<ParseResult<Ini<'src>, Rich<char>>, Stop>
+    ensures told { IfOk result (λ parsed. parsed.errors.items ≡ [] → ⊥) }
+    ensures memory { IfErr result (λ stop. stop ≡ Memory) }
+{
+    let (output, errors) = match read_lines(alloc, text) {
+        Ok(parsed) => parsed.into_output_errors(),
+        Err(Stop::Memory) => return Err(Stop::Memory),
+        Err(_) => (None, Vec::new(alloc)),
+    };
+    if errors.is_empty() {
+        return Ok(ParseResult {
+            output: None,
+            errors: no_ini(alloc, text)?,
+        });
+    }
+    Ok(ParseResult { output, errors })
+}
+
+/// Reads the sections of a text line by line. Each line that can't be read is an error, and those after it are read.
+pub fn read_lines<'src>(
     alloc: Global,
     text: &'src str,
 ) -> Result<ParseResult<Ini<'src>, Rich<char>>, Stop>
@@ -171,6 +213,16 @@ pub fn parse_ini<'src>(
 {
     let sections = part_of(Headed).repeated().flatten().collect::<Ini<'src>>();
     part_of(Gap).ignore_then(sections).parse(alloc, text)
+}
+
+/// The error of a whole text.
+fn no_ini(alloc: Global, text: &str) -> Result<Vec<Rich<char>>, AllocError>
+    ensures { IfOk result (λ errors. errors.items ≡ [] → ⊥) }
+{
+    let mut errors = Vec::new(alloc);
+    let whole = SimpleSpan::from(0..text.len());
+    errors.push(Rich::custom_in(alloc, whole, "this is no INI")?)?;
+    Ok(errors)
 }
 
 /// Sections as a text, in the order of their names.

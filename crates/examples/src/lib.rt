@@ -10,6 +10,7 @@ pub mod ini;
 pub mod log_lines;
 pub mod query;
 pub mod request;
+pub mod sections;
 pub mod setting;
 pub mod statements;
 pub mod words;

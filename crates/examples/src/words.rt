@@ -22,6 +22,11 @@ pub fn word<'src, V: Clone>(text: &'static str, value: V) -> Word<'src, V>
 pub struct Trimmed;
 
 impl<'src> Mapper<&'src str, &'src str> for Trimmed {
+    ghost use Rattle.std.specs.Prelude.{◌≡◌};
+    ghost use Rattle.std.specs.Str.{trim};
+
+    ghost gives = { λ _ text trimmed. trimmed.now ≡ trim text.now };
+
     fn apply(&self, text: &'src str) -> &'src str {
         text.trim()
     }
