@@ -18,7 +18,7 @@ returns c =
     let cs = chars c.args.text.now in
     let a = rw (c.collect.ensures.parser, c.at_least-bits.ensures, c.repeated.ensures.parser, c.repeated.ensures.at_most, c.one_of.ensures) at (c.parse.ensures.3.reads refl) in
     exactly-by_words IsBits a refl (search rules) (tt, inr tt)
-        (λ v w s. (
-          let t = tokens-written (among nat_eq (codes "01")) 1 s.items cs s.is in
-          record { held = s.held ∙ t.0; bits = pass-each (among-each IsBit (codes "01") (inl refl, (inr refl, tt))) cs t.1; some = omega (arith, t.2) }))
-        (λ v i. written-tokens (among nat_eq (codes "01")) 1 cs (each-pass is-bit cs i.bits) (omega (arith, i.some)))
+    (λ v w s. (
+    let t = tokens-written (among nat_eq (codes "01")) 1 s.items cs s.is in
+    record { held = s.held ∙ t.0; bits = pass-each (among-each IsBit (codes "01") (inl refl, (inr refl, tt))) cs t.1; some = omega (arith, t.2) }))
+    (λ v i. written-tokens (among nat_eq (codes "01")) 1 cs (each-pass is-bit cs i.bits) (omega (arith, i.some)))

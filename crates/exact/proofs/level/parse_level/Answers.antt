@@ -18,5 +18,5 @@ returns c =
     let valued = rw (c.to.ensures.value, c.to-2.ensures.value, c.to-3.ensures.value, c.to-4.ensures.value) at of_each in
     let a = rw (c.just.ensures, c.just-2.ensures, c.just-3.ensures, c.just-4.ensures, c.just-5.ensures) at valued in
     let both = answers-by_table level_text a (codes "level=") words refl (λ v s. s) refl refl (search rules)
-        (λ v. elim v as (λ level. Lists words level) [ Error ↦ inl refl | Warn ↦ inr (inl refl) | Info ↦ inr (inr (inl refl)) | Debug ↦ inr (inr (inr (inl refl))) ]) in
+    (λ v. elim v as (λ level. Lists words level) [ Error ↦ inl refl | Warn ↦ inr (inl refl) | Info ↦ inr (inr (inl refl)) | Debug ↦ inr (inr (inr (inl refl))) ]) in
     record { exact = both.0; answered = both.1 (search rules) (search rules) }
