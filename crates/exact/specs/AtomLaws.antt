@@ -12,7 +12,7 @@ use Rattle.chumsky_parser.specs.Words.{AllPass, StopsAt}
 use Rattle.chumsky_text.specs.Decimals.{IsInt, IsDecimal}
 use Rattle.chumsky_text.specs.Names.{IsName, begins_name, in_name}
 use Rattle.chumsky_text.specs.TextLanguage.{begun_ends, word_front}
-use Rattle.exact.specs.NumberLaws.{no_digit-stops}
+use Rattle.chumsky_exact.specs.Numerals.{no_digit-stops}
 
 -- a digit may be in a name, and begins none
 digit-in_name : (c : ℕ) → digit_value c < 10 → (in_name c ≡ true) × (begins_name c ≡ false)

@@ -19,7 +19,7 @@ use Rattle.exact.specs.JsonNumbers.{AreDigits, digits, IsMinus, no_minus, minus,
 use Rattle.exact.specs.JsonNumbersLanguage.{fixed, one_among, fraction_language, exponent_language, pointed_language, more_language, whole_language, number_language}
 use Rattle.exact.specs.JsonNumbersOnce.{is_e, is_point, letter_is, letter-other, no_digit, no_more, both_false}
 use Rattle.exact.specs.JsonPicksLaws.{both}
-use Rattle.exact.specs.NumberLaws.{no_digit-stops}
+use Rattle.chumsky_exact.specs.Numerals.{no_digit-stops}
 
 -- one of two characters
 among-two : (a b t : ℕ) → among nat_eq (a ∷ b ∷ []) t ≡ true → (t ≡ a) ⊎ (t ≡ b)

@@ -30,7 +30,6 @@ pub mod Level
 pub mod Nested
 pub mod NestedLaws
 pub mod Number
-pub mod NumberLaws
 pub mod Owned
 pub mod Pairs
 pub mod PairsLaws

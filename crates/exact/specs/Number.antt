@@ -1,10 +1,7 @@
 -- How a number is written.
-use Rattle.std.specs.Prelude.{◌≡◌, ℕ, ◌<◌, ◌^◌, List}
-use Rattle.std.specs.Str.Parse.{digits_value}
-use Rattle.chumsky_text.specs.Decimals.{IsDecimal}
+use Rattle.std.specs.Prelude.{ℕ, List}
+use Rattle.chumsky_exact.specs.Numerals.{IsUnsigned}
 
 -- a text is decimal digits, with no zero before another, that write this number; and a `u32` holds it
-pub record IsNumber (cs : List ℕ) (n : ℕ) : Type 0 where
-  pub digits : IsDecimal cs
-  pub value : n ≡ digits_value 10 cs
-  pub fits : n < 2 ^ 32
+abbrev pub IsNumber : List ℕ → ℕ → Type 0
+IsNumber = IsUnsigned 32

@@ -21,7 +21,7 @@ use Rattle.chumsky_descent.specs.Exactly.{grammar_of}
 use Rattle.exact.specs.declared.trees.Tree.{Tree}
 use Rattle.exact.specs.declared.trees.Tree as tree
 use Rattle.exact.specs.Listed.{listed}
-use Rattle.exact.specs.NumberLaws.{number-sound, number-complete, no_digit-stops}
+use Rattle.chumsky_exact.specs.Numerals.{int-unsigned, unsigned-int, no_digit-stops}
 use Rattle.exact.specs.Trees.{IsTree, is_number, is_list, AreTrees, no_tree, one_tree, more_trees, IsText, number_text, list_text, AreTexts, no_text, one_text, more_texts, begins_tree, trees, number_of}
 use Rattle.exact.specs.contracts.trees.OfTreeBodyRefStrTreeEmptyText.TheImpl.{ghosts, no_dict}
 use denote.Builtin.{unit}
@@ -73,7 +73,7 @@ by_comma : (P : List ℕ → Type 0) (c : List ℕ) → Is (codes ",") c → P (
 by_comma P c i p = let e : c ≡ codes "," = equals-same (codes ",") c i in subst P (sym e) p
 
 picked_number : (w : List ℕ) → IsInt w → (x : Option ℕ) → number_of w ≡ x → IsPick x → IsText w
-picked_number w i (Some n) e p = number_text n (number-sound w n (i, e))
+picked_number w i (Some n) e p = number_text n (int-unsigned 32 w n (i, e))
 picked_number w i None e p = absurd p
 
 module _ (call : Language ℕ Tree) (depth : ℕ) (i : IsIntended trees call depth) where
@@ -93,7 +93,7 @@ module _ (call : Language ℕ Tree) (depth : ℕ) (i : IsIntended trees call dep
 
   given : (w : List ℕ) (t : Tree) → (grammar call).stands_for w t → IsTree w t
   given w t j = elim j [
-    | inl m ↦ subst (IsTree w) (sym m.2) (is_number m.0 (number-sound w m.0 m.1))
+    | inl m ↦ subst (IsTree w) (sym m.2) (is_number m.0 (int-unsigned 32 w m.0 m.1))
     | inr m ↦ (
         let ts : Vec Tree Global = m.0 in
         let j = m.1 in
@@ -109,7 +109,7 @@ module _ (call : Language ℕ Tree) (depth : ℕ) (i : IsIntended trees call dep
   ]
 
   each : (w : List ℕ) → IsText w → (grammar call).word w
-  each w (number_text n m) = inl (number-complete w n m)
+  each w (number_text n m) = inl (unsigned-int 32 w n m)
   each _ (list_text {w} n a) = inr (record {
     first = codes "[";
     second = w ++ codes "]";

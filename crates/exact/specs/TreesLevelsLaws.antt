@@ -19,7 +19,7 @@ use Rattle.chumsky_text.specs.TextLanguage.{word_language}
 use Rattle.chumsky_descent.specs.CallLanguage.{call_language}
 use Rattle.chumsky_descent.specs.Lawful.{decimal-lawful}
 use Rattle.exact.specs.Deep.{IsDeep, deep-unless}
-use Rattle.exact.specs.NumberLaws.{number-complete, no_digit-stops}
+use Rattle.chumsky_exact.specs.Numerals.{unsigned-int, no_digit-stops}
 use Rattle.exact.specs.Trees.{IsTree, is_number, is_list, AreTrees, no_tree, one_tree, more_trees, most, levels, begins_tree, trees, number_of}
 use Rattle.exact.specs.TreesLaws.{grammar, Is, both_false}
 use Rattle.exact.specs.Taken.{AlwaysTakes, IsKnown, source, errors, states, lawful-known, ends_of, character-known, left_below, right_below, then-always, list-always}
@@ -42,7 +42,7 @@ numbers-known = lawful-known (decimal-lawful {source = source} {errors = errors}
 
 -- no tree is empty
 tree_size : {w : List ℕ} {t : Tree} → IsTree w t → 0 < length w
-tree_size (is_number {w} n i) = by_number w (number-complete w n i).0
+tree_size (is_number {w} n i) = by_number w (unsigned-int 32 w n i).0
   where
     by_number : (w : List ℕ) → IsInt w → 0 < length w
     by_number [] i = absurd i
@@ -115,7 +115,7 @@ module _ (call : Language ℕ Tree) where
         (λ w rest j f. tt)
 
     body-taken : {w : List ℕ} {t : Tree} (rest : List ℕ) → IsTree w t → levels t < suc depth → StopsAt (λ c. is_digit c 10) rest → body (w ++ rest) ≡ At rest
-    body-taken rest (is_number {w} n i) l s = ap (λ x. or_else x (lists (w ++ rest))) (numbers-known.each w rest (number-complete w n i) (λ t. no_digit-stops t rest s))
+    body-taken rest (is_number {w} n i) l s = ap (λ x. or_else x (lists (w ++ rest))) (numbers-known.each w rest (unsigned-int 32 w n i) (λ t. no_digit-stops t rest s))
     body-taken rest (is_list {w} ts a) l s =
         let e : levels (tree.List ts) ≡ suc (most (map levels ts.items)) = levels-list ts in
         let m : most (map levels ts.items) < depth = omega (arith, l, e) in
