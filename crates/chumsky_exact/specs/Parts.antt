@@ -1,5 +1,5 @@
 -- Parts of a text, one after another: how they are put together, what stands before fixed text, and which tokens end a part.
--- Main laws: joined, one, one-is, before, and the rules `stops`; name-lacks, int-lacks. Read first: Words.antt of chumsky_parser.
+-- Main laws: joined, one, one-is, before, stops-at; name-lacks, int-lacks. Read first: Words.antt of chumsky_parser.
 use Rattle.std.proofs.Common.{◌≡◌, ℕ, Bool, true, false, cond, nat_eq, List, [], ◌∷◌, ◌++◌, refl, ◌∙◌, ap}
 use Rattle.std.specs.Prelude.{⊤}
 use Rattle.std.specs.Char.{is_digit}
@@ -29,14 +29,6 @@ before s j = (j.first, j.all ∙ ap (λ z. j.first ++ z) (equals-same s j.second
 -- a part ends where fixed text stands that doesn't go on with it
 pub stops-at : (goes_on : ℕ → ℕ → Bool) (s : List ℕ) → ((rest : List ℕ) (t : ℕ) → StopsAt (goes_on t) (s ++ rest)) → (w rest : List ℕ) → Equals nat_eq s w → (t : ℕ) → StopsAt (goes_on t) (w ++ rest)
 stops-at goes_on s h w rest e t = let same : w ≡ s = equals-same s w e in rw same (h rest t)
-
--- nothing goes on with a zero of `int(10)`, and no digit with another first digit where none stands
-pub never_goes_on : (z : Bool) → cond z false false ≡ false
-never_goes_on true = refl
-never_goes_on false = refl
-
--- `search (rules, stops)` shows that a sequence is unambiguous whose runs and words are ended by fixed text
-pub ruleset stops = (stops-at, never_goes_on)
 
 -- what is in no name is not in this one
 pub name-lacks : (t : ℕ) (w : List ℕ) → begins_name t ≡ false → in_name t ≡ false → IsName w → Lacks t w
