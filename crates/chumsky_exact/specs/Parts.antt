@@ -30,6 +30,11 @@ before s j = (j.first, j.all ∙ ap (λ z. j.first ++ z) (equals-same s j.second
 pub stops-at : (goes_on : ℕ → ℕ → Bool) (s : List ℕ) → ((rest : List ℕ) (t : ℕ) → StopsAt (goes_on t) (s ++ rest)) → (w rest : List ℕ) → Equals nat_eq s w → (t : ℕ) → StopsAt (goes_on t) (w ++ rest)
 stops-at goes_on s h w rest e t = let same : w ≡ s = equals-same s w e in rw same (h rest t)
 
+-- nothing goes on with a zero of `int(10)`, and no digit with another first digit where none stands
+pub never_goes_on : (z : Bool) → cond z false false ≡ false
+never_goes_on true = refl
+never_goes_on false = refl
+
 -- what is in no name is not in this one
 pub name-lacks : (t : ℕ) (w : List ℕ) → begins_name t ≡ false → in_name t ≡ false → IsName w → Lacks t w
 name-lacks t [] b i h = absurd h
