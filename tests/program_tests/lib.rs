@@ -23,4 +23,6 @@ mod input_ref;
 #[cfg(test)]
 mod json;
 #[cfg(test)]
+mod logs;
+#[cfg(test)]
 mod odd;

@@ -10,3 +10,6 @@ pub mod QueryPicks
 pub mod QueryPicksLaws
 pub mod QueryLaws
 pub mod QueryParts
+pub mod Log
+pub mod LogPicks
+pub mod LogLaws
