@@ -61,18 +61,18 @@ rest-sound w j = rw j.all (after j.first j.is_first j.second j.is_second)
     after [] b v i = begun v i
     after (c ∷ cs) b v i =
         let r = after cs b.1 v i in
-        ((both-true (in_line c) (is_whitespace c) b.0.0, r.0), λ all. r.1 all.1)
+        (((both-true (in_line c) (is_whitespace c) b.0).0, r.0), λ all. r.1 all.1)
 
 rest-complete : (w : List ℕ) → AllPass in_line w → (AllPass is_whitespace w → ⊥) → RestWord w
 rest-complete [] p n = absurd (n tt)
-rest-complete (c ∷ cs) p n = by_space (is_whitespace c) refl
+rest-complete (c ∷ cs) p n = by_space (λ m. rest-complete cs p.1 m) (is_whitespace c) refl
   where
-    by_space : (b : Bool) → is_whitespace c ≡ b → RestWord (c ∷ cs)
-    by_space true e =
-        let r = rest-complete cs p.1 (λ all. n (e, all)) in
+    by_space : ((AllPass is_whitespace cs → ⊥) → RestWord cs) → (b : Bool) → is_whitespace c ≡ b → RestWord (c ∷ cs)
+    by_space later true e =
+        let r = later (λ all. n (e, all)) in
         let l : in_line c ≡ true = p.0 in
         record { first = c ∷ r.first; second = r.second; all = ap (λ z. c ∷ z) r.all; is_first = (rw (l, e) refl, r.is_first); is_second = r.is_second }
-    by_space false e = record { first = []; second = c ∷ cs; all = refl; is_first = tt; is_second = (rw e refl, p.1) }
+    by_space later false e = record { first = []; second = c ∷ cs; all = refl; is_first = tt; is_second = (rw e refl, p.1) }
 
 -- the words of a line
 abbrev pub NumberWord : ℕ → List ℕ → Type 0
@@ -89,7 +89,7 @@ abbrev pub NumberOf : ℕ → ℕ → List ℕ → Type 0
 NumberOf most n w = Picked 2 0 most n w
 
 abbrev pub MessageOf : List ℕ → Bor (List ℕ) → Type 0
-MessageOf = MapsSome (λ w v. RestWord w × IsSliceOf (TextSlice (λ s. s.now)) w v) (λ text trimmed. trimmed.now ≡ trim text.now)
+MessageOf = MapsSome (λ w v. RestWord w × IsSliceOf (TextSlice (λ s. s.now)) w v) (λ (text trimmed : Bor (List ℕ)). trimmed.now ≡ trim text.now)
 
 abbrev pub PartsOf : List ℕ → (((ℕ × ℕ) × ℕ) × Level) × Bor (List ℕ) → Type 0
 PartsOf w v = Joined (λ u. Joined (λ u. Joined (λ u. Joined (λ u. Joined (λ u. Joined (λ u. Joined (NumberOf 23 v.0.0.0.0) (Is (codes ":")) u) (NumberOf 59 v.0.0.0.1) u) (Is (codes ":")) u) (NumberOf 59 v.0.0.1) u) (Is (codes " ")) u) (λ z. IsName z × (level_of (encode_utf8_all z) ≡ Some v.0.1)) u) (λ u. Joined (Is (codes " ")) (λ z. MessageOf z v.1) u) w
@@ -110,13 +110,13 @@ line-sound w line i =
     let a = b.is_first in
     let t = g.is_second in
     let m = t.is_second in
-    let r = rest-sound t.second m.1.0.0 in
+    let r = rest-sound t.second m.1.0 in
     let colon : a.second ≡ codes ":" = equals-same (codes ":") a.second a.is_second in
     let other_colon : c.second ≡ codes ":" = equals-same (codes ":") c.second c.is_second in
     let space : e.second ≡ codes " " = equals-same (codes " ") e.second e.is_second in
     let other_space : t.first ≡ codes " " = equals-same (codes " ") t.first t.is_first in
-    let bytes : m.0.now ≡ encode_utf8_all t.second = slice-bytes (λ s. s.now) t.second m.0 m.1.0.1 in
-    let said : v.1.now ≡ trim (encode_utf8_all t.second) = m.1.1 ∙ ap trim bytes in
+    let bytes : m.0.now ≡ encode_utf8_all t.second = slice-bytes (λ s. s.now) t.second m.0 m.1.1 in
+    let said : v.1.now ≡ trim (encode_utf8_all t.second) = m.2 ∙ ap trim bytes in
     subst (IsLine w) (sym i.2) (record {
       hour = a.first;
       minute = b.second;
@@ -136,11 +136,12 @@ line-sound w line i =
 -- and a line is a word
 line-complete : (w : List ℕ) (line : Line) → IsLine w line → LineWord w
 line-complete w line i =
+    let lt : 59 < 2 ^ 32 = omega arith in
     let l = named-level i.level line.level i.is_level in
     let a = joined i.hour (codes ":") (picks 2 0 23 i.hour line.time.0 (omega arith) i.is_hour) (same-equals (codes ":")) in
-    let b = joined (i.hour ++ codes ":") i.minute a (picks 2 0 59 i.minute line.time.1 (omega arith) i.is_minute) in
+    let b = joined (i.hour ++ codes ":") i.minute a (picks 2 0 59 i.minute line.time.1 lt i.is_minute) in
     let c = joined ((i.hour ++ codes ":") ++ i.minute) (codes ":") b (same-equals (codes ":")) in
-    let d = joined (((i.hour ++ codes ":") ++ i.minute) ++ codes ":") i.second c (picks 2 0 59 i.second line.time.2 (omega arith) i.is_second) in
+    let d = joined (((i.hour ++ codes ":") ++ i.minute) ++ codes ":") i.second c (picks 2 0 59 i.second line.time.2 lt i.is_second) in
     let e = joined ((((i.hour ++ codes ":") ++ i.minute) ++ codes ":") ++ i.second) (codes " ") d (same-equals (codes " ")) in
     let f = joined (((((i.hour ++ codes ":") ++ i.minute) ++ codes ":") ++ i.second) ++ codes " ") i.level e (l.0, subst IsPick (sym l.1) tt) in
     let m = joined (codes " ") i.left (same-equals (codes " ")) (rest-complete i.left i.in_one i.not_blank) in
@@ -267,12 +268,11 @@ later-log k g (d ∷ ds) lines p s (line_end {cs} c e i) =
     not_empty : (g : List ℕ) → g ++ (c ∷ []) ≡ [] → StopsAt in_line cs
     not_empty [] n = absurd (cc n)
     not_empty (d ∷ g) n = absurd (cc n)
-later-log k g ws (m ∷ lines) p s (more_lines {w} {cs} line i t l) = by_ends (some-ends g p)
+later-log k g ws (m ∷ lines) p s (more_lines {w} {cs} line i t l) = by_ends (later-log (suc k) [] cs lines tt (λ e. t) l) (some-ends g p)
   where
-    by_ends : (g ≡ []) ⊎ EndWord g → LogFrom (suc k) (g ++ (w ++ cs))
-    by_ends (inl e) = absurd (never-over w cs (line-complete w line i) (s e))
-    by_ends (inr h) =
-        let r = later-log (suc k) [] cs lines tt (λ e. t) l in
+    by_ends : LogFrom (suc (suc k)) cs → (g ≡ []) ⊎ EndWord g → LogFrom (suc k) (g ++ (w ++ cs))
+    by_ends r (inl e) = absurd (never-over w cs (line-complete w line i) (s e))
+    by_ends r (inr h) =
         let j : Joined EndWord LineWord (g ++ w) = record { first = g; second = w; all = refl; is_first = h; is_second = line-complete w line i } in
         record { items = (g ++ w) ∷ r.items; are = record { first = g ++ w; second = cs; all = sym (append_assoc g w cs); is_first = (tt, j); is_second = r.are } }
 
@@ -290,7 +290,7 @@ first-log g ws (m ∷ lines) p (more_lines {w} {cs} line i t l) =
     record { items = (g ++ w) ∷ r.items; are = record { first = g ++ w; second = cs; all = sym (append_assoc g w cs); is_first = (tt, by_ends (some-ends g p)); is_second = r.are } }
   where
     by_ends : (g ≡ []) ⊎ EndWord g → Joined EndWord LineWord (g ++ w) ⊎ LineWord (g ++ w)
-    by_ends (inl e) = inr (rw e (line-complete w line i))
+    by_ends (inl e) = inr (subst (λ z. LineWord (z ++ w)) (sym e) (line-complete w line i))
     by_ends (inr h) = inl (record { first = g; second = w; all = refl; is_first = h; is_second = line-complete w line i })
 
 -- and a log is a word

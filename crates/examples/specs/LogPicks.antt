@@ -32,8 +32,11 @@ level-named w l n e = by_name (bytes_eq w (codes "INFO")) (bytes_eq w (codes "WA
     by_name false false true p q r g = inr (inr (inl ((bytes_eq-Decides w (codes "ERROR")).0 r, cc g)))
     by_name false false false p q r g = absurd (cc g)
 
+name-level : (w : List ℕ) (l : Level) → Names levels w l → IsName w × (level_of w ≡ Some l)
+name-level w l (inl e) = rw (e.0, e.1) ((refl, (refl, (refl, (refl, tt)))), refl)
+name-level w l (inr (inl e)) = rw (e.0, e.1) ((refl, (refl, (refl, (refl, tt)))), refl)
+name-level w l (inr (inr (inl e))) = rw (e.0, e.1) ((refl, (refl, (refl, (refl, (refl, tt))))), refl)
+name-level w l (inr (inr (inr e))) = absurd e
+
 pub named-level : (w : List ℕ) (l : Level) → Names levels w l → IsName w × (level_of (encode_utf8_all w) ≡ Some l)
-named-level w l (inl e) = rw (e.0, e.1) ((refl, refl, refl, refl, tt), refl)
-named-level w l (inr (inl e)) = rw (e.0, e.1) ((refl, refl, refl, refl, tt), refl)
-named-level w l (inr (inr (inl e))) = rw (e.0, e.1) ((refl, refl, refl, refl, refl, tt), refl)
-named-level w l (inr (inr (inr e))) = absurd e
+named-level w l n = let p = name-level w l n in (p.0, ap level_of (name-bytes w p.0) ∙ p.1)
