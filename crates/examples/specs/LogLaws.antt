@@ -1,7 +1,7 @@
 -- The parser of logs accepts just these.
--- Main laws: log-sound, log-complete, recovered-told. Read first: Log.antt, LogPicks.antt.
-use Rattle.std.proofs.Common.{◌≡◌, ℕ, zero, suc, ◌<◌, ◌^◌, Bool, true, false, nat_eq, Option, Some, None, List, [], ◌∷◌, ◌++◌, refl, sym, ◌∙◌, ap, subst, arith, append_assoc, inl, inr}
-use Rattle.std.specs.Prelude.{⊤, ◌⊎◌, ◌||◌, ◌==◌, ◌&&◌, not, codes, Result, Ok, Err, IfOk, IsTrue, is_some}
+-- Main laws: log-sound, log-complete, line_stops, end_stops. Read first: Log.antt, LogPicks.antt.
+use Rattle.std.proofs.Common.{◌≡◌, ℕ, suc, ◌<◌, ◌^◌, Bool, true, false, nat_eq, Some, None, List, [], ◌∷◌, ◌++◌, refl, sym, ◌∙◌, ap, subst, arith, append_assoc, inl, inr}
+use Rattle.std.specs.Prelude.{⊤, ◌⊎◌, ◌||◌, ◌==◌, ◌&&◌, not, codes}
 use Rattle.std.specs.Borrow.{Bor}
 use Rattle.std.specs.Char.{is_digit, is_whitespace, is_not_whitespace}
 use Rattle.std.specs.Str.{encode_utf8_all, trim}
@@ -9,25 +9,23 @@ use Rattle.std.specs.declared.alloc.Global.{Global}
 use Rattle.std.specs.declared.vec.Vec.{Vec}
 use Rattle.std.proofs.lemmas.Bool.Decides.{nat_tests}
 use Rattle.std.proofs.lemmas.List.{append-nil}
-use Rattle.chumsky_input.specs.declared.stop.Stop.{Stop}
 use Rattle.chumsky_parser.specs.Ending.{DoesNotEnd}
 use Rattle.chumsky_parser.specs.ItemsLanguage.{ListFrom, IsListFrom}
 use Rattle.chumsky_parser.specs.Slices.{IsSliceOf}
 use Rattle.chumsky_parser.specs.Words.{Joined, AllPass, StopsAt}
-use Rattle.chumsky_parser.specs.declared.result.ParseResult.{ParseResult}
 use Rattle.chumsky_primitive.specs.Literals.{equals-same, same-equals}
 use Rattle.chumsky_primitive.specs.PrimitiveLanguage.{Equals}
 use Rattle.chumsky_combinator.specs.MappedLanguage.{MapsSome}
 use Rattle.chumsky_items.specs.ListLanguage.{Holding}
 use Rattle.chumsky_items.specs.ListWords.{SeparatedWord, SeparatedEnd}
 use Rattle.chumsky_shield.specs.Picked.{IsPick}
-use Rattle.chumsky_text.specs.Decimals.{IsDigits, TextSlice, slice-bytes}
+use Rattle.chumsky_text.specs.Decimals.{TextSlice, slice-bytes}
 use Rattle.chumsky_text.specs.Names.{IsName, in_name}
-use Rattle.chumsky_text.specs.TextLanguage.{IsWord, begun_ends}
-use Rattle.chumsky_exact.specs.Fields.{IsField, Picked, Picks, field, picks}
+use Rattle.chumsky_text.specs.TextLanguage.{IsWord, word_front, begun_ends}
+use Rattle.chumsky_exact.specs.Fields.{Picked, Picks, field, picks}
 use Rattle.examples.specs.declared.log_lines.Level.{Level}
 use Rattle.examples.specs.declared.log_lines.Line.{Line}
-use Rattle.examples.specs.Log.{ends_line, in_line, IsLine, IsLog, no_line, line_end, more_lines, HoldsLog, IsRecovered, ExactlyRecovers}
+use Rattle.examples.specs.Log.{ends_line, in_line, IsLine, IsLog, no_line, line_end, more_lines, HoldsLog}
 use Rattle.examples.specs.LogPicks.{is_blank, level_of, level-named, named-level}
 
 abbrev pub Is : List ℕ → List ℕ → Type 0
@@ -320,16 +318,6 @@ pub end_stops : (w rest : List ℕ) → EndWord w → (t : ℕ) → StopsAt in_l
 end_stops w rest i t = end-over w rest i
 
 -- where a line begins no end of a line is taken
-pub no_end : (front : List ℕ → List ℕ) (spells : List ℕ → Bool) (ts : List ℕ) → StopsAt ends_line ts → DoesNotEnd (begun_ends ends_line front spells ts)
-no_end front spells [] s = tt
-no_end front spells (c ∷ cs) s = let e : ends_line c ≡ false = s in rw e tt
-
--- without errors there is an output
-pub recovered-told : {Tok V Er : Type 0} (P : List Tok → V → Type 0) (ts : List Tok) (result : Result (ParseResult V Er) Stop) → ExactlyRecovers P ts result → IfOk result (λ parsed. parsed.errors.items ≡ [] → IsTrue (is_some parsed.output))
-recovered-told {V = V} {Er} P ts (Ok parsed) i = by_errors parsed.errors.items parsed.output i
-  where
-    by_errors : (es : List Er) (v : Option V) → IsRecovered P ts es v → es ≡ [] → IsTrue (is_some v)
-    by_errors [] (Some v) i e = refl
-    by_errors [] None i e = absurd i
-    by_errors (x ∷ xs) v i e = absurd (cc e)
-recovered-told P ts (Err s) i = tt
+pub no_end : (ts : List ℕ) → StopsAt ends_line ts → DoesNotEnd (begun_ends ends_line (word_front (λ t. ends_line)) (λ w. true) ts)
+no_end [] s = tt
+no_end (c ∷ cs) s = let e : ends_line c ≡ false = s in rw e tt
