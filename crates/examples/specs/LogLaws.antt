@@ -79,18 +79,24 @@ NumberWord = Picks 2 0
 abbrev pub LevelWord : List ℕ → Type 0
 LevelWord w = IsName w × IsPick (level_of (encode_utf8_all w))
 
+abbrev pub TimeWord : List ℕ → Type 0
+TimeWord = Joined (Joined (Joined (Joined (NumberWord 23) (Is (codes ":"))) (NumberWord 59)) (Is (codes ":"))) (NumberWord 59)
+
 abbrev pub LineWord : List ℕ → Type 0
-LineWord = Joined (Joined (Joined (Joined (Joined (Joined (Joined (NumberWord 23) (Is (codes ":"))) (NumberWord 59)) (Is (codes ":"))) (NumberWord 59)) (Is (codes " "))) LevelWord) (Joined (Is (codes " ")) RestWord)
+LineWord = Joined (Joined (Joined TimeWord (Is (codes " "))) LevelWord) (Joined (Is (codes " ")) RestWord)
 
 -- what they stand for
-abbrev pub NumberOf : ℕ → ℕ → List ℕ → Type 0
-NumberOf most n w = Picked 2 0 most n w
+abbrev pub TimeOf : (ℕ × ℕ) × ℕ → List ℕ → Type 0
+TimeOf t = Joined (Joined (Joined (Joined (Picked 2 0 23 t.0.0) (Is (codes ":"))) (Picked 2 0 59 t.0.1)) (Is (codes ":"))) (Picked 2 0 59 t.1)
 
-abbrev pub MessageOf : List ℕ → Bor (List ℕ) → Type 0
-MessageOf = MapsSome (λ w v. RestWord w × IsSliceOf (TextSlice (λ s. s.now)) w v) (λ (text trimmed : Bor (List ℕ)). trimmed.now ≡ trim text.now)
+abbrev pub LevelOf : Level → List ℕ → Type 0
+LevelOf l w = IsName w × (level_of (encode_utf8_all w) ≡ Some l)
+
+abbrev pub MessageOf : Bor (List ℕ) → List ℕ → Type 0
+MessageOf m w = MapsSome (λ w v. RestWord w × IsSliceOf (TextSlice (λ s. s.now)) w v) (λ (text trimmed : Bor (List ℕ)). trimmed.now ≡ trim text.now) w m
 
 abbrev pub PartsOf : List ℕ → (((ℕ × ℕ) × ℕ) × Level) × Bor (List ℕ) → Type 0
-PartsOf w v = Joined (λ u. Joined (λ u. Joined (λ u. Joined (λ u. Joined (λ u. Joined (λ u. Joined (NumberOf 23 v.0.0.0.0) (Is (codes ":")) u) (NumberOf 59 v.0.0.0.1) u) (Is (codes ":")) u) (NumberOf 59 v.0.0.1) u) (Is (codes " ")) u) (λ z. IsName z × (level_of (encode_utf8_all z) ≡ Some v.0.1)) u) (λ u. Joined (Is (codes " ")) (λ z. MessageOf z v.1) u) w
+PartsOf w v = Joined (Joined (Joined (TimeOf v.0.0) (Is (codes " "))) (LevelOf v.0.1)) (Joined (Is (codes " ")) (MessageOf v.1)) w
 
 abbrev pub LineOf : List ℕ → Line → Type 0
 LineOf = MapsSome PartsOf (λ parts line. line ≡ record { time = (parts.0.0.0.0, parts.0.0.0.1, parts.0.0.1); level = parts.0.1; message = parts.1 })
@@ -215,7 +221,8 @@ ends-alone g h = subst (λ z. IsLog z []) (append-nil g) (ends-log g (all-ends g
 one-more : (w cs : List ℕ) (line : Line) (lines : List Line) → LineOf w line → StopsAt in_line cs → IsLog cs lines → IsLog (w ++ cs) (line ∷ lines)
 one-more w cs line lines i s l = more_lines line (line-sound w line i) s l
 
-led-line : (line : Line) (lines : List Line) (first second : List ℕ) → Joined EndWord (λ u. LineOf u line) first → StopsAt in_line second → IsLog second lines → IsLog (first ++ second) (line ∷ lines) × StopsAt in_line (first ++ second)
+led-line : (line : Line) (lines : List Line) (first second : List ℕ) → Joined EndWord (λ u. LineOf u line) first
+    → StopsAt in_line second → IsLog second lines → IsLog (first ++ second) (line ∷ lines) × StopsAt in_line (first ++ second)
 led-line line lines first second j s l =
     let e : first ++ second ≡ j.first ++ (j.second ++ second) = ap (λ z. z ++ second) j.all ∙ append_assoc j.first j.second second in
     let m = ends-log j.first (all-ends j.first j.is_first) (j.second ++ second) (line ∷ lines) (one-more j.second second line lines j.is_second s l) in

@@ -26,7 +26,8 @@ level-by_word w bytes x e g = g ∙ ap level_of e
 pub level-named : (w : List ℕ) (l : Level) → IsName w → level_of (encode_utf8_all w) ≡ Some l → Names levels w l
 level-named w l n e = by_name (bytes_eq w (codes "INFO")) (bytes_eq w (codes "WARN")) (bytes_eq w (codes "ERROR")) refl refl refl (sym (ap level_of (name-bytes w n)) ∙ e)
   where
-    by_name : (a b c : Bool) → bytes_eq w (codes "INFO") ≡ a → bytes_eq w (codes "WARN") ≡ b → bytes_eq w (codes "ERROR") ≡ c → cond a (Some Info) (cond b (Some Warning) (cond c (Some Error) None)) ≡ Some l → Names levels w l
+    by_name : (a b c : Bool) → bytes_eq w (codes "INFO") ≡ a → bytes_eq w (codes "WARN") ≡ b → bytes_eq w (codes "ERROR") ≡ c
+        → cond a (Some Info) (cond b (Some Warning) (cond c (Some Error) None)) ≡ Some l → Names levels w l
     by_name true b c p q r g = inl ((bytes_eq-Decides w (codes "INFO")).0 p, cc g)
     by_name false true c p q r g = inr (inl ((bytes_eq-Decides w (codes "WARN")).0 q, cc g))
     by_name false false true p q r g = inr (inr (inl ((bytes_eq-Decides w (codes "ERROR")).0 r, cc g)))
