@@ -4,7 +4,8 @@ use chumsky::error::Rich;
 use chumsky::prelude::*;
 use examples::exact_log::parse_lines;
 use examples::log_lines::{Line, parse_log, recover_lines};
-use std::alloc::{AllocError, Global};
+use std::alloc::{AllocError, AllocGlobal, Global};
+use std::process::Abort;
 
 /// Lines, of which some are right.
 const LINES: [&str; 34] = [
@@ -49,6 +50,9 @@ const ENDS: [&str; 9] = [
     "\n", "\r", "\r\n", "\n\r", "\n\n\r\r\n", "", "\u{B}", "\u{2028}", " \n ",
 ];
 
+/// What stands on another line.
+const OTHERS: [&str; 3] = ["", "23:59:59 ERROR x  y ", "23:59:59 FATAL x"];
+
 /// What a run answers.
 fn line_of<'src>(
     alloc: Global,
@@ -65,36 +69,45 @@ fn line_of_lines(alloc: Global, lines: &[Line]) -> Result<String, AllocError> {
     format!(in alloc; "Some({lines:?}) []")
 }
 
+/// Whether the reader that keeps no errors takes a text. The other one has an error just where it doesn't, and both give the same.
+fn is_taken<R: Abort + AllocGlobal>(rt: &R, text: &str) -> bool {
+    let exact = parse_lines(rt.alloc(), text).expect(rt, "a refusal");
+    let recovered = recover_lines(rt.alloc(), text);
+    let said = line_of(rt.alloc(), &recovered).expect(rt, "want of memory");
+    let read = parse_log(rt.alloc(), text);
+    let line = line_of(rt.alloc(), &read).expect(rt, "want of memory");
+    assert_eq!(rt; line.as_str(), said.as_str(), "of {text:?}");
+    match exact.into_output() {
+        Some(lines) => {
+            let line = line_of_lines(rt.alloc(), lines.as_slice()).expect(rt, "want of memory");
+            assert_eq!(rt; line.as_str(), said.as_str(), "of {text:?}");
+            true
+        }
+        None => {
+            assert!(rt; !said.as_str().ends_with(" []"), "of {text:?}");
+            false
+        }
+    }
+}
+
 #[test]
 fn both_readers_take_the_same_texts(rt: HostRuntime) {
     let mut taken = 0;
     let mut left = 0;
-    for first in LINES {
+    for line in LINES {
         for end in ENDS {
-            for second in LINES {
-                let text =
-                    format!(in rt.alloc(); "{first}{end}{second}").expect(&rt, "want of memory");
-                let text = text.as_str();
-                let exact = parse_lines(rt.alloc(), text).expect(&rt, "a refusal");
-                let recovered = recover_lines(rt.alloc(), text);
-                let said = line_of(rt.alloc(), &recovered).expect(&rt, "want of memory");
-                let read = parse_log(rt.alloc(), text);
-                let line = line_of(rt.alloc(), &read).expect(&rt, "want of memory");
-                assert_eq!(rt; line.as_str(), said.as_str(), "of {text:?}");
-                match exact.into_output() {
-                    Some(lines) => {
-                        let line = line_of_lines(rt.alloc(), lines.as_slice())
-                            .expect(&rt, "want of memory");
-                        assert_eq!(rt; line.as_str(), said.as_str(), "of {text:?}");
+            for other in OTHERS {
+                for (first, second) in [(line, other), (other, line)] {
+                    let text = format!(in rt.alloc(); "{first}{end}{second}")
+                        .expect(&rt, "want of memory");
+                    if is_taken(&rt, text.as_str()) {
                         taken += 1;
-                    }
-                    None => {
-                        assert!(rt; !said.as_str().ends_with(" []"), "of {text:?}");
+                    } else {
                         left += 1;
                     }
                 }
             }
         }
     }
-    assert!(rt; taken > 400 && left > 400, "{taken} and {left}");
+    assert!(rt; taken > 100 && left > 100, "{taken} and {left}");
 }
