@@ -17,7 +17,7 @@ returns c =
     let a = rw (l.second, l.second_from, l.second_to, l.space, l.other_space) at minutes in
     exactly-by_words HoldsLog a refl (
       (
-        (((((((tt, tt, λ w rest h f. colon_stops w rest h), tt, λ w rest h f. tt), tt, λ w rest h f. colon_stops w rest h), tt, λ w rest h f. tt), tt, λ w rest h f. space_stops w rest h), tt, λ w rest h f. tt),
+        ((((((tt, tt, λ w rest h f. colon_stops w rest h), tt, λ w rest h f. tt), tt, λ w rest h f. colon_stops w rest h), tt, λ w rest h f. tt), tt, λ w rest h f. space_stops w rest h), tt, λ w rest h f. tt),
         (tt, (tt, tt, λ w rest h f. visible_stops w rest h), λ w rest h f. tt),
         λ w rest h f. message_stops w rest h,
       ),
