@@ -25,4 +25,6 @@ mod input_ref;
 #[cfg(test)]
 mod json;
 #[cfg(test)]
+mod logs;
+#[cfg(test)]
 mod odd;

@@ -16,3 +16,6 @@ pub mod ListEnds
 pub mod IniLaws
 pub mod IniOnce
 pub mod IniLawful
+pub mod Log
+pub mod LogPicks
+pub mod LogLaws

@@ -4,7 +4,7 @@ ghost use Rattle.std.specs.Str.{encode_utf8_all};
 ghost use Rattle.chumsky_text.specs.Decimals.{fixed_of, fixed-by_word, slice-bytes};
 
 use chumsky::combinator::{Picker, WordPicker};
-use chumsky::extra::RichText;
+use chumsky::extra::{ParserExtra, RichText};
 use chumsky::text::{Digits, Fixed, Word};
 
 /// Picks the number that two digits make, where it lies between two bounds.
@@ -30,8 +30,14 @@ impl<'src> Picker<&'src str, u8> for TwoDigits {
     }
 }
 
-impl<'src> WordPicker<'src, &'src str, &'src str, u8, RichText, Word<Digits, &'src str, RichText>>
-    for TwoDigits {
+impl<'src, E: ParserExtra<&'src str>> WordPicker<
+    'src,
+    &'src str,
+    &'src str,
+    u8,
+    E,
+    Word<Digits, &'src str, E>,
+> for TwoDigits {
     ghost picks = { λ p w. fixed_of 2 p.least p.most (encode_utf8_all w) };
 
     ghost by_word = { λ f p w v x s g. fixed-by_word 2 f.least f.most w v.now x (slice-bytes (λ t. t.now) w v s.1) g };

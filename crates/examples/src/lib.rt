@@ -5,6 +5,7 @@
 
 pub mod date;
 pub mod digits;
+pub mod exact_log;
 pub mod header;
 pub mod ini;
 pub mod log_lines;

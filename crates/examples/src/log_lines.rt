@@ -1,14 +1,20 @@
 //! Lines of a log. A line that can't be read is an error of its own, and the lines after it are read.
 ghost use Rattle.std.specs.Prelude.{◌≡◌, [], IfOk, IsTrue, is_some};
+ghost use Rattle.std.specs.Str.{chars, encode_utf8_all};
+ghost use Rattle.chumsky_text.specs.Decimals.{slice-bytes};
+ghost use Rattle.examples.specs.Log.{HoldsLog, ExactlyRecovers};
+ghost use Rattle.examples.specs.LogPicks.{level_of, level-by_word};
 
 use crate::digits::TwoDigits;
+use crate::exact_log::parse_lines;
 use crate::words::{ToSome, Trimmed};
-use chumsky::combinator::{Part, Picker, part_of, run_part};
-use chumsky::extra::RichText;
+use chumsky::combinator::{Part, Picker, WordPicker, part_of, run_part};
+use chumsky::extra::{ParserExtra, RichText};
 use chumsky::input::TextRef;
 use chumsky::prelude::*;
+use chumsky::text::{AsciiIdent, Word};
 use chumsky::{PResult, Stop};
-use std::alloc::Global;
+use std::alloc::{AllocError, Global};
 use std::fmt;
 use std::fmt::{Display, Formatter};
 
@@ -31,9 +37,11 @@ pub struct Line<'src> {
 
 /// Picks the level of a name.
 #[derive(Clone, Copy)]
-struct Named;
+pub struct Named;
 
 impl<'src> Picker<&'src str, Level> for Named {
+    ghost gives = { λ _ name picked. picked ≡ level_of name.now };
+
     fn pick(&self, name: &'src str) -> Option<Level> {
         match name {
             "INFO" => Some(Level::Info),
@@ -42,6 +50,19 @@ impl<'src> Picker<&'src str, Level> for Named {
             _ => None,
         }
     }
+}
+
+impl<'src, E: ParserExtra<&'src str>> WordPicker<
+    'src,
+    &'src str,
+    &'src str,
+    Level,
+    E,
+    Word<AsciiIdent, &'src str, E>,
+> for Named {
+    ghost picks = { λ _ w. level_of (encode_utf8_all w) };
+
+    ghost by_word = { λ f p w v x s g. level-by_word w v.now x (slice-bytes (λ t. t.now) w v s.1) g };
 }
 
 /// Picks a text that isn't empty.
@@ -147,7 +168,47 @@ impl<'src> Part<'src, &'src str, Option<Line<'src>>, RichText> for AnyLine {
 }
 
 /// The lines that are right, and an error for each other line. Lines that are empty are passed over.
+///
+/// A reader that keeps no errors tells whether each line is right, and what the lines say. Only of a text in which one isn't is it
+/// read once more, by a reader that goes on behind it.
 pub fn parse_log<'src>(
+    alloc: Global,
+    text: &'src str,
+) -> Result<ParseResult<Vec<Line<'src>>, Rich<char>>, Stop>
+    ensures exact { ExactlyRecovers HoldsLog (chars text.now) result }
+    ensures told { IfOk result (λ parsed. parsed.errors.items ≡ [] → IsTrue (is_some parsed.output)) }
+{
+    let parsed = parse_lines(alloc, text)?;
+    match parsed.into_output() {
+        Some(lines) => Ok(ParseResult {
+            output: Some(lines),
+            errors: Vec::new(alloc),
+        }),
+        None => Ok(read_on(alloc, text)?),
+    }
+}
+
+/// The lines that are right, and what is wrong with the others: one error at least.
+fn read_on<'src>(
+    alloc: Global,
+    text: &'src str,
+) -> Result<ParseResult<Vec<Line<'src>>, Rich<char>>, AllocError>
+    ensures { IfOk result (λ parsed. parsed.errors.items ≡ [] → ⊥) }
+{
+    let (output, mut errors) = match recover_lines(alloc, text) {
+        Ok(parsed) => parsed.into_output_errors(),
+        Err(Stop::Memory) => return Err(AllocError),
+        Err(_) => (None, Vec::new(alloc)),
+    };
+    if errors.is_empty() {
+        let whole = SimpleSpan::from(0..text.len());
+        errors.push(Rich::custom_in(alloc, whole, "this is no log")?)?;
+    }
+    Ok(ParseResult { output, errors })
+}
+
+/// The same as `parse_log`, of which less is known: a reader that goes on behind a line that is wrong.
+pub fn recover_lines<'src>(
     alloc: Global,
     text: &'src str,
 ) -> Result<ParseResult<Vec<Line<'src>>, Rich<char>>, Stop>

@@ -1,5 +1,6 @@
 //! Words that stand for values, texts without what is around them, and values that may be wanting.
 ghost use Rattle.std.specs.Prelude.{◌≡◌};
+ghost use Rattle.std.specs.Str.{trim};
 
 use chumsky::combinator::{Mapper, To};
 use chumsky::extra::RichText;
@@ -22,9 +23,6 @@ pub fn word<'src, V: Clone>(text: &'static str, value: V) -> Word<'src, V>
 pub struct Trimmed;
 
 impl<'src> Mapper<&'src str, &'src str> for Trimmed {
-    ghost use Rattle.std.specs.Prelude.{◌≡◌};
-    ghost use Rattle.std.specs.Str.{trim};
-
     ghost gives = { λ _ text trimmed. trimmed.now ≡ trim text.now };
 
     fn apply(&self, text: &'src str) -> &'src str {
