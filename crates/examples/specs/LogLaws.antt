@@ -1,5 +1,5 @@
 -- The parser of logs accepts just these.
--- Main laws: log-sound, log-complete, line_stops, end_stops. Read first: Log.antt, LogPicks.antt.
+-- Main laws: built-sound, built-complete, built-line_stops, end_stops. Read first: Log.antt, LogPicks.antt.
 use Rattle.std.proofs.Common.{◌≡◌, ℕ, suc, ◌<◌, ◌^◌, Bool, true, false, nat_eq, Some, None, List, [], ◌∷◌, ◌++◌, refl, sym, ◌∙◌, ap, subst, arith, append_assoc, inl, inr}
 use Rattle.std.specs.Prelude.{⊤, ◌⊎◌, ◌||◌, ◌==◌, ◌&&◌, not, codes}
 use Rattle.std.specs.Borrow.{Bor}
@@ -25,6 +25,7 @@ use Rattle.chumsky_text.specs.TextLanguage.{IsWord, word_front, begun_ends}
 use Rattle.chumsky_exact.specs.Fields.{Picked, Picks, field, picks}
 use Rattle.examples.specs.declared.log_lines.Level.{Level}
 use Rattle.examples.specs.declared.log_lines.Line.{Line}
+use Rattle.examples.specs.DateLaws.{Dash, PickedIn, PicksIn}
 use Rattle.examples.specs.Log.{ends_line, in_line, IsLine, IsLog, no_line, line_end, more_lines, HoldsLog}
 use Rattle.examples.specs.LogPicks.{is_blank, level_of, level-named, named-level}
 
@@ -173,7 +174,7 @@ digit-in_line c e = by_end (c == 10) (c == 13) refl refl
     by_end false false p q = refl
 
 -- where a line begins none ends
-pub line_stops : (w rest : List ℕ) → LineWord w → StopsAt ends_line (w ++ rest)
+line_stops : (w rest : List ℕ) → LineWord w → StopsAt ends_line (w ++ rest)
 line_stops w rest i = line-front (StopsAt ends_line) begun w rest i
   where
     begun : (u rest : List ℕ) → NumberWord 23 u → StopsAt ends_line (u ++ rest)
@@ -248,7 +249,7 @@ lines-sound (line ∷ lines) w i =
     by_lead (inr o) s l = one-more i.first i.second line lines o s l
 
 -- what a word stands for holds the lines of the log
-pub log-sound : (w : List ℕ) (v : Vec Line Global) → LogOf w v → HoldsLog w v
+log-sound : (w : List ℕ) (v : Vec Line Global) → LogOf w v → HoldsLog w v
 log-sound w v h = let e : h.items ≡ v.items = sym h.held in subst (IsLog w) e (lines-sound h.items w h.is)
 
 -- some ends of lines
@@ -299,18 +300,56 @@ first-log g ws (m ∷ lines) p (more_lines {w} {cs} line i t l) =
     by_ends (inr h) = inl (record { first = g; second = w; all = refl; is_first = h; is_second = line-complete w line i })
 
 -- and a log is a word
-pub log-complete : (w : List ℕ) (v : Vec Line Global) → HoldsLog w v → LogWord w
+log-complete : (w : List ℕ) (v : Vec Line Global) → HoldsLog w v → LogWord w
 log-complete w v i = first-log [] w v.items tt i
 
 -- nothing is cut short: what follows a word doesn't go on with it
-pub colon_stops : (w rest : List ℕ) → Is (codes ":") w → (t : ℕ) → StopsAt (λ c. is_digit c 10) (w ++ rest)
-colon_stops w rest d t = let e : w ≡ codes ":" = equals-same (codes ":") w d in rw e refl
+digits_stop : (d r : ℕ) → is_digit d 10 ≡ false → r ≡ 10 → (w rest : List ℕ) → w ≡ d ∷ [] → (t : ℕ) → StopsAt (λ c. is_digit c r) (w ++ rest)
+digits_stop d r n radix w rest e t = rw (e, radix) n
 
-pub space_stops : (w rest : List ℕ) → Is (codes " ") w → (t : ℕ) → StopsAt (λ c. is_digit c 10) (w ++ rest)
-space_stops w rest d t = let e : w ≡ codes " " = equals-same (codes " ") w d in rw e refl
+-- a colon, and a space, of a parser that was built with them
+pub colon_stops : (x r : ℕ) → x ≡ 58 → r ≡ 10 → (w rest : List ℕ) → Dash x w → (t : ℕ) → StopsAt (λ c. is_digit c r) (w ++ rest)
+colon_stops x r colon radix w rest d t = digits_stop 58 r refl radix w rest (equals-same (x ∷ []) w d ∙ ap (λ z. z ∷ []) colon) t
 
-pub message_stops : (w rest : List ℕ) → Joined (Is (codes " ")) RestWord w → (t : ℕ) → StopsAt in_name (w ++ rest)
-message_stops w rest j t = joined-front (StopsAt in_name) (λ u r d. (let e : u ≡ codes " " = equals-same (codes " ") u d in rw e refl)) w rest j
+pub space_stops : (x r : ℕ) → x ≡ 32 → r ≡ 10 → (w rest : List ℕ) → Dash x w → (t : ℕ) → StopsAt (λ c. is_digit c r) (w ++ rest)
+space_stops x r space radix w rest d t = digits_stop 32 r refl radix w rest (equals-same (x ∷ []) w d ∙ ap (λ z. z ∷ []) space) t
+
+pub message_stops : (x : ℕ) → x ≡ 32 → (w rest : List ℕ) → Joined (Dash x) RestWord w → (t : ℕ) → StopsAt in_name (w ++ rest)
+message_stops x space w rest j t =
+    joined-front (StopsAt in_name) (λ u r d. (let e : u ≡ 32 ∷ [] = equals-same (x ∷ []) u d ∙ ap (λ z. z ∷ []) space in rw e refl)) w rest j
+
+-- of a parser that was built with these radixes, bounds, colons and spaces
+module _ (r l h x s m n y t o p z u : ℕ) (hour : r ≡ 10) (hour_from : l ≡ 0) (hour_to : h ≡ 23) (colon : x ≡ 58)
+    (minute : s ≡ 10) (minute_from : m ≡ 0) (minute_to : n ≡ 59) (other_colon : y ≡ 58)
+    (second : t ≡ 10) (second_from : o ≡ 0) (second_to : p ≡ 59) (space : z ≡ 32) (other_space : u ≡ 32) where
+  -- the words of its lines, and what they stand for
+  abbrev BuiltWord : List ℕ → Type 0
+  BuiltWord = Joined (Joined (Joined (Joined (Joined (Joined (Joined (PicksIn r 2 l h) (Dash x)) (PicksIn s 2 m n)) (Dash y)) (PicksIn t 2 o p)) (Dash z)) LevelWord) (Joined (Dash u) RestWord)
+
+  abbrev BuiltParts : List ℕ → (((ℕ × ℕ) × ℕ) × Level) × Bor (List ℕ) → Type 0
+  BuiltParts w v =
+      Joined (Joined (Joined (Joined (Joined (Joined (Joined (PickedIn r 2 l h v.0.0.0.0) (Dash x)) (PickedIn s 2 m n v.0.0.0.1)) (Dash y)) (PickedIn t 2 o p v.0.0.1)) (Dash z)) (LevelOf v.0.1)) (Joined (Dash u) (MessageOf v.1)) w
+
+  abbrev BuiltLine : List ℕ → Line → Type 0
+  BuiltLine = MapsSome BuiltParts (λ parts line. line ≡ record { time = (parts.0.0.0.0, parts.0.0.0.1, parts.0.0.1); level = parts.0.1; message = parts.1 })
+
+  built-word : (w : List ℕ) → LineWord w → BuiltWord w
+  built-word w i = rw (hour, hour_from, hour_to, colon, minute, minute_from, minute_to, other_colon, second, second_from, second_to, space, other_space) i
+
+  word-built : (w : List ℕ) → BuiltWord w → LineWord w
+  word-built w i = rw (hour, hour_from, hour_to, colon, minute, minute_from, minute_to, other_colon, second, second_from, second_to, space, other_space) at i
+
+  -- where one begins no end of a line is taken
+  pub built-line_stops : (w rest : List ℕ) → BuiltWord w → StopsAt ends_line (w ++ rest)
+  built-line_stops w rest i = line_stops w rest (word-built w i)
+
+  -- what a word of a log stands for holds its lines
+  pub built-sound : (w : List ℕ) (v : Vec Line Global) → Holding (ListFrom (λ k w line. SeparatedWord EndWord true None (λ q. BuiltLine q line) k w) (SeparatedEnd EndWord true true 0 None) 0) (λ lines v. v.items ≡ lines) w v → HoldsLog w v
+  built-sound w v i = log-sound w v (rw (hour, hour_from, hour_to, colon, minute, minute_from, minute_to, other_colon, second, second_from, second_to, space, other_space) at i)
+
+  -- and a log is a word
+  pub built-complete : (w : List ℕ) (v : Vec Line Global) → HoldsLog w v → IsListFrom (SeparatedWord EndWord true None BuiltWord) (SeparatedEnd EndWord true true 0 None) 0 w
+  built-complete w v i = rw (hour, hour_from, hour_to, colon, minute, minute_from, minute_to, other_colon, second, second_from, second_to, space, other_space) (log-complete w v i)
 
 pub visible_stops : (w rest : List ℕ) → IsWord is_not_whitespace (λ t. in_line) w → StopsAt is_blank (w ++ rest)
 visible_stops [] rest i = absurd i
