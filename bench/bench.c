@@ -425,7 +425,6 @@ int main(int count, char **arguments) {
     struct job jobs[] = {
         ROWS("dates", dates, dates, dates),
         ROWS("words", words, words, words),
-        ROWS("words Rich", rich_words, words, words),
         ROWS("headers", headers, headers, headers),
         ROWS("digits", digits, digits, digits),
         ROWS("lists", lists, lists, lists),
@@ -442,7 +441,6 @@ int main(int count, char **arguments) {
         ROWS("shallow calls", called_brackets, brackets, shallow),
         ROWS("deep", brackets, brackets, deep),
         ROWS("json", json, json, json),
-        ROWS("json Rich", rich_json, json, json),
         ROWS("json calls", called_json, json, json),
         ROWS("tree", tree, tree, tree),
         ROWS("tree calls", called_tree, tree, tree),

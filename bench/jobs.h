@@ -24,11 +24,9 @@ JOB(brackets);
 JOB(json);
 JOB(tree);
 
-/* By hand, keys are settings, sums have no powers, no grammar is rules or functions, and no error is rich. */
+/* By hand, keys are settings, sums have no powers, and no grammar is rules or functions. */
 #define PARSERS_JOB(name) job_function bench_##name##_parse, bench_##name##_check
 
-PARSERS_JOB(rich_words);
-PARSERS_JOB(rich_json);
 PARSERS_JOB(keys);
 PARSERS_JOB(sums_by_powers);
 PARSERS_JOB(called_brackets);

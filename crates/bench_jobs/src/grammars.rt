@@ -2,7 +2,7 @@
 ghost use Rattle.std.specs.Prelude.{IfOk, ⊤};
 
 use crate::run::once;
-use chumsky::extra::{EmptyText, RichText};
+use chumsky::extra::EmptyText;
 use chumsky::prelude::*;
 use chumsky::recursive::{BuildError, Leaves, Node, RecursiveError, SepCfg, Values};
 use either::Either;
@@ -12,7 +12,7 @@ use std::alloc::{AllocError, Global};
 #[derive(Drop)]
 struct Counts;
 
-impl<R> Values<SimpleSpan, R> for Counts {
+impl Values<SimpleSpan, EmptyErr> for Counts {
     type Value = u64;
 
     fn pair(&self, _alloc: Global, a: u64, b: u64) -> Result<u64, AllocError> {
@@ -49,7 +49,7 @@ impl<R> Values<SimpleSpan, R> for Counts {
         _mapper: usize,
         count: u64,
         _span: SimpleSpan,
-    ) -> Result<Result<u64, R>, AllocError> {
+    ) -> Result<Result<u64, EmptyErr>, AllocError> {
         Ok(Ok(count))
     }
 }
@@ -191,26 +191,6 @@ fn listed(
     rules.then(opening, closed)
 }
 
-/// The leaves of JSON, under an extra.
-macro_rules! json_leaves {
-    ($extra:ty) => {
-        [
-            Either::Left(one_of::<&str, &str, $extra>("\"").to(0)),
-            Either::Left(one_of("abcdefghijklmnopqrstuvwxyz0123456789").to(0)),
-            Either::Left(one_of("0123456789").to(0)),
-            Either::Left(one_of(",").to(0)),
-            Either::Left(one_of(":").to(0)),
-            Either::Left(one_of("[").to(0)),
-            Either::Left(one_of("]").to(0)),
-            Either::Left(one_of("{").to(0)),
-            Either::Left(one_of("}").to(0)),
-            Either::Right(just("true").to(1)),
-            Either::Right(just("false").to(1)),
-            Either::Right(just("null").to(1)),
-        ]
-    };
-}
-
 fn run_json(alloc: Global, bytes: &[u8], wanted: bool) -> u64 {
     let Ok(text) = std::str::from_utf8(bytes) else {
         return 0;
@@ -219,38 +199,20 @@ fn run_json(alloc: Global, bytes: &[u8], wanted: bool) -> u64 {
     let Ok(start) = json(&mut rules) else {
         return 0;
     };
-    let leaves = json_leaves!(EmptyText);
-    let actions = Leaves {
-        leaves: &leaves,
-        values: Counts,
-    };
-    match close(&rules, start, &actions, usize::MAX) {
-        Ok(grammar) => once(&grammar, alloc, text, wanted),
-        Err(_) => 0,
-    }
-}
-
-/// The number of strings, numbers and words, with errors that say what was expected and found.
-#[unsafe(no_mangle)]
-pub extern "C" fn bench_rich_json_parse(alloc: Global, bytes: &[u8]) -> u64 {
-    run_rich_json(alloc, bytes, true)
-}
-
-/// 1 where the text is JSON, with such errors.
-#[unsafe(no_mangle)]
-pub extern "C" fn bench_rich_json_check(alloc: Global, bytes: &[u8]) -> u64 {
-    run_rich_json(alloc, bytes, false)
-}
-
-fn run_rich_json(alloc: Global, bytes: &[u8], wanted: bool) -> u64 {
-    let Ok(text) = std::str::from_utf8(bytes) else {
-        return 0;
-    };
-    let mut rules = Rules::new(alloc);
-    let Ok(start) = json(&mut rules) else {
-        return 0;
-    };
-    let leaves = json_leaves!(RichText);
+    let leaves = [
+        Either::Left(one_of::<&str, &str, EmptyText>("\"").to(0)),
+        Either::Left(one_of("abcdefghijklmnopqrstuvwxyz0123456789").to(0)),
+        Either::Left(one_of("0123456789").to(0)),
+        Either::Left(one_of(",").to(0)),
+        Either::Left(one_of(":").to(0)),
+        Either::Left(one_of("[").to(0)),
+        Either::Left(one_of("]").to(0)),
+        Either::Left(one_of("{").to(0)),
+        Either::Left(one_of("}").to(0)),
+        Either::Right(just("true").to(1)),
+        Either::Right(just("false").to(1)),
+        Either::Right(just("null").to(1)),
+    ];
     let actions = Leaves {
         leaves: &leaves,
         values: Counts,

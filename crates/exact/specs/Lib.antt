@@ -38,7 +38,5 @@ pub mod Trees
 pub mod TreesLaws
 pub mod TreesLevelsLaws
 pub mod WrittenLaws
-pub mod Marked
-pub mod MarkedLaws
 pub mod Rows
 pub mod RowsLaws

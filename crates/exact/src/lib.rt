@@ -9,7 +9,6 @@ pub mod json_number;
 pub mod json_string;
 pub mod json_value;
 pub mod level;
-pub mod marked;
 pub mod nested;
 pub mod number;
 pub mod owned;

@@ -11,8 +11,8 @@ unfolding chars
 returns c =
     let cs = chars c.args.text.now in
     let s = c.separated_by-rows.ensures in
-    let said = rw (c.collect.ensures.parser, s.parser, c.collect-row.ensures.parser, c.at_least-bits.ensures, c.repeated.ensures.at_most) refl in
-    let rows = rw (c.collect.ensures.parser, s.parser, s.separator) at (c.parse.ensures.3.reads said) in
+    let rows = rw (c.collect.ensures.parser, s.parser, s.separator) at
+    (c.parse.ensures.3.reads (rw (c.collect.ensures.parser, s.parser, c.collect-row.ensures.parser, c.at_least-bits.ensures, c.repeated.ensures.at_most) refl)) in
     let bounds = rw (s.at_least, s.at_most, s.leading, s.trailing) at rows in
     let row = rw (c.collect-row.ensures.parser, c.at_least-bits.ensures, c.repeated.ensures.parser, c.repeated.ensures.at_most) at bounds in
     let a = rw (c.one_of.ensures, c.just.ensures) at row in
