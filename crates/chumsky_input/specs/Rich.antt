@@ -1,5 +1,5 @@
 -- What counts of a `Rich`, and how two are merged.
-use Rattle.std.specs.Prelude.{◌≡◌, ℕ, ◌%◌, ⊤, Bool, true, cond, List, [], ◌∷◌, ◌++◌, Option, Some, None, option_map, map, string_bytes}
+use Rattle.std.specs.Prelude.{◌≡◌, ℕ, ◌%◌, ⊤, Bool, true, cond, List, [], ◌∷◌, ◌++◌, Option, Some, None, IfSome, option_map, map, string_bytes}
 use Rattle.std.specs.Int.{bit_at}
 use Rattle.std.specs.List.{list_any, filter_map}
 use Rattle.std.specs.Ordering.{on}
@@ -87,6 +87,15 @@ rich_patterns e = elim e.reason [ Expected ps f ↦ ps.items | Custom m ↦ [] ]
 -- the bytes of a custom error's message
 abbrev pub rich_message : {T : Type 0} → Rich T → Option (List ℕ)
 rich_message e = elim e.reason [ Expected ps f ↦ None | Custom m ↦ Some (string_bytes m) ]
+
+-- that e is a custom error that stands at s, with the message that was printed, where it is known what that is
+pub record IsMessage {T : Type 0} (e : Rich T) (s : SimpleSpan) (printed : Option (List ℕ)) : Type 0 where
+  pub span : rich_span e ≡ s
+  pub found : rich_found e ≡ None
+  pub patterns : rich_patterns e ≡ []
+  pub text : List ℕ
+  pub message : rich_message e ≡ Some text
+  pub is_printed : IfSome printed (λ bytes. text ≡ bytes)
 
 -- what counts of e, where `seen` shows what counts of a token
 abbrev pub rich_seen : {T S : Type 0} → (T → S) → Rich T → RichSeen S

@@ -1,7 +1,12 @@
 //! Errors that a validator emits.
-ghost use Rattle.std.specs.Prelude.{◌≡◌, ◌++◌, ◌∷◌, [], true, false, ◌⊎◌, MatchResult};
+ghost use Rattle.std.specs.Prelude.{◌≡◌, ℕ, ◌++◌, ◌∷◌, List, [], true, false, ◌⊎◌, Some, None, IfSome, MatchResult};
+ghost use Rattle.chumsky_input.specs.Rich.{IsMessage};
+ghost use Rattle.chumsky_input.specs.declared.rich.Rich.{Rich};
 
+use crate::rich::Rich;
+use crate::span::SimpleSpan;
 use std::alloc::{AllocError, Global};
+use std::fmt::Display;
 
 /// What a validator emits errors by.
 ///
@@ -46,5 +51,18 @@ impl<E: Drop> Emitter<E> {
             return Err(AllocError);
         }
         Ok(self.errors)
+    }
+}
+
+impl<T: Drop> Emitter<Rich<T>> {
+    /// Emits an error with a message of one's own, made of anything that prints, after the errors before it; or remembers that
+    /// there was no memory for it: `emitter.emit_message(extra.alloc(), extra.span(), "no such day")`.
+    pub fn emit_message<M: Display + Drop>(&mut self, alloc: Global, span: SimpleSpan, message: M)
+        ensures { ((error : Rich T) × IsMessage error span (M.output message) × (self.new.errors.items ≡ self.old.errors.items ++ error ∷ []) × (self.new.refused ≡ self.old.refused)) ⊎ ((self.new.errors.items ≡ self.old.errors.items) × (self.new.refused ≡ true)) }
+    {
+        match Rich::custom_in(alloc, span, message) {
+            Ok(error) => self.emit(error),
+            Err(_) => self.refused = true,
+        }
     }
 }
