@@ -10,3 +10,4 @@ pub mod SetLanguage
 pub mod SetWords
 pub mod SetEndings
 pub mod SetAccepts
+pub mod SetOrders
