@@ -6,3 +6,8 @@ pub mod TuplesLaws
 pub mod Lists
 pub mod ListsLaws
 pub mod Doing
+pub mod SetLanguage
+pub mod SetWords
+pub mod SetEndings
+pub mod SetAccepts
+pub mod SetOrders

@@ -22,9 +22,11 @@ impl<'src, I: Input<'src>, O0: Drop, E: ParserExtra<I>, P0: Parser<'src, I, O0, 
     (O0,),
     E,
 > for Set<(P0,)> {
-    ghost use Rattle.chumsky_parser.specs.Language.{of_unsaid};
+    ghost use Rattle.std.specs.Prelude.{refl};
+    ghost use Rattle.chumsky_set.specs.SetLanguage.{no_parts, part_before, set_language, apart_one};
+    ghost use Rattle.chumsky_set.specs.SetAccepts.{no_part-accepts, part_and-accepts, set-accepts};
     ghost use Rattle.chumsky_set.specs.Doing.{DoesSet1};
-    ghost use Rattle.chumsky_set.specs.Tuples.{Same1};
+    ghost use Rattle.chumsky_set.specs.Tuples.{flat_one, Same1};
     ghost use Rattle.chumsky_set.specs.TuplesLaws.{set_1-ends, set_1-agrees};
 
     ghost ready = { λ p. P0.ready p.parsers.0 };
@@ -35,11 +37,13 @@ impl<'src, I: Input<'src>, O0: Drop, E: ParserExtra<I>, P0: Parser<'src, I, O0, 
 
     ghost same = { λ p. Same1 (P0.same p.parsers.0) };
 
+    ghost language = { λ p. set_language apart_one (part_before (P0.language p.parsers.0) no_parts) };
+
     ghost ends_after_start = { λ p. set_1-ends _ _ _ _ (P0.ends_after_start p.parsers.0) };
 
     ghost agrees = { λ p s. set_1-agrees _ _ _ _ (P0.same p.parsers.0) (P0.agrees p.parsers.0 s) };
 
-    ghost accepts = { λ _. of_unsaid };
+    ghost accepts = { λ p. set-accepts flat_one apart_one (λ _. refl) (part_and-accepts _ _ (λ q. q.1) (P0.accepts p.parsers.0) no_part-accepts) };
 
     #[inline]
     fn go_emit(&self, inp: &mut InputRef<'src, '_, I, E>) -> PResult<(O0,)> {
@@ -78,9 +82,11 @@ impl<
     P0: Parser<'src, I, O0, E>,
     P1: Parser<'src, I, O1, E>,
 > Parser<'src, I, (O0, O1), E> for Set<(P0, P1)> {
-    ghost use Rattle.chumsky_parser.specs.Language.{of_unsaid};
+    ghost use Rattle.std.specs.Prelude.{refl};
+    ghost use Rattle.chumsky_set.specs.SetLanguage.{no_parts, part_before, set_language, apart_two};
+    ghost use Rattle.chumsky_set.specs.SetAccepts.{no_part-accepts, part_and-accepts, set-accepts};
     ghost use Rattle.chumsky_set.specs.Doing.{DoesSet2};
-    ghost use Rattle.chumsky_set.specs.Tuples.{Same2};
+    ghost use Rattle.chumsky_set.specs.Tuples.{flat_two, Same2};
     ghost use Rattle.chumsky_set.specs.TuplesLaws.{set_2-ends, set_2-agrees};
 
     ghost ready = { λ p. let t = p.parsers in P0.ready t.0 × P1.ready t.1 };
@@ -91,6 +97,8 @@ impl<
 
     ghost same = { λ p. let t = p.parsers in Same2 (P0.same t.0) (P1.same t.1) };
 
+    ghost language = { λ p. let t = p.parsers in set_language apart_two (part_before (P0.language t.0) (part_before (P1.language t.1) no_parts)) };
+
     ghost ends_after_start = { λ p. let t = p.parsers in
         set_2-ends _ _ _ _ _ (P0.ends_after_start t.0) (P1.ends_after_start t.1) };
 
@@ -98,7 +106,7 @@ impl<
         set_2-agrees _ _ _ _ _ (P0.same t.0) (P1.same t.1) (P0.agrees t.0 s.0)
         (P1.agrees t.1 s.1) };
 
-    ghost accepts = { λ _. of_unsaid };
+    ghost accepts = { λ p. let t = p.parsers in set-accepts flat_two apart_two (λ _. refl) (part_and-accepts _ _ (λ q. q.1) (P0.accepts t.0) (part_and-accepts _ _ (λ q. q.1) (P1.accepts t.1) no_part-accepts)) };
 
     #[inline]
     fn go_emit(&self, inp: &mut InputRef<'src, '_, I, E>) -> PResult<(O0, O1)> {
@@ -157,9 +165,11 @@ impl<
     P1: Parser<'src, I, O1, E>,
     P2: Parser<'src, I, O2, E>,
 > Parser<'src, I, (O0, O1, O2), E> for Set<(P0, P1, P2)> {
-    ghost use Rattle.chumsky_parser.specs.Language.{of_unsaid};
+    ghost use Rattle.std.specs.Prelude.{refl};
+    ghost use Rattle.chumsky_set.specs.SetLanguage.{no_parts, part_before, set_language, apart_three};
+    ghost use Rattle.chumsky_set.specs.SetAccepts.{no_part-accepts, part_and-accepts, set-accepts};
     ghost use Rattle.chumsky_set.specs.Doing.{DoesSet3};
-    ghost use Rattle.chumsky_set.specs.Tuples.{Same3};
+    ghost use Rattle.chumsky_set.specs.Tuples.{flat_three, Same3};
     ghost use Rattle.chumsky_set.specs.TuplesLaws.{set_3-ends, set_3-agrees};
 
     ghost ready = { λ p. let t = p.parsers in P0.ready t.0 × P1.ready t.1 × P2.ready t.2 };
@@ -171,6 +181,8 @@ impl<
 
     ghost same = { λ p. let t = p.parsers in Same3 (P0.same t.0) (P1.same t.1) (P2.same t.2) };
 
+    ghost language = { λ p. let t = p.parsers in set_language apart_three (part_before (P0.language t.0) (part_before (P1.language t.1) (part_before (P2.language t.2) no_parts))) };
+
     ghost ends_after_start = { λ p. let t = p.parsers in
         set_3-ends _ _ _ _ _ _ (P0.ends_after_start t.0) (P1.ends_after_start t.1)
         (P2.ends_after_start t.2) };
@@ -179,7 +191,7 @@ impl<
         set_3-agrees _ _ _ _ _ _ (P0.same t.0) (P1.same t.1) (P2.same t.2) (P0.agrees t.0 s.0)
         (P1.agrees t.1 s.1) (P2.agrees t.2 s.2) };
 
-    ghost accepts = { λ _. of_unsaid };
+    ghost accepts = { λ p. let t = p.parsers in set-accepts flat_three apart_three (λ _. refl) (part_and-accepts _ _ (λ q. q.1) (P0.accepts t.0) (part_and-accepts _ _ (λ q. q.1) (P1.accepts t.1) (part_and-accepts _ _ (λ q. q.1) (P2.accepts t.2) no_part-accepts))) };
 
     #[inline]
     fn go_emit(&self, inp: &mut InputRef<'src, '_, I, E>) -> PResult<(O0, O1, O2)> {
@@ -252,9 +264,11 @@ impl<
     P2: Parser<'src, I, O2, E>,
     P3: Parser<'src, I, O3, E>,
 > Parser<'src, I, (O0, O1, O2, O3), E> for Set<(P0, P1, P2, P3)> {
-    ghost use Rattle.chumsky_parser.specs.Language.{of_unsaid};
+    ghost use Rattle.std.specs.Prelude.{refl};
+    ghost use Rattle.chumsky_set.specs.SetLanguage.{no_parts, part_before, set_language, apart_four};
+    ghost use Rattle.chumsky_set.specs.SetAccepts.{no_part-accepts, part_and-accepts, set-accepts};
     ghost use Rattle.chumsky_set.specs.Doing.{DoesSet4};
-    ghost use Rattle.chumsky_set.specs.Tuples.{Same4};
+    ghost use Rattle.chumsky_set.specs.Tuples.{flat_four, Same4};
     ghost use Rattle.chumsky_set.specs.TuplesLaws.{set_4-ends, set_4-agrees};
 
     ghost ready = { λ p. let t = p.parsers in
@@ -269,6 +283,8 @@ impl<
     ghost same = { λ p. let t = p.parsers in
         Same4 (P0.same t.0) (P1.same t.1) (P2.same t.2) (P3.same t.3) };
 
+    ghost language = { λ p. let t = p.parsers in set_language apart_four (part_before (P0.language t.0) (part_before (P1.language t.1) (part_before (P2.language t.2) (part_before (P3.language t.3) no_parts)))) };
+
     ghost ends_after_start = { λ p. let t = p.parsers in
         set_4-ends _ _ _ _ _ _ _ (P0.ends_after_start t.0) (P1.ends_after_start t.1)
         (P2.ends_after_start t.2) (P3.ends_after_start t.3) };
@@ -277,7 +293,7 @@ impl<
         set_4-agrees _ _ _ _ _ _ _ (P0.same t.0) (P1.same t.1) (P2.same t.2) (P3.same t.3)
         (P0.agrees t.0 s.0) (P1.agrees t.1 s.1) (P2.agrees t.2 s.2) (P3.agrees t.3 s.3) };
 
-    ghost accepts = { λ _. of_unsaid };
+    ghost accepts = { λ p. let t = p.parsers in set-accepts flat_four apart_four (λ _. refl) (part_and-accepts _ _ (λ q. q.1) (P0.accepts t.0) (part_and-accepts _ _ (λ q. q.1) (P1.accepts t.1) (part_and-accepts _ _ (λ q. q.1) (P2.accepts t.2) (part_and-accepts _ _ (λ q. q.1) (P3.accepts t.3) no_part-accepts)))) };
 
     #[inline]
     fn go_emit(&self, inp: &mut InputRef<'src, '_, I, E>) -> PResult<(O0, O1, O2, O3)> {
