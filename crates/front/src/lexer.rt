@@ -10,14 +10,6 @@ use chumsky::{PResult, Stop};
 use std::alloc::Global;
 use std::num::ParseIntError;
 
-/// An error with a message of one's own. Where there is no memory for that, it is empty.
-fn problem(alloc: Global, span: SimpleSpan, message: &str) -> Rich<char> {
-    match String::from_str(alloc, message) {
-        Ok(message) => Rich::custom(span, message),
-        Err(_) => Rich::custom(span, String::new(alloc)),
-    }
-}
-
 /// A comment: what follows `//` on its line, or what stands between `/*` and `*/`. One that isn't closed is an error, and goes
 /// to the end of the text.
 #[derive(Clone, Copy)]
@@ -34,7 +26,7 @@ impl<'src> Part<'src, &'src str, (), RichText> for Comment {
             .ignore_then(just("*/").or_not())
             .validate(|end: Option<&str>, extra, emitter| {
                 if end.is_none() {
-                    emitter.emit(problem(extra.alloc(), extra.span(), "this comment isn't closed"));
+                    emitter.emit_message(extra.alloc(), extra.span(), "this comment isn't closed");
                 }
             });
         run_part(&line.or(block), wanted, inp)
@@ -69,7 +61,7 @@ impl<'src> Part<'src, &'src str, u64, RichText> for Number {
         >, extra, emitter| match number {
             Ok(number) => number,
             Err(_) => {
-                emitter.emit(problem(extra.alloc(), extra.span(), "this number is too large"));
+                emitter.emit_message(extra.alloc(), extra.span(), "this number is too large");
                 0
             }
         });
@@ -90,7 +82,7 @@ impl<'src> Part<'src, &'src str, Token, RichText> for Quotation {
             .ignore_then(just('"').or_not())
             .validate(|end: Option<char>, extra, emitter| {
                 if end.is_none() {
-                    emitter.emit(problem(extra.alloc(), extra.span(), "this text isn't closed"));
+                    emitter.emit_message(extra.alloc(), extra.span(), "this text isn't closed");
                 }
                 Token::Text
             });
@@ -140,11 +132,7 @@ impl<'src> Part<'src, &'src str, Option<Spanned<Token, SimpleSpan>>, RichText> f
     ) -> PResult<Option<Option<Spanned<Token, SimpleSpan>>>> {
         let token = part_of(AnyToken).spanned().map(Some);
         let other = any().validate(|_, extra, emitter| {
-            emitter.emit(problem(
-                extra.alloc(),
-                extra.span(),
-                "this character begins no token",
-            ));
+            emitter.emit_message(extra.alloc(), extra.span(), "this character begins no token");
             None
         });
         run_part(&token.or(other), wanted, inp)

@@ -56,14 +56,6 @@ pub fn port(alloc: Global, text: &str) -> Result<ParseResult<u16, Rich<char>>, S
         .parse(alloc, text)
 }
 
-/// An error with a message of one's own. Where there is no memory for that, it is empty.
-fn problem(alloc: Global, span: SimpleSpan, message: &str) -> Rich<char> {
-    match Rich::custom_in(alloc, span, message) {
-        Ok(error) => error,
-        Err(_) => Rich::custom(span, String::new(alloc)),
-    }
-}
-
 /// A share of a hundred. A larger number is an error, and counts as a hundred.
 pub fn share(alloc: Global, text: &str) -> Result<ParseResult<u8, Rich<char>>, Stop> {
     let number = text::int::<_, RichText>(10).from_str::<u8>();
@@ -71,7 +63,7 @@ pub fn share(alloc: Global, text: &str) -> Result<ParseResult<u8, Rich<char>>, S
         .validate(|number: Result<u8, ParseIntError>, extra, emitter| match number {
             Ok(share) if share <= 100 => share,
             _ => {
-                emitter.emit(problem(extra.alloc(), extra.span(), "a share is at most 100"));
+                emitter.emit_message(extra.alloc(), extra.span(), "a share is at most 100");
                 100
             }
         })
