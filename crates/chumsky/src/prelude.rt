@@ -1,14 +1,16 @@
 //! What most programs need.
 pub use crate::config_parser_ext::{ConfigIterParserExt, ConfigParserExt};
+pub use crate::input::TextRef;
 pub use crate::iter_parser_ext::IterParserExt;
 pub use crate::map_parser_ext::MapParserExt;
 pub use crate::parser_ext::ParserExt;
 pub use crate::{select, select_ref, text};
 pub use chumsky_choice::make::choice;
+pub use chumsky_combinator::part::{Part, part_of, run_part};
 pub use chumsky_context::config::ConfigParser;
 pub use chumsky_context::config_iter::ConfigIterParser;
 pub use chumsky_context::map_ctx::map_ctx;
-pub use chumsky_descent::recursive::recursive;
+pub use chumsky_descent::recursive::{RunsUnder, Unsaid, recursive};
 pub use chumsky_group::make::group;
 pub use chumsky_input::error::{EmptyErr, Error};
 pub use chumsky_input::extra;
@@ -19,6 +21,7 @@ pub use chumsky_input::rich::Rich;
 pub use chumsky_input::simple::{Cheap, Simple};
 pub use chumsky_input::span::{SimpleSpan, Spanned};
 pub use chumsky_input::spanned_tokens::{SpannedTokens, split_spanned};
+pub use chumsky_input::stop::{PResult, Stop};
 pub use chumsky_parser::char_set::chars_of;
 pub use chumsky_parser::input_ref_ext::InputRefExt;
 pub use chumsky_parser::iter::{IsIterParser, IterParser};
