@@ -98,10 +98,10 @@ impl<'src, I: Input<'src>, O: IntoIterator, E: ParserExtra<I>, A: Parser<'src, I
     (),
     E,
 > for IntoIter<A, O> {
-    ghost use Rattle.chumsky_parser.specs.Language.{of_unsaid};
     ghost use Rattle.chumsky_parser.specs.FailureLaws.{SameUnit};
     ghost use Rattle.chumsky_parser.specs.Ignoring.{Gives, IgnoringFirst};
     ghost use Rattle.chumsky_parser.specs.IgnoringLaws.{gives-ends, gives-agrees, ignoring_first-ends, ignoring_first-agrees};
+    ghost use Rattle.chumsky_combinator.specs.MappedLanguage.{ignored_language, ignored-accepts};
 
     ghost ready = { λ p. A.ready p.parser };
 
@@ -111,11 +111,13 @@ impl<'src, I: Input<'src>, O: IntoIterator, E: ParserExtra<I>, A: Parser<'src, I
 
     ghost same = { λ _. SameUnit };
 
+    ghost language = { λ p. ignored_language (A.language p.parser) };
+
     ghost ends_after_start = { λ p. ignoring_first-ends _ _ (A.ends_after_start p.parser) (gives-ends tt) };
 
     ghost agrees = { λ p s. ignoring_first-agrees _ _ (A.same p.parser) SameUnit (A.agrees p.parser s) (gives-agrees tt SameUnit tt) };
 
-    ghost accepts = { λ _. of_unsaid };
+    ghost accepts = { λ p. ignored-accepts _ (A.accepts p.parser) };
 
     #[inline(always)]
     fn go_emit(&self, inp: &mut InputRef<'src, '_, I, E>) -> PResult<()> {

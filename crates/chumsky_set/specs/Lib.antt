@@ -11,3 +11,4 @@ pub mod SetWords
 pub mod SetEndings
 pub mod SetAccepts
 pub mod SetOrders
+pub mod SetEach

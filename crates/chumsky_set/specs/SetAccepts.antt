@@ -5,7 +5,7 @@ use Rattle.std.proofs.lemmas.List.{append_cancel_right}
 use Rattle.std.proofs.Math.Nat.{min-le_left, min-le_right}
 use Rattle.chumsky_input.specs.Outcome.{Meaning}
 use Rattle.chumsky_parser.specs.Chained.{Given}
-use Rattle.chumsky_parser.specs.Ending.{At, Nowhere, Refused, Ender, Ends}
+use Rattle.chumsky_parser.specs.Ending.{At, Nowhere, Refused, Ender, Ends, Reads}
 use Rattle.chumsky_parser.specs.EndingLaws.{regrouped-by}
 use Rattle.chumsky_parser.specs.Language.{Language, Begins, TakesOnly, GivesOnly, IsBelow, Described, Accepts, sooner}
 use Rattle.chumsky_parser.specs.Memory.{NeverOutOfMemory}
@@ -48,7 +48,7 @@ module _ {Tok : Type 0} where
   decided-sooner a b (f ∷ fs) d = (λ ts i e. d.0 ts (sooner-second a b (length ts) i) e, decided-sooner a b fs d.1)
 
 module _ {Tok Cx St Er V W : Type 0} (part : Meaning Tok Cx St Er V) (F : Language Tok V) (d : Described part F) (R : RowLanguage Tok W) (s : RowSound R) where
-  part_before-sound : RowSound (part_before F R)
+  pub part_before-sound : RowSound (part_before F R)
   part_before-sound = record {
     keep = (record { taken = λ ts rest e. let b = d.only.taken ts rest e in record { word = b.word; all = b.all; is = tt } }, s.keep);
     only = only;
@@ -86,7 +86,7 @@ module _ {Tok Cx St Er T V : Type 0} (row : Row Tok Cx St Er T V) (h : RowSpares
   rounds-spare [] t = chained-spares (row.pass t) (TookNone row t) (h.pass t) (none-spares t)
   rounds-spare (u ∷ us) t = chained-spares (row.pass t) (TookSome row t u (Rounds row us u)) (h.pass t) (some-spares t u (Rounds row us u) (rounds-spare us u))
 
-  any_order-spares : (t : T) → NeverOutOfMemory (AnyOrder row t)
+  pub any_order-spares : (t : T) → NeverOutOfMemory (AnyOrder row t)
   any_order-spares t b o m = rounds-spare m.rounds t b o m.run
 
 module _ {Tok Cx St Er V : Type 0} (part : Meaning Tok Cx St Er V) (h : NeverOutOfMemory part) where
@@ -97,11 +97,11 @@ module _ {Tok Cx St Er V : Type 0} (part : Meaning Tok Cx St Er V) (h : NeverOut
   moving-spares : NeverOutOfMemory (Moving part)
   moving-spares b o m = chained-spares part (Past b.start) h (past-spares b.start) b o m.run
 
-  offered-spares : {Mk : Type 0} (mark : St → Mk) (back : St → Mk → St) (safe : Type 0) → safe → (s : Slot V) → NeverOutOfMemory (Offered mark back safe part s)
+  pub offered-spares : {Mk : Type 0} (mark : St → Mk) (back : St → Mk → St) (safe : Type 0) → safe → (s : Slot V) → NeverOutOfMemory (Offered mark back safe part s)
   offered-spares mark back safe x (Some v) = given-spares (Some (Some v))
   offered-spares mark back safe x None = or_else-spares mark back safe (Moving part) (Given (Some None)) x moving-spares (given-spares (Some None))
 
-  missing-spares : (s : Slot V) → NeverOutOfMemory (Missing part s)
+  pub missing-spares : (s : Slot V) → NeverOutOfMemory (Missing part s)
   missing-spares (Some v) = given-spares v
   missing-spares None = h
 
@@ -146,24 +146,23 @@ left-refused (At s) i = absurd (cc i)
 left-refused Nowhere i = absurd (cc i)
 left-refused Refused i = refl
 
-module _ {Tok Cx St Er T V W : Type 0} {row : Row Tok Cx St Er T V} {fits : T → Places Tok → Type 0} {R : RowLanguage Tok V} {none : T}
-    (formed : V → W) (apart : W → V) (e : (v : V) → apart (formed v) ≡ v) where
-  module _ (d : RowDescribed row fits R none) where
-    takes-only : TakesOnly (set_ends R.ends) (InAnyOrder R.words)
-    takes-only = record { taken = λ ts rest i. by_end ts rest (set_taken R.ends ts) refl i }
-      where
-        by_end : (ts rest : List Tok) (x : Passed Tok) → set_taken R.ends ts ≡ x → left_of x ≡ At rest → Begins (InAnyOrder R.words) ts rest
-        by_end ts rest (At s) t i =
-            let c = set-covered R.ends d.sound.keep ts s t in
-            let z : s.1 ≡ rest = cc i in
-            record {
-              word = joined_words c.order;
-              all = c.all ∙ ap (λ r. joined_words c.order ++ r) z;
-              is = record { words = c.words; is = d.sound.only s.0 c.words c.each; order = c.order; moved = c.moved; all = refl };
-            }
-        by_end ts rest Nowhere t i = absurd (cc i)
-        by_end ts rest Refused t i = absurd (cc i)
+module _ {Tok Cx St Er T V : Type 0} {row : Row Tok Cx St Er T V} {fits : T → Places Tok → Type 0} {R : RowLanguage Tok V} {none : T} (d : RowDescribed row fits R none) where
+  takes-only : TakesOnly (set_ends R.ends) (InAnyOrder R.words)
+  takes-only = record { taken = λ ts rest i. by_end ts rest (set_taken R.ends ts) refl i }
+    where
+      by_end : (ts rest : List Tok) (x : Passed Tok) → set_taken R.ends ts ≡ x → left_of x ≡ At rest → Begins (InAnyOrder R.words) ts rest
+      by_end ts rest (At s) t i =
+          let c = set-covered R.ends d.sound.keep ts s t in
+          let z : s.1 ≡ rest = cc i in
+          record {
+            word = joined_words c.order;
+            all = c.all ∙ ap (λ r. joined_words c.order ++ r) z;
+            is = record { words = c.words; is = d.sound.only s.0 c.words c.each; order = c.order; moved = c.moved; all = refl };
+          }
+      by_end ts rest Nowhere t i = absurd (cc i)
+      by_end ts rest Refused t i = absurd (cc i)
 
+  module _ {W : Type 0} (apart : W → V) where
     gives-only : GivesOnly (set_ends R.ends) (set_language apart R).value (set_language apart R).stands_for
     gives-only = record { given = λ ts rest w i j. by_end ts rest w (set_taken R.ends ts) refl i j }
       where
@@ -180,21 +179,26 @@ module _ {Tok Cx St Er T V W : Type 0} {row : Row Tok Cx St Er T V} {fits : T �
         by_end ts rest w Nowhere t i j = absurd (cc i)
         by_end ts rest w Refused t i j = absurd (cc i)
 
-  -- a set of the parts of a row
-  pub set-accepts : {spare : Type 0} → RowAccepts row fits R none spare → Accepts (SetOf row none formed) (set_language apart R) spare
-  set-accepts h = record {
-    described = λ s.
-        let d = h.described s in
-        let value : List Tok → V → Type 0 = λ ts v. Ends (set_taken R.ends ts) (λ q. R.value q.0 v) in
-        record {
-          reads = regrouped-by (AnyOrder row none) (set_ends R.ends) value (any_order-reads row fits R d.reads none d.start) formed (λ ts w. value ts (apart w)) (λ ts v i. subst (value ts)
-              (sym (e v)) i);
-          only = takes-only d;
-          given = gives-only d;
-          each = λ u. absurd u;
-          decided = λ ts i r. set-decided R.refused_from R.ends d.sound.keep d.sound.decided ts i (left-refused (set_taken R.ends ts) r);
-          further = λ m. absurd (cc m);
-        };
-    moving = λ m. absurd (cc m);
-    sparing = λ q t. chained-spares (AnyOrder row none) (λ v. Given (option_map formed v)) (any_order-spares row (h.sparing q t) none) (λ v. given-spares (option_map formed v));
-  }
+    -- what ends as a set of the row, with its values, is as its language says
+    pub set-described : (m : Meaning Tok Cx St Er W) → Reads m (set_ends R.ends) (set_language apart R).value → Described m (set_language apart R)
+    set-described m h = record {
+      reads = h;
+      only = takes-only;
+      given = gives-only;
+      each = λ u. absurd u;
+      decided = λ ts i r. set-decided R.refused_from R.ends d.sound.keep d.sound.decided ts i (left-refused (set_taken R.ends ts) r);
+      further = λ e. absurd (cc e);
+    }
+
+-- a set of the parts of a row
+pub set-accepts : {Tok Cx St Er T V W : Type 0} {row : Row Tok Cx St Er T V} {fits : T → Places Tok → Type 0} {R : RowLanguage Tok V} {none : T} {spare : Type 0}
+    (formed : V → W) (apart : W → V) → ((v : V) → apart (formed v) ≡ v) → RowAccepts row fits R none spare → Accepts (SetOf row none formed) (set_language apart R) spare
+set-accepts {Tok} {V = V} {row = row} {fits = fits} {R = R} {none = none} formed apart e h = record {
+  described = λ s.
+      let d = h.described s in
+      let value : List Tok → V → Type 0 = λ ts v. Ends (set_taken R.ends ts) (λ q. R.value q.0 v) in
+      set-described d apart (SetOf row none formed)
+      (regrouped-by (AnyOrder row none) (set_ends R.ends) value (any_order-reads row fits R d.reads none d.start) formed (λ ts w. value ts (apart w)) (λ ts v i. subst (value ts) (sym (e v)) i));
+  moving = λ m. absurd (cc m);
+  sparing = λ q t. chained-spares (AnyOrder row none) (λ v. Given (option_map formed v)) (any_order-spares row (h.sparing q t) none) (λ v. given-spares (option_map formed v));
+}

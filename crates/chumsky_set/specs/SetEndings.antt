@@ -1,6 +1,6 @@
 -- Where a run of a set ends, and with which values: as its language says.
 -- Main words: FitsSlot, RowReads. Main laws: no_part-reads, part_and-reads, any_order-reads. Read first: SetLanguage.antt, AnyOrder.antt.
-use Rattle.std.proofs.Common.{◌≡◌, ℕ, zero, suc, ◌+◌, ◌-◌, ◌<◌, Bool, true, false, nat_lt, lt-ltb, le-ltb, if◌then◌else◌, Option}
+use Rattle.std.proofs.Common.{◌≡◌, ℕ, zero, suc, ◌+◌, ◌<◌, Bool, true, false, nat_lt, lt-ltb, le-ltb, if◌then◌else◌, Option}
 use Rattle.std.proofs.Common.{Some, None, List, [], ◌∷◌, length, drop, length-drop, refl, sym, ap, subst, arith, inl, inr}
 use Rattle.std.specs.Prelude.{⊤, IsSomeAnd}
 use Rattle.chumsky_input.specs.Outcome.{Meaning, Beginning, Outcome}
@@ -40,66 +40,78 @@ module _ {Tok : Type 0} where
   left-then next Nowhere = refl
   left-then next Refused = refl
 
-  -- P of what is taken of the first, and Q of what is taken of the others
-  first-ends : {A B : Type 0} (P : A → Option (List Tok) → Type 0) (Q : B → Places Tok → Type 0) (p : Option (List Tok)) (x : Passed Tok) (a : A) (b : B) → P a p → Ends x (λ s. Q b s.0)
-      → Ends (before p x) (λ s. OfFirst (λ q others. P a q × Q b others) s.0)
-  first-ends P Q p (At s) a b i j = (i, j)
-  first-ends P Q p Nowhere a b i j = absurd j
-  first-ends P Q p Refused a b i j = absurd j
+-- two values are put together to one
+pub record Joins {A B C : Type 0} (given : Option A → Option B → Option C) (join : A → B → C) : Type 1 where
+  pub value : (P : A → Type 0) (Q : B → Type 0) (R : C → Type 0) → ((a : A) (b : B) → P a → Q b → R (join a b)) → (v : Option A) (w : Option B) → IfValue P v → IfValue Q w → IfValue R (given v w)
 
-module _ {Tok Cx St Er A B : Type 0} (P : A → Type 0) (Q : List Tok → B → Type 0) (R : A × B → Type 0) (first : Meaning Tok Cx St Er A) (second : Meaning Tok Cx St Er B) (x : Ending
-    (List Tok)) (g : Ender Tok) where
-  both_so : (rest : List Tok) → ((p : A) (q : B) → P p → Q rest q → R (p, q)) → (v : Option A) (w : Option B) → IfValue P v → IfValue (Q rest) w → IfValue R (both v w)
-  both_so rest f (Some v) (Some w) i j = f v w i j
-  both_so rest f (Some v) None i j = tt
-  both_so rest f None w i j = tt
+pairs-join : {A B : Type 0} → Joins {A = A} {B = B} both (λ a b. (a, b))
+pairs-join = record { value = value }
+  where
+    value : {A B : Type 0} (P : A → Type 0) (Q : B → Type 0) (R : A × B → Type 0) → ((a : A) (b : B) → P a → Q b → R (a, b)) → (v : Option A) (w : Option B) → IfValue P v → IfValue Q w
+        → IfValue R (both v w)
+    value P Q R f (Some v) (Some w) i j = f v w i j
+    value P Q R f (Some v) None i j = tt
+    value P Q R f None w i j = tt
 
-  -- one after another, from here
-  sequence-here : (b : Beginning Tok Cx St) → Within b → Here P first x b
+-- one after another, and then what is put together of both
+abbrev pub Joint : {Tok Cx St Er A B C : Type 0} → (Option A → Option B → Option C) → Meaning Tok Cx St Er A → Meaning Tok Cx St Er B → Meaning Tok Cx St Er C
+Joint given first second = Chained first (λ v. Chained second (λ u. Given (given v u)))
+
+module _ {Tok Cx St Er A B C : Type 0} (given : Option A → Option B → Option C) (join : A → B → C) (joins : Joins given join) where
+  joint-here : (P : A → Type 0) (Q : List Tok → B → Type 0) (R : C
+      → Type 0) (first : Meaning Tok Cx St Er A) (second : Meaning Tok Cx St Er B) (x : Ending (List Tok)) (g : Ender Tok) (b : Beginning Tok Cx St)
+      → Within b → Here P first x b
       → ((c : Beginning Tok Cx St) → Within c → Here (Q (drop c.start c.tokens.list)) second (g (drop c.start c.tokens.list)) c)
-      → ((rest : List Tok) → x ≡ At rest → (p : A) (q : B) → P p → Q rest q → R (p, q)) → Here R (Sequence first second) (and_then g x) b
-  sequence-here b w h k f =
-      chained-here P R first (λ v. Chained second (λ u. Given (both v u))) x g b w h
+      → ((rest : List Tok) → x ≡ At rest → (p : A) (q : B) → P p → Q rest q → R (join p q)) → Here R (Joint given first second) (and_then g x) b
+  joint-here P Q R first second x g b w h k f =
+      chained-here P R first (λ v. Chained second (λ u. Given (given v u))) x g b w h
       (λ v c y e i o m.
       let rest : List Tok = drop c.start c.tokens.list in
       let z : Answers R (and_then (λ us. At us) (g rest)) c.tokens.list o.verdict o.end =
-      chained-here (Q rest) R second (λ u. Given (both v u)) (g rest) (λ us. At us) c y (k c y)
-      (λ u d t a j. given-here Er R d t (both v u) (both_so rest (f rest e) v u i j)) o m in
+      chained-here (Q rest) R second (λ u. Given (given v u)) (g rest) (λ us. At us) c y (k c y)
+      (λ u d t a j. given-here Er R d t (given v u) (joins.value P (Q rest) R (f rest e) v u i j)) o m in
       subst (λ q. Answers R q c.tokens.list o.verdict o.end) (and_then_some (g rest)) z)
 
-module _ {Tok Cx St Er A B : Type 0} (P : A → Option (List Tok) → Type 0) (Q : B → Places Tok → Type 0) (first : Meaning Tok Cx St Er A) (second : Meaning Tok Cx St Er B)
-    (pass : List Tok → Passed Tok) where
+module _ {Tok Cx St Er A B C : Type 0} (given : Option A → Option B → Option C) (join : A → B → C) (joins : Joins given join) (P : A → Option (List Tok) → Type 0)
+    (Q : B → Places Tok → Type 0) (S : C → Places Tok → Type 0) (of_both : (a : A) (b : B) (p : Option (List Tok)) (ps : Places Tok) → P a p → Q b ps → S (join a b) (p ∷ ps))
+    (first : Meaning Tok Cx St Er A) (second : Meaning Tok Cx St Er B) (pass : List Tok → Passed Tok) where
   -- a part and the others, which end where a pass over them does
-  abbrev OthersHere : Type 0
+  abbrev pub OthersHere : Type 0
   OthersHere = (c : Beginning Tok Cx St) → Within c → Here (λ u. Ends (pass (drop c.start c.tokens.list)) (λ s. Q u s.0)) second (left_of (pass (drop c.start c.tokens.list))) c
 
-  abbrev IsPassed : Passed Tok → A × B → Type 0
-  IsPassed x v = Ends x (λ s. OfFirst (λ q others. P v.0 q × Q v.1 others) s.0)
+  abbrev IsPassed : Passed Tok → C → Type 0
+  IsPassed x v = Ends x (λ s. S v s.0)
+
+  -- P of what is taken of the first, and Q of what is taken of the others
+  first-ends : (p : Option (List Tok)) (x : Passed Tok) (a : A) (b : B) → P a p → Ends x (λ s. Q b s.0) → IsPassed (before p x) (join a b)
+  first-ends p (At s) a b i j = of_both a b p s.0 i j
+  first-ends p Nowhere a b i j = absurd j
+  first-ends p Refused a b i j = absurd j
 
   -- a part that is taken already
-  taken-here : (p : Option (List Tok)) (b : Beginning Tok Cx St) → Within b → Here (λ a. P a p) first (At (drop b.start b.tokens.list)) b → OthersHere
-      → Here (IsPassed (before p (pass (drop b.start b.tokens.list)))) (Sequence first second) (left_of (before p (pass (drop b.start b.tokens.list)))) b
+  pub taken-here : (p : Option (List Tok)) (b : Beginning Tok Cx St) → Within b → Here (λ a. P a p) first (At (drop b.start b.tokens.list)) b → OthersHere
+      → Here (IsPassed (before p (pass (drop b.start b.tokens.list)))) (Joint given first second) (left_of (before p (pass (drop b.start b.tokens.list)))) b
   taken-here p b w h k =
       let ts : List Tok = drop b.start b.tokens.list in
-      let R : A × B → Type 0 = IsPassed (before p (pass ts)) in
-      let z : Here R (Sequence first second) (left_of (pass ts)) b =
-      sequence-here (λ a. P a p) (λ rest u. Ends (pass rest) (λ s. Q u s.0)) R first second (At ts) (λ rest. left_of (pass rest)) b w h k
-      (λ rest e a u i j. let t : rest ≡ ts = sym (cc e) in first-ends P Q p (pass ts) a u i (subst (λ r. Ends (pass r) (λ s. Q u s.0)) t j)) in
-      subst (λ y. Here R (Sequence first second) y b) (sym (left-before p (pass ts))) z
+      let R : C → Type 0 = IsPassed (before p (pass ts)) in
+      let z : Here R (Joint given first second) (left_of (pass ts)) b =
+      joint-here given join joins (λ a. P a p) (λ rest u. Ends (pass rest) (λ s. Q u s.0)) R first second (At ts) (λ rest. left_of (pass rest)) b w h k
+      (λ rest e a u i j. let t : rest ≡ ts = sym (cc e) in first-ends p (pass ts) a u i (subst (λ r. Ends (pass r) (λ s. Q u s.0)) t j)) in
+      subst (λ y. Here R (Joint given first second) y b) (sym (left-before p (pass ts))) z
 
   -- a part that runs, and has to end
-  run-here : (x : Ending (List Tok)) (b : Beginning Tok Cx St) → Within b → Here (λ a. P a (Some (drop b.start b.tokens.list))) first x b → OthersHere
-      → Here (IsPassed (and_then (λ r. before (Some (drop b.start b.tokens.list)) (pass r)) x)) (Sequence first second) (left_of (and_then (λ r. before (Some (drop b.start b.tokens.list))
-      (pass r)) x)) b
+  pub run-here : (x : Ending (List Tok)) (b : Beginning Tok Cx St) → Within b → Here (λ a. P a (Some (drop b.start b.tokens.list))) first x b → OthersHere
+      → Here (IsPassed (and_then (λ r. before (Some (drop b.start b.tokens.list)) (pass r)) x)) (Joint given first second)
+      (left_of (and_then (λ r. before (Some (drop b.start b.tokens.list)) (pass r)) x)) b
   run-here x b w h k =
       let ts : List Tok = drop b.start b.tokens.list in
       let next : List Tok → Passed Tok = λ r. before (Some ts) (pass r) in
-      let R : A × B → Type 0 = IsPassed (and_then next x) in
-      let z : Here R (Sequence first second) (and_then (λ r. left_of (next r)) x) b =
-      sequence-here (λ a. P a (Some ts)) (λ rest u. Ends (pass rest) (λ s. Q u s.0)) R first second x (λ r. left_of (next r)) b w h
+      let R : C → Type 0 = IsPassed (and_then next x) in
+      let z : Here R (Joint given first second) (and_then (λ r. left_of (next r)) x) b =
+      joint-here given join joins (λ a. P a (Some ts)) (λ rest u. Ends (pass rest) (λ s. Q u s.0)) R first second x (λ r. left_of (next r)) b w h
       (λ c y. let rest : List Tok = drop c.start c.tokens.list in subst (λ q. Here (λ u. Ends (pass rest) (λ s. Q u s.0)) second q c) (sym (left-before (Some ts) (pass rest))) (k c y))
-      (λ rest e a u i j. rw e (first-ends P Q (Some ts) (pass rest) a u i j)) in
-      subst (λ y. Here R (Sequence first second) y b) (left-then next x) z
+      (λ rest e a u i j. rw e (first-ends (Some ts) (pass rest) a u i j)) in
+      subst (λ y. Here R (Joint given first second) y b) (left-then next x) z
 
   offered-left : (ts : List Tok) (x : Ending (List Tok)) → and_then (λ r. left_of (pass r)) (or_else x (At ts)) ≡ left_of (offered ts pass x)
   offered-left ts (At r) = sym (left-before (Some ts) (pass r))
@@ -107,22 +119,22 @@ module _ {Tok Cx St Er A B : Type 0} (P : A → Option (List Tok) → Type 0) (Q
   offered-left ts Refused = refl
 
   offered-passed : (ts rest : List Tok) (x : Ending (List Tok)) → or_else x (At ts) ≡ At rest → (a : A) (u : B) → ElseValue x (P a (Some ts)) (P a None) → Ends (pass rest) (λ s. Q u s.0)
-      → IsPassed (offered ts pass x) (a, u)
-  offered-passed ts rest (At r) e a u i j = let t : rest ≡ r = sym (cc e) in first-ends P Q (Some ts) (pass r) a u i (subst (λ q. Ends (pass q) (λ s. Q u s.0)) t j)
-  offered-passed ts rest Nowhere e a u i j = let t : rest ≡ ts = sym (cc e) in first-ends P Q None (pass ts) a u i (subst (λ q. Ends (pass q) (λ s. Q u s.0)) t j)
+      → IsPassed (offered ts pass x) (join a u)
+  offered-passed ts rest (At r) e a u i j = let t : rest ≡ r = sym (cc e) in first-ends (Some ts) (pass r) a u i (subst (λ q. Ends (pass q) (λ s. Q u s.0)) t j)
+  offered-passed ts rest Nowhere e a u i j = let t : rest ≡ ts = sym (cc e) in first-ends None (pass ts) a u i (subst (λ q. Ends (pass q) (λ s. Q u s.0)) t j)
   offered-passed ts rest Refused e a u i j = absurd i
 
   -- a part that is offered what is left
   offered-here : (x : Ending (List Tok)) (b : Beginning Tok Cx St) → Within b
       → Here (λ a. ElseValue x (P a (Some (drop b.start b.tokens.list))) (P a None)) first (or_else x (At (drop b.start b.tokens.list))) b → OthersHere
-      → Here (IsPassed (offered (drop b.start b.tokens.list) pass x)) (Sequence first second) (left_of (offered (drop b.start b.tokens.list) pass x)) b
+      → Here (IsPassed (offered (drop b.start b.tokens.list) pass x)) (Joint given first second) (left_of (offered (drop b.start b.tokens.list) pass x)) b
   offered-here x b w h k =
       let ts : List Tok = drop b.start b.tokens.list in
-      let R : A × B → Type 0 = IsPassed (offered ts pass x) in
-      let z : Here R (Sequence first second) (and_then (λ r. left_of (pass r)) (or_else x (At ts))) b =
-      sequence-here (λ a. ElseValue x (P a (Some ts)) (P a None)) (λ rest u. Ends (pass rest) (λ s. Q u s.0)) R first second (or_else x (At ts)) (λ r. left_of (pass r)) b w h k
+      let R : C → Type 0 = IsPassed (offered ts pass x) in
+      let z : Here R (Joint given first second) (and_then (λ r. left_of (pass r)) (or_else x (At ts))) b =
+      joint-here given join joins (λ a. ElseValue x (P a (Some ts)) (P a None)) (λ rest u. Ends (pass rest) (λ s. Q u s.0)) R first second (or_else x (At ts)) (λ r. left_of (pass r)) b w h k
       (λ rest e a u i j. offered-passed ts rest x e a u i j) in
-      subst (λ y. Here R (Sequence first second) y b) (offered-left ts x) z
+      subst (λ y. Here R (Joint given first second) y b) (offered-left ts x) z
 
 module _ {Tok Cx St Er V : Type 0} (part : Meaning Tok Cx St Er V) (f : Ender Tok) (value : List Tok → V → Type 0) (h : Reads part f value) where
   past-here : (b : Beginning Tok Cx St) (v : Option V) (c : Beginning Tok Cx St) → Within c → c.tokens ≡ b.tokens → IfValue (value (drop b.start b.tokens.list)) v
@@ -154,6 +166,26 @@ module _ {Tok Cx St Er V : Type 0} (part : Meaning Tok Cx St Er V) (f : Ender To
       let ts : List Tok = drop b.start b.tokens.list in
       chained-on (value ts) (λ s. FitsSlot value s (Some ts)) part (Past b.start) (f ts) (further_on ts) b w (h.here b w) (λ v c y t e i. past-here b v c y t i) o m.run
 
+module _ {Tok Cx St Mk Er V B C : Type 0} (mark : St → Mk) (back : St → Mk → St) (safe : Type 0) (part : Meaning Tok Cx St Er V) (f : Ender Tok) (value : List Tok → V → Type 0)
+    (h : Reads part f value) where
+  -- a part that is offered what is left, before others
+  pub offered-part : (given : Option (Slot V) → Option B → Option C) (join : Slot V → B → C) (joins : Joins given join) (Q : B → Places Tok → Type 0) (S : C → Places Tok → Type 0)
+      (of_both : (a : Slot V) (b : B) (p : Option (List Tok)) (ps : Places Tok) → FitsSlot value a p → Q b ps → S (join a b) (p ∷ ps)) (second : Meaning Tok Cx St Er B) (pass : List Tok
+      → Passed Tok)
+      (b : Beginning Tok Cx St) → Within b
+      → ((c : Beginning Tok Cx St) → Within c → Here (λ u. Ends (pass (drop c.start c.tokens.list)) (λ s. Q u s.0)) second (left_of (pass (drop c.start c.tokens.list))) c)
+      → Here (λ v. Ends (offered (drop b.start b.tokens.list) pass (and_then (further_on (drop b.start b.tokens.list)) (f (drop b.start b.tokens.list)))) (λ s. S v s.0))
+      (Joint given (Offered mark back safe part None) second)
+      (left_of (offered (drop b.start b.tokens.list) pass (and_then (further_on (drop b.start b.tokens.list)) (f (drop b.start b.tokens.list))))) b
+  offered-part given join joins Q S of_both second pass b w k =
+      let ts : List Tok = drop b.start b.tokens.list in
+      let x : Ending (List Tok) = and_then (further_on ts) (f ts) in
+      let P : Slot V → Type 0 = λ s. FitsSlot value s (Some ts) in
+      let N : Slot V → Type 0 = λ s. FitsSlot value s None in
+      offered-here given join joins (FitsSlot value) Q S of_both (Offered mark back safe part None) second pass x b w
+      (or_else-here mark back safe (Moving part) (Given (Some None)) P N x (At ts) b (moving-here part f value h b w)
+      (λ s. given-here Er N (record b { state = s }) (record { start = w.start; few = w.few }) (Some None) tt)) k
+
 -- passes over a row of parts end where those of its language do
 pub record RowReads {Tok Cx St Er T V : Type 0} (row : Row Tok Cx St Er T V) (fits : T → Places Tok → Type 0) (R : RowLanguage Tok V) : Type 0 where
   pub left : (t : T) (places : Places Tok) → fits t places → row.left t ≡ untaken places
@@ -183,30 +215,27 @@ module _ {Tok Cx St Mk Er T V W : Type 0} (mark : St → Mk) (back : St → Mk �
         → Here (λ u. Ends (round (F.ends ∷ R.ends) (p ∷ places) (drop b.start b.tokens.list)) (λ q. FitsBefore F.value fits u q.0))
         (Sequence (Offered mark back safe part s) (others.pass t)) (left_of (round (F.ends ∷ R.ends) (p ∷ places) (drop b.start b.tokens.list))) b
     pass-here (Some v) t (Some p) places i k b w =
-        taken-here (FitsSlot F.value) fits (Given (Some (Some v))) (others.pass t) (round R.ends places) (Some p) b w
+        taken-here both (λ a u. (a, u)) pairs-join (FitsSlot F.value) fits (FitsBefore F.value fits) (λ a u q ps i' j. (i', j)) (Given (Some (Some v))) (others.pass t)
+        (round R.ends places) (Some p) b w
         (given-here Er (λ s. FitsSlot F.value s (Some p)) b w (Some (Some v)) i) (λ c y. r.pass t places k c y)
     pass-here (Some v) t None places i k b w = absurd i
     pass-here None t (Some p) places i k b w = absurd i
     pass-here None t None places i k b w =
-        let ts : List Tok = drop b.start b.tokens.list in
-        let x : Ending (List Tok) = and_then (further_on ts) (F.ends ts) in
-        let P : Slot V → Type 0 = λ s. FitsSlot F.value s (Some ts) in
-        let Q : Slot V → Type 0 = λ s. FitsSlot F.value s None in
-        offered-here (FitsSlot F.value) fits (Offered mark back safe part None) (others.pass t) (round R.ends places) x b w
-        (or_else-here mark back safe (Moving part) (Given (Some None)) P Q x (At ts) b (moving-here part F.ends F.value h b w)
-        (λ s. given-here Er Q (record b { state = s }) (record { start = w.start; few = w.few }) (Some None) tt))
+        offered-part mark back safe part F.ends F.value h both (λ a u. (a, u)) pairs-join fits (FitsBefore F.value fits) (λ a u q ps i' j. (i', j)) (others.pass t) (round R.ends places) b w
         (λ c y. r.pass t places k c y)
 
     last-here : (s : Slot V) (t : T) (p : Option (List Tok)) (places : Places Tok) → FitsSlot F.value s p → fits t places → (b : Beginning Tok Cx St) → Within b
         → Here (λ v. Ends (last_pass (F.ends ∷ R.ends) (p ∷ places) (drop b.start b.tokens.list)) (λ q. (part_before F R).value q.0 v))
         (Sequence (Missing part s) (others.last t)) (left_of (last_pass (F.ends ∷ R.ends) (p ∷ places) (drop b.start b.tokens.list))) b
     last-here (Some v) t (Some p) places i k b w =
-        taken-here (λ a q. IsSomeAnd q (λ ts. F.value ts a)) (λ u ps. R.value ps u) (Given v) (others.last t) (last_pass R.ends places) (Some p) b w
+        taken-here both (λ a u. (a, u)) pairs-join (λ a q. IsSomeAnd q (λ ts. F.value ts a)) (λ u ps. R.value ps u) (λ v ps. (part_before F R).value ps v) (λ a u q ps i' j. (i', j))
+        (Given v) (others.last t) (last_pass R.ends places) (Some p) b w
         (given-here Er (F.value p) b w v i) (λ c y. r.last t places k c y)
     last-here (Some v) t None places i k b w = absurd i
     last-here None t (Some p) places i k b w = absurd i
     last-here None t None places i k b w =
-        run-here (λ a q. IsSomeAnd q (λ ts. F.value ts a)) (λ u ps. R.value ps u) part (others.last t) (last_pass R.ends places) (F.ends (drop b.start b.tokens.list)) b w (h.here b w)
+        run-here both (λ a u. (a, u)) pairs-join (λ a q. IsSomeAnd q (λ ts. F.value ts a)) (λ u ps. R.value ps u) (λ v ps. (part_before F R).value ps v) (λ a u q ps i' j. (i', j)) part
+        (others.last t) (last_pass R.ends places) (F.ends (drop b.start b.tokens.list)) b w (h.here b w)
         (λ c y. r.last t places k c y)
 
     pub part_and-reads : RowReads (part_and mark back safe part others) (FitsBefore F.value fits) (part_before F R)

@@ -103,10 +103,11 @@ impl<
 where
     [Option<O>; N]: Slots,
 {
-    ghost use Rattle.chumsky_parser.specs.Language.{of_unsaid};
     ghost use Rattle.chumsky_set.specs.Doing.{DoesSetStored};
     ghost use Rattle.chumsky_set.specs.Lists.{Each};
     ghost use Rattle.chumsky_set.specs.ListsLaws.{set_stored-ends, set_stored-agrees};
+    ghost use Rattle.chumsky_set.specs.SetLanguage.{set_language};
+    ghost use Rattle.chumsky_set.specs.SetEach.{each_language, set_stored-accepts};
 
     ghost ready = { λ p. All P.ready p.parsers };
 
@@ -116,11 +117,13 @@ where
 
     ghost same = { λ p v w. Each P.same p.parsers v.items w.items };
 
+    ghost language = { λ p. set_language (λ v. v.items) (each_language P.language p.parsers) };
+
     ghost ends_after_start = { λ p. set_stored-ends _ _ _ _ _ p.parsers (λ x. P.ends_after_start x) };
 
     ghost agrees = { λ p s. set_stored-agrees _ _ _ _ _ p.parsers P.steady P.same (λ x k. P.agrees x k) s };
 
-    ghost accepts = { λ _. of_unsaid };
+    ghost accepts = { λ p. set_stored-accepts _ _ (λ v. v.items) (λ q. q.1) (λ x. P.accepts x) p.parsers };
 
     #[inline]
     fn go_emit(&self, inp: &mut InputRef<'src, '_, I, E>) -> PResult<ArrayVec<O, N>> {

@@ -17,11 +17,12 @@ impl<'src, I: Input<'src>, O: Drop, E: ParserExtra<I>, P: Parser<'src, I, O, E>>
     Vec<O>,
     E,
 > for Set<Vec<P>> {
-    ghost use Rattle.chumsky_parser.specs.Language.{of_unsaid};
     ghost use Rattle.std.specs.List.{All};
     ghost use Rattle.chumsky_set.specs.Doing.{DoesSetEach};
     ghost use Rattle.chumsky_set.specs.Lists.{Each};
     ghost use Rattle.chumsky_set.specs.ListsLaws.{set_each-ends, set_each-agrees};
+    ghost use Rattle.chumsky_set.specs.SetLanguage.{set_language};
+    ghost use Rattle.chumsky_set.specs.SetEach.{asking_memory, each_language, set_each-accepts};
 
     ghost ready = { λ p. All P.ready p.parsers.items };
 
@@ -31,11 +32,13 @@ impl<'src, I: Input<'src>, O: Drop, E: ParserExtra<I>, P: Parser<'src, I, O, E>>
 
     ghost same = { λ p v w. Each P.same p.parsers.items v.items w.items };
 
+    ghost language = { λ p. asking_memory (set_language (λ v. v.items) (each_language P.language p.parsers.items)) };
+
     ghost ends_after_start = { λ p. set_each-ends _ _ _ _ _ p.parsers.items (λ x. P.ends_after_start x) };
 
     ghost agrees = { λ p s. set_each-agrees _ _ _ _ _ p.parsers.items P.steady P.same (λ x k. P.agrees x k) s };
 
-    ghost accepts = { λ _. of_unsaid };
+    ghost accepts = { λ p. set_each-accepts _ _ (λ v. v.items) (λ q. q.1) (λ x. P.accepts x) p.parsers.items };
 
     #[inline]
     fn go_emit(&self, inp: &mut InputRef<'src, '_, I, E>) -> PResult<Vec<O>> {
