@@ -75,6 +75,8 @@ static const struct row rows[] = {
     {"set", 0, BY_CHECK, "ok ()"},
     {"filtered_merges", 0, BY_BOTH, "no output; ((a (b c)) d)"},
     {"merges", 0, BY_BOTH, "no output; (((a b) c) d)"},
+    {"messages", 0, BY_PARSE, "ok a b; 0..1 expected found end; 1..2 expected found end"},
+    {"messages", 0, BY_CHECK, "ok (); 0..1 expected found end; 1..2 expected found end"},
     {"filter", 0, BY_BOTH, "no output; 0..1 expected a something c found b"},
     {"nested", 0, BY_BOTH, "no output; 0..1 expected 1 found 2"},
     {"recovered", 0, BY_PARSE, "ok [azzb]; 2..3 expected a b found x; 6..7 expected ; found z"},

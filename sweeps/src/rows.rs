@@ -1,4 +1,4 @@
-//! Sets, groups, filters and nested inputs over texts.
+//! Sets, groups, filters, messages and nested inputs over texts.
 use crate::line::Line;
 use crate::run::{Asked, over};
 use chumsky::extra::{Err, RichText};
@@ -50,4 +50,13 @@ pub fn sweep_nested(alloc: Global, _row: usize, check: bool, again: bool) -> Lin
     let outer = just::<_, &str, Err<Rich<char>>>('a').to("2");
     let one = just::<_, &str, Err<Rich<char>>>('1').nested_in(outer);
     over(&one, alloc, "a", Asked { check, again })
+}
+
+/// A message beside each character.
+pub fn sweep_messages(alloc: Global, _row: usize, check: bool, again: bool) -> Line {
+    let doubted = any::<&str, RichText>().validate(|c, extra, emitter| {
+        emitter.emit_message(extra.alloc(), extra.span(), "in doubt");
+        c
+    });
+    over(&(&doubted).then(&doubted), alloc, "ab", Asked { check, again })
 }

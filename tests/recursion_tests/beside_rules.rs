@@ -4,7 +4,7 @@ use answers::answer::{answer, line_of};
 use chumsky::Stop;
 use chumsky::extra::RichText;
 use chumsky::prelude::*;
-use guide::{arithmetic, descent, recursion};
+use guide::{arithmetic, calculator, descent, recursion};
 use std::alloc::{AllocError, Global};
 use std::process::Abort;
 
@@ -50,18 +50,23 @@ fn brackets_answer_as_rules_do(rt: HostRuntime) {
     }
 }
 
-/// All texts of sums of at most five characters.
+/// All texts of sums of at most five characters, but those with a number of two digits, which the rules don't have: the same
+/// numbers, or errors at the same place.
 #[test]
-fn sums_answer_as_rules_do(rt: HostRuntime) {
+fn sums_come_to_what_they_do_by_rules(rt: HostRuntime) {
     for number in 0..3_906 {
         let text = text_of(rt.alloc(), &['2', '+', '*', '(', ')'], number).expect(
             &rt,
             "want of memory",
         );
-        let rules = by_rules(arithmetic::value_of(rt.alloc(), text.as_str()));
-        let of_rules = line_of(rt.alloc(), &rules).expect(&rt, "want of memory");
-        let calls = descent::value_of(rt.alloc(), text.as_str());
-        let of_calls = line_of(rt.alloc(), &calls).expect(&rt, "want of memory");
-        assert_eq!(rt; of_calls.as_str(), of_rules.as_str());
+        if text.as_str().contains("22") {
+            continue;
+        }
+        let rules = by_rules(arithmetic::value_of(rt.alloc(), text.as_str())).expect(&rt, "refused");
+        let calls = calculator::value_of(rt.alloc(), text.as_str()).expect(&rt, "refused");
+        assert_eq!(rt; calls.output(), rules.output());
+        let place = rules.errors().as_slice().first().map(|error| *error.span());
+        assert_eq!(rt; calls.errors().as_slice().first().map(|error| *error.span()), place);
+        assert_eq!(rt; calls.errors().as_slice().len(), rules.errors().as_slice().len());
     }
 }

@@ -3,4 +3,6 @@
 #[cfg(test)]
 mod beside_rules;
 #[cfg(test)]
+mod calculator;
+#[cfg(test)]
 mod calls;

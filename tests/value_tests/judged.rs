@@ -34,6 +34,23 @@ fn what_a_validator_emits_stands_beside_the_output(rt: HostRuntime) {
 }
 
 #[test]
+fn a_validator_emits_a_message_in_one_call(rt: HostRuntime) {
+    let doubted = any_char().validate(|c, extra, emitter| {
+        if c != 'a' {
+            let alloc = extra.alloc();
+            emitter.emit_message(alloc, extra.span(), format_args!("{c} is no a"));
+            emitter.emit_message(alloc, extra.span(), "a was meant");
+        }
+        c
+    });
+    let rows = [
+        ("a", "ok 'a'"),
+        ("x", "ok 'x'; error 0..1 \"x is no a\"; error 0..1 \"a was meant\""),
+    ];
+    assert_answers(&rt, &doubted, &rows);
+}
+
+#[test]
 fn what_a_validator_emitted_goes_with_its_alternative(rt: HostRuntime) {
     let emitting = any_char().validate(|c, extra, emitter| {
         if c == 'a' {

@@ -132,7 +132,11 @@ impl<'src> Part<'src, &'src str, Option<Spanned<Token, SimpleSpan>>, RichText> f
     ) -> PResult<Option<Option<Spanned<Token, SimpleSpan>>>> {
         let token = part_of(AnyToken).spanned().map(Some);
         let other = any().validate(|_, extra, emitter| {
-            emitter.emit_message(extra.alloc(), extra.span(), "this character begins no token");
+            emitter.emit_message(
+                extra.alloc(),
+                extra.span(),
+                "this character begins no token",
+            );
             None
         });
         run_part(&token.or(other), wanted, inp)

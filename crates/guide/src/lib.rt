@@ -5,6 +5,7 @@
 pub mod arithmetic;
 pub mod builders;
 pub mod by_value;
+pub mod calculator;
 pub mod checking;
 pub mod closure;
 pub mod conclusion;

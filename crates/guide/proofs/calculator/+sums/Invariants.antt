@@ -1,4 +1,4 @@
-use Rattle.guide.proofs.descent.+sums.Given as goal
+use Rattle.guide.proofs.calculator.+sums.Given as goal
 
 abbrev pub decreases-atom : goal.decreases-atom
 decreases-atom l = l.depth
