@@ -10,7 +10,7 @@ use guide::contexts::{declared, prefixed, settings};
 use guide::extras::Plain;
 use guide::flattening::{all_letters, number_plate};
 use guide::folding::{spanned_sum, sum};
-use guide::forms::{range, word_of};
+use guide::forms::{Word, ab, names_in, range, word_of};
 use guide::handed::{check_two_tokens, each};
 use guide::laws::token_past;
 use guide::mapping::percent;
@@ -61,6 +61,21 @@ fn a_parser_stands_in_two_places_and_words_borrow_from_their_text(rt: HostRuntim
     assert_line(&rt, range(rt.alloc(), "1-a"), "error 2..3 expected '0', '1', '2', '3', '4', '5', '6', '7', '8', '9' found 'a'");
     assert_line(&rt, word_of(rt.alloc(), "12"), "ok Number(\"12\")");
     assert_line(&rt, word_of(rt.alloc(), "ab"), "ok Name(\"ab\")");
+}
+
+#[test]
+fn a_part_is_handed_a_value_and_a_list_is_taken_out(rt: HostRuntime) {
+    assert_line(&rt, ab(rt.alloc(), "xb"), "ok ('x', 'b')");
+    assert_line(&rt, ab(rt.alloc(), "ba"), "error 0..1 expected 'a', 'x' found 'b'");
+    let words = text::ascii::ident::<&str, extra::RichText>()
+        .map(|name| Word::Name(name))
+        .or(text::int(10).map(|digits| Word::Number(digits)))
+        .separated_by(just(' '))
+        .collect::<Vec<_>>();
+    for (text, names) in [("a 1 b", 2), ("1", 0), ("", 0), ("a-", 0)] {
+        let parsed = words.parse(rt.alloc(), text).expect(&rt, "refused");
+        assert_eq!(rt; names_in(parsed), names);
+    }
 }
 
 #[test]

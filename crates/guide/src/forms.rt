@@ -1,8 +1,9 @@
-//! Forms that the check takes: a parser in two places, and outputs that borrow from the text.
-use chumsky::Stop;
-use chumsky::combinator::Mapper;
+//! Forms that the check takes: a parser in two places, a part that is handed a value, and outputs that borrow from the text.
+use chumsky::combinator::{Mapper, Part, part_of, run_part};
 use chumsky::extra::RichText;
+use chumsky::input::TextRef;
 use chumsky::prelude::*;
+use chumsky::{PResult, Stop};
 use std::alloc::Global;
 
 /// A digit, a `-` and a digit: one parser in two places.
@@ -12,6 +13,23 @@ pub fn range(alloc: Global, text: &str) -> Result<ParseResult<(char, char), Rich
         .then_ignore(just('-'))
         .then(&digit)
         .parse(alloc, text)
+}
+
+/// A character, or an `x` in its place.
+#[derive(Clone, Copy)]
+struct OrX(char);
+
+impl<'src> IsParser<&'src str, char, RichText> for OrX {}
+
+impl<'src> Part<'src, &'src str, char, RichText> for OrX {
+    fn run(&self, wanted: bool, inp: &mut TextRef<'src, '_, RichText>) -> PResult<Option<char>> {
+        run_part(&just(self.0).or(just('x')), wanted, inp)
+    }
+}
+
+/// An `a` and a `b`, or an `x` in the place of either.
+pub fn ab(alloc: Global, text: &str) -> Result<ParseResult<(char, char), Rich<char>>, Stop> {
+    part_of(OrX('a')).then(part_of(OrX('b'))).parse(alloc, text)
 }
 
 /// A number, as its text, or a name.
@@ -49,4 +67,17 @@ pub fn word_of<'text>(
     let number = text::int::<_, RichText>(10).map_by(ToNumber);
     let name = text::ascii::ident().map_by(ToName);
     number.or(name).parse(alloc, text)
+}
+
+/// How many of the words that were read are names.
+pub fn names_in(parsed: ParseResult<Vec<Word<'_>>, Rich<char>>) -> usize {
+    let mut names = 0usize;
+    if let Some(words) = parsed.into_output() {
+        for word in words {
+            if let Word::Name(_) = word {
+                names = names.saturating_add(1);
+            }
+        }
+    }
+    names
 }
