@@ -7,6 +7,7 @@ mod config_parser_ext;
 mod iter_parser_ext;
 mod macros;
 mod made;
+mod map_in;
 mod map_parser_ext;
 mod memory;
 mod moving_part;
@@ -155,6 +156,7 @@ pub mod pratt {
 /// Parsers made of parsers.
 pub mod combinator {
     pub use crate::made::{FromStr, Lazy, ReadStr};
+    pub use crate::map_in::{MapIn, MapperIn};
     pub use chumsky_combinator::delimited_by::DelimitedBy;
     pub use chumsky_combinator::ignore_then::IgnoreThen;
     pub use chumsky_combinator::ignored::Ignored;
@@ -363,7 +365,7 @@ pub mod recovery_laws {
 /// Laws of parsers, each the contract of a function that does nothing: which of them mean the same, and which are ready and
 /// steady.
 pub mod laws {
-    pub use crate::steady::{from_str_is_steady, lazy_is_steady};
+    pub use crate::steady::{from_str_is_steady, lazy_is_steady, map_in_is_steady};
     pub use chumsky_choice::alternatives::Alternatives;
     pub use chumsky_choice::laws::{
         choice_agrees_by_one_alternative, choice_is_repeated_or,
