@@ -309,9 +309,11 @@ pub mod grammar_laws {
 }
 
 /// Which parsers are never refused for memory, as those of `laws`: primitives, where tokens, errors and states take none, and what
-/// is made of parts that never are. A run of one wants memory for nothing but the errors of a failure.
+/// is made of parts that never are. A run of one wants memory for nothing but the errors of a failure. And when one whose mapper
+/// asks for memory is ready and steady.
 pub mod memory_laws {
     pub use crate::memory::memory_is_wanted_only_for_errors;
+    pub use crate::steady::map_in_is_steady;
     pub use chumsky_memory::laws::{
         a_run_is_never_out_of_memory, any_is_never_out_of_memory, choice_is_never_out_of_memory,
         choice_of_a_list_is_never_out_of_memory, count_is_never_out_of_memory,
@@ -365,7 +367,7 @@ pub mod recovery_laws {
 /// Laws of parsers, each the contract of a function that does nothing: which of them mean the same, and which are ready and
 /// steady.
 pub mod laws {
-    pub use crate::steady::{from_str_is_steady, lazy_is_steady, map_in_is_steady};
+    pub use crate::steady::{from_str_is_steady, lazy_is_steady};
     pub use chumsky_choice::alternatives::Alternatives;
     pub use chumsky_choice::laws::{
         choice_agrees_by_one_alternative, choice_is_repeated_or,

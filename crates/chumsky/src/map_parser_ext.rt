@@ -3,8 +3,8 @@ ghost use Rattle.std.specs.Prelude.{◌≡◌};
 
 use crate::combinator::{
     Filter, FilterMap, FromStr, Ignored, Map, MapErr, MapErrWith, MapErrWithState, MapIn, MapWith,
-    Mapper, MapperIn, PickBy, Picker, ReadStr, Spanned, TestBy, Tester, To, ToSlice, ToSpan, TryMap,
-    TryMapWith, TryMapper, Unwrapped, Validate,
+    Mapper, MapperIn, PickBy, Picker, ReadStr, Spanned, TestBy, Tester, To, ToSlice, ToSpan,
+    TryMap, TryMapWith, TryMapper, Unwrapped, Validate,
 };
 use crate::extra::ParserExtra;
 use crate::input::{Emitter, Input, MapExtra, SliceInput, Tokens};
