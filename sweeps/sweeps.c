@@ -170,7 +170,7 @@ static const struct {
     const char *name;
     unsigned char rows;
 } clones[] = {
-    {"clone_primitive", 10}, {"clone_sequence", 14}, {"clone_mapped", 17},
+    {"clone_primitive", 10}, {"clone_sequence", 14}, {"clone_mapped", 18},
     {"clone_items", 14},     {"clone_under", 10},    {"clone_value", 14},
     {"clone_recovered", 5},  {"clone_operators", 7},
 };

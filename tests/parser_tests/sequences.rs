@@ -1,7 +1,10 @@
 //! Sequences of which some outputs are ignored, outputs that are mapped, and parts that may be absent.
 use answers::asserts::assert_answers;
+use answers::extras::Own;
 use answers::leaves::{any_char, just_char};
+use chumsky::combinator::MapperIn;
 use chumsky::prelude::*;
+use std::alloc::{AllocError, Global};
 
 #[test]
 fn brackets_stand_around_the_part(rt: HostRuntime) {
@@ -69,6 +72,48 @@ fn an_output_is_mapped(rt: HostRuntime) {
     assert_answers(&rt, &just_char('a').to(1), &[("a", "ok 1")]);
     let unwrapped = just_char('a').map(Some).unwrapped();
     assert_answers(&rt, &unwrapped, &[("a", "ok 'a'")]);
+}
+
+#[test]
+fn an_output_is_mapped_by_the_allocator_of_the_run(rt: HostRuntime) {
+    let owned = text::int::<_, Own>(10)
+        .map_in(|digits, alloc| String::from_str(alloc, digits))
+        .then_ignore(just('.'));
+    let rows = [
+        ("12.", "ok \"12\""),
+        ("a", "error 0..1 expected int found 'a'"),
+        ("12", "error 2..2 expected digit, '.' found end"),
+    ];
+    assert_answers(&rt, &owned, &rows);
+    let taken = any_char()
+        .map(|c| Ok::<char, AllocError>(c))
+        .map_in(|made, _| made);
+    assert_answers(&rt, &taken, &[("a", "ok 'a'")]);
+    assert_answers(&rt, &any_char().map_in_by(Boxed), &[("a", "ok 'a'")]);
+}
+
+/// Puts a character into a box.
+#[derive(Clone, Copy)]
+struct Boxed;
+
+impl MapperIn<char, Box<char>> for Boxed {
+    fn apply_in(&self, c: char, alloc: Global) -> Result<Box<char>, AllocError> {
+        Ok(Box::new(alloc, c)?)
+    }
+}
+
+/// Where no output is wanted the mapper isn't called, so nothing is refused.
+#[test]
+fn a_mapper_without_memory_refuses_the_run(rt: HostRuntime) {
+    let refused = just_char('a')
+        .map_in(|_, _| Err::<char, AllocError>(AllocError))
+        .or(just_char('b'));
+    let rows = [
+        ("a", "parse: refused Memory; but check: ok"),
+        ("b", "ok 'b'"),
+        ("c", "error 0..1 expected 'a', 'b' found 'c'"),
+    ];
+    assert_answers(&rt, &refused, &rows);
 }
 
 #[test]

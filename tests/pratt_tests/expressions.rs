@@ -7,7 +7,7 @@ use chumsky::pratt::{
     right,
 };
 use chumsky::prelude::*;
-use std::alloc::AllocError;
+use std::alloc::{AllocError, Global};
 
 /// A digit, as what it counts.
 macro_rules! digit {
@@ -242,4 +242,36 @@ fn right_operands_do_not_nest_on_the_stack(rt: HostRuntime) {
     text.push('^').expect(&rt, "want of memory");
     let open = towers.parse(rt.alloc(), text.as_str()).expect(&rt, "a refusal");
     assert!(rt; open.has_errors());
+}
+
+/// A digit, or two sums with a `+` between them.
+#[derive(Debug, Drop)]
+enum Sum {
+    Digit(char),
+    Plus(Box<Sum>, Box<Sum>),
+}
+
+/// Two sums with a `+` between them.
+fn plus(
+    alloc: Global,
+    a: Result<Sum, AllocError>,
+    b: Result<Sum, AllocError>,
+) -> Result<Sum, AllocError> {
+    Ok(Sum::Plus(Box::new(alloc, a?)?, Box::new(alloc, b?)?))
+}
+
+#[test]
+fn a_tree_is_taken_out_of_the_answer_of_its_closures(rt: HostRuntime) {
+    let alloc = rt.alloc();
+    let digit = one_of::<_, &str, Own>('0'..='9').map(|c| Ok::<Sum, AllocError>(Sum::Digit(c)));
+    let tree = digit
+        .pratt((infix(left(1), just_char('+'), move |a, _: char, b| {
+            plus(alloc, a, b)
+        }),))
+        .map_in(|tree, _| tree);
+    let rows = [
+        ("1", "ok Digit('1')"),
+        ("1+2+3", "ok Plus(Plus(Digit('1'), Digit('2')), Digit('3'))"),
+    ];
+    assert_answers(&rt, &tree, &rows);
 }

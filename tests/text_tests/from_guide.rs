@@ -1,7 +1,7 @@
 //! The parsers of text that docs/GUIDE.md shows, run as it says.
 use answers::asserts::{assert_answers, assert_line};
 use chumsky::report::Report;
-use guide::words::{bound, byte, identifiers, keywords, month, setting};
+use guide::words::{bound, byte, identifiers, keywords, month, owned_name, setting};
 
 #[test]
 fn a_setting_is_a_name_and_a_number(rt: HostRuntime) {
@@ -38,6 +38,17 @@ fn a_number_may_be_too_large_for_a_byte(rt: HostRuntime) {
     ];
     for (line, expected) in rows {
         assert_line(&rt, byte(rt.alloc(), line), expected);
+    }
+}
+
+#[test]
+fn a_name_has_memory_of_its_own(rt: HostRuntime) {
+    let rows = [
+        ("size", "ok \"size\""),
+        ("1", "error 0..1 expected identifier found '1'"),
+    ];
+    for (line, expected) in rows {
+        assert_line(&rt, owned_name(rt.alloc(), line), expected);
     }
 }
 

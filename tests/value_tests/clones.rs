@@ -123,13 +123,11 @@ fn what_a_strategy_does_not_take_is_let_go(rt: HostRuntime) {
 #[test]
 fn a_mapper_has_its_argument_for_itself(rt: HostRuntime) {
     let counts = make_counts(&rt);
+    let rows = [("a", 1, 0), ("ax", 1, 0), ("b", 0, 0)];
     let mapped = letter(&rt, 'a', &counts).map(|it| it.letter());
-    assert_clones(
-        &rt,
-        &mapped,
-        &counts,
-        &[("a", 1, 0), ("ax", 1, 0), ("b", 0, 0)],
-    );
+    assert_clones(&rt, &mapped, &counts, &rows);
+    let in_memory = letter(&rt, 'a', &counts).map_in(|it, alloc| Ok(Box::new(alloc, it)?));
+    assert_clones(&rt, &in_memory, &counts, &rows);
 }
 
 #[test]

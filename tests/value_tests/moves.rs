@@ -156,6 +156,8 @@ fn what_is_made_of_an_output_moves_as_its_part(rt: HostRuntime) {
         &[
             ("map", moves(a().map(|c| c)), true),
             ("map, none", moves(none().map(|()| 'a')), false),
+            ("map_in", moves(a().map_in(|c, _| Ok(c))), true),
+            ("map_in, none", moves(none().map_in(|(), _| Ok('a'))), false),
             ("map_with", moves(a().map_with(|c, _| c)), true),
             ("map_with, none", moves(none().map_with(|(), _| 'a')), false),
             ("to", moves(a().to(1)), true),

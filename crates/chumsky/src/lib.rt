@@ -7,6 +7,7 @@ mod config_parser_ext;
 mod iter_parser_ext;
 mod macros;
 mod made;
+mod map_in;
 mod map_parser_ext;
 mod memory;
 mod moving_part;
@@ -155,6 +156,7 @@ pub mod pratt {
 /// Parsers made of parsers.
 pub mod combinator {
     pub use crate::made::{FromStr, Lazy, ReadStr};
+    pub use crate::map_in::{MapIn, MapperIn};
     pub use chumsky_combinator::delimited_by::DelimitedBy;
     pub use chumsky_combinator::ignore_then::IgnoreThen;
     pub use chumsky_combinator::ignored::Ignored;
@@ -307,9 +309,11 @@ pub mod grammar_laws {
 }
 
 /// Which parsers are never refused for memory, as those of `laws`: primitives, where tokens, errors and states take none, and what
-/// is made of parts that never are. A run of one wants memory for nothing but the errors of a failure.
+/// is made of parts that never are. A run of one wants memory for nothing but the errors of a failure. And when one whose mapper
+/// asks for memory is ready and steady.
 pub mod memory_laws {
     pub use crate::memory::memory_is_wanted_only_for_errors;
+    pub use crate::steady::map_in_is_steady;
     pub use chumsky_memory::laws::{
         a_run_is_never_out_of_memory, any_is_never_out_of_memory, choice_is_never_out_of_memory,
         choice_of_a_list_is_never_out_of_memory, count_is_never_out_of_memory,

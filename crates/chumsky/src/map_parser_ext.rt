@@ -2,14 +2,15 @@
 ghost use Rattle.std.specs.Prelude.{◌≡◌};
 
 use crate::combinator::{
-    Filter, FilterMap, FromStr, Ignored, Map, MapErr, MapErrWith, MapErrWithState, MapWith, Mapper,
-    PickBy, Picker, ReadStr, Spanned, TestBy, Tester, To, ToSlice, ToSpan, TryMap, TryMapWith,
-    TryMapper, Unwrapped, Validate,
+    Filter, FilterMap, FromStr, Ignored, Map, MapErr, MapErrWith, MapErrWithState, MapIn, MapWith,
+    Mapper, MapperIn, PickBy, Picker, ReadStr, Spanned, TestBy, Tester, To, ToSlice, ToSpan,
+    TryMap, TryMapWith, TryMapper, Unwrapped, Validate,
 };
 use crate::extra::ParserExtra;
 use crate::input::{Emitter, Input, MapExtra, SliceInput, Tokens};
 use crate::label::Labelled;
 use chumsky_parser::parser::IsParser;
+use std::alloc::{AllocError, Global};
 use std::convert::AsStr;
 use std::marker::PhantomData;
 use std::str;
@@ -159,6 +160,38 @@ pub trait MapParserExt<'src, I, O, E>: Sized {
         ensures mapper { result.mapper ≡ mapper }
     {
         MapWith {
+            parser: self,
+            mapper,
+            of: PhantomData,
+        }
+    }
+
+    /// Maps as `map` does, by a closure that is given the run's allocator too, and answers an `Err` where it has no memory
+    /// for its output: `text::int(10).map_in(|digits, alloc| String::from_str(alloc, digits))` on `12` gives the `String`
+    /// `12`. An `Err` refuses the run by `Stop::Memory`. So `a.map_in(|tree, _| tree)` gives the tree in each output of a
+    /// parser of `Result<Tree, AllocError>`. The closure is not called where no output is wanted.
+    #[inline]
+    final fn map_in<U, F>(self, mapper: F) -> MapIn<Self, O, F, U>
+    where
+        F: Fn(O, Global) -> Result<U, AllocError>,
+        ensures parser { result.parser ≡ self }
+        ensures mapper { result.mapper ≡ mapper }
+    {
+        MapIn {
+            parser: self,
+            mapper,
+            of: PhantomData,
+        }
+    }
+
+    /// Maps as `map_in` does, by a value of a type with an impl of `MapperIn`. The parser's type can then be written down,
+    /// and what the mapper gives is known where the parser is run.
+    #[inline]
+    final fn map_in_by<U, F: MapperIn<O, U>>(self, mapper: F) -> MapIn<Self, O, F, U>
+        ensures parser { result.parser ≡ self }
+        ensures mapper { result.mapper ≡ mapper }
+    {
+        MapIn {
             parser: self,
             mapper,
             of: PhantomData,

@@ -35,6 +35,13 @@ pub fn byte(alloc: Global, line: &str) -> Result<ParseResult<u8, Rich<char>>, St
     number.parse(alloc, line)
 }
 
+/// A name, in memory of its own.
+pub fn owned_name(alloc: Global, line: &str) -> Result<ParseResult<String, Rich<char>>, Stop> {
+    let name = text::ascii::ident::<_, RichText>();
+    name.map_in(|name, alloc| String::from_str(alloc, name))
+        .parse(alloc, line)
+}
+
 /// The number of a month, by its name.
 pub fn month(alloc: Global, line: &str) -> Result<ParseResult<u8, Rich<char>>, Stop> {
     let month = text::ascii::ident::<_, RichText>()
