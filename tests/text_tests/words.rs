@@ -30,6 +30,7 @@ fn a_unicode_identifier_begins_with_a_letter_of_any_script(rt: HostRuntime) {
         ("e\u{301}", "ok \"e\\u{301}\""),
     ];
     assert_answers(&rt, &text::unicode::ident::<&str, Own>(), &rows);
+    assert_answers(&rt, &text::ident::<&str, Own>(), &rows);
 }
 
 #[test]
@@ -52,6 +53,7 @@ fn a_keyword_is_no_prefix_of_an_identifier(rt: HostRuntime) {
         ("leté", "error 0..5 expected let found end"),
     ];
     assert_answers(&rt, &text::unicode::keyword::<&str, Own>("let"), &rows);
+    assert_answers(&rt, &text::keyword::<&str, Own>("let"), &rows);
 }
 
 #[test]

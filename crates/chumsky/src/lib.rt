@@ -244,6 +244,7 @@ pub mod text {
     pub use chumsky_text::run::Run;
     pub use chumsky_text::sliced::Sliced;
     pub use chumsky_text::space::{InlineWhitespace, LineEnd, LineEndRest, Whitespace};
+    pub use chumsky_text::unicode::{ident, keyword};
     pub use chumsky_text::word::Word;
     pub use chumsky_text::{ascii, unicode};
 
