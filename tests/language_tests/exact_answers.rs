@@ -1,5 +1,6 @@
 //! Functions whose contracts say exactly which texts they accept.
 use chumsky::Stop;
+use exact::access::{Content, Purpose, parse_access};
 use exact::bits::parse_bits;
 use exact::date::parse_date;
 use exact::level::{Level, parse_level};
@@ -25,6 +26,28 @@ fn four_texts_are_levels_and_no_other_is(rt: HostRuntime) -> Result<(), Fail> {
     }
     for text in ["", "level=", "level=wart", "level=info ", " level=info", "level=infodebug"] {
         let parsed = parse_level(alloc, text)?;
+        assert_eq!(rt; parsed.into_output(), None, "{text}");
+    }
+    Ok(())
+}
+
+#[test]
+fn a_purpose_and_a_content_are_read_in_either_order(rt: HostRuntime) -> Result<(), Fail> {
+    let alloc = rt.alloc();
+    let accepted = [
+        ("rt", "tr", (Purpose::Read, Content::Text)),
+        ("rb", "br", (Purpose::Read, Content::Bytes)),
+        ("wt", "tw", (Purpose::Write, Content::Text)),
+        ("wb", "bw", (Purpose::Write, Content::Bytes)),
+    ];
+    for (text, turned, access) in accepted {
+        let parsed = parse_access(alloc, text)?;
+        assert_eq!(rt; parsed.into_output(), Some(access), "{text}");
+        let parsed = parse_access(alloc, turned)?;
+        assert_eq!(rt; parsed.into_output(), Some(access), "{turned}");
+    }
+    for text in ["", "r", "b", "rw", "tb", "rr", "bb", "rbt", "rbw", "brb", "r b", "rb ", " rb", "RB", "ab"] {
+        let parsed = parse_access(alloc, text)?;
         assert_eq!(rt; parsed.into_output(), None, "{text}");
     }
     Ok(())

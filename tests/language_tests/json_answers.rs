@@ -217,10 +217,10 @@ fn what_is_wrong_is_told_at_its_place(rt: HostRuntime) {
 fn what_is_too_deep_is_refused_and_nothing_crashes(rt: HostRuntime) -> Result<(), Fail> {
     let alloc = rt.alloc();
     for (opening, inside, closing) in [("[", "", "]"), ("{\"a\":", "1", "}")] {
-        let text = nested(alloc, 150, opening, inside, closing)?;
+        let text = nested(alloc, 100, opening, inside, closing)?;
         let lines = in_line(alloc, text.as_str())?;
         assert_eq!(rt; lines.as_str().trim_end(), text.as_str());
-        for depth in [151, 100_000] {
+        for depth in [101, 100_000] {
             let text = nested(alloc, depth, opening, inside, closing)?;
             let lines = in_line(alloc, text.as_str())?;
             assert_eq!(rt; lines.as_str(), "refused: TooDeep");

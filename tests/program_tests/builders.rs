@@ -1,8 +1,8 @@
-//! The callers of `guide::builders`, run as they say.
+//! The callers of `callers::builders`, run as they say.
 use answers::asserts::assert_line;
 use chumsky::Stop;
 use chumsky::prelude::*;
-use guide::builders::{
+use callers::builders::{
     a_and_bs, between_commas, capital, count_before_b, doubted, each_letter, first_but_x, is_u64,
     length, numbered, only_a, only_a_shown, start_of_all, surely_a, three, up_to_five,
     with_an_error_of_the_state, with_another_error, with_its_error,

@@ -1,12 +1,12 @@
-//! The callers of `guide::by_value` and of `guide::under`, run as they say.
+//! The callers of `callers::by_value` and of `callers::under`, run as they say.
 use crate::builders::assert_rows;
 use answers::asserts::assert_line;
 use chumsky::prelude::*;
-use guide::by_value::{
+use callers::by_value::{
     as_often, as_often_or_refused, capitals, greatest, greatest_of_a_sentence, greatest_of_some,
     number, one_less_often, sum, vowel,
 };
-use guide::under::{above_four, at_most_three, by_the_first, checked, counted_apart};
+use callers::under::{above_four, at_most_three, by_the_first, checked, counted_apart};
 use std::process::Abort;
 
 #[test]

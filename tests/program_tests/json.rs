@@ -154,8 +154,8 @@ fn nested(
 }
 
 #[test]
-fn a_hundred_and_fifty_levels_are_read_and_one_more_is_too_deep(rt: HostRuntime) {
-    let levels = [(150, false), (151, true), (20_000, true)];
+fn a_hundred_levels_are_read_and_one_more_is_too_deep(rt: HostRuntime) {
+    let levels = [(100, false), (101, true), (20_000, true)];
     let kinds = [
         ("[", "", "]", "(list (list "),
         ("{\"a\":", "1", "}", "(map a=(map a="),

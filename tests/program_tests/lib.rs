@@ -1,4 +1,4 @@
-//! What closures and programs answer: closures that are lent the input, and what `guide` and `examples` hold.
+//! What closures and programs answer: closures that are lent the input, and what `guide`, `callers` and `examples` hold.
 
 #[cfg(test)]
 mod builders;

@@ -38,7 +38,7 @@ where
     ensures { ⟦<Unsaid as RunsUnder<'src, I, u64, E>>⟧.runs 0 wanted inp.old inp.new result }
 {
     let pairs = inside
-        .delimited_by(part_of(Mark("[")), part_of(Mark("]")))
+        .delimited_by(part_of(Mark('[')), part_of(Mark(']')))
         .map(|count: u64| count.wrapping_add(1))
         .repeated()
         .fold(0, |sum: u64, count: u64| sum.wrapping_add(count));
@@ -72,7 +72,7 @@ struct Word;
 impl<'src> IsParser<&'src str, u64, EmptyText> for Word {}
 
 impl<'src> Part<'src, &'src str, u64, EmptyText> for Word {
-    #[inline]
+    #[inline(always)]
     fn run(&self, wanted: bool, inp: &mut TextRef<'src, '_, EmptyText>) -> PResult<Option<u64>> {
         let word = one_of("abcdefghijklmnopqrstuvwxyz0123456789")
             .repeated()
@@ -88,7 +88,7 @@ struct Scalar;
 impl<'src> IsParser<&'src str, u64, EmptyText> for Scalar {}
 
 impl<'src> Part<'src, &'src str, u64, EmptyText> for Scalar {
-    #[inline]
+    #[inline(always)]
     fn run(&self, wanted: bool, inp: &mut TextRef<'src, '_, EmptyText>) -> PResult<Option<u64>> {
         let scalar = choice((
             part_of(Word),
@@ -103,14 +103,14 @@ impl<'src> Part<'src, &'src str, u64, EmptyText> for Scalar {
 
 /// A comma, a colon or a bracket.
 #[derive(Clone, Copy)]
-struct Mark(&'static str);
+struct Mark(char);
 
 impl<'src> IsParser<&'src str, char, EmptyText> for Mark {}
 
 impl<'src> Part<'src, &'src str, char, EmptyText> for Mark {
-    #[inline]
+    #[inline(always)]
     fn run(&self, wanted: bool, inp: &mut TextRef<'src, '_, EmptyText>) -> PResult<Option<char>> {
-        run_part(&one_of(self.0), wanted, inp)
+        run_part(&just(self.0), wanted, inp)
     }
 }
 
@@ -130,9 +130,9 @@ where
     ensures { ⟦<Unsaid as RunsUnder<'src, I, u64, E>>⟧.runs 0 wanted inp.old inp.new result }
 {
     let items = value
-        .separated_by(part_of(Mark(",")))
+        .separated_by(part_of(Mark(',')))
         .fold(0, |sum: u64, count: u64| sum.wrapping_add(count))
-        .delimited_by(part_of(Mark("[")), part_of(Mark("]")));
+        .delimited_by(part_of(Mark('[')), part_of(Mark(']')));
     run_part(&items, wanted, inp)
 }
 
@@ -153,13 +153,13 @@ where
     ensures { ⟦<Unsaid as RunsUnder<'src, I, u64, E>>⟧.runs 0 wanted inp.old inp.new result }
 {
     let member = part_of(Word)
-        .then_ignore(part_of(Mark(":")))
+        .then_ignore(part_of(Mark(':')))
         .then(value)
         .map(|(name, value): (u64, u64)| name.wrapping_add(value));
     let members = member
-        .separated_by(part_of(Mark(",")))
+        .separated_by(part_of(Mark(',')))
         .fold(0, |sum: u64, count: u64| sum.wrapping_add(count))
-        .delimited_by(part_of(Mark("{")), part_of(Mark("}")));
+        .delimited_by(part_of(Mark('{')), part_of(Mark('}')));
     run_part(&members, wanted, inp)
 }
 

@@ -19,6 +19,7 @@ struct Scalar;
 impl<'src> IsParser<&'src str, Tree, EmptyText> for Scalar {}
 
 impl<'src> Part<'src, &'src str, Tree, EmptyText> for Scalar {
+    #[inline(always)]
     fn run(&self, wanted: bool, inp: &mut TextRef<'src, '_, EmptyText>) -> PResult<Option<Tree>> {
         let scalar = choice((
             part_of(Quoted).map(Tree::Text),
@@ -38,6 +39,7 @@ struct Name;
 impl<'src> IsParser<&'src str, String, EmptyText> for Name {}
 
 impl<'src> Part<'src, &'src str, String, EmptyText> for Name {
+    #[inline(always)]
     fn run(&self, wanted: bool, inp: &mut TextRef<'src, '_, EmptyText>) -> PResult<Option<String>> {
         let colon = just(':').padded_with(Blank);
         let name = part_of(Quoted).padded_with(Blank).then_ignore(colon);
@@ -52,6 +54,7 @@ struct Mark(char);
 impl<'src> IsParser<&'src str, char, EmptyText> for Mark {}
 
 impl<'src> Part<'src, &'src str, char, EmptyText> for Mark {
+    #[inline(always)]
     fn run(&self, wanted: bool, inp: &mut TextRef<'src, '_, EmptyText>) -> PResult<Option<char>> {
         run_part(&just(self.0).padded_with(Blank), wanted, inp)
     }

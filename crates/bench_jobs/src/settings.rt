@@ -63,6 +63,7 @@ struct Key;
 impl<'src> IsParser<&'src str, u64, EmptyText> for Key {}
 
 impl<'src> Part<'src, &'src str, u64, EmptyText> for Key {
+    #[inline(always)]
     fn run(&self, wanted: bool, inp: &mut TextRef<'src, '_, EmptyText>) -> PResult<Option<u64>> {
         let first = choice((
             word("host", 1),

@@ -60,6 +60,7 @@ struct Number;
 impl<'src> IsParser<&'src str, u64, EmptyText> for Number {}
 
 impl<'src> Part<'src, &'src str, u64, EmptyText> for Number {
+    #[inline(always)]
     fn run(&self, wanted: bool, inp: &mut TextRef<'src, '_, EmptyText>) -> PResult<Option<u64>> {
         let number = one_of('0'..='9')
             .map(digit)
@@ -75,6 +76,7 @@ struct Product;
 impl<'src> IsParser<&'src str, u64, EmptyText> for Product {}
 
 impl<'src> Part<'src, &'src str, u64, EmptyText> for Product {
+    #[inline(always)]
     fn run(&self, wanted: bool, inp: &mut TextRef<'src, '_, EmptyText>) -> PResult<Option<u64>> {
         let factors = just('*').ignore_then(part_of(Number)).repeated();
         run_part(&part_of(Number).foldl(factors, times), wanted, inp)

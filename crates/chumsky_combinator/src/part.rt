@@ -32,7 +32,7 @@ pub trait Part<'src, I: Input<'src>, O, E: ParserExtra<I>> {
 
 /// Runs a parser as the body of a part, for its output where one is wanted. No failure is lost: a part keeps the furthest
 /// one as the parser in it does.
-#[inline]
+#[inline(always)]
 pub fn run_part<'src, I: Input<'src>, O, E: ParserExtra<I>, P: Parser<'src, I, O, E>>(
     parser: &P,
     wanted: bool,
@@ -94,7 +94,7 @@ impl<'src, I: Input<'src>, O: Drop, E: ParserExtra<I>, P: Part<'src, I, O, E>> P
 
     ghost accepts = { λ _. of_unsaid };
 
-    #[inline]
+    #[inline(always)]
     fn go_emit(&self, inp: &mut InputRef<'src, '_, I, E>) -> PResult<O> {
         match self.part.run(true, inp) {
             Ok(Some(value)) => Ok(value),
@@ -103,7 +103,7 @@ impl<'src, I: Input<'src>, O: Drop, E: ParserExtra<I>, P: Part<'src, I, O, E>> P
         }
     }
 
-    #[inline]
+    #[inline(always)]
     fn go_check(&self, inp: &mut InputRef<'src, '_, I, E>) -> PResult<()> {
         let _none = self.part.run(false, inp)?;
         Ok(())

@@ -1,3 +1,4 @@
+pub mod ByCalls
 pub mod Capped
 pub mod Contexts
 pub mod ContextsLaws
@@ -11,6 +12,7 @@ pub mod TableLaws
 pub mod Answered
 pub mod Chosen
 pub mod Collected
+pub mod Lists
 pub mod Members
 pub mod Numerals
 pub mod Parts

@@ -1,3 +1,4 @@
+pub mod Access
 pub mod AtomLaws
 pub mod Bits
 pub mod BitsLaws

@@ -1,6 +1,7 @@
 //! Functions whose contracts say exactly which texts they accept, and with which value.
 #![tactic(auto)]
 
+pub mod access;
 pub mod bits;
 pub mod date;
 pub mod expressions;

@@ -45,9 +45,9 @@ impl<'src> Recursion<'src, &'src str, (), EmptyText> for OfPair {
     ghost use Rattle.chumsky_descent.specs.Lawful.{just-lawful, or_not-lawful, between-lawful, ignored-lawful};
     ghost use Rattle.exact.specs.contracts.nested.OfPairBodyRefStrUnitEmptyText.TheImpl.{ghosts, no_dict};
     ghost use denote.Builtin.{unit};
-    ghost use Rattle.exact.specs.Nested.{pairs};
+    ghost use Rattle.chumsky_exact.specs.ByCalls.{by_calls};
 
-    ghost says = { λ errors states. exactly (λ call. (ghosts unit call no_dict).body tt) errors states pairs
+    ghost says = { λ errors states. exactly (λ call. (ghosts unit call no_dict).body tt) errors states by_calls
         (λ call l h. ignored-lawful (between-lawful (just-lawful (codes "[") _ _ _ _ _ _) (or_not-lawful h) (just-lawful (codes "]") _ _ _ _ _ _))) };
 }
 

@@ -3,8 +3,6 @@
 #![tactic(auto)]
 
 pub mod arithmetic;
-pub mod builders;
-pub mod by_value;
 pub mod calculator;
 pub mod checking;
 pub mod closure;
@@ -29,5 +27,4 @@ pub mod repeating;
 pub mod running;
 pub mod stepping;
 pub mod tokens;
-pub mod under;
 pub mod words;

@@ -111,24 +111,25 @@ fn value<'src>(
     run_part(&json, wanted, inp)
 }
 
-/// How many lists and objects may stand within one another. One takes some 1,250 bytes of stack, so all of them fit into 256 kB.
-const LEVELS: usize = 150;
+/// How many lists and objects may stand within one another. Where a text is wrong, one takes some 2 kB of stack, so all of them
+/// fit into 256 kB.
+const LEVELS: usize = 100;
 
 /// How many calls may be open at once: two for each list and each object, and two for the innermost value.
 fn calls(levels: usize) -> usize {
     levels.saturating_mul(2).saturating_add(2)
 }
 
-/// Reads a value. One that is nested more than a hundred and fifty deep is refused with `Stop::TooDeep`.
+/// Reads a value. One that is nested more than a hundred deep is refused with `Stop::TooDeep`.
 pub fn read_json(alloc: Global, text: &str) -> Result<ParseResult<Json, Rich<char>>, Stop>
-    ensures exact { ExactlyUnless HoldsJson (chars text.now) (IsDeep IsJson json.levels 151 (chars text.now)) result }
+    ensures exact { ExactlyUnless HoldsJson (chars text.now) (IsDeep IsJson json.levels 101 (chars text.now)) result }
     ensures told { IfOk result (λ parsed. parsed.errors.items ≡ [] → IsTrue (is_some parsed.output)) }
 {
     read_json_within(alloc, text, LEVELS)
 }
 
-/// Reads a value. One with more than so many lists and objects within one another is refused with `Stop::TooDeep`. Each takes some
-/// 1,250 bytes of stack: a thousand fit where there are 2 MB.
+/// Reads a value. One with more than so many lists and objects within one another is refused with `Stop::TooDeep`. Where the text
+/// is wrong, each takes some 2 kB of stack.
 ///
 /// A reader that keeps no errors tells whether the text is JSON, and which value it is. Only of a text that is none is it read
 /// once more, by a reader that does, for what to say of it.

@@ -1,14 +1,7 @@
-use Rattle.std.proofs.Common.{ap}
 use Rattle.exact.proofs.nested.+pair.Goals as goal
 
 pub returns : goal.returns
 returns t c =
-    let depth = ap (λ p. p.parser.depth) c.delimited_by.ensures.parser in
-    let inside = ap (λ p. p.depth) c.or_not-inside.ensures.parser in
-    let opening = ap (λ p. p.seq) c.delimited_by.ensures.opening in
-    let closing = ap (λ p. p.seq) c.delimited_by.ensures.closing in
-    record {
-      ran = rw (c.ignored-pair.ensures.parser, depth, inside, c.recursive_as.ensures.depth, opening, closing, c.just.ensures, c.just-2.ensures) at c.run_part.ensures.ran;
-      as_wanted = c.run_part.ensures.as_wanted;
-      lent = c.run_part.ensures.lent;
-    }
+    let parts = rw (c.ignored-pair.ensures.parser, c.delimited_by.ensures.parser, c.or_not-inside.ensures.parser) at c.run_part.ensures.ran in
+    let ran = rw (c.delimited_by.ensures.opening, c.delimited_by.ensures.closing, c.just.ensures, c.just-2.ensures, c.recursive_as.ensures.depth) at parts in
+    record { ran = ran; as_wanted = c.run_part.ensures.as_wanted; lent = c.run_part.ensures.lent }

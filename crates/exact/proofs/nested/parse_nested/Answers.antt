@@ -1,13 +1,11 @@
-use Rattle.std.specs.Prelude.{[]}
+use Rattle.std.proofs.Common.{ℕ, suc, refl}
 use Rattle.std.specs.Str.{chars}
-use Rattle.chumsky.specs.AcceptedLaws.{unless-by_words}
-use Rattle.exact.specs.Nested.{IsNested}
-use Rattle.exact.specs.NestedLaws.{pairs-intended, pairs-refused}
+use Rattle.chumsky_exact.specs.ByCalls.{unless-by_calls}
+use Rattle.exact.specs.Nested.{nested, IsNested}
+use Rattle.exact.specs.NestedLaws.{sound, taken}
 use Rattle.exact.proofs.nested.parse_nested.Goals as goal
 
 pub returns : goal.returns
 returns c =
-    let cs = chars c.args.text.now in
-    let i = pairs-intended c.args.limit in
-    let a = rw c.recursive_as.ensures.depth at (c.parse.ensures.3.reads (pairs-intended c.recursive_as.result.depth).said) in
-    unless-by_words IsNested a (pairs-refused c.args.limit cs) i.unambiguous (i.follows [] tt) (λ v w s. i.given cs v s) (λ v n. i.each cs (record { around = n.around; is = n.is }))
+    let reads = rw c.recursive_as.ensures.depth at c.parse.ensures.3.reads in
+    unless-by_calls IsNested c.args.limit nested (λ n. suc n) reads (λ l s m. (rw s refl, refl)) (λ v w s. sound c.args.limit (chars c.args.text.now) v w) (λ v i. (i.around, i.is)) taken

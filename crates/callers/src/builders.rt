@@ -1,4 +1,4 @@
-//! A caller of each builder that the other files here do not run.
+//! A caller of each builder that neither `guide` nor the other files here run.
 use arrayvec::ArrayVec;
 use chumsky::Stop;
 use chumsky::combinator::Mapper;

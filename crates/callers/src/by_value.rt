@@ -1,5 +1,4 @@
-//! A caller of each builder that takes a value of a named type in the place of a closure, and that the other files here do not
-//! run.
+//! A caller of each builder that takes a value of a named type in the place of a closure.
 ghost use Rattle.std.specs.Prelude.{⊤};
 
 use crate::builders::ToCapital;

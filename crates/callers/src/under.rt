@@ -1,4 +1,4 @@
-//! A caller of some builders of contexts, states and items that the other files here do not run.
+//! Callers of builders of contexts, states and items.
 use chumsky::Stop;
 use chumsky::combinator::RepeatedCfg;
 use chumsky::extra::RichText;
