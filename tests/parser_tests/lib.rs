@@ -14,6 +14,8 @@ mod groups;
 #[cfg(test)]
 mod judges;
 #[cfg(test)]
+mod judging;
+#[cfg(test)]
 mod map_with;
 #[cfg(test)]
 mod members;
@@ -27,7 +29,5 @@ mod sequences;
 mod sets;
 #[cfg(test)]
 mod sets_of_tokens;
-#[cfg(test)]
-mod shield;
 #[cfg(test)]
 mod slices;

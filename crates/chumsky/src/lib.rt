@@ -199,20 +199,20 @@ pub mod combinator {
     pub use chumsky_items::count::Count;
     pub use chumsky_items::repeated::Repeated;
     pub use chumsky_items::separated_by::SeparatedBy;
-    pub use chumsky_shield::and_is::AndIs;
-    pub use chumsky_shield::filter::{Filter, Tester};
-    pub use chumsky_shield::filter_map::{FilterMap, Picker};
-    pub use chumsky_shield::map_err::MapErr;
-    pub use chumsky_shield::map_err_with::MapErrWith;
-    pub use chumsky_shield::map_err_with_state::MapErrWithState;
-    pub use chumsky_shield::not::Not;
-    pub use chumsky_shield::pick_by::{PickBy, WordPicker};
-    pub use chumsky_shield::rewind::Rewind;
-    pub use chumsky_shield::test_by::{TestBy, WordTester};
-    pub use chumsky_shield::try_map::{TryMap, TryMapper};
-    pub use chumsky_shield::try_map_with::TryMapWith;
-    pub use chumsky_shield::unwrapped::Unwrapped;
-    pub use chumsky_shield::validate::Validate;
+    pub use chumsky_judge::and_is::AndIs;
+    pub use chumsky_judge::filter::{Filter, Tester};
+    pub use chumsky_judge::filter_map::{FilterMap, Picker};
+    pub use chumsky_judge::map_err::MapErr;
+    pub use chumsky_judge::map_err_with::MapErrWith;
+    pub use chumsky_judge::map_err_with_state::MapErrWithState;
+    pub use chumsky_judge::not::Not;
+    pub use chumsky_judge::pick_by::{PickBy, WordPicker};
+    pub use chumsky_judge::rewind::Rewind;
+    pub use chumsky_judge::test_by::{TestBy, WordTester};
+    pub use chumsky_judge::try_map::{TryMap, TryMapper};
+    pub use chumsky_judge::try_map_with::TryMapWith;
+    pub use chumsky_judge::unwrapped::Unwrapped;
+    pub use chumsky_judge::validate::Validate;
 }
 
 /// Labels: names for what parsers expect.
@@ -350,7 +350,7 @@ pub mod context_laws {
 
 /// When parsers that decide by the word are ready and steady, as in `laws`.
 pub mod word_laws {
-    pub use chumsky_shield::steady::{pick_by_is_steady, test_by_is_steady};
+    pub use chumsky_judge::steady::{pick_by_is_steady, test_by_is_steady};
 }
 
 /// Laws of parsers that recover, as those of `laws`: what each answer of one is, and when it is ready and steady.
@@ -409,6 +409,20 @@ pub mod laws {
     pub use chumsky_items::steady::{
         collect_exactly_is_steady, collect_is_steady, repeated_is_steady, separated_by_is_steady,
     };
+    pub use chumsky_judge::laws::{
+        and_is_ends_where_its_first_part_ends, filter_gives_what_passed,
+        filter_map_gives_what_was_picked, filter_map_of_all_answers_as_its_part,
+        filter_of_all_answers_as_its_part, map_err_succeeds_as_its_part,
+        map_err_with_state_succeeds_as_its_part, map_err_with_succeeds_as_its_part,
+        not_ends_where_it_began, rewind_ends_where_it_began, try_map_of_all_answers_as_its_part,
+        try_map_with_by_a_blind_closure_is_try_map,
+        validate_that_emits_nothing_answers_as_its_part,
+    };
+    pub use chumsky_judge::steady::{
+        and_is_is_steady, filter_is_steady, filter_map_is_steady, map_err_is_steady,
+        map_err_with_is_steady, map_err_with_state_is_steady, not_is_steady, try_map_is_steady,
+        try_map_with_is_steady, unwrapped_is_steady, validate_is_steady,
+    };
     pub use chumsky_parse_iter::laws::{
         finish_answers_the_whole, items_are_the_first_of_those_that_collect_gives,
         once_none_is_given_none_is_any_more, run_may_be_asked,
@@ -422,20 +436,6 @@ pub mod laws {
         a_list_takes_at_most_one_round_more, a_set_takes_at_most_one_round_more,
     };
     pub use chumsky_set::steady::{set_is_steady, set_of_a_list_is_steady};
-    pub use chumsky_shield::laws::{
-        and_is_ends_where_its_first_part_ends, filter_gives_what_passed,
-        filter_map_gives_what_was_picked, filter_map_of_all_answers_as_its_part,
-        filter_of_all_answers_as_its_part, map_err_succeeds_as_its_part,
-        map_err_with_state_succeeds_as_its_part, map_err_with_succeeds_as_its_part,
-        not_ends_where_it_began, rewind_ends_where_it_began, try_map_of_all_answers_as_its_part,
-        try_map_with_by_a_blind_closure_is_try_map,
-        validate_that_emits_nothing_answers_as_its_part,
-    };
-    pub use chumsky_shield::steady::{
-        and_is_is_steady, filter_is_steady, filter_map_is_steady, map_err_is_steady,
-        map_err_with_is_steady, map_err_with_state_is_steady, not_is_steady, try_map_is_steady,
-        try_map_with_is_steady, unwrapped_is_steady, validate_is_steady,
-    };
 }
 
 pub use chumsky_context::config::{ConfigParser, Configurable, IsConfigParser};

@@ -52,12 +52,12 @@ use Rattle.chumsky_items.specs.RepeatingLaws.{repeats-end, repeats-agree}
 use Rattle.chumsky_items.specs.SeparatedLanguage.{separated_language, separated-accepts}
 use Rattle.chumsky_items.specs.Separating.{Separates, Bounds}
 use Rattle.chumsky_items.specs.SeparatingLaws.{separates-end, separates-agree}
-use Rattle.chumsky_shield.specs.Picked.{picked_language, PicksByWord}
-use Rattle.chumsky_shield.specs.PickedLaws.{picked-accepts}
-use Rattle.chumsky_shield.specs.Tried.{ByPick, SamePick, SameFilterMapped, FilterMapsAlike}
-use Rattle.chumsky_shield.specs.TriedLaws.{picks-alike}
-use Rattle.chumsky_shield.specs.Vetted.{Vetted}
-use Rattle.chumsky_shield.specs.VettedLaws.{vetted-ends, vetted-agrees}
+use Rattle.chumsky_judge.specs.Picked.{picked_language, PicksByWord}
+use Rattle.chumsky_judge.specs.PickedLaws.{picked-accepts}
+use Rattle.chumsky_judge.specs.Tried.{ByPick, SamePick, SameFilterMapped, FilterMapsAlike}
+use Rattle.chumsky_judge.specs.TriedLaws.{picks-alike}
+use Rattle.chumsky_judge.specs.Vetted.{Vetted}
+use Rattle.chumsky_judge.specs.VettedLaws.{vetted-ends, vetted-agrees}
 use Rattle.chumsky_text.specs.Decimals.{unsigned_of, TextSlice, slice-bytes, unsigned-by_word}
 use Rattle.chumsky_text.specs.TextLanguage.{word_language, run_language}
 use Rattle.chumsky_text.specs.TextLanguageLaws.{word-accepts, run-accepts}

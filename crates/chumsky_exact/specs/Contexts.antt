@@ -6,7 +6,7 @@ use Rattle.chumsky_parser.specs.Ending.{Nowhere, Ender, and_then, Ends}
 use Rattle.chumsky_parser.specs.Language.{Language, Accepts, sooner, later}
 use Rattle.chumsky_parser.specs.SequenceLanguage.{MayFollow}
 use Rattle.chumsky_parser.specs.Words.{Joined, taken_of}
-use Rattle.chumsky_shield.specs.Picked.{IsPick}
+use Rattle.chumsky_judge.specs.Picked.{IsPick}
 
 -- what is said of a parser that asks its context
 pub record LanguageUnder (Cx Tok V : Type 0) : Type 1 where

@@ -5,7 +5,7 @@ use Rattle.std.specs.Char.{is_digit}
 use Rattle.std.specs.Str.{encode_utf8_all}
 use Rattle.std.specs.Str.Parse.{digits_value}
 use Rattle.chumsky_parser.specs.Words.{StopsAt}
-use Rattle.chumsky_shield.specs.Picked.{IsPick}
+use Rattle.chumsky_judge.specs.Picked.{IsPick}
 use Rattle.chumsky_text.specs.Decimals.{IsDecimal, IsInt, unsigned_of, int-decimal, decimal-int, numeral-value, numeral-fits, is_pick}
 
 -- decimal digits, with no zero before another, that write a number; and so many bits hold it

@@ -1,8 +1,8 @@
 //! `DecidedByWord` and `ParserUnder`: what is known of a parser whose output is the context of another, and of that other.
 use chumsky_input::extra::ParserExtra;
 use chumsky_input::input::Input;
+use chumsky_judge::pick_by::{PickBy, WordPicker};
 use chumsky_parser::parser::Parser;
-use chumsky_shield::pick_by::{PickBy, WordPicker};
 
 /// A parser whose output is decided by the word that it took, as a number is by its digits. So where that output is the context of
 /// another parser, it is known under which one that runs. Each `pick_by` is such a parser.

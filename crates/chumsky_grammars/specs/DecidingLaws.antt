@@ -1,5 +1,5 @@
 -- The laws of nodes whose value is judged by a mapper that may refuse, where it decides by the word of its part.
--- Main laws: tried-accepts, by_try-decides, rules-decide. Read first: Deciding.antt, PickedLaws.antt of chumsky_shield, Means.antt of chumsky_recursive.
+-- Main laws: tried-accepts, by_try-decides, rules-decide. Read first: Deciding.antt, PickedLaws.antt of chumsky_judge, Means.antt of chumsky_recursive.
 use Rattle.std.proofs.Common.{◌≡◌, ℕ, zero, suc, ◌≤◌, ◌<◌, true, Option, Some, None, List, [], ◌∷◌, drop, length, slice_get, refl, sym, ◌∙◌, ap, subst, inl, inr}
 use Rattle.std.proofs.lemmas.List.Elements.{All-contains, All-from_recursion}
 use Rattle.std.specs.List.{AllByRecursion, Contains}
@@ -16,13 +16,13 @@ use Rattle.chumsky_parser.specs.Progress.{IsYes, Moves}
 use Rattle.chumsky_parser.specs.ProgressLaws.{asked-moves}
 use Rattle.chumsky_parser.specs.Words.{taken_of}
 use Rattle.chumsky_parser.specs.WordsLaws.{taken_word}
-use Rattle.chumsky_shield.specs.Picked.{if_picked, picked_ends, picked_language}
-use Rattle.chumsky_shield.specs.PickedLaws.{picked-accepts}
-use Rattle.chumsky_shield.specs.Shielded.{NoAsOne}
-use Rattle.chumsky_shield.specs.ShieldedEndings.{or_clash-by, or_lacks-by, shielded-here}
-use Rattle.chumsky_shield.specs.ShieldedMoves.{clash-yes, lacks-yes, shielded-moves}
-use Rattle.chumsky_shield.specs.Tried.{ByTry, ruling_seen}
-use Rattle.chumsky_shield.specs.Vetted.{Vets, OnRuling}
+use Rattle.chumsky_judge.specs.Picked.{if_picked, picked_ends, picked_language}
+use Rattle.chumsky_judge.specs.PickedLaws.{picked-accepts}
+use Rattle.chumsky_judge.specs.Judged.{NoAsOne}
+use Rattle.chumsky_judge.specs.JudgedEndings.{or_clash-by, or_lacks-by, judged-here}
+use Rattle.chumsky_judge.specs.JudgedMoves.{clash-yes, lacks-yes, judged-moves}
+use Rattle.chumsky_judge.specs.Tried.{ByTry, ruling_seen}
+use Rattle.chumsky_judge.specs.Vetted.{Vets, OnRuling}
 use Rattle.chumsky_recursive.specs.Means.{VettingOrNone, VettedOrNone}
 use Rattle.chumsky_grammars.specs.Deciding.{DecidesByWord, EachPicks, tried_parts}
 use Rattle.chumsky_grammars.specs.Expression.{Expression}
@@ -59,7 +59,7 @@ module _ {Tok Cx St Er V : Type 0} (merged : Er → Er → Er) (lacks : Type 0) 
   -- it moves where it succeeds, since its part does
   tried-moves : Moves part → Moves Tried
   tried-moves h b o m y =
-      shielded-moves (Asked true part) (VettingOrNone merged lacks vets) (NoAsOne merged) (asked-moves true part h) judged_moves
+      judged-moves (Asked true part) (VettingOrNone merged lacks vets) (NoAsOne merged) (asked-moves true part h) judged_moves
       (λ c p q n z. subst IsYes (ap (λ (u : Outcome V Er St). u.verdict) (clash-yes n z)) z) b o m.run y
 
   module _ (picks : List Tok → Option V) (f : Ender Tok) (va of : List Tok → V → Type 0) (h : Reads part f va) (k : GivesOnly f va of) (by_word : RulesByWord picks of vets) where
@@ -99,7 +99,7 @@ module _ {Tok Cx St Er V : Type 0} (merged : Er → Er → Er) (lacks : Type 0) 
     tried-by = record {
       here = λ b w o m.
           let ts : List Tok = drop b.start b.tokens.list in
-          shielded-here (va ts) (Value ts) (Asked true part) (VettingOrNone merged lacks vets) (NoAsOne merged) (f ts) (picked_ends picks f ts) b (record {
+          judged-here (va ts) (Value ts) (Asked true part) (VettingOrNone merged lacks vets) (NoAsOne merged) (f ts) (picked_ends picks f ts) b (record {
             yes = λ v p q e i l j. judged b v p q e i l j;
             no = λ p q e j. let d : picked_ends picks f ts ≡ Nowhere = rw e refl in or_clash-by (Value ts) (picked_ends picks f ts) b.tokens.list _ q d j;
             refused = λ e. rw e refl;

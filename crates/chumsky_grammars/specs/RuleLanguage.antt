@@ -11,8 +11,8 @@ use Rattle.chumsky_choice.specs.ChoiceLanguages.{no_language}
 use Rattle.chumsky_items.specs.ListLanguage.{collected_language}
 use Rattle.chumsky_items.specs.RepeatedLanguage.{repeated_language}
 use Rattle.chumsky_items.specs.SeparatedLanguage.{separated_language}
-use Rattle.chumsky_shield.specs.Picked.{picked_language}
-use Rattle.chumsky_shield.specs.ShieldedLanguage.{not_language, and_is_language, rewind_language}
+use Rattle.chumsky_judge.specs.Picked.{picked_language}
+use Rattle.chumsky_judge.specs.JudgedLanguage.{not_language, and_is_language, rewind_language}
 use Rattle.chumsky_recursive.specs.Means.{AreThose, bounds_of}
 use Rattle.chumsky_grammars.specs.Expression.{Expression, Leaf, Call, Then, Or, Fail, Map, TryMap, Optional, Repeated, Separated, Not, And, Ahead, Unsaid}
 

@@ -25,8 +25,8 @@ use Rattle.chumsky_items.specs.Repeating.{Repeats}
 use Rattle.chumsky_items.specs.RepeatedLanguage.{repeated_language, repeated-accepts}
 use Rattle.chumsky_items.specs.Separating.{Separates}
 use Rattle.chumsky_items.specs.SeparatedLanguage.{separated_language, separated-accepts}
-use Rattle.chumsky_shield.specs.Not.{MeansNot}
-use Rattle.chumsky_shield.specs.ShieldedLanguage.{not-accepts, and_is-accepts, rewind-accepts}
+use Rattle.chumsky_judge.specs.Not.{MeansNot}
+use Rattle.chumsky_judge.specs.JudgedLanguage.{not-accepts, and_is-accepts, rewind-accepts}
 use Rattle.chumsky_rules.specs.declared.kinds.NodeKind.{NodeKind}
 use Rattle.chumsky_rules.specs.declared.kinds.NodeKind.TheVariants as kind
 use Rattle.chumsky_rules.specs.Tables.{Tables}

@@ -14,8 +14,8 @@ use Rattle.chumsky_input.specs.Run.{Ran, begin, answer}
 use Rattle.chumsky_input.specs.Aside.{ClashesWith, kept_after}
 use Rattle.chumsky_parser.specs.Chained.{retold}
 use Rattle.chumsky_parser.proofs.ChainedLemmas.{ran-weaker}
-use Rattle.chumsky_shield.specs.Shielded.{ByVerdict, Shielded}
-use Rattle.chumsky_shield.proofs.ShieldLemmas.{Went, went_yes, went_no, shield_whole, shield_clash, shield_halts, shield_stop}
+use Rattle.chumsky_judge.specs.Judged.{ByVerdict, Judged}
+use Rattle.chumsky_judge.proofs.JudgeLemmas.{Went, went_yes, went_no, judge_whole, judge_clash, judge_halts, judge_stop}
 use Rattle.chumsky_input.proofs.PrimaryLemmas.{kept-nearer}
 use Rattle.chumsky_label.specs.Labelling.{LabelsSeen}
 use Rattle.chumsky_label.specs.Labelled.{RelabelsAt, Relabels, LabelledAs, MeansLabelled, Relabelled, KeepsLabelled, LosesLabelled}
@@ -24,7 +24,7 @@ module _ {Tok Cx St Er V : Type 0} (merged : Er → Er → Er) (safe : Type 0) (
     (part : Meaning Tok Cx St Er V) (w : Bool) (old mid : Held Tok Cx St Er) where
   inside : (new : Held Tok Cx St Er) (r : Result (Option V) Fault)
       → Ran merged safe
-      (Shielded part (λ b v p o. LabelledAs merged maps free (Yes v) b p o) (λ b p o. LabelledAs merged maps free No b p o))
+      (Judged part (λ b v p o. LabelledAs merged maps free (Yes v) b p o) (λ b p o. LabelledAs merged maps free No b p o))
       w old new r
       → Ran merged safe (MeansLabelled merged maps free part) w old new r
   inside new r h = ran-weaker merged safe _ _ w old new r (λ o k. record { run = k }) h
@@ -39,7 +39,7 @@ module _ {Tok Cx St Er V : Type 0} (merged : Er → Er → Er) (safe : Type 0) (
     keeps : (new : Held Tok Cx St Er) → KeepsLabelled merged maps old.place old.kept mid new → Ran merged safe (MeansLabelled merged maps free part) w old new (answer u)
     keeps new k =
         let whole : Outcome V Er St = record (retold u went.first) { events = option_to_list k.event } in
-        inside new _ (shield_whole went whole new is (judge whole (record { says = inr (k.event, subst (λ z. Relabels maps old.place z k.event) kept_is k.relabels, inl refl) }))
+        inside new _ (judge_whole went whole new is (judge whole (record { says = inr (k.event, subst (λ z. Relabels maps old.place z k.event) kept_is k.relabels, inl refl) }))
         (k.left ∙ ap (λ (z : Held Tok Cx St Er). record z { kept = primary merged (option_to_list old.kept ++ option_to_list k.event) }) went.left))
 
     loses : (new : Held Tok Cx St Er)
@@ -48,12 +48,12 @@ module _ {Tok Cx St Er V : Type 0} (merged : Er → Er → Er) (safe : Type 0) (
         → Ran merged safe (MeansLabelled merged maps free part) w old new (Err (fault.Stop Memory))
     loses new (inl may) n =
         let l = n ∙ ap (λ (z : Held Tok Cx St Er). record z { kept = None }) went.left in
-        inside new _ (shield_halts went new (λ o v s. judge o (record { says = inl (may, v, s ∙ ap (λ (z : Held Tok Cx St Er). z.state) l) }))
+        inside new _ (judge_halts went new (λ o v s. judge o (record { says = inl (may, v, s ∙ ap (λ (z : Held Tok Cx St Er). z.state) l) }))
         (record { tokens = ap (λ (z : Held Tok Cx St Er). z.tokens) l; context = ap (λ (z : Held Tok Cx St Er). z.context) l }) (ap (λ (z : Held Tok Cx St Er). z.stopped) l))
     loses new (inr k) n =
         let l = n ∙ ap (λ (z : Held Tok Cx St Er). record z { kept = None }) went.left in
         let whole : Outcome V Er St = record (retold u went.first) { events = option_to_list k.0 } in
-        inside new _ (shield_clash went whole k.2.0 new (ap option_to_list k.2.1) (λ o j. judge o (record { says = inr (k.0, subst (λ z. Relabels maps old.place z k.0) kept_is k.1, j) }))
+        inside new _ (judge_clash went whole k.2.0 new (ap option_to_list k.2.1) (λ o j. judge o (record { says = inr (k.0, subst (λ z. Relabels maps old.place z k.0) kept_is k.1, j) }))
         (ap (λ (z : Held Tok Cx St Er). z.state) l)
         (record { tokens = ap (λ (z : Held Tok Cx St Er). z.tokens) l; context = ap (λ (z : Held Tok Cx St Er). z.context) l })
         (ap (λ (z : Held Tok Cx St Er). z.stopped) l) k.2.2 k.2.3)
@@ -61,7 +61,7 @@ module _ {Tok Cx St Er V : Type 0} (merged : Er → Er → Er) (safe : Type 0) (
 module _ {Tok Cx St Er V : Type 0} {merged : Er → Er → Er} {safe : Type 0} {maps : Er → Er → Type 0} {free : Type 0}
     {part : Meaning Tok Cx St Er V} {w : Bool} {old mid : Held Tok Cx St Er} where
   pub labelled_stops : {s : Stop} → Ran merged safe part w (record old { kept = None }) mid (Err (fault.Stop s)) → Ran merged safe (MeansLabelled merged maps free part) w old mid (Err (fault.Stop s))
-  labelled_stops h = inside merged safe maps free part w old mid mid _ (shield_stop h)
+  labelled_stops h = inside merged safe maps free part w old mid mid _ (judge_stop h)
 
   pub labelled_yes : {v : Option V} {new : Held Tok Cx St Er}
       → Ran merged safe part w (record old { kept = None }) mid (Ok v)

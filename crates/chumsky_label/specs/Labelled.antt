@@ -1,5 +1,5 @@
 -- A part that a label names.
--- Main words: MeansLabelled, AnswersButEvents. Laws: LabelledLaws.antt. Read first: chumsky_shield's Shielded.antt.
+-- Main words: MeansLabelled, AnswersButEvents. Laws: LabelledLaws.antt. Read first: chumsky_judge's Judged.antt.
 use Rattle.std.specs.Prelude.{◌≡◌, ℕ, Bool, true, false, eqb, Option, Some, None, List, Result, ◌⊎◌, ⊤, MatchResult, option_map, option_to_list, map}
 use Rattle.chumsky_input.specs.declared.error.Error as error_trait
 use Rattle.chumsky_input.specs.declared.input_ref.Located.{Located}
@@ -9,7 +9,7 @@ use Rattle.chumsky_input.specs.Outcome.{Event, Meaning, Beginning, Outcome, Verd
 use Rattle.chumsky_input.specs.Primary.{primary}
 use Rattle.chumsky_parser.specs.Chained.{retold}
 use Rattle.chumsky_parser.specs.Failure.{Refuses}
-use Rattle.chumsky_shield.specs.Shielded.{OrClash, Shielded}
+use Rattle.chumsky_judge.specs.Judged.{OrClash, Judged}
 use Rattle.chumsky_label.specs.Labelling.{LabelsSeen}
 
 module _ {Er : Type 0} (maps : Er → Er → Type 0) where
@@ -29,7 +29,7 @@ module _ {Tok Cx St Er V : Type 0} (merged : Er → Er → Er) (maps : Er → Er
 
   -- on success and on failure
   pub record MeansLabelled (part : Meaning Tok Cx St Er V) (b : Beginning Tok Cx St) (o : Outcome V Er St) : Type 0 where
-    pub run : Shielded part (λ b v p o. LabelledAs (Yes v) b p o) (λ b p o. LabelledAs No b p o) b o
+    pub run : Judged part (λ b v p o. LabelledAs (Yes v) b p o) (λ b p o. LabelledAs No b p o) b o
 
 module _ {Tok Cx St Er : Type 0} (maps : Er → Er → Type 0) where
   pub record Relabelled (start : ℕ) (old new : Held Tok Cx St Er) : Type 0 where

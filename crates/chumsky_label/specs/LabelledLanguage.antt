@@ -7,9 +7,9 @@ use Rattle.chumsky_parser.specs.EndingLaws.{refuses-by}
 use Rattle.chumsky_parser.specs.Language.{Language, Accepts}
 use Rattle.chumsky_parser.specs.Memory.{NeverOutOfMemory}
 use Rattle.chumsky_parser.specs.Progress.{IsYes, Moves}
-use Rattle.chumsky_shield.specs.ShieldedEndings.{shielded-here, or_clash-by}
-use Rattle.chumsky_shield.specs.ShieldedMoves.{clash-yes, shielded-moves}
-use Rattle.chumsky_shield.specs.ShieldedSpares.{or_clash-spares, shielded-spares}
+use Rattle.chumsky_judge.specs.JudgedEndings.{judged-here, or_clash-by}
+use Rattle.chumsky_judge.specs.JudgedMoves.{clash-yes, judged-moves}
+use Rattle.chumsky_judge.specs.JudgedSpares.{or_clash-spares, judged-spares}
 use Rattle.chumsky_label.specs.Labelled.{LabelledAs, MeansLabelled}
 
 -- the part's, where putting in the label takes no memory either
@@ -30,12 +30,12 @@ module _ {Tok Cx St Er V : Type 0} (merged : Er → Er → Er) (maps : Er → Er
   -- a part that a label names
   pub labelled-moves : (part : Meaning Tok Cx St Er V) → Moves part → Moves (MeansLabelled merged maps free part)
   labelled-moves part h b o m y =
-      shielded-moves part (λ c v p q. LabelledAs merged maps free (Yes v) c p q)
+      judged-moves part (λ c v p q. LabelledAs merged maps free (Yes v) c p q)
       (λ c p q. LabelledAs merged maps free No c p q) h labelled_yes-moves labelled_no-no b o m.run y
 
   pub labelled-spares : free → (part : Meaning Tok Cx St Er V) → NeverOutOfMemory part → NeverOutOfMemory (MeansLabelled merged maps free part)
   labelled-spares x part h b o m =
-      shielded-spares part (λ c v p q. LabelledAs merged maps free (Yes v) c p q) (λ c p q. LabelledAs merged maps free No c p q) h
+      judged-spares part (λ c v p q. LabelledAs merged maps free (Yes v) c p q) (λ c p q. LabelledAs merged maps free No c p q) h
       (λ c v p q n. elim n.says [ inl r ↦ absurd (r.0 x) | inr k ↦ or_clash-spares _ q tt k.2 ])
       (λ c p q n. elim n.says [ inl r ↦ absurd (r.0 x) | inr k ↦ or_clash-spares _ q tt k.2 ]) b o m.run
 
@@ -43,7 +43,7 @@ module _ {Tok Cx St Er V : Type 0} (merged : Er → Er → Er) (maps : Er → Er
   labelled-by part f va h = record {
     here = λ b w o m.
         let ts : List Tok = drop b.start b.tokens.list in
-        shielded-here (va ts) (va ts) part (λ c v p q. LabelledAs merged maps free (Yes v) c p q) (λ c p q. LabelledAs merged maps free No c p q) (f ts) (f ts) b (record {
+        judged-here (va ts) (va ts) part (λ c v p q. LabelledAs merged maps free (Yes v) c p q) (λ c p q. LabelledAs merged maps free No c p q) (f ts) (f ts) b (record {
           yes = λ v p q e i l j. elim j.says [ inl r ↦ refuses-by (va ts) (f ts) b.tokens.list q r | inr k ↦ or_clash-by (va ts) (f ts) b.tokens.list _ q (e, i, l) k.2 ];
           no = λ p q e j. elim j.says [ inl r ↦ refuses-by (va ts) (f ts) b.tokens.list q r | inr k ↦ or_clash-by (va ts) (f ts) b.tokens.list _ q e k.2 ];
           refused = λ e. e;

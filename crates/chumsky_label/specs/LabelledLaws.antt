@@ -5,9 +5,9 @@ use Rattle.chumsky_parser.specs.Failure.{Refuses}
 use Rattle.chumsky_input.specs.Outcome.{Event, Meaning, Beginning, Outcome, Verdict, Yes, No, Halt, Clash, IsAnswer, SameAnswer, Alike, Agree, EndsAfterStart, Agreeing}
 use Rattle.chumsky_input.specs.Primary.{primary}
 use Rattle.chumsky_parser.specs.Chained.{retold}
-use Rattle.chumsky_shield.specs.Shielded.{ByVerdict, OrClash}
-use Rattle.chumsky_shield.specs.ShieldedLaws.{or_clash-whole, shielded-ends, shielded-agrees}
-use Rattle.chumsky_shield.specs.MapErr.{MapsOnce}
+use Rattle.chumsky_judge.specs.Judged.{ByVerdict, OrClash}
+use Rattle.chumsky_judge.specs.JudgedLaws.{or_clash-whole, judged-ends, judged-agrees}
+use Rattle.chumsky_judge.specs.MapErr.{MapsOnce}
 use Rattle.chumsky_label.specs.Labelling.{LabelsSeen}
 use Rattle.chumsky_label.specs.Labelled.{RelabelsAt, Relabels, LabelledAs, MeansLabelled, IsOfError, places, ButEvents, AnswersButEvents, EachAnswered}
 
@@ -37,7 +37,7 @@ module _ {Tok Cx St Er V : Type 0} (merged : Er → Er → Er) (maps : Er → Er
   labelled_ends u b p o l h a = let e = ap (λ (x : Outcome V Er St). x.end) (labelled_is u b p o h.says a).2 in omega (arith, l, e)
 
   pub labelled-ends : EndsAfterStart part → EndsAfterStart (MeansLabelled merged maps free part)
-  labelled-ends h b o m a = shielded-ends part _ _ h (λ b v p o l j x. labelled_ends (Yes v) b p o l j x) (λ b p o l j x. labelled_ends No b p o l j x) b o m.run a
+  labelled-ends h b o m a = judged-ends part _ _ h (λ b v p o l j x. labelled_ends (Yes v) b p o l j x) (λ b p o l j x. labelled_ends No b p o l j x) b o m.run a
 
   module _ (sv : V → V → Type 0) (once : MapsOnce maps) where
     labelled_agree : (u u' : Verdict V Er) (b c : Beginning Tok Cx St) (p p' o q : Outcome V Er St)
@@ -57,7 +57,7 @@ module _ {Tok Cx St Er V : Type 0} (merged : Er → Er → Er) (maps : Er → Er
 
     pub labelled-agrees : Agreeing sv part part → Agreeing sv (MeansLabelled merged maps free part) (MeansLabelled merged maps free part)
     labelled-agrees h b c o q alike m n a z =
-        shielded-agrees part _ _ sv sv h
+        judged-agrees part _ _ sv sv h
         (λ b c v v' p p' o q alike s g j k a z. labelled_agree (Yes v) (Yes v') b c p p' o q s alike g j k a z)
         (λ b c p p' o q alike g j k a z. labelled_agree No No b c p p' o q tt alike g j k a z)
         b c o q alike m.run n.run a z

@@ -5,7 +5,7 @@ use Rattle.std.proofs.Common.{sym, ◌∙◌, ap}
 use Rattle.chumsky_input.specs.Wanted.{Label}
 use Rattle.chumsky_input.specs.Rich.{RichSeen, rich_span, rich_found, rich_seen, rich_expectation, rich_labelled}
 use Rattle.chumsky_input.specs.declared.rich.Rich.{Rich}
-use Rattle.chumsky_shield.specs.MapErr.{MapsOnce}
+use Rattle.chumsky_judge.specs.MapErr.{MapsOnce}
 use Rattle.chumsky_label.specs.Labelling.{LabelsSeen}
 
 module _ {T S : Type 0} (seen : T → S) (same : S → S → Bool) (text : List ℕ) where

@@ -1,6 +1,6 @@
 //! A parser that a label names.
 ghost use Rattle.std.specs.Prelude.{◌≡◌, ◌<◌, IsTrue, MatchOption};
-ghost use Rattle.chumsky_shield.specs.Calls.{Changes};
+ghost use Rattle.chumsky_judge.specs.Calls.{Changes};
 ghost use Rattle.chumsky_label.specs.Labelling.{LabelsSeen};
 ghost use Rattle.chumsky_label.specs.Labelled.{RelabelsOrLoses, KeepsOrLoses};
 
@@ -29,7 +29,7 @@ where
     E::Error: LabelError<I, L>,
     A: Parser<'src, I, O, E>,
 {
-    ghost use Rattle.chumsky_shield.specs.MapErr.{MapsOnce};
+    ghost use Rattle.chumsky_judge.specs.MapErr.{MapsOnce};
     ghost use Rattle.chumsky_label.specs.Labelled.{MeansLabelled};
     ghost use Rattle.chumsky_label.specs.LabelledLaws.{labelled-ends, labelled-agrees};
     ghost use Rattle.chumsky_label.specs.LabelledLanguage.{labelled_language, labelled-accepts};

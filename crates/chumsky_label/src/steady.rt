@@ -2,7 +2,7 @@
 ghost use Rattle.std.specs.Prelude.{◌≡◌};
 ghost use Rattle.chumsky_input.specs.declared.rich.Rich.{Rich};
 ghost use Rattle.chumsky_input.specs.Rich.{rich_seen, rich_labelled};
-ghost use Rattle.chumsky_shield.specs.MapErr.{MapsOnce};
+ghost use Rattle.chumsky_judge.specs.MapErr.{MapsOnce};
 ghost use Rattle.chumsky_label.specs.Labelling.{LabelsSeen};
 
 use crate::label_error::LabelError;

@@ -35,6 +35,9 @@ use chumsky_items::container::Container;
 use chumsky_items::count::Count;
 use chumsky_items::repeated::Repeated;
 use chumsky_items::separated_by::SeparatedBy;
+use chumsky_judge::filter::{Filter, Tester};
+use chumsky_judge::filter_map::{FilterMap, Picker};
+use chumsky_judge::try_map::{TryMap, TryMapper};
 use chumsky_label::label_error::LabelError;
 use chumsky_parser::container::{OrderedSeq, Seq};
 use chumsky_parser::iter::IterParser;
@@ -45,9 +48,6 @@ use chumsky_primitive::end::End;
 use chumsky_primitive::just::Just;
 use chumsky_primitive::none_of::NoneOf;
 use chumsky_primitive::one_of::OneOf;
-use chumsky_shield::filter::{Filter, Tester};
-use chumsky_shield::filter_map::{FilterMap, Picker};
-use chumsky_shield::try_map::{TryMap, TryMapper};
 
 /// What takes no memory: errors that say where they stand, and at most what was found, where a clone of a token takes none, and
 /// their labels; states that hold nothing, that stay, or that are cut, and one that is restored, where a clone of its value takes

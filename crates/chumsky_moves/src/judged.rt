@@ -6,17 +6,17 @@ use chumsky_input::emitter::Emitter;
 use chumsky_input::extra::ParserExtra;
 use chumsky_input::input::Input;
 use chumsky_input::map_extra::MapExtra;
+use chumsky_judge::and_is::AndIs;
+use chumsky_judge::filter::{Filter, Tester};
+use chumsky_judge::filter_map::{FilterMap, Picker};
+use chumsky_judge::map_err::MapErr;
+use chumsky_judge::map_err_with::MapErrWith;
+use chumsky_judge::map_err_with_state::MapErrWithState;
+use chumsky_judge::try_map::{TryMap, TryMapper};
+use chumsky_judge::try_map_with::TryMapWith;
+use chumsky_judge::unwrapped::Unwrapped;
+use chumsky_judge::validate::Validate;
 use chumsky_parser::parser::Parser;
-use chumsky_shield::and_is::AndIs;
-use chumsky_shield::filter::{Filter, Tester};
-use chumsky_shield::filter_map::{FilterMap, Picker};
-use chumsky_shield::map_err::MapErr;
-use chumsky_shield::map_err_with::MapErrWith;
-use chumsky_shield::map_err_with_state::MapErrWithState;
-use chumsky_shield::try_map::{TryMap, TryMapper};
-use chumsky_shield::try_map_with::TryMapWith;
-use chumsky_shield::unwrapped::Unwrapped;
-use chumsky_shield::validate::Validate;
 
 impl<
     'src,
@@ -26,7 +26,7 @@ impl<
     A: Moving<'src, I, O, E>,
     F: Tester<O>,
 > Moving<'src, I, O, E> for Filter<A, F> {
-    ghost use Rattle.chumsky_shield.specs.ShieldedMoves.{vetted-moves};
+    ghost use Rattle.chumsky_judge.specs.JudgedMoves.{vetted-moves};
 
     ghost moves = { λ p. A.moves p.parser };
 
@@ -45,7 +45,7 @@ where
     A: Moving<'src, I, O, E>,
     F: Picker<O, U>,
 {
-    ghost use Rattle.chumsky_shield.specs.ShieldedMoves.{vetted-moves};
+    ghost use Rattle.chumsky_judge.specs.JudgedMoves.{vetted-moves};
 
     ghost moves = { λ p. A.moves p.parser };
 
@@ -64,7 +64,7 @@ where
     A: Moving<'src, I, O, E>,
     F: TryMapper<O, I::Span, U, E::Error>,
 {
-    ghost use Rattle.chumsky_shield.specs.ShieldedMoves.{vetted-moves};
+    ghost use Rattle.chumsky_judge.specs.JudgedMoves.{vetted-moves};
 
     ghost moves = { λ p. A.moves p.parser };
 
@@ -83,7 +83,7 @@ where
     A: Moving<'src, I, O, E>,
     F: Fn(O, &mut MapExtra<'src, '_, I, E>) -> Result<U, E::Error>,
 {
-    ghost use Rattle.chumsky_shield.specs.ShieldedMoves.{vetted-moves};
+    ghost use Rattle.chumsky_judge.specs.JudgedMoves.{vetted-moves};
 
     ghost moves = { λ p. A.moves p.parser };
 
@@ -102,7 +102,7 @@ where
     A: Moving<'src, I, O, E>,
     F: Fn(O, &mut MapExtra<'src, '_, I, E>, &mut Emitter<E::Error>) -> U,
 {
-    ghost use Rattle.chumsky_shield.specs.ValidatedLanguage.{validated-moves};
+    ghost use Rattle.chumsky_judge.specs.ValidatedLanguage.{validated-moves};
 
     ghost moves = { λ p. A.moves p.parser };
 
@@ -156,7 +156,7 @@ where
     A: Moving<'src, I, O, E>,
     F: Fn(E::Error) -> E::Error,
 {
-    ghost use Rattle.chumsky_shield.specs.ShieldedMoves.{map_err-moves};
+    ghost use Rattle.chumsky_judge.specs.JudgedMoves.{map_err-moves};
 
     ghost moves = { λ p. A.moves p.parser };
 
@@ -175,7 +175,7 @@ where
     A: Moving<'src, I, O, E>,
     F: Fn(E::Error, &mut MapExtra<'src, '_, I, E>) -> E::Error,
 {
-    ghost use Rattle.chumsky_shield.specs.ShieldedMoves.{map_err-moves};
+    ghost use Rattle.chumsky_judge.specs.JudgedMoves.{map_err-moves};
 
     ghost moves = { λ p. A.moves p.parser };
 
@@ -194,7 +194,7 @@ where
     A: Moving<'src, I, O, E>,
     F: Fn(E::Error, I::Span, &mut E::State) -> E::Error,
 {
-    ghost use Rattle.chumsky_shield.specs.ShieldedMoves.{map_err-moves};
+    ghost use Rattle.chumsky_judge.specs.JudgedMoves.{map_err-moves};
 
     ghost moves = { λ p. A.moves p.parser };
 
@@ -214,7 +214,7 @@ where
     A: Moving<'src, I, O, E>,
     B: Parser<'src, I, U, E>,
 {
-    ghost use Rattle.chumsky_shield.specs.ShieldedMoves.{and_is-moves};
+    ghost use Rattle.chumsky_judge.specs.JudgedMoves.{and_is-moves};
 
     ghost moves = { λ p. A.moves p.parser };
 

@@ -12,12 +12,12 @@ use chumsky_context::try_iter_configure::TryIterConfigure;
 use chumsky_context::with_ctx::WithCtx;
 use chumsky_context::with_state::WithState;
 use chumsky_flatten::flatten::Flatten;
+use chumsky_judge::not::Not;
+use chumsky_judge::rewind::Rewind;
 use chumsky_primitive::custom::Custom;
 use chumsky_primitive::empty::Empty;
 use chumsky_primitive::end::End;
 use chumsky_set::set::Set;
-use chumsky_shield::not::Not;
-use chumsky_shield::rewind::Rewind;
 use chumsky_text::run::Run;
 
 impl<I, E> MayStay for End<I, E> {}

@@ -14,9 +14,9 @@ use Rattle.chumsky_input.specs.Primary.{primary}
 use Rattle.chumsky_input.specs.Run.{Ran, SameRun, LeavesBy, begin, answer, gone_back, marked_here, with_emitted, with_value, without_value}
 use Rattle.chumsky_parser.proofs.ChainedLemmas.{ran-weaker, rebased}
 use Rattle.chumsky_parser.proofs.FailureLemmas.{ran-halts}
-use Rattle.chumsky_shield.specs.Shielded.{Shielded, NoAsOne}
-use Rattle.chumsky_shield.specs.MapErr.{YesAsOne}
-use Rattle.chumsky_shield.proofs.ShieldLemmas.{Went, went_yes, went_no, shield_stop, shield_as_one, shield_as_one_refused, as_left}
+use Rattle.chumsky_judge.specs.Judged.{Judged, NoAsOne}
+use Rattle.chumsky_judge.specs.MapErr.{YesAsOne}
+use Rattle.chumsky_judge.proofs.JudgeLemmas.{Went, went_yes, went_no, judge_stop, judge_as_one, judge_as_one_refused, as_left}
 use Rattle.chumsky_recovery.specs.Recovered.{Final, error_of, Helped, ElseHelp, MarkedOrHelp, MeansRecovered}
 use Rattle.chumsky_recovery.specs.Recovering.{TellsError, OneAnswer}
 
@@ -226,7 +226,7 @@ module _ {Tok Cx St Mk Er V : Type 0} (merged : Er → Er → Er) (safe : Type 0
           help_answers value error new (Err (fault.Stop s)) r e k t = rw (t.0, t.1) (help_stops s k)
 
   whole_run : (new : Held Tok Cx St Er) (r : Result (Option V) Fault)
-      → Ran merged safe (Shielded Inner (YesAsOne merged) (NoAsOne merged)) w old new r
+      → Ran merged safe (Judged Inner (YesAsOne merged) (NoAsOne merged)) w old new r
       → Ran merged safe (MeansRecovered merged final mark back quiet part help) w old new r
   whole_run new r h = ran-weaker merged safe _ _ w old new r (λ o k. record { run = k }) h
 
@@ -237,17 +237,17 @@ module _ {Tok Cx St Mk Er V : Type 0} (merged : Er → Er → Er) (safe : Type 0
       → Ran merged safe (MeansRecovered merged final mark back quiet part help) w old new (counted value r)
   recovered_answers value mid new (Ok x) r h (inl t) =
       let g = went_yes merged safe Inner w old mid (value x) h in
-      rw t.0 (whole_run new _ (shield_as_one {u = Yes (value x)} g g.first.state mid new (as_left g) tt (λ o j. j) t.1))
+      rw t.0 (whole_run new _ (judge_as_one {u = Yes (value x)} g g.first.state mid new (as_left g) tt (λ o j. j) t.1))
   recovered_answers value mid new (Ok x) r h (inr t) =
       let g = went_yes merged safe Inner w old mid (value x) h in
-      rw t.0 (whole_run new _ (shield_as_one_refused {u = Yes (value x)} g g.first.state mid new (as_left g) (λ o j. j) (t.1, t.2)))
+      rw t.0 (whole_run new _ (judge_as_one_refused {u = Yes (value x)} g g.first.state mid new (as_left g) (λ o j. j) (t.1, t.2)))
   recovered_answers value mid new (Err fault.Fail) r h (inl t) =
       let g = went_no merged safe Inner w old mid h in
-      rw t.0 (whole_run new _ (shield_as_one {u = No} g g.first.state mid new (as_left g) tt (λ o j. j) t.1))
+      rw t.0 (whole_run new _ (judge_as_one {u = No} g g.first.state mid new (as_left g) tt (λ o j. j) t.1))
   recovered_answers value mid new (Err fault.Fail) r h (inr t) =
       let g = went_no merged safe Inner w old mid h in
-      rw t.0 (whole_run new _ (shield_as_one_refused {u = No} g g.first.state mid new (as_left g) (λ o j. j) (t.1, t.2)))
-  recovered_answers value mid new (Err (fault.Stop s)) r h t = rw (t.0, t.1) (whole_run mid _ (shield_stop h))
+      rw t.0 (whole_run new _ (judge_as_one_refused {u = No} g g.first.state mid new (as_left g) (λ o j. j) (t.1, t.2)))
+  recovered_answers value mid new (Err (fault.Stop s)) r h t = rw (t.0, t.1) (whole_run mid _ (judge_stop h))
 
 module _ {Tok Cx St Er A B : Type 0} where
   -- an error that counts as another was emitted

@@ -14,7 +14,7 @@ use Rattle.chumsky_input.proofs.PrimaryLemmas.{kept-same}
 use Rattle.chumsky_parser.specs.Chained.{Chained, retold}
 use Rattle.chumsky_parser.proofs.ChainedLemmas.{chained, failed, ran-weaker}
 use Rattle.chumsky_parser.proofs.FailureLemmas.{ran-halts, ran-no}
-use Rattle.chumsky_shield.proofs.ShieldLemmas.{Went, went_yes, went_no}
+use Rattle.chumsky_judge.proofs.JudgeLemmas.{Went, went_yes, went_no}
 use Rattle.chumsky_recovery.specs.Retrying.{QuietOrBack, BackOr}
 use Rattle.chumsky_recovery.specs.Turns.{Turn, Again, Last, with_last, without_last}
 use Rattle.chumsky_recovery.specs.Seeking.{Seeks, Forgets, Unheard, GoesOn, IfQuiet, Retries, AfterSeek, RetryTurn}

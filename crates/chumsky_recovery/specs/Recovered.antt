@@ -1,13 +1,13 @@
 -- A part in whose place something else is run where it says no, and whose error is then emitted.
--- Main word: MeansRecovered. Read first: Choice.antt and Failure.antt of the parser, Shielded.antt.
+-- Main word: MeansRecovered. Read first: Choice.antt and Failure.antt of the parser, Judged.antt.
 use Rattle.std.specs.Prelude.{◌≡◌, ℕ, Option, [], ◌∷◌, ◌++◌, ◌⊎◌, ⊤}
 use Rattle.chumsky_input.specs.Layout.{Layout}
 use Rattle.chumsky_input.specs.Outcome.{Event, Meaning, Beginning, Outcome, Verdict, Yes, No, Halt, Clash}
 use Rattle.chumsky_input.specs.Primary.{primary}
 use Rattle.chumsky_parser.specs.Choice.{ByMark}
 use Rattle.chumsky_parser.specs.Failure.{Refuses}
-use Rattle.chumsky_shield.specs.Shielded.{Shielded, NoAsOne}
-use Rattle.chumsky_shield.specs.MapErr.{YesAsOne}
+use Rattle.chumsky_judge.specs.Judged.{Judged, NoAsOne}
+use Rattle.chumsky_judge.specs.MapErr.{YesAsOne}
 
 -- what counts of the last error of a failure that kept this event, or none, by the tokens and the place where it ended
 abbrev pub Final : Type 0 → Type 0 → Type 0
@@ -62,4 +62,4 @@ module _ {Tok Cx St Mk Er V : Type 0} (merged : Er → Er → Er) (final : Final
 
   -- the same, with its failures counted as one
   pub record MeansRecovered (part help : Meaning Tok Cx St Er V) (b : Beginning Tok Cx St) (o : Outcome V Er St) : Type 0 where
-    pub run : Shielded (MarkedOrHelp part help) (YesAsOne merged) (NoAsOne merged) b o
+    pub run : Judged (MarkedOrHelp part help) (YesAsOne merged) (NoAsOne merged) b o

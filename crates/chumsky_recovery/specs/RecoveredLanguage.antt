@@ -10,9 +10,9 @@ use Rattle.chumsky_parser.specs.EndingLaws.{refuses-by}
 use Rattle.chumsky_parser.specs.Language.{Language, Accepts}
 use Rattle.chumsky_parser.specs.ProgressLaws.{both-true}
 use Rattle.chumsky_parser.specs.Words.{either_ends, ElseValue}
-use Rattle.chumsky_shield.specs.MapErr.{YesAsOne}
-use Rattle.chumsky_shield.specs.Shielded.{NoAsOne}
-use Rattle.chumsky_shield.specs.ShieldedEndings.{or_clash-by, shielded-here}
+use Rattle.chumsky_judge.specs.MapErr.{YesAsOne}
+use Rattle.chumsky_judge.specs.Judged.{NoAsOne}
+use Rattle.chumsky_judge.specs.JudgedEndings.{or_clash-by, judged-here}
 use Rattle.chumsky_recovery.specs.Recovered.{Final, Helped, ElseHelp, OrHelp, MarkedOrHelp, MeansRecovered}
 use Rattle.chumsky_recovery.specs.RecoveryMoves.{recovered-moves}
 
@@ -83,7 +83,7 @@ module _ {Tok Cx St Mk Er V : Type 0} (merged : Er → Er → Er) (final : Final
         let ts : List Tok = drop b.start b.tokens.list in
         let x : Ending (List Tok) = either_ends f g ts in
         let R : V → Type 0 = λ v. ElseValue (f ts) (va ts v) (vb ts v) in
-        shielded-here R R (MarkedOrHelp merged final mark back safe part help) (YesAsOne merged) (NoAsOne merged) x x b (record {
+        judged-here R R (MarkedOrHelp merged final mark back safe part help) (YesAsOne merged) (NoAsOne merged) x x b (record {
           yes = λ v p q e i l j. or_clash-by R x b.tokens.list _ q (e, i, l) j;
           no = λ p q e j. or_clash-by R x b.tokens.list _ q e j;
           refused = λ e. e;

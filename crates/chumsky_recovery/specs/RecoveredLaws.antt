@@ -1,8 +1,8 @@
 -- The laws of a part in whose place something else is run where it says no.
 use Rattle.std.proofs.Common.{◌≡◌, ◌≤◌, [], ◌∷◌, ◌++◌, refl, sym, ◌∙◌, ap, subst, arith, inl, inr}
 use Rattle.chumsky_input.specs.Outcome.{Meaning, Beginning, Outcome, Verdict, Yes, No, Halt, Clash, IsAnswer, SameAnswer, Alike, Agree, EndsAfterStart, Agreeing}
-use Rattle.chumsky_shield.specs.MapErrLaws.{yes_as_one-ends, yes_as_one-agrees}
-use Rattle.chumsky_shield.specs.ShieldedLaws.{shielded-ends, shielded-agrees, no_as_one-ends, no_as_one-agrees}
+use Rattle.chumsky_judge.specs.MapErrLaws.{yes_as_one-ends, yes_as_one-agrees}
+use Rattle.chumsky_judge.specs.JudgedLaws.{judged-ends, judged-agrees, no_as_one-ends, no_as_one-agrees}
 use Rattle.chumsky_recovery.specs.Recovered.{Final, error_of, Helped, ElseHelp, OrHelp, MarkedOrHelp, MeansRecovered}
 
 module _ {Tok Cx St Mk Er V : Type 0} (merged : Er → Er → Er) (final : Final Tok Er) (back : St → Mk → St) (safe : Type 0) (mark : Mk) (part help : Meaning Tok Cx St Er V) where
@@ -116,9 +116,9 @@ module _ {Tok Cx St Mk Er V : Type 0} (merged : Er → Er → Er) (final : Final
       ]
 
   pub recovered-ends : EndsAfterStart part → EndsAfterStart help → EndsAfterStart (MeansRecovered merged final mark back safe part help)
-  recovered-ends hp hh b o m a = shielded-ends _ _ _ (marked-ends hp hh) (yes_as_one-ends merged) (no_as_one-ends merged) b o m.run a
+  recovered-ends hp hh b o m a = judged-ends _ _ _ (marked-ends hp hh) (yes_as_one-ends merged) (no_as_one-ends merged) b o m.run a
 
   pub recovered-agrees : (s : V → V → Type 0) → Agreeing s part part → Agreeing s help help
       → Agreeing s (MeansRecovered merged final mark back safe part help) (MeansRecovered merged final mark back safe part help)
   recovered-agrees s hp hh b c o q alike m n a z =
-      shielded-agrees _ _ _ s s (marked-agrees s hp hh) (yes_as_one-agrees merged s) (no_as_one-agrees merged s s) b c o q alike m.run n.run a z
+      judged-agrees _ _ _ s s (marked-agrees s hp hh) (yes_as_one-agrees merged s) (no_as_one-agrees merged s s) b c o q alike m.run n.run a z

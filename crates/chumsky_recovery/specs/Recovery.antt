@@ -7,7 +7,7 @@ use Rattle.chumsky_input.specs.declared.stop.Stop.TheVariants.{Memory}
 use Rattle.chumsky_input.specs.Words.{Does}
 use Rattle.chumsky_input.specs.Outcome.{Meaning, Beginning, Outcome, Yes, No, Halt, Agree, IsAnswer}
 use Rattle.chumsky_input.specs.Primary.{primary}
-use Rattle.chumsky_shield.specs.Shielded.{as_one}
+use Rattle.chumsky_judge.specs.Judged.{as_one}
 use Rattle.chumsky_recovery.specs.Recovered.{Final, error_of}
 
 module _ {Tok Cx St Mk Er V : Type 0} (merged : Er → Er → Er) (final : Final Tok Er) (mark : St → Mk) (back : St → Mk → St) (part help : Meaning Tok Cx St Er V) where

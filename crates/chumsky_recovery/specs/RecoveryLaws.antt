@@ -4,9 +4,9 @@ use Rattle.std.specs.Prelude.{◌⊎◌}
 use Rattle.chumsky_input.specs.Outcome.{Meaning, Beginning, Outcome, Verdict, Yes, No, Halt, Clash, Alike, Agree, Agreeing, IsAnswer, SameAnswer}
 use Rattle.chumsky_input.specs.Primary.{primary}
 use Rattle.chumsky_parser.specs.Chained.{retold}
-use Rattle.chumsky_shield.specs.Shielded.{as_one, ByVerdict, NoAsOne}
-use Rattle.chumsky_shield.specs.ShieldedLaws.{or_clash-whole}
-use Rattle.chumsky_shield.specs.MapErr.{YesAsOne}
+use Rattle.chumsky_judge.specs.Judged.{as_one, ByVerdict, NoAsOne}
+use Rattle.chumsky_judge.specs.JudgedLaws.{or_clash-whole}
+use Rattle.chumsky_judge.specs.MapErr.{YesAsOne}
 use Rattle.chumsky_recovery.specs.Recovered.{Final, error_of, Helped, ElseHelp, MeansRecovered}
 use Rattle.chumsky_recovery.specs.Recovery.{Unneeded, Needed, InVain, AnswersOf, QuietIsPart, FailsAsPart, DoesAsPart}
 

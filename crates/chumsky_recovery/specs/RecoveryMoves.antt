@@ -13,12 +13,12 @@ use Rattle.chumsky_parser.specs.IgnoringLaws.{gives-ends}
 use Rattle.chumsky_parser.specs.Laws.{given-ends}
 use Rattle.chumsky_primitive.specs.Just.{past}
 use Rattle.chumsky_parser.specs.Progress.{IsYes}
-use Rattle.chumsky_shield.specs.MapErr.{YesAsOne}
-use Rattle.chumsky_shield.specs.Shielded.{NoAsOne}
+use Rattle.chumsky_judge.specs.MapErr.{YesAsOne}
+use Rattle.chumsky_judge.specs.Judged.{NoAsOne}
 use Rattle.chumsky_parser.specs.Progress.{Moves}
 use Rattle.chumsky_parser.specs.ProgressLaws.{yes-answers, misses-no, asked-moves, chained-first}
 use Rattle.chumsky_parser.specs.ProgressLaws.{or_else-moves}
-use Rattle.chumsky_shield.specs.ShieldedMoves.{clash-yes, shielded-moves}
+use Rattle.chumsky_judge.specs.JudgedMoves.{clash-yes, judged-moves}
 use Rattle.chumsky_recovery.specs.Recovered.{Final, Helped, ElseHelp, OrHelp, MarkedOrHelp, MeansRecovered}
 use Rattle.chumsky_recovery.specs.Turns.{Turn, Again, Last, AfterTurn, TurnsUpTo, AllTurns}
 use Rattle.chumsky_recovery.specs.TurnsLaws.{after_turn-ends, turns-end}
@@ -61,7 +61,7 @@ module _ {Tok Cx St Mk Er V : Type 0} (merged : Er → Er → Er) (final : Final
   -- a part and its help
   pub recovered-moves : Moves part → Moves help → Moves (MeansRecovered merged final mark back safe part help)
   recovered-moves hp hh b o m y =
-      shielded-moves (MarkedOrHelp merged final mark back safe part help) (YesAsOne merged) (NoAsOne merged)
+      judged-moves (MarkedOrHelp merged final mark back safe part help) (YesAsOne merged) (NoAsOne merged)
       (λ c q n z. elim n.cases [ inl r ↦ absurd (subst IsYes r.1 z) | inr t ↦ or_help-moves merged final back safe (mark c.state) part help hp hh c q t z ])
       (λ c v p q l h z. (let e = ap (λ (x : Outcome V Er St). x.end) (clash-yes h z) in omega (arith, l, e)))
       (λ c p q h z. is-no (clash-yes h z) (λ i. i) z) b o m.run y

@@ -13,9 +13,9 @@ use Rattle.chumsky_parser.specs.Chained.{Follows, Asked, from}
 use Rattle.chumsky_parser.specs.Ignoring.{Gives, IgnoringFirst}
 use Rattle.chumsky_parser.specs.Memory.{IsNotMemory, SparesMemory, NeverOutOfMemory}
 use Rattle.chumsky_parser.specs.MemoryLaws.{misses-spares, given-spares, gives-spares, no-spares, stops-spares, asked-spares, chained-spares, or_else-spares}
-use Rattle.chumsky_shield.specs.Shielded.{ByVerdict, NoAsOne}
-use Rattle.chumsky_shield.specs.ShieldedSpares.{or_clash-spares}
-use Rattle.chumsky_shield.specs.MapErr.{YesAsOne}
+use Rattle.chumsky_judge.specs.Judged.{ByVerdict, NoAsOne}
+use Rattle.chumsky_judge.specs.JudgedSpares.{or_clash-spares}
+use Rattle.chumsky_judge.specs.MapErr.{YesAsOne}
 use Rattle.chumsky_recovery.specs.declared.nested_delimiters.Role.{Role}
 use Rattle.chumsky_recovery.specs.declared.nested_delimiters.Role.TheVariants as role
 use Rattle.chumsky_recovery.specs.Recovered.{Final, Helped, ElseHelp, MeansRecovered}

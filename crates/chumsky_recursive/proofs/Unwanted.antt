@@ -21,10 +21,10 @@ use Rattle.chumsky_items.specs.Repeating.{Repeats}
 use Rattle.chumsky_items.specs.Separating.{Separates}
 use Rattle.chumsky_combinator.specs.Optional.{OrNone}
 use Rattle.chumsky_choice.specs.Among.{FirstAmong}
-use Rattle.chumsky_shield.specs.Shielded.{ByVerdict, NoAsOne}
-use Rattle.chumsky_shield.specs.Not.{Denies, Allows, MeansNot}
-use Rattle.chumsky_shield.specs.Vetted.{Vets, OnRuling}
-use Rattle.chumsky_shield.specs.AndIs.{GivenAt, LooksFrom, MeansAndIs, Rewinds, MeansRewind}
+use Rattle.chumsky_judge.specs.Judged.{ByVerdict, NoAsOne}
+use Rattle.chumsky_judge.specs.Not.{Denies, Allows, MeansNot}
+use Rattle.chumsky_judge.specs.Vetted.{Vets, OnRuling}
+use Rattle.chumsky_judge.specs.AndIs.{GivenAt, LooksFrom, MeansAndIs, Rewinds, MeansRewind}
 use Rattle.chumsky_rules.specs.declared.kinds.NodeKind.{NodeKind}
 use Rattle.chumsky_rules.specs.declared.kinds.NodeKind.TheVariants.{Leaf, Rule, Then, Choice, Repeated, SeparatedBy, OrNot, Not, AndIs, Rewind, Map, TryMap}
 use Rattle.chumsky_rules.specs.Tables.{Tables}

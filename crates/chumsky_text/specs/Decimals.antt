@@ -45,7 +45,7 @@ use Rattle.std.proofs.lemmas.Str.Parse.{digit_from_value}
 use Rattle.chumsky_input.specs.Layout.{Layout}
 use Rattle.chumsky_parser.specs.Slices.{IsSliceOf}
 use Rattle.chumsky_parser.specs.Words.{AllPass}
-use Rattle.chumsky_shield.specs.Picked.{IsPick}
+use Rattle.chumsky_judge.specs.Picked.{IsPick}
 use Rattle.chumsky_text.specs.TextLanguage.{IsWord}
 
 -- decimal digits, at least one, and no zero before another

@@ -9,7 +9,7 @@ use Rattle.chumsky_input.specs.Outcome.{Meaning, Beginning, Outcome, Yes}
 use Rattle.chumsky_input.specs.Wanted.{Wanted}
 use Rattle.chumsky_parser.specs.Chained.{Chained, Given}
 use Rattle.chumsky_parser.specs.Failure.{IsWanted, Misses, expects}
-use Rattle.chumsky_shield.specs.Shielded.{OrLacks}
+use Rattle.chumsky_judge.specs.Judged.{OrLacks}
 use Rattle.chumsky_text.specs.Leading.{run_end, run_state, one_end, one_state, expected_at}
 
 module _ {I Tok Sp Cu Er S W : Type 0} (source : input_trait.Ghosts I Cu Tok Sp) (errors : error_trait.Ghosts Er I Tok Sp) where

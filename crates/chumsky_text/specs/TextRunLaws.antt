@@ -11,7 +11,7 @@ use Rattle.chumsky_parser.specs.Chained.{Chained, Given}
 use Rattle.chumsky_parser.specs.Failure.{Misses}
 use Rattle.chumsky_parser.specs.FailureLaws.{misses-agree, misses-ends, wanted-same, SameUnit}
 use Rattle.chumsky_parser.specs.Laws.{chained-ends, chained-agrees, given-ends, given-agrees}
-use Rattle.chumsky_shield.specs.ShieldedLaws.{or_lacks-whole}
+use Rattle.chumsky_judge.specs.JudgedLaws.{or_lacks-whole}
 use Rattle.chumsky_text.specs.Leading.{run_end, run_state, one_end, one_state, expected_at}
 use Rattle.chumsky_text.specs.TextRun.{EndsBy, Cut, RunsOn, TakesOne, SpelledBy, Spells, MeansRun, AfterToken, AfterFirst, MeansBegun, MeansWord, MeansNewline, MeansKeyword, SkipsRun, MeansPadded}
 

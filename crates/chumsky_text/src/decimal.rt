@@ -5,8 +5,8 @@ ghost use Rattle.chumsky_text.specs.Decimals.{unsigned_of, unsigned-by_word, fix
 
 use crate::sliced::Sliced;
 use chumsky_input::extra::ParserExtra;
-use chumsky_shield::filter_map::Picker;
-use chumsky_shield::pick_by::WordPicker;
+use chumsky_judge::filter_map::Picker;
+use chumsky_judge::pick_by::WordPicker;
 use std::marker::PhantomData;
 
 /// What picks the number that some digits write, where a `T` holds it. See `decimal`.

@@ -4,7 +4,7 @@ ghost use Rattle.chumsky_input.specs.declared.stop.Fault.TheVariants.{Fail, Stop
 ghost use Rattle.chumsky_input.specs.declared.stop.Stop.TheVariants.{Memory};
 ghost use Rattle.chumsky_input.specs.Wanted.{plain_wanted};
 ghost use Rattle.chumsky_parser.specs.Failure.{expects};
-ghost use Rattle.chumsky_shield.specs.Calls.{Changes, FailsWith};
+ghost use Rattle.chumsky_judge.specs.Calls.{Changes, FailsWith};
 ghost use Rattle.chumsky_text.specs.Leading.{ran_on, expected_at, StepsBy, BeginsBy, EndsRun, is_empty};
 
 use crate::kind::{Kind, Lexeme};

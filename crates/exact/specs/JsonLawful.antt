@@ -21,9 +21,9 @@ use Rattle.chumsky_primitive.specs.PrimitiveLanguage.{one_language, literal_lang
 use Rattle.chumsky_primitive.specs.PrimitiveLanguageLaws.{any-accepts}
 use Rattle.chumsky_combinator.specs.Mapped.{Mapped}
 use Rattle.chumsky_combinator.specs.MappedLanguage.{map_language}
-use Rattle.chumsky_shield.specs.Picked.{picked_language}
-use Rattle.chumsky_shield.specs.Tried.{ByPick, SamePick}
-use Rattle.chumsky_shield.specs.Vetted.{Vetted}
+use Rattle.chumsky_judge.specs.Picked.{picked_language}
+use Rattle.chumsky_judge.specs.Tried.{ByPick, SamePick}
+use Rattle.chumsky_judge.specs.Vetted.{Vetted}
 use Rattle.chumsky_text.specs.TextLanguage.{run_language}
 use Rattle.chumsky_text.specs.TextRun.{MeansRun}
 use Rattle.chumsky_descent.specs.Lawful.{Lawful, AnyTwo, then-lawful, ignore_then-lawful, map-lawful, or-lawful, just-lawful, pick-lawful, run-lawful}

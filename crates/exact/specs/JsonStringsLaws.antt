@@ -20,7 +20,7 @@ use Rattle.chumsky_combinator.specs.MappedLanguage.{map_language}
 use Rattle.chumsky_items.specs.ListLanguage.{collected_language}
 use Rattle.chumsky_items.specs.ListWords.{RepeatedWord, RepeatedEnd}
 use Rattle.chumsky_items.specs.RepeatedLanguage.{repeated_language}
-use Rattle.chumsky_shield.specs.Picked.{IsPick, picked_ends, picked_language}
+use Rattle.chumsky_judge.specs.Picked.{IsPick, picked_ends, picked_language}
 use Rattle.exact.specs.JsonStrings.{is_plain, escaped, unit_of, IsPiece, plain, by_letter, by_unit, by_pair, ArePieces, no_piece, more_pieces, IsString, quoted}
 use Rattle.exact.specs.JsonPicks.{plain_of, of_one, passing, lone, lone_of, high_of, low_of, JoinsPair}
 use Rattle.exact.specs.JsonPicksLaws.{both, IsFour, four_is, is_any, are_four}

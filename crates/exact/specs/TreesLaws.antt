@@ -14,7 +14,7 @@ use Rattle.chumsky_parser.specs.Words.{Joined, StopsAt}
 use Rattle.chumsky_primitive.specs.PrimitiveLanguage.{Equals}
 use Rattle.chumsky_primitive.specs.Literals.{equals-same, same-equals}
 use Rattle.chumsky_items.specs.ListWords.{SeparatedWord, SeparatedEnd}
-use Rattle.chumsky_shield.specs.Picked.{IsPick}
+use Rattle.chumsky_judge.specs.Picked.{IsPick}
 use Rattle.chumsky_text.specs.Decimals.{IsInt}
 use Rattle.chumsky_descent.specs.CallLanguage.{call_language, IsIntended, call-is_intended}
 use Rattle.chumsky_descent.specs.Exactly.{grammar_of}

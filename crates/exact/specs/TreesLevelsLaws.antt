@@ -13,7 +13,7 @@ use Rattle.chumsky_parser.specs.Language.{Language}
 use Rattle.chumsky_parser.specs.Words.{Joined, StopsAt, then_ends}
 use Rattle.chumsky_primitive.specs.Literals.{equals-same, same-equals}
 use Rattle.chumsky_items.specs.ListWords.{separated_next, SeparatedWord, SeparatedEnd}
-use Rattle.chumsky_shield.specs.Picked.{picked_language}
+use Rattle.chumsky_judge.specs.Picked.{picked_language}
 use Rattle.chumsky_text.specs.Decimals.{TextSlice, IsInt}
 use Rattle.chumsky_text.specs.TextLanguage.{word_language}
 use Rattle.chumsky_descent.specs.CallLanguage.{call_language}

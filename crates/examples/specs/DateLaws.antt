@@ -7,7 +7,7 @@ use Rattle.std.specs.Str.{encode_utf8_all}
 use Rattle.chumsky_parser.specs.Words.{Joined, StopsAt}
 use Rattle.chumsky_primitive.specs.Literals.{equals-same, same-equals}
 use Rattle.chumsky_primitive.specs.PrimitiveLanguage.{Equals}
-use Rattle.chumsky_shield.specs.Picked.{IsPick}
+use Rattle.chumsky_judge.specs.Picked.{IsPick}
 use Rattle.chumsky_text.specs.TextLanguage.{IsWord}
 use Rattle.chumsky_text.specs.Decimals.{fixed_of}
 use Rattle.chumsky_exact.specs.Fields.{IsField, field, picks}

@@ -18,7 +18,7 @@ use Rattle.chumsky_primitive.specs.PrimitiveLanguage.{Equals}
 use Rattle.chumsky_combinator.specs.MappedLanguage.{MapsSome}
 use Rattle.chumsky_items.specs.ListLanguage.{Holding}
 use Rattle.chumsky_items.specs.ListWords.{SeparatedWord, SeparatedEnd}
-use Rattle.chumsky_shield.specs.Picked.{IsPick}
+use Rattle.chumsky_judge.specs.Picked.{IsPick}
 use Rattle.chumsky_text.specs.Decimals.{TextSlice, slice-bytes}
 use Rattle.chumsky_text.specs.Names.{IsName, in_name}
 use Rattle.chumsky_text.specs.TextLanguage.{IsWord, word_front, begun_ends}

@@ -11,7 +11,7 @@ use Rattle.chumsky_primitive.specs.Literals.{equals-same, same-equals}
 use Rattle.chumsky_primitive.specs.PrimitiveLanguage.{one_ends, Equals}
 use Rattle.chumsky_items.specs.ListLanguage.{Holding}
 use Rattle.chumsky_items.specs.ListWords.{RepeatedWord, RepeatedEnd}
-use Rattle.chumsky_shield.specs.Picked.{if_picked, IsPick, picked_ends}
+use Rattle.chumsky_judge.specs.Picked.{if_picked, IsPick, picked_ends}
 use Rattle.chumsky_exact.specs.Rendered.{OfEach, all_words, repeated-written, written-repeated}
 use Rattle.chumsky_exact.specs.SoMany.{so_many-written, written-so_many, tokens-so_many, so_many-tokens}
 use Rattle.examples.specs.declared.query.Head.{Head}

@@ -35,11 +35,11 @@ use Rattle.chumsky_context.specs.Configured.{Configured}
 use Rattle.chumsky_context.specs.ConfiguredLaws.{configured-ends}
 use Rattle.chumsky_context.specs.Under.{IgnoringUnder}
 use Rattle.chumsky_context.specs.UnderLaws.{ignoring_under-ends}
-use Rattle.chumsky_shield.specs.Picked.{picked_language}
-use Rattle.chumsky_shield.specs.PickedLaws.{picked-accepts}
-use Rattle.chumsky_shield.specs.Tried.{ByPick}
-use Rattle.chumsky_shield.specs.Vetted.{Vetted}
-use Rattle.chumsky_shield.specs.VettedLaws.{vetted-ends}
+use Rattle.chumsky_judge.specs.Picked.{picked_language}
+use Rattle.chumsky_judge.specs.PickedLaws.{picked-accepts}
+use Rattle.chumsky_judge.specs.Tried.{ByPick}
+use Rattle.chumsky_judge.specs.Vetted.{Vetted}
+use Rattle.chumsky_judge.specs.VettedLaws.{vetted-ends}
 use Rattle.chumsky_exact.specs.Contexts.{ignore_under_language}
 use Rattle.chumsky_exact.specs.ContextsLaws.{ignore_under-accepts}
 use Rattle.chumsky_exact.specs.SoMany.{AsksFor, so_many_language, so_many-accepts}

@@ -5,7 +5,7 @@ use Rattle.std.proofs.lemmas.Bool.Decides.{nat_tests}
 use Rattle.std.proofs.Math.Nat.{div-add-mod}
 use Rattle.std.specs.Prelude.{⊤}
 use Rattle.chumsky_parser.specs.Words.{Joined, IsOne}
-use Rattle.chumsky_shield.specs.Picked.{IsPick}
+use Rattle.chumsky_judge.specs.Picked.{IsPick}
 use Rattle.examples.specs.declared.query.Head.{Head}
 use Rattle.examples.specs.Query.{number_bytes, head_bytes}
 use Rattle.examples.specs.QueryPicks.{number_of, length_of, label_length, head_of, packet_head}

@@ -15,7 +15,7 @@ use Rattle.chumsky_primitive.specs.OneOf.{among}
 use Rattle.chumsky_primitive.specs.PrimitiveLanguage.{Equals}
 use Rattle.chumsky_combinator.specs.MappedLanguage.{MapsSome}
 use Rattle.chumsky_items.specs.ListWords.{RepeatedWord, RepeatedEnd}
-use Rattle.chumsky_shield.specs.Picked.{IsPick}
+use Rattle.chumsky_judge.specs.Picked.{IsPick}
 use Rattle.chumsky_text.specs.Decimals.{unsigned_of, numeral-value, numeral-fits, is_pick}
 use Rattle.chumsky_exact.specs.Capped.{capped-tokens, tokens-capped}
 use Rattle.chumsky_exact.specs.Rendered.{OfEach}

@@ -15,7 +15,7 @@ use Rattle.chumsky_parser.specs.declared.result.ParseResult.{ParseResult}
 use Rattle.chumsky_primitive.specs.Literals.{equals-same, same-equals}
 use Rattle.chumsky_primitive.specs.PrimitiveLanguage.{Equals, literal_language}
 use Rattle.chumsky_combinator.specs.MappedLanguage.{map_language, to_language}
-use Rattle.chumsky_shield.specs.Picked.{IsPick}
+use Rattle.chumsky_judge.specs.Picked.{IsPick}
 use Rattle.chumsky_text.specs.Decimals.{IsInt, TextSlice, below, unsigned_of, int-decimal, decimal-int, numeral-picked, numeral-value, numeral-fits, is_pick, slice-bytes}
 use Rattle.chumsky_text.specs.TextLanguage.{StopsAll, word_language}
 use Rattle.chumsky.specs.Accepted.{AnswersText, Exactly}

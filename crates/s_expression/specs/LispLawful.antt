@@ -28,8 +28,8 @@ use Rattle.chumsky_items.specs.RepeatedLanguage.{repeated_language}
 use Rattle.chumsky_items.specs.Repeating.{Repeats}
 use Rattle.chumsky_items.specs.RepeatingLaws.{repeats-end}
 use Rattle.chumsky_items.specs.ItemsMove.{repeats-move, collects-move}
-use Rattle.chumsky_shield.specs.Tried.{ByPick, SamePick}
-use Rattle.chumsky_shield.specs.Vetted.{Vetted}
+use Rattle.chumsky_judge.specs.Tried.{ByPick, SamePick}
+use Rattle.chumsky_judge.specs.Vetted.{Vetted}
 use Rattle.chumsky_text.specs.TextLanguage.{run_language}
 use Rattle.chumsky_text.specs.TextRun.{MeansRun}
 use Rattle.chumsky_descent.specs.Lawful.{Lawful, AnyTwo, ignore_then-lawful, between-lawful, map-lawful, or-lawful, repeated-lawful, just-lawful, pick-lawful, run-lawful}

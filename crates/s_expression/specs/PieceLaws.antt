@@ -10,7 +10,7 @@ use Rattle.chumsky_parser.specs.Language.{EndsFurther}
 use Rattle.chumsky_parser.specs.Words.{ElseValue, AllPass, StopsAt, taken_of}
 use Rattle.chumsky_parser.specs.WordsLaws.{taken_word, ends_at}
 use Rattle.chumsky_primitive.specs.PrimitiveLanguage.{literal_ends}
-use Rattle.chumsky_shield.specs.Picked.{if_picked, picked_ends}
+use Rattle.chumsky_judge.specs.Picked.{if_picked, picked_ends}
 use Rattle.chumsky_text.specs.Leading.{leading}
 use Rattle.chumsky_text.specs.TextLanguage.{past_ends}
 use Rattle.chumsky_text.specs.TextLanguageLaws.{take_leading, front_rest, leading_pass, leading_stops}

@@ -14,7 +14,7 @@ use Rattle.chumsky_primitive.specs.PrimitiveLanguage.{one_language, literal_lang
 use Rattle.chumsky_combinator.specs.MappedLanguage.{map_language}
 use Rattle.chumsky_items.specs.ListLanguage.{collected_language}
 use Rattle.chumsky_items.specs.RepeatedLanguage.{repeated_language}
-use Rattle.chumsky_shield.specs.Picked.{picked_language}
+use Rattle.chumsky_judge.specs.Picked.{picked_language}
 use Rattle.chumsky_text.specs.Decimals.{TextSlice}
 use Rattle.chumsky_text.specs.TextLanguage.{run_language}
 use Rattle.s_expression.specs.declared.expression.AfterQuote.{AfterQuote}

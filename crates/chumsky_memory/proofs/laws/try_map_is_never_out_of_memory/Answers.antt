@@ -1,4 +1,4 @@
-use Rattle.chumsky_shield.specs.ShieldedSpares.{vetted-spares}
+use Rattle.chumsky_judge.specs.JudgedSpares.{vetted-spares}
 use Rattle.chumsky_memory.proofs.laws.try_map_is_never_out_of_memory.Goals as goal
 
 pub returns : goal.returns

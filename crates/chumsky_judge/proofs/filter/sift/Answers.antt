@@ -1,0 +1,38 @@
+use Rattle.std.proofs.Common.{rules, ◌≡◌, Err, true, false, refl, ap}
+use Rattle.chumsky_input.specs.declared.stop.Fault.TheVariants as fault
+use Rattle.chumsky_input.specs.declared.stop.Stop.TheVariants.{Memory}
+use Rattle.chumsky_input.specs.Held.{held}
+use Rattle.chumsky_judge.proofs.VettedLemmas.{vetted_stops, vetted_no, vetted_yes, vetted_yes_refused, vetted_fails}
+use Rattle.chumsky_judge.proofs.filter.sift.Goals as goal
+
+pub returns-in_err-keep_before-in-Ok-clause-ran : goal.returns-in_err-keep_before-in-Ok-clause-ran
+returns-in_err-keep_before-in-Ok-clause-ran g c w =
+    let e : c.from_residual.result ≡ Err (fault.Stop Memory) = search rules in
+    rw e
+    (vetted_yes_refused (rw c.take_kept-older.ensures.leaves at c.in-Ok.ensures.ran) _
+    (held g.I.Input g.E.Error.Error g.E.State.Inspector c.go_emit.new.inp)
+    refl c.in-Ok.value (record { passes = true; says = rw c.if-passes.true at c.passes.ensures; answer = refl; keeps = refl })
+    (rw c.take_kept-older.ensures.kept at c.in_err-keep_before-in-Ok.ensures.keeps))
+
+pub returns-then-passes-clause-ran : goal.returns-then-passes-clause-ran
+returns-then-passes-clause-ran g c w =
+    vetted_yes (rw c.take_kept-older.ensures.leaves at c.in-Ok.ensures.ran) _
+    (held g.I.Input g.E.Error.Error g.E.State.Inspector c.go_emit.new.inp)
+    refl c.in-Ok.value (record { passes = true; says = rw c.if-passes.true at c.passes.ensures; answer = refl; keeps = refl })
+    (rw c.take_kept-older.ensures.kept at c.in_ok-keep_before-in-Ok.ensures.keeps)
+
+pub returns-else-passes-clause-ran : goal.returns-else-passes-clause-ran
+returns-else-passes-clause-ran g c w =
+    let ran = rw c.take_kept-older.ensures.leaves at c.in-Ok.ensures.ran in
+    let kept = ap (λ k. record (held g.I.Input g.E.Error.Error g.E.State.Inspector c.go_emit.new.inp) { kept = k }) c.take_kept-older.ensures.kept in
+    vetted_fails ran _ (held g.I.Input g.E.Error.Error g.E.State.Inspector c.go_emit.new.inp)
+    refl _ refl (record { passes = false; says = rw c.if-passes.false at c.passes.ensures; answer = refl; keeps = refl })
+    kept c.something_else.ensures.fails
+
+pub returns-in-Err-Fail-clause-ran : goal.returns-in-Err-Fail-clause-ran
+returns-in-Err-Fail-clause-ran g c w =
+    vetted_no (rw (c.take_kept-older.ensures.leaves, c.in-Err-Fail.field-0-is) at c.in-Err-Fail.ensures.ran) (rw c.take_kept-older.ensures.kept at c.fail_as_one.ensures.fails)
+
+pub returns-in-Err-Stop-clause-ran : goal.returns-in-Err-Stop-clause-ran
+returns-in-Err-Stop-clause-ran g c w =
+    rw c.in-Err-Stop.stop-is (vetted_stops (rw (c.take_kept-older.ensures.leaves, c.in-Err-Stop.field-0-is) at c.in-Err-Stop.ensures.ran))

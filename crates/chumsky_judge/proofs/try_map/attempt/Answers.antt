@@ -1,0 +1,41 @@
+use Rattle.std.proofs.Common.{rules, ◌≡◌, Ok, Err, refl, ap}
+use Rattle.chumsky_input.specs.declared.stop.Fault.TheVariants as fault
+use Rattle.chumsky_input.specs.declared.stop.Stop.TheVariants.{Memory}
+use Rattle.chumsky_input.specs.Held.{held}
+use Rattle.chumsky_judge.proofs.VettedLemmas.{vetted_stops, vetted_no, vetted_yes, vetted_yes_refused, vetted_adds}
+use Rattle.chumsky_judge.proofs.try_map.attempt.Goals as goal
+
+pub returns-in_err-keep_before-in-Ok-try_apply-clause-ran : goal.returns-in_err-keep_before-in-Ok-try_apply-clause-ran
+returns-in_err-keep_before-in-Ok-try_apply-clause-ran g c w =
+    let e : c.from_residual.result ≡ Err (fault.Stop Memory) = search rules in
+    let says = rw c.span-span.ensures at c.in-Ok-try_apply.ensures in
+    rw e
+    (vetted_yes_refused (rw c.take_kept-older.ensures.leaves at c.in-Ok.ensures.ran) _
+    (held g.I.Input g.E.Error.Error g.E.State.Inspector c.go_emit.new.inp)
+    refl c.in-Ok-try_apply.output (record { ruling = Ok c.in-Ok-try_apply.output; says = says; answer = refl; keeps = refl })
+    (rw c.take_kept-older.ensures.kept at c.in_err-keep_before-in-Ok-try_apply.ensures.keeps))
+
+pub returns-in_ok-keep_before-in-Ok-try_apply-clause-ran : goal.returns-in_ok-keep_before-in-Ok-try_apply-clause-ran
+returns-in_ok-keep_before-in-Ok-try_apply-clause-ran g c w =
+    let says = rw c.span-span.ensures at c.in-Ok-try_apply.ensures in
+    vetted_yes (rw c.take_kept-older.ensures.leaves at c.in-Ok.ensures.ran) _
+    (held g.I.Input g.E.Error.Error g.E.State.Inspector c.go_emit.new.inp)
+    refl c.in-Ok-try_apply.output (record { ruling = Ok c.in-Ok-try_apply.output; says = says; answer = refl; keeps = refl })
+    (rw c.take_kept-older.ensures.kept at c.in_ok-keep_before-in-Ok-try_apply.ensures.keeps)
+
+pub returns-in-Err-clause-ran : goal.returns-in-Err-clause-ran
+returns-in-Err-clause-ran g c w =
+    let says = rw c.span-span.ensures at c.in-Err.ensures in
+    let kept = ap (λ k. record (held g.I.Input g.E.Error.Error g.E.State.Inspector c.go_emit.new.inp) { kept = k }) c.take_kept-older.ensures.kept in
+    vetted_adds (rw c.take_kept-older.ensures.leaves at c.in-Ok.ensures.ran) _
+    (held g.I.Input g.E.Error.Error g.E.State.Inspector c.go_emit.new.inp)
+    refl _ (record { ruling = Err c.in-Err.error; says = says; answer = refl; keeps = refl }) kept
+    (rw c.place.ensures at c.add_event.ensures.adds)
+
+pub returns-in-Err-Fail-clause-ran : goal.returns-in-Err-Fail-clause-ran
+returns-in-Err-Fail-clause-ran g c w =
+    vetted_no (rw (c.take_kept-older.ensures.leaves, c.in-Err-Fail.field-0-is) at c.in-Err-Fail.ensures.ran) (rw c.take_kept-older.ensures.kept at c.fail_as_one.ensures.fails)
+
+pub returns-in-Err-Stop-clause-ran : goal.returns-in-Err-Stop-clause-ran
+returns-in-Err-Stop-clause-ran g c w =
+    rw c.in-Err-Stop.stop-is (vetted_stops (rw (c.take_kept-older.ensures.leaves, c.in-Err-Stop.field-0-is) at c.in-Err-Stop.ensures.ran))

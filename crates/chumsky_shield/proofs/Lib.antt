@@ -1,7 +1,0 @@
-pub mod ShieldLemmas
-pub mod NotLemmas
-pub mod VettedLemmas
-pub mod AndIsLemmas
-pub mod MapErrLemmas
-pub mod ValidatedLemmas
-pub mod BlindLemmas

@@ -1,5 +1,0 @@
-use Rattle.chumsky_shield.specs.ErrorLaws.{validate-just_as}
-use Rattle.chumsky_shield.proofs.laws.validate_that_emits_nothing_answers_as_its_part.Goals as goal
-
-pub returns : goal.returns
-returns g c h = validate-just_as _ h _

@@ -1,6 +1,0 @@
-use Rattle.std.proofs.Common.{true}
-use Rattle.chumsky_shield.proofs.ShieldLemmas.{asked_emits}
-use Rattle.chumsky_shield.proofs.validate.ValidateParser.go_emit.Goals as goal
-
-pub returns-clause-ran : goal.returns-clause-ran
-returns-clause-ran g c = asked_emits c.run_validator.result (c.run_validator.ensures.ran true)
