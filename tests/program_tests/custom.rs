@@ -13,7 +13,7 @@ fn an_error_of_a_closure_stands_at_its_start(rt: HostRuntime) {
     let error_or_ab = custom_by::<_, &str, &'static str, RichText>(TwoAndAnError).or(just("ab"));
     let rows = [
         ("ac", "error 1..2 expected 'b' found 'c'"),
-        ("xy", "error 0..2 \"\""),
+        ("xy", "error 0..2 \"no\""),
         ("ab", "ok \"ab\""),
     ];
     assert_answers(&rt, &error_or_ab, &rows);
@@ -22,14 +22,12 @@ fn an_error_of_a_closure_stands_at_its_start(rt: HostRuntime) {
 #[test]
 fn of_two_messages_at_one_place_the_first_stands(rt: HostRuntime) {
     let first = custom::<_, &str, char, Own>(|inp| {
-        let message = String::from_str(inp.alloc, "first")?;
         let span = SimpleSpan { start: 0, end: 0 };
-        Err(Failure::Error(Rich::custom(span, message)))
+        Err(Failure::Error(Rich::custom(span, "first")))
     });
     let second = custom::<_, &str, char, Own>(|inp| {
-        let message = String::from_str(inp.alloc, "second")?;
         let span = SimpleSpan { start: 0, end: 1 };
-        Err(Failure::Error(Rich::custom(span, message)))
+        Err(Failure::Error(Rich::custom(span, "second")))
     });
     assert_answers(&rt, &first.or(second), &[("x", "error 0..0 \"first\"")]);
 }

@@ -34,12 +34,12 @@ fn what_a_validator_emits_stands_beside_the_output(rt: HostRuntime) {
 }
 
 #[test]
-fn a_validator_emits_a_message_in_one_call(rt: HostRuntime) {
+fn a_validator_emits_messages(rt: HostRuntime) {
     let doubted = any_char().validate(|c, extra, emitter| {
         if c != 'a' {
             let alloc = extra.alloc();
             emitter.emit_message(alloc, extra.span(), format_args!("{c} is no a"));
-            emitter.emit_message(alloc, extra.span(), "a was meant");
+            emitter.emit(Rich::custom(extra.span(), "a was meant"));
         }
         c
     });
