@@ -372,7 +372,8 @@ pub trait MapParserExt<'src, I, O, E>: Sized {
     /// Gives what `validator` makes of this parser's output, where no output is wanted too. It is shown the run as that
     /// of `map_with` is, and may emit errors, which stand after those that this parser emitted, beside the output:
     /// where the validator emits `Rich::custom(extra.span(), "too large")` on `7` by `emitter.emit(..)`, the answer has `7`
-    /// and that error. It fails as this parser does. Where the emitter was out of memory, the run is refused once the validator has returned.
+    /// and that error. It fails as this parser does. Where the emitter was out of memory, the run is refused once the
+    /// validator has returned.
     #[inline]
     final fn validate<U, F>(self, validator: F) -> Validate<Self, O, F, U>
     where
