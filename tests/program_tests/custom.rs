@@ -63,9 +63,9 @@ fn a_closure_runs_over_bytes(rt: HostRuntime) {
 fn an_error_that_a_first_alternative_emits_goes_with_it(rt: HostRuntime) {
     let emitting = custom::<_, &str, char, Own>(|inp| {
         let here = SimpleSpan { start: 0, end: 0 };
-        inp.emit(Rich::custom(here, String::new(inp.alloc)))?;
+        inp.emit(Rich::custom(here, ""))?;
         let span = SimpleSpan { start: 0, end: 1 };
-        Err(Failure::Error(Rich::custom(span, String::new(inp.alloc))))
+        Err(Failure::Error(Rich::custom(span, "")))
     });
     let rows = [("a", "ok 'a'"), ("", "error 0..1 \"\"")];
     assert_answers(&rt, &emitting.or(any_char()), &rows);
@@ -75,9 +75,9 @@ fn an_error_that_a_first_alternative_emits_goes_with_it(rt: HostRuntime) {
 fn an_error_that_a_last_alternative_emits_stays(rt: HostRuntime) {
     let emitting = custom::<_, &str, char, Own>(|inp| {
         let here = SimpleSpan { start: 0, end: 0 };
-        inp.emit(Rich::custom(here, String::new(inp.alloc)))?;
+        inp.emit(Rich::custom(here, ""))?;
         let span = SimpleSpan { start: 0, end: 1 };
-        Err(Failure::Error(Rich::custom(span, String::new(inp.alloc))))
+        Err(Failure::Error(Rich::custom(span, "")))
     });
     let rows = [("a", "error 0..0 \"\"; error 0..1 \"\"")];
     assert_answers(&rt, &just_char('c').or(emitting), &rows);
