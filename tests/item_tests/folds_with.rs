@@ -79,7 +79,7 @@ fn a_refused_item_fails_where_its_step_began(rt: HostRuntime) {
         one_of('0'..='9').map(value).repeated(),
         |number: u64, digit, extra| {
             if digit == 0 {
-                return Err(zero(extra.alloc(), extra.span()));
+                return Err(zero(extra.span()));
             }
             Ok(number.wrapping_mul(10).wrapping_add(digit))
         },
