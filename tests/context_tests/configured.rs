@@ -5,6 +5,7 @@ use answers::leaves::any_char;
 use chumsky::combinator::{Configurer, RepeatedCfg, TryConfigurer};
 use chumsky::prelude::*;
 use chumsky::primitive::{JustCfg, OneOfCfg};
+use std::alloc::Global;
 
 /// The errors of a text, under a context.
 type Under<X> = extra::Full<Rich<char>, (), X>;
@@ -90,10 +91,12 @@ fn a_cap_that_the_context_sets_ends_a_list_that_takes_nothing(rt: HostRuntime) {
 
 #[test]
 fn a_list_that_is_refused_fails_before_its_first_item(rt: HostRuntime) {
+    let alloc = rt.alloc();
     let refused = just::<_, &str, Own>('a')
         .repeated()
-        .try_configure(|_: RepeatedCfg, _: &(), span: SimpleSpan| {
-            Err(Rich::custom(span, "no"))
+        .try_configure(move |_: RepeatedCfg, _: &(), span: SimpleSpan| {
+            let no = Rich::custom_in(alloc, span, "no");
+            Err(no.unwrap_or(Rich::custom(span, String::new(alloc))))
         })
         .count();
     assert_answers(&rt, &refused, &[("aa", "error 0..0 \"no\"")]);
@@ -214,8 +217,10 @@ impl Configurer<JustCfg<char>, char> for First {
 }
 
 /// As many items as the context says, but at most three.
-#[derive(Clone, Copy)]
-struct UpToThree;
+#[derive(Drop)]
+struct UpToThree {
+    alloc: Global,
+}
 
 impl TryConfigurer<RepeatedCfg, usize, SimpleSpan, Rich<char>> for UpToThree {
     ghost use Rattle.std.specs.Prelude.{⊤};
@@ -229,7 +234,7 @@ impl TryConfigurer<RepeatedCfg, usize, SimpleSpan, Rich<char>> for UpToThree {
         span: SimpleSpan,
     ) -> Result<RepeatedCfg, Rich<char>> {
         if *context > 3 {
-            return Err(Rich::custom(span, ""));
+            return Err(Rich::custom(span, String::new(self.alloc)));
         }
         Ok(config.exactly(*context))
     }
@@ -239,7 +244,8 @@ impl TryConfigurer<RepeatedCfg, usize, SimpleSpan, Rich<char>> for UpToThree {
 fn a_type_of_ones_own_configures(rt: HostRuntime) {
     let twice = any_char().then_with_ctx(just('?').configure_by(First));
     assert_answers(&rt, &twice, &[("aa", "ok ('a', 'a')")]);
-    let xs = just('x').repeated().try_configure_by(UpToThree);
+    let up_to_three = UpToThree { alloc: rt.alloc() };
+    let xs = just('x').repeated().try_configure_by(up_to_three);
     let counted = digit!().ignore_with_ctx(xs);
     let rows = [("3xxx", "ok ()"), ("4xxxx", "error 1..1 \"\"")];
     assert_answers(&rt, &counted, &rows);

@@ -185,7 +185,7 @@ fn groups_lie_within_groups(rt: HostRuntime) {
 fn errors_that_are_emitted_two_levels_within_stand(rt: HostRuntime) {
     let odd = any::<&[Tree], OfTrees>().validate(|tree: Tree, extra, emitter| {
         if tree == Number(1) {
-            emitter.emit(Rich::custom(extra.span(), ""));
+            emitter.emit(Rich::custom(extra.span(), String::new(extra.alloc())));
         }
         tree
     });

@@ -4,6 +4,7 @@ use answers::extras::{Own, Tallied};
 use answers::leaves::just_char;
 use chumsky::prelude::*;
 use extending::states::Tally;
+use std::alloc::Global;
 
 /// From the left each span begins where the whole began, and ends with the item.
 #[test]
@@ -67,8 +68,11 @@ fn folds_are_shown_where_each_step_lies(rt: HostRuntime) {
 }
 
 /// An error that says `zero`.
-fn zero(span: SimpleSpan) -> Rich<char> {
-    Rich::custom(span, "zero")
+fn zero(alloc: Global, span: SimpleSpan) -> Rich<char> {
+    match Rich::custom_in(alloc, span, "zero") {
+        Ok(error) => error,
+        Err(_) => Rich::custom(span, String::new(alloc)),
+    }
 }
 
 /// A number of digits, of which one that is 0 is refused.
@@ -79,7 +83,7 @@ fn a_refused_item_fails_where_its_step_began(rt: HostRuntime) {
         one_of('0'..='9').map(value).repeated(),
         |number: u64, digit, extra| {
             if digit == 0 {
-                return Err(zero(extra.span()));
+                return Err(zero(extra.alloc(), extra.span()));
             }
             Ok(number.wrapping_mul(10).wrapping_add(digit))
         },
@@ -100,13 +104,14 @@ fn a_refused_item_fails_where_its_step_began(rt: HostRuntime) {
 
 #[test]
 fn a_sum_that_is_too_large_is_refused(rt: HostRuntime) {
+    let alloc = rt.alloc();
     let others = just('+').ignore_then(digit!()).repeated();
     let sum = digit!().try_foldl(others, |sum, n, e| {
         let sum = sum.wrapping_add(n);
         if sum < 10 {
             Ok(sum)
         } else {
-            Err(zero(e.span()))
+            Err(zero(alloc, e.span()))
         }
     });
     let rows = [("1+2", "ok 3"), ("7+8", "error 0..3 \"zero\"")];
@@ -118,7 +123,7 @@ fn a_sum_that_is_too_large_is_refused(rt: HostRuntime) {
 fn a_refusal_is_nearer_than_what_another_alternative_took(rt: HostRuntime) {
     let refusing = just_char('a').try_foldl(
         just_char('b').repeated(),
-        |_, _, extra| Err(Rich::custom(extra.span(), "")),
+        |_, _, extra| Err(Rich::custom(extra.span(), String::new(extra.alloc()))),
     );
     let other = just_char('a')
         .then_ignore(just_char('b'))

@@ -3,7 +3,6 @@ use answers::asserts::assert_answers;
 use chumsky::Failure;
 use chumsky::extra::RichText;
 use chumsky::prelude::*;
-use std::process::Abort;
 
 #[test]
 fn a_simple_error_shows_where_and_what(rt: HostRuntime) {
@@ -48,16 +47,4 @@ fn a_type_of_an_extra_may_stand_alone(rt: HostRuntime) {
 fn an_array_is_a_sequence(rt: HostRuntime) {
     let array = just::<_, _, extra::Default>(['a', 'é']);
     assert_answers(&rt, &array, &[("aé", "ok ['a', 'é']"), ("ae", "error")]);
-}
-
-#[test]
-fn a_message_is_a_literal_or_a_string(rt: HostRuntime) {
-    let span = SimpleSpan { start: 0, end: 1 };
-    let string = String::from_str(rt.alloc(), "no such day").expect(&rt, "want of memory");
-    let by_string: Rich<char> = Rich::custom(span, string);
-    let by_literal: Rich<char> = Rich::custom(span, "no such day");
-    assert!(rt; by_literal.reason() == Some("no such day"));
-    assert!(rt; by_string == by_literal);
-    let another: Rich<char> = Rich::custom(span, "no such month");
-    assert!(rt; by_literal != another);
 }

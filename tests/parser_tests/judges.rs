@@ -5,6 +5,7 @@ use answers::asserts::assert_answers;
 use answers::leaves::any_char;
 use chumsky::combinator::{Picker, Tester, TryMapper};
 use chumsky::prelude::*;
+use std::alloc::Global;
 
 /// Picks digits, as what they count.
 #[derive(Clone, Copy)]
@@ -35,7 +36,9 @@ impl Tester<u8> for BelowEight {
 
 /// Halves what is even, and refuses what is odd.
 #[derive(Clone, Copy)]
-struct Half;
+struct Half {
+    alloc: Global,
+}
 
 impl TryMapper<u8, SimpleSpan, u8, Rich<char>> for Half {
     ghost gives = { λ _ digit _ half. IfOk half (λ h. h ≤ digit) };
@@ -44,7 +47,7 @@ impl TryMapper<u8, SimpleSpan, u8, Rich<char>> for Half {
         if digit % 2 == 0 {
             Ok(digit / 2)
         } else {
-            Err(Rich::custom(span, ""))
+            Err(Rich::custom(span, String::new(self.alloc)))
         }
     }
 }
@@ -54,7 +57,7 @@ fn judges_may_have_names(rt: HostRuntime) {
     let half = any_char()
         .filter_map_by(Digit)
         .filter_by(BelowEight)
-        .try_map_by(Half);
+        .try_map_by(Half { alloc: rt.alloc() });
     let rows = [
         ("6", "ok 3"),
         ("x", "error 0..1 expected something else found 'x'"),

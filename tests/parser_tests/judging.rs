@@ -4,6 +4,7 @@ use answers::extras::{Merging, Own};
 use answers::leaves::{any_char, just_char, just_text};
 use chumsky::prelude::*;
 use extending::states::Kept;
+use std::alloc::Global;
 
 #[test]
 fn not_succeeds_where_its_part_fails_and_takes_nothing(rt: HostRuntime) {
@@ -92,23 +93,27 @@ macro_rules! digit {
 }
 
 /// An error that says `no`.
-fn no(span: SimpleSpan) -> Rich<char> {
-    Rich::custom(span, "no")
+fn no(alloc: Global, span: SimpleSpan) -> Rich<char> {
+    match Rich::custom_in(alloc, span, "no") {
+        Ok(error) => error,
+        Err(_) => Rich::custom(span, String::new(alloc)),
+    }
 }
 
 #[test]
 fn a_digit_is_refused_or_doubted(rt: HostRuntime) {
-    let small = digit!().try_map(|n, span| if n < 5 { Ok(n) } else { Err(no(span)) });
+    let alloc = rt.alloc();
+    let small = digit!().try_map(|n, span| if n < 5 { Ok(n) } else { Err(no(alloc, span)) });
     assert_answers(&rt, &small, &[("3", "ok 3"), ("7", "error 0..1 \"no\"")]);
     let small = digit!().try_map_with(|n, e| if n < 5 {
         Ok(n)
     } else {
-        Err(no(e.span()))
+        Err(no(alloc, e.span()))
     });
     assert_answers(&rt, &small, &[("3", "ok 3"), ("7", "error 0..1 \"no\"")]);
     let doubted = digit!().validate(|n, e, emitter| {
         if n > 4 {
-            emitter.emit(no(e.span()));
+            emitter.emit(no(alloc, e.span()));
         }
         n
     });
@@ -118,9 +123,10 @@ fn a_digit_is_refused_or_doubted(rt: HostRuntime) {
 
 #[test]
 fn try_map_refuses_with_the_error_of_its_closure(rt: HostRuntime) {
-    let even = any_char().try_map(|c, span| match c.to_digit(10) {
+    let alloc = rt.alloc();
+    let even = any_char().try_map(move |c, span| match c.to_digit(10) {
         Some(digit) if digit % 2 == 0 => Ok(digit),
-        _ => Err(Rich::custom(span, "")),
+        _ => Err(Rich::custom(span, String::new(alloc))),
     });
     let rows = [
         ("4", "ok 4"),
@@ -132,11 +138,12 @@ fn try_map_refuses_with_the_error_of_its_closure(rt: HostRuntime) {
 
 #[test]
 fn an_error_of_try_map_stands_at_its_start(rt: HostRuntime) {
-    let same = any_char().then(any_char()).try_map(|(one, two), span| {
+    let alloc = rt.alloc();
+    let same = any_char().then(any_char()).try_map(move |(one, two), span| {
         if one == two {
             return Ok(one);
         }
-        Err(Rich::custom(span, ""))
+        Err(Rich::custom(span, String::new(alloc)))
     });
     let same_or_xy = same.or(just_char('x').ignore_then(just_char('y')));
     let rows = [
@@ -210,18 +217,20 @@ fn rewind_forgets_failures_past_its_start(rt: HostRuntime) {
 
 #[test]
 fn an_error_is_mapped(rt: HostRuntime) {
-    let mapped = just_char('a').map_err(|error: Rich<char>| no(*error.span()));
+    let alloc = rt.alloc();
+    let mapped = just_char('a').map_err(|error: Rich<char>| no(alloc, *error.span()));
     assert_answers(&rt, &mapped, &[("b", "error 0..1 \"no\"")]);
-    let mapped = just_char('a').map_err_with_state(|_, span, _| no(span));
+    let mapped = just_char('a').map_err_with_state(|_, span, _| no(alloc, span));
     assert_answers(&rt, &mapped, &[("b", "error 0..0 \"no\"")]);
-    let mapped = just_char('a').map_err_with(|_, extra| no(extra.span()));
+    let mapped = just_char('a').map_err_with(|_, extra| no(alloc, extra.span()));
     assert_answers(&rt, &mapped, &[("b", "error 0..0 \"no\"")]);
 }
 
 #[test]
 fn map_err_maps_the_error_that_is_reported(rt: HostRuntime) {
-    let mapped = just_text("ab").map_err(|error: Rich<char>| {
-        Rich::custom(*error.span(), "")
+    let alloc = rt.alloc();
+    let mapped = just_text("ab").map_err(move |error: Rich<char>| {
+        Rich::custom(*error.span(), String::new(alloc))
     });
     let rows = [
         ("ab", "ok \"ab\""),
@@ -233,8 +242,9 @@ fn map_err_maps_the_error_that_is_reported(rt: HostRuntime) {
 
 #[test]
 fn map_err_leaves_older_errors_as_they_are(rt: HostRuntime) {
-    let mapped = just_char('x').map_err(|error: Rich<char>| {
-        Rich::custom(*error.span(), "")
+    let alloc = rt.alloc();
+    let mapped = just_char('x').map_err(move |error: Rich<char>| {
+        Rich::custom(*error.span(), String::new(alloc))
     });
     let rows = [("ac", "error 1..2 expected 'b' found 'c'"), ("x", "ok 'x'")];
     assert_answers(
@@ -246,11 +256,12 @@ fn map_err_leaves_older_errors_as_they_are(rt: HostRuntime) {
 
 #[test]
 fn map_err_with_state_is_handed_the_state_to_write(rt: HostRuntime) {
+    let alloc = rt.alloc();
     let mapped = any::<&str, extra::Full<Rich<char>, Kept, ()>>()
         .and_is(just("xy"))
-        .map_err_with_state(|_, span, state: &mut Kept| {
+        .map_err_with_state(move |_, span, state: &mut Kept| {
             state.count = state.count.saturating_add(1);
-            Rich::custom(span, "")
+            Rich::custom(span, String::new(alloc))
         });
     let rows = [
         ("xz", "error 0..1 \"\"; state Kept { count: 8 }"),
@@ -284,7 +295,7 @@ fn a_validator_without_memory_refuses_the_run_once_it_has_returned(rt: HostRunti
 #[test]
 fn what_the_last_alternative_emits_stays(rt: HostRuntime) {
     let emitting = any_char().validate(|c, extra, emitter| {
-        emitter.emit(Rich::custom(extra.span(), ""));
+        emitter.emit(Rich::custom(extra.span(), String::new(extra.alloc())));
         c
     });
     let ab_or_ac = choice((
@@ -301,7 +312,7 @@ fn what_the_last_alternative_emits_stays(rt: HostRuntime) {
 #[test]
 fn what_an_earlier_alternative_emitted_is_gone(rt: HostRuntime) {
     let emitting = any_char().validate(|c, extra, emitter| {
-        emitter.emit(Rich::custom(extra.span(), ""));
+        emitter.emit(Rich::custom(extra.span(), String::new(extra.alloc())));
         c
     });
     let ac_or_ab = choice((
@@ -342,8 +353,9 @@ fn the_failure_of_a_filter_is_merged_in_its_order(rt: HostRuntime) {
 
 #[test]
 fn a_try_map_that_refuses_drops_the_failures_of_its_part(rt: HostRuntime) {
+    let alloc = rt.alloc();
     let refusing = choice((just::<_, &str, Own>("something").ignored(), empty())).try_map(
-        |_, span| Err::<(), _>(Rich::custom(span, "")),
+        move |_, span| Err::<(), _>(Rich::custom(span, String::new(alloc))),
     );
     assert_answers(&rt, &refusing, &[("test", "error 0..0 \"\"")]);
 }

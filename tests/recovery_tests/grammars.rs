@@ -111,7 +111,7 @@ impl<'src> Part<'src, &'src str, usize, Own> for Leaf {
             Leaf::Skipped => {
                 let other = none_of("[]").repeated().at_least(1);
                 let told = other.validate(|_, extra, emitter| {
-                    emitter.emit(Rich::custom(extra.span(), ""));
+                    emitter.emit(Rich::custom(extra.span(), String::new(extra.alloc())));
                     0
                 });
                 run_part(&told, wanted, inp)

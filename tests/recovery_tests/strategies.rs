@@ -64,7 +64,7 @@ fn an_older_error_stays_beside_the_one_that_is_told(rt: HostRuntime) {
 #[test]
 fn what_a_failed_part_emitted_is_gone_back_from(rt: HostRuntime) {
     let loud = just_char('a').validate(|c, extra, emitter| {
-        emitter.emit(Rich::custom(extra.span(), ""));
+        emitter.emit(Rich::custom(extra.span(), String::new(extra.alloc())));
         c
     });
     let part = loud
@@ -131,7 +131,7 @@ fn the_part_is_tried_again_after_each_skip(rt: HostRuntime) {
 fn a_retry_that_emits_something_is_no_success(rt: HostRuntime) {
     let loud = any_char().validate(|c, extra, emitter| {
         if c == 'b' {
-            emitter.emit(Rich::custom(extra.span(), ""));
+            emitter.emit(Rich::custom(extra.span(), String::new(extra.alloc())));
         }
         c
     });

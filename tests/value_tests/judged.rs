@@ -10,7 +10,7 @@ fn try_map_with_is_shown_what_its_part_took(rt: HostRuntime) {
         if one == two {
             return Ok(one);
         }
-        Err(Rich::custom(extra.span(), ""))
+        Err(Rich::custom(extra.span(), String::new(extra.alloc())))
     });
     let rows = [
         ("xaa", "ok 'a'"),
@@ -23,7 +23,7 @@ fn try_map_with_is_shown_what_its_part_took(rt: HostRuntime) {
 #[test]
 fn what_a_validator_emits_stands_beside_the_output(rt: HostRuntime) {
     let emitting = any_char().validate(|c, extra, emitter| {
-        emitter.emit(Rich::custom(extra.span(), ""));
+        emitter.emit(Rich::custom(extra.span(), String::new(extra.alloc())));
         c
     });
     let rows = [
@@ -34,12 +34,12 @@ fn what_a_validator_emits_stands_beside_the_output(rt: HostRuntime) {
 }
 
 #[test]
-fn a_validator_emits_messages(rt: HostRuntime) {
+fn a_validator_emits_a_message_in_one_call(rt: HostRuntime) {
     let doubted = any_char().validate(|c, extra, emitter| {
         if c != 'a' {
             let alloc = extra.alloc();
             emitter.emit_message(alloc, extra.span(), format_args!("{c} is no a"));
-            emitter.emit(Rich::custom(extra.span(), "a was meant"));
+            emitter.emit_message(alloc, extra.span(), "a was meant");
         }
         c
     });
@@ -54,7 +54,7 @@ fn a_validator_emits_messages(rt: HostRuntime) {
 fn what_a_validator_emitted_goes_with_its_alternative(rt: HostRuntime) {
     let emitting = any_char().validate(|c, extra, emitter| {
         if c == 'a' {
-            emitter.emit(Rich::custom(extra.span(), ""));
+            emitter.emit(Rich::custom(extra.span(), String::new(extra.alloc())));
         }
         c
     });
@@ -76,7 +76,7 @@ fn what_a_validator_emitted_goes_with_its_alternative(rt: HostRuntime) {
 #[test]
 fn what_a_validator_emitted_stays_where_its_part_is_rewound(rt: HostRuntime) {
     let emitting = any_char().validate(|c, extra, emitter| {
-        emitter.emit(Rich::custom(extra.span(), ""));
+        emitter.emit(Rich::custom(extra.span(), String::new(extra.alloc())));
         c
     });
     let rows = [("a", "ok 'a'; error 0..1 \"\"")];
@@ -85,9 +85,10 @@ fn what_a_validator_emitted_stays_where_its_part_is_rewound(rt: HostRuntime) {
 
 #[test]
 fn map_err_with_state_is_handed_the_span_of_the_part(rt: HostRuntime) {
+    let alloc = rt.alloc();
     let mapped = just_char('a')
         .then(just_char('b'))
-        .map_err_with_state(|_, span, _| Rich::custom(span, ""));
+        .map_err_with_state(move |_, span, _| Rich::custom(span, String::new(alloc)));
     let rows = [
         ("ab", "ok ('a', 'b')"),
         ("ac", "error 0..1 \"\""),
@@ -99,7 +100,7 @@ fn map_err_with_state_is_handed_the_span_of_the_part(rt: HostRuntime) {
 #[test]
 fn map_err_with_spans_to_where_its_part_was_left(rt: HostRuntime) {
     let mapped = any_char().and_is(just_text("xy")).map_err_with(|_, extra| {
-        Rich::custom(extra.span(), "")
+        Rich::custom(extra.span(), String::new(extra.alloc()))
     });
     let rows = [("xz", "error 0..1 \"\""), ("", "error 0..0 \"\"")];
     assert_answers(&rt, &mapped, &rows);

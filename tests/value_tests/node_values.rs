@@ -71,7 +71,7 @@ impl Values<SimpleSpan, Rich<char>> for Counting {
         if mapper % 2 == 0 {
             return Ok(Ok(()));
         }
-        Ok(Err(Rich::custom(span, "")))
+        Ok(Err(Rich::custom(span, String::new(alloc))))
     }
 }
 

@@ -160,7 +160,7 @@ impl SimpleValues<SimpleSpan, Rich<char>> for Arithmetic {
         };
         match worked_out {
             Ok(number) => Ok(Ok(Value::Number(number))),
-            Err(wrong) => Ok(Err(Rich::custom(wrong.span, wrong.message))),
+            Err(wrong) => Ok(Err(Rich::custom_in(alloc, wrong.span, wrong.message)?)),
         }
     }
 }

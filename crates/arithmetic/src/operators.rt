@@ -48,12 +48,15 @@ fn worked_out(before: Worked, sign: Spanned<char, SimpleSpan>, after: Worked) ->
 }
 
 /// A number, or the error of what can't be worked out.
-fn told(worked: Worked) -> Result<i64, Rich<char>>
+fn told(alloc: Global, worked: Worked) -> Result<i64, Rich<char>>
     ensures { MatchResult worked (λ number. result ≡ Ok number) (λ wrong. IsErrAnd result (λ error. rich_span error ≡ wrong.span)) }
 {
     match worked {
         Ok(number) => Ok(number),
-        Err(wrong) => Err(Rich::custom(wrong.span, wrong.message)),
+        Err(wrong) => match String::from_str(alloc, wrong.message) {
+            Ok(message) => Err(Rich::custom(wrong.span, message)),
+            Err(_) => Err(Rich::custom(wrong.span, String::new(alloc))),
+        },
     }
 }
 
@@ -65,14 +68,19 @@ pub fn run_sum<
     requires { P.ready sum.now }
     ensures { ⟦<Unsaid as RunsUnder<'src, &'src str, i64, RichText>>⟧.runs 0 wanted inp.old inp.new result }
 {
-    let number = part_of(Number).try_map(|worked: Worked, _| told(worked));
+    let alloc = inp.alloc();
+    let number = part_of(Number).try_map(move |worked: Worked, _| told(alloc, worked));
     let bracketed = sum.delimited_by(part_of(Sign("(")), part_of(Sign(")")));
     let sum = number.or(bracketed).map(|number: i64| Ok(number)).pratt((
         prefix(3, part_of(Sign("-")), negative),
         infix(left(2), part_of(Sign("*/%")), worked_out),
         infix(left(1), part_of(Sign("+-")), worked_out),
     ));
-    run_part(&sum.try_map(|worked: Worked, _| told(worked)), wanted, inp)
+    run_part(
+        &sum.try_map(move |worked: Worked, _| told(alloc, worked)),
+        wanted,
+        inp,
+    )
 }
 
 /// A sum.
@@ -90,7 +98,7 @@ fn sum<'src>(
 const DEPTH: usize = 100;
 
 /// What a sum comes to, as `parse_arithmetic` has it: of `2 * (3 + 4) - 1` it is 13. A sum that is nested more deeply than
-/// ninety-nine brackets is refused with `Stop::TooDeep`.
+/// ninety-nine brackets is refused with `Stop::TooDeep`. Where there is no memory for the message of an error, it is empty.
 pub fn parse_sum(alloc: Global, text: &str) -> Result<ParseResult<i64, Rich<char>>, Stop>
     ensures { IfOk result (λ parsed. parsed.errors.items ≡ [] → IsTrue (is_some parsed.output)) }
 {

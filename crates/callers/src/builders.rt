@@ -27,7 +27,7 @@ pub fn capital(alloc: Global, text: &str) -> Answer<char> {
 pub fn doubted(alloc: Global, text: &str) -> Answer<char> {
     any::<_, RichText>()
         .validate(|c, extra, emitter| {
-            emitter.emit(Rich::custom(extra.span(), "doubted"));
+            emitter.emit(Rich::custom(extra.span(), String::new(extra.alloc())));
             c
         })
         .parse(alloc, text)
@@ -36,11 +36,11 @@ pub fn doubted(alloc: Global, text: &str) -> Answer<char> {
 /// An `a`; any other character is refused, with its span.
 pub fn only_a(alloc: Global, text: &str) -> Answer<char> {
     any::<_, RichText>()
-        .try_map(|c, span| {
+        .try_map(move |c, span| {
             if c == 'a' {
                 Ok(c)
             } else {
-                Err(Rich::custom(span, "no a"))
+                Err(Rich::custom(span, String::new(alloc)))
             }
         })
         .parse(alloc, text)
@@ -53,7 +53,7 @@ pub fn only_a_shown(alloc: Global, text: &str) -> Answer<char> {
             if c == 'a' {
                 Ok(c)
             } else {
-                Err(Rich::custom(extra.span(), "no a"))
+                Err(Rich::custom(extra.span(), String::new(extra.alloc())))
             }
         })
         .parse(alloc, text)
@@ -66,17 +66,17 @@ pub fn with_its_error(alloc: Global, text: &str) -> Answer<char> {
         .parse(alloc, text)
 }
 
-/// An `a`, with an error of another kind in place of its own.
+/// An `a`, with an error that says nothing in place of its own.
 pub fn with_another_error(alloc: Global, text: &str) -> Answer<char> {
     just::<_, _, RichText>('a')
-        .map_err_with(|_, extra| Rich::custom(extra.span(), "no a"))
+        .map_err_with(|_, extra| Rich::custom(extra.span(), String::new(extra.alloc())))
         .parse(alloc, text)
 }
 
 /// The same by a closure that is lent the state.
 pub fn with_an_error_of_the_state(alloc: Global, text: &str) -> Answer<char> {
     just::<_, _, RichText>('a')
-        .map_err_with_state(|_, span, _| Rich::custom(span, "no a"))
+        .map_err_with_state(move |_, span, _| Rich::custom(span, String::new(alloc)))
         .parse(alloc, text)
 }
 
@@ -148,7 +148,7 @@ pub fn a_and_bs(alloc: Global, text: &str) -> Answer<char> {
             if item == 'b' {
                 Ok(first)
             } else {
-                Err(Rich::custom(extra.span(), "no b"))
+                Err(Rich::custom(extra.span(), String::new(extra.alloc())))
             }
         })
         .parse(alloc, text)

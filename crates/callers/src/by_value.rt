@@ -31,22 +31,26 @@ pub fn vowel(alloc: Global, text: &str) -> Answer<char> {
     any::<_, RichText>().filter_by(IsVowel).parse(alloc, text)
 }
 
-/// Makes a digit its number, and of another character an error.
+/// Makes a digit its number. Of another character it makes an error with an empty message.
 #[derive(Clone, Copy)]
-pub struct ToNumber;
+pub struct ToNumber {
+    pub alloc: Global,
+}
 
 impl TryMapper<char, SimpleSpan, u32, Rich<char>> for ToNumber {
     fn try_apply(&self, letter: char, span: SimpleSpan) -> Result<u32, Rich<char>> {
         match letter.to_digit(10) {
             Some(number) => Ok(number),
-            None => Err(Rich::custom(span, "no digit")),
+            None => Err(Rich::custom(span, String::new(self.alloc))),
         }
     }
 }
 
 /// A digit, as its number.
 pub fn number(alloc: Global, text: &str) -> Answer<u32> {
-    any::<_, RichText>().try_map_by(ToNumber).parse(alloc, text)
+    any::<_, RichText>()
+        .try_map_by(ToNumber { alloc })
+        .parse(alloc, text)
 }
 
 /// Keeps the greatest character, from either side.

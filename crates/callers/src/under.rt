@@ -28,15 +28,15 @@ pub fn by_the_first(alloc: Global, text: &str) -> Answer<usize> {
 /// A digit, and then an `x` so often; a digit above 3 is refused before the first.
 pub fn at_most_three(alloc: Global, text: &str) -> Answer<usize> {
     let digit = one_of::<_, _, RichText>('0'..='9').map(|digit: char| digit as usize % 16);
-    let all = just('x')
-        .repeated()
-        .try_configure(|config: RepeatedCfg, times: &usize, span: SimpleSpan| {
+    let all = just('x').repeated().try_configure(
+        move |config: RepeatedCfg, times: &usize, span: SimpleSpan| {
             if *times > 3 {
-                Err(Rich::custom(span, "at most three"))
+                Err(Rich::custom(span, String::new(alloc)))
             } else {
                 Ok(config.exactly(*times))
             }
-        });
+        },
+    );
     digit.ignore_with_ctx(all.count()).parse(alloc, text)
 }
 

@@ -120,7 +120,7 @@ impl<'src> Values<SimpleSpan, Rich<char>> for Texts<'src> {
         let digits = format!(in alloc; "{digits}")?;
         match digits.as_str().parse::<u64>() {
             Ok(number) => Ok(Ok(decimal(alloc, number)?)),
-            Err(_) => Ok(Err(Rich::custom(span, "number too large"))),
+            Err(_) => Ok(Err(Rich::custom_in(alloc, span, "number too large")?)),
         }
     }
 }

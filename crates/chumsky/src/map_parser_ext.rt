@@ -223,9 +223,9 @@ pub trait MapParserExt<'src, I, O, E>: Sized {
     }
 
     /// Gives what `mapper` makes of this parser's output and its span, where no output is wanted too:
-    /// `digit.try_map(|n, span| if n < 5 { Ok(n) } else { Err(Rich::custom(span, "too large")) })` on `3` gives `3`, and
-    /// fails on `7` with that error at 0..1. An error of the mapper is the failure, at the start, and this parser's own
-    /// failures are dropped.
+    /// `digit.try_map(|n, span| if n < 5 { Ok(n) } else { Err(too_large(span)) })` on `3` gives `3`, and fails on `7`
+    /// with that error at 0..1. An error of the mapper is the failure, at the start, and this parser's own failures are
+    /// dropped.
     #[inline]
     final fn try_map<U, F>(self, mapper: F) -> TryMap<Self, O, F, U>
     where
@@ -317,7 +317,7 @@ pub trait MapParserExt<'src, I, O, E>: Sized {
         }
     }
 
-    /// Puts the error of this parser's failure through `mapper`: `just('a').map_err(|e| Rich::custom(*e.span(), "no a"))`
+    /// Puts the error of this parser's failure through `mapper`: `just('a').map_err(|e| Rich::custom(*e.span(), no_a))`
     /// on `b` fails with that message at 0..1. It is the one error that would be reported, and it stands at the place
     /// of that failure. An error that was there before is not mapped, and without one the mapper isn't called.
     #[inline]
@@ -371,9 +371,8 @@ pub trait MapParserExt<'src, I, O, E>: Sized {
 
     /// Gives what `validator` makes of this parser's output, where no output is wanted too. It is shown the run as that
     /// of `map_with` is, and may emit errors, which stand after those that this parser emitted, beside the output:
-    /// where the validator emits `Rich::custom(extra.span(), "too large")` on `7` by `emitter.emit(..)`, the answer has `7`
-    /// and that error. It fails as this parser does. Where the emitter was out of memory, the run is refused once the
-    /// validator has returned.
+    /// where `digit.validate(|n, extra, emitter| ..)` emits one on `7`, the answer has `7` and that error. It fails as
+    /// this parser does. Where the emitter was out of memory, the run is refused once the validator has returned.
     #[inline]
     final fn validate<U, F>(self, validator: F) -> Validate<Self, O, F, U>
     where

@@ -1,6 +1,5 @@
 -- What counts of a `Rich`, and how two are merged.
 use Rattle.std.specs.Prelude.{◌≡◌, ℕ, ◌%◌, ⊤, Bool, true, cond, List, [], ◌∷◌, ◌++◌, Option, Some, None, IfSome, option_map, map, string_bytes}
-use Rattle.std.specs.Cow.{cow_str_bytes}
 use Rattle.std.specs.Int.{bit_at}
 use Rattle.std.specs.List.{list_any, filter_map}
 use Rattle.std.specs.Ordering.{on}
@@ -87,7 +86,7 @@ rich_patterns e = elim e.reason [ Expected ps f ↦ ps.items | Custom m ↦ [] ]
 
 -- the bytes of a custom error's message
 abbrev pub rich_message : {T : Type 0} → Rich T → Option (List ℕ)
-rich_message e = elim e.reason [ Expected ps f ↦ None | Custom m ↦ Some (cow_str_bytes m) ]
+rich_message e = elim e.reason [ Expected ps f ↦ None | Custom m ↦ Some (string_bytes m) ]
 
 -- that e is a custom error that stands at s, with the message that was printed, where it is known what that is
 pub record IsMessage {T : Type 0} (e : Rich T) (s : SimpleSpan) (printed : Option (List ℕ)) : Type 0 where

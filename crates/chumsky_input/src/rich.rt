@@ -1,6 +1,5 @@
 //! An error that says what was expected and what was found.
-ghost use Rattle.std.specs.Prelude.{◌≡◌, ℕ, ◌%◌, ◌≤◌, ⊤, List, [], ◌∷◌, ◌++◌, Option, Some, None, IfOk, IfSome, OnOk, OnErr, IsOk, MatchOption, map, option_map, option_copied, option_to_list};
-ghost use Rattle.std.specs.Cow.{cow_str_bytes};
+ghost use Rattle.std.specs.Prelude.{◌≡◌, ℕ, ◌%◌, ◌≤◌, ⊤, List, [], ◌∷◌, ◌++◌, Option, Some, None, IfOk, IfSome, OnOk, OnErr, IsOk, MatchOption, map, option_map, option_copied, option_to_list, string_bytes};
 ghost use Rattle.std.specs.Iterator.{IsFinite, Drains};
 ghost use Rattle.std.specs.Int.{bit_at};
 ghost use Rattle.std.specs.List.{filter_map, list_any};
@@ -20,7 +19,6 @@ use crate::same::SameClone;
 use crate::span::SimpleSpan;
 use crate::util::{DefaultExpected, Expectation, MaybeRef, Plain, Sole, token_of};
 use std::alloc::{AllocError, Global};
-use std::borrow::CowStr;
 use std::collections::BTreeMap;
 use std::fmt::Display;
 
@@ -60,7 +58,7 @@ impl<T: PartialEq> PartialEq for RichPattern<T> {
 #[derive(Clone, Debug, PartialEq, Drop)]
 enum RichReason<T> {
     Expected(Vec<RichPattern<T>>, Option<T>),
-    Custom(CowStr<'static>),
+    Custom(String),
 }
 
 /// An error that says where it stands, and what was expected and found there. A custom error has a message in place of
@@ -72,18 +70,17 @@ pub struct Rich<T> {
 }
 
 impl<T> Rich<T> {
-    /// A custom error: it shows its message alone, with no found token and no patterns. The message is a text of the program's
-    /// own, which takes no memory, or a `String`: `Rich::custom(span, "no such day")`.
+    /// A custom error: it shows its message alone, with no found token and no patterns.
     #[inline]
-    pub fn custom<M: Into<CowStr<'static>>>(span: SimpleSpan, message: M) -> Self
+    pub fn custom(span: SimpleSpan, message: String) -> Self
         ensures span { rich_span result ≡ span }
         ensures found { rich_found result ≡ None }
         ensures patterns { rich_patterns result ≡ [] }
-        ensures message { (text : _) × M.converts message text × (rich_message result ≡ Some (cow_str_bytes text)) }
+        ensures message { rich_message result ≡ Some (string_bytes message) }
     {
         Rich {
             span,
-            reason: RichReason::Custom(message.into()),
+            reason: RichReason::Custom(message),
         }
     }
 

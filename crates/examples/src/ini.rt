@@ -221,7 +221,7 @@ fn no_ini(alloc: Global, text: &str) -> Result<Vec<Rich<char>>, AllocError>
 {
     let mut errors = Vec::new(alloc);
     let whole = SimpleSpan::from(0..text.len());
-    errors.push(Rich::custom(whole, "this is no INI"))?;
+    errors.push(Rich::custom_in(alloc, whole, "this is no INI")?)?;
     Ok(errors)
 }
 

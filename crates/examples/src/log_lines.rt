@@ -202,7 +202,7 @@ fn read_on<'src>(
     };
     if errors.is_empty() {
         let whole = SimpleSpan::from(0..text.len());
-        errors.push(Rich::custom(whole, "this is no log"))?;
+        errors.push(Rich::custom_in(alloc, whole, "this is no log")?)?;
     }
     Ok(ParseResult { output, errors })
 }

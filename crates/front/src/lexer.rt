@@ -26,7 +26,7 @@ impl<'src> Part<'src, &'src str, (), RichText> for Comment {
             .ignore_then(just("*/").or_not())
             .validate(|end: Option<&str>, extra, emitter| {
                 if end.is_none() {
-                    emitter.emit(Rich::custom(extra.span(), "this comment isn't closed"));
+                    emitter.emit_message(extra.alloc(), extra.span(), "this comment isn't closed");
                 }
             });
         run_part(&line.or(block), wanted, inp)
@@ -61,7 +61,7 @@ impl<'src> Part<'src, &'src str, u64, RichText> for Number {
         >, extra, emitter| match number {
             Ok(number) => number,
             Err(_) => {
-                emitter.emit(Rich::custom(extra.span(), "this number is too large"));
+                emitter.emit_message(extra.alloc(), extra.span(), "this number is too large");
                 0
             }
         });
@@ -82,7 +82,7 @@ impl<'src> Part<'src, &'src str, Token, RichText> for Quotation {
             .ignore_then(just('"').or_not())
             .validate(|end: Option<char>, extra, emitter| {
                 if end.is_none() {
-                    emitter.emit(Rich::custom(extra.span(), "this text isn't closed"));
+                    emitter.emit_message(extra.alloc(), extra.span(), "this text isn't closed");
                 }
                 Token::Text
             });
@@ -132,7 +132,11 @@ impl<'src> Part<'src, &'src str, Option<Spanned<Token, SimpleSpan>>, RichText> f
     ) -> PResult<Option<Option<Spanned<Token, SimpleSpan>>>> {
         let token = part_of(AnyToken).spanned().map(Some);
         let other = any().validate(|_, extra, emitter| {
-            emitter.emit(Rich::custom(extra.span(), "this character begins no token"));
+            emitter.emit_message(
+                extra.alloc(),
+                extra.span(),
+                "this character begins no token",
+            );
             None
         });
         run_part(&token.or(other), wanted, inp)

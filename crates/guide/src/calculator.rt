@@ -25,7 +25,7 @@ impl<'src> Part<'src, &'src str, u64, RichText> for Number {
         let number = number.validate(|read: Result<u64, ParseIntError>, extra, emitter| match read {
             Ok(number) => number,
             Err(_) => {
-                emitter.emit(Rich::custom(extra.span(), TOO_LARGE));
+                emitter.emit_message(extra.alloc(), extra.span(), TOO_LARGE);
                 0
             }
         });
@@ -61,7 +61,7 @@ fn run_chain<'src, P: IsParser<&'src str, u64, RichText> + Parser<'src, &'src st
         .collect::<Vec<_>>();
     let chain = numbers.validate(move |numbers: Vec<u64>, extra, emitter| {
         let Some(total) = worked_out(sign, numbers) else {
-            emitter.emit(Rich::custom(extra.span(), TOO_LARGE));
+            emitter.emit_message(extra.alloc(), extra.span(), TOO_LARGE);
             return 0;
         };
         total

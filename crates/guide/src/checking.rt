@@ -56,17 +56,6 @@ pub fn port(alloc: Global, text: &str) -> Result<ParseResult<u16, Rich<char>>, S
         .parse(alloc, text)
 }
 
-/// A day of a month, as `31`.
-pub fn day_of_month(alloc: Global, text: &str) -> Result<ParseResult<u8, Rich<char>>, Stop> {
-    let number = text::digits::<_, RichText>(10).from_str::<u8>();
-    number
-        .try_map(|number: Result<u8, ParseIntError>, span| match number {
-            Ok(day) if day >= 1 && day <= 31 => Ok(day),
-            _ => Err(Rich::custom(span, "no such day")),
-        })
-        .parse(alloc, text)
-}
-
 /// A share of a hundred. A larger number is an error, and counts as a hundred.
 pub fn share(alloc: Global, text: &str) -> Result<ParseResult<u8, Rich<char>>, Stop> {
     let number = text::int::<_, RichText>(10).from_str::<u8>();
@@ -74,7 +63,7 @@ pub fn share(alloc: Global, text: &str) -> Result<ParseResult<u8, Rich<char>>, S
         .validate(|number: Result<u8, ParseIntError>, extra, emitter| match number {
             Ok(share) if share <= 100 => share,
             _ => {
-                emitter.emit(Rich::custom(extra.span(), "a share is at most 100"));
+                emitter.emit_message(extra.alloc(), extra.span(), "a share is at most 100");
                 100
             }
         })

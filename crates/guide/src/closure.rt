@@ -22,16 +22,21 @@ pub fn foo_or_nothing(alloc: Global, text: &str) -> Result<ParseResult<bool, Ric
     .parse(alloc, text)
 }
 
+/// An error with a message of one's own.
+fn no_such_day(alloc: Global, span: SimpleSpan) -> Failure<Rich<char>> {
+    match Rich::custom_in(alloc, span, "no such day") {
+        Ok(error) => Failure::Error(error),
+        Err(refused) => Failure::from(refused),
+    }
+}
+
 /// A day of the week, by its number from 1 to 7.
 pub fn day(alloc: Global, text: &str) -> Result<ParseResult<char, Rich<char>>, Stop> {
     custom::<_, &str, char, RichText>(|inp| {
         let before = inp.cursor();
         match inp.next()? {
             Some(number) if matches!(number, '1'..='7') => Ok(number),
-            _ => {
-                let error = Rich::custom(inp.span_since(&before), "no such day");
-                Err(Failure::Error(error))
-            }
+            _ => Err(no_such_day(inp.alloc(), inp.span_since(&before))),
         }
     })
     .parse(alloc, text)

@@ -166,7 +166,7 @@ fn errors_of(alloc: Global, text: &str, levels: usize) -> Result<Vec<Rich<char>>
     };
     if errors.is_empty() {
         let whole = SimpleSpan::from(0..text.len());
-        errors.push(Rich::custom(whole, "this is not JSON"))?;
+        errors.push(Rich::custom_in(alloc, whole, "this is not JSON")?)?;
     }
     Ok(errors)
 }

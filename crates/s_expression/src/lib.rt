@@ -192,7 +192,7 @@ fn errors_of(alloc: Global, text: &str) -> Result<Vec<Rich<char>>, AllocError>
     };
     if errors.is_empty() {
         let whole = SimpleSpan::from(0..text.len());
-        errors.push(Rich::custom(whole, "these are no expressions"))?;
+        errors.push(Rich::custom_in(alloc, whole, "these are no expressions")?)?;
     }
     Ok(errors)
 }
