@@ -3,7 +3,7 @@ use answers::asserts::{assert_answers, assert_line};
 use chumsky::laws::{end_is_steady, just_is_steady, or_not_never_says_no, then_is_associative};
 use chumsky::prelude::*;
 use guide::arithmetic::value_of;
-use guide::checking::{minute, minutes, port, share};
+use guide::checking::{day_of_month, minute, minutes, port, share};
 use guide::closure::{day, foo_or_nothing, one_x};
 use guide::conclusion::two;
 use guide::contexts::{declared, prefixed, settings};
@@ -95,6 +95,14 @@ fn a_port_fits_its_type(rt: HostRuntime) {
     assert_line(&rt, port(rt.alloc(), "65536"), too_large);
     let no_digit = "error 0..0 expected '0', '1', '2', '3', '4', '5', '6', '7', '8', '9' found end";
     assert_line(&rt, port(rt.alloc(), ""), no_digit);
+}
+
+#[test]
+fn a_day_that_is_none_is_an_error_with_a_message(rt: HostRuntime) {
+    assert_line(&rt, day_of_month(rt.alloc(), "31"), "ok 31");
+    let no_day = "error 0..2 \"no such day\"";
+    assert_line(&rt, day_of_month(rt.alloc(), "32"), no_day);
+    assert_line(&rt, day_of_month(rt.alloc(), "00"), no_day);
 }
 
 #[test]
