@@ -1,13 +1,12 @@
 -- Both clauses of a contract from one look at the words: which values a text has, and that none with a value is refused.
--- Main laws: answers-by_words, answers-by_ends. Read first: AcceptedLaws.antt of chumsky.
+-- Main law: answers-by_words. Read first: AcceptedLaws.antt of chumsky.
 use Rattle.std.proofs.Common.{◌≡◌, Some, None, List, []}
 use Rattle.std.specs.Prelude.{Result}
 use Rattle.chumsky_input.specs.declared.stop.Stop.{Stop}
-use Rattle.chumsky_parser.specs.Ending.{At}
 use Rattle.chumsky_parser.specs.Language.{Language}
 use Rattle.chumsky_parser.specs.declared.result.ParseResult.{ParseResult}
 use Rattle.chumsky.specs.Accepted.{AnswersText, Exactly, NeverRefuses}
-use Rattle.chumsky.specs.AcceptedLaws.{exactly-by_words, exactly-by_ends, never_refuses-by_words, never_refuses-by_ends}
+use Rattle.chumsky.specs.AcceptedLaws.{exactly-by_words, never_refuses-by_words}
 
 module _ {V Tok Er : Type 0} {l : Language Tok V} {ts : List Tok} {spare : Type 0} {result : Result (ParseResult V Er) Stop} (P : List Tok → V → Type 0) (a : AnswersText Some l ts spare result) where
   -- of an unambiguous language, over errors, states and copies that take no memory

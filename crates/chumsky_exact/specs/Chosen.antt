@@ -1,10 +1,10 @@
 -- A choice among fixed words, each with a value, after fixed text: of just these texts the output is their value.
 -- Main words: Chosen, chosen_ends, Spells, Lists. Main laws: answers-by_table, after_nothing. Read first: Table.antt, Accepted.antt of chumsky.
-use Rattle.std.proofs.Common.{◌≡◌, ℕ, Bool, true, ◌&&◌, nat_eq, Some, None, List, [], ◌∷◌, ◌++◌, refl, sym, ◌∙◌, ap, subst, append_assoc, inl, inr}
+use Rattle.std.proofs.Common.{◌≡◌, ℕ, true, nat_eq, Some, None, List, [], ◌∷◌, ◌++◌, refl, sym, ◌∙◌, ap, subst, inl, inr}
 use Rattle.std.proofs.lemmas.List.{append-nil}
 use Rattle.std.specs.Prelude.{◌⊎◌, Result}
 use Rattle.chumsky_input.specs.declared.stop.Stop.{Stop}
-use Rattle.chumsky_parser.specs.Ending.{Ending, Ender, At, Nowhere}
+use Rattle.chumsky_parser.specs.Ending.{Ender, At, Nowhere}
 use Rattle.chumsky_parser.specs.Language.{Language}
 use Rattle.chumsky_parser.specs.Words.{Joined, then_ends, either_ends}
 use Rattle.chumsky_parser.specs.declared.result.ParseResult.{ParseResult}
@@ -43,13 +43,13 @@ module _ {V : Type 0} where
   after_nothing table w v c = record { first = []; second = w; all = refl; is_first = tt; is_second = c }
 
   module _ (front : List ℕ) (text : V → List ℕ) where
-    chosen-spelled : (es : List (List ℕ × V)) → Spells front es text → (w : List ℕ) (v : V) → Chosen es w v → front ++ w ≡ text v
+    pub chosen-spelled : (es : List (List ℕ × V)) → Spells front es text → (w : List ℕ) (v : V) → Chosen es w v → front ++ w ≡ text v
     chosen-spelled [] h w v c = absurd c
     chosen-spelled (e ∷ []) h w v c = let s : w ≡ e.0 = equals-same e.0 w c.0 in let k = c.1 in let g = h.0 in rw (s, k) g
     chosen-spelled (e ∷ f ∷ es) h w v (inl c) = let s : w ≡ e.0 = equals-same e.0 w c.0 in let k = c.1 in let g = h.0 in rw (s, k) g
     chosen-spelled (e ∷ f ∷ es) h w v (inr c) = chosen-spelled (f ∷ es) h.1 w v c
 
-    named : (es : List (List ℕ × V)) → Spells front es text → (v : V) → Lists es v → (w : List ℕ) × (text v ≡ front ++ w) × Names es w v
+    pub named : (es : List (List ℕ × V)) → Spells front es text → (v : V) → Lists es v → (w : List ℕ) × (text v ≡ front ++ w) × Names es w v
     named [] h v l = absurd l
     named (e ∷ es) h v (inl k) = (e.0, ap text k ∙ sym h.0, inl (refl, k))
     named (e ∷ es) h v (inr l) = let n = named es h.1 v l in (n.0, n.1, inr n.2)

@@ -1,6 +1,6 @@
 -- Lists that are collected: what a `Vec` holds is written in the text, item by item.
 -- Main laws: collected-separated. Read first: Rendered.antt.
-use Rattle.std.proofs.Common.{◌≡◌, ℕ, ◌≤◌, Bool, false, None, List, length, sym, ap, subst, arith}
+use Rattle.std.proofs.Common.{◌≡◌, ℕ, ◌≤◌, Bool, false, None, List, length, sym, subst}
 use Rattle.std.specs.Prelude.{map}
 use Rattle.std.specs.declared.vec.Vec.{Vec}
 use Rattle.chumsky_parser.specs.ItemsLanguage.{ListFrom}

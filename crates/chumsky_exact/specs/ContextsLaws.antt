@@ -1,12 +1,12 @@
 -- What is said of a part and of what stands under its value holds of both in turn.
 -- Main laws: then_under-accepts, ignore_under-accepts. Read first: Contexts.antt.
-use Rattle.std.proofs.Common.{◌≡◌, ℕ, ◌≤◌, ◌<◌, Bool, true, ◌||◌, Option, Some, None, List, ◌++◌, length, drop, refl, sym, ◌∙◌, ap, subst, arith, append_assoc, inl, inr}
-use Rattle.chumsky_input.specs.Outcome.{Meaning, Beginning, Outcome, EndsAfterStart}
+use Rattle.std.proofs.Common.{◌≡◌, ◌≤◌, ◌<◌, true, ◌||◌, Option, Some, None, List, ◌++◌, length, drop, refl, sym, ◌∙◌, ap, subst, arith, append_assoc, inl, inr}
+use Rattle.chumsky_input.specs.Outcome.{Meaning, Beginning, EndsAfterStart}
 use Rattle.chumsky_parser.specs.Chained.{Chained, Given, Asked, both}
 use Rattle.chumsky_parser.specs.Ending.{Ending, At, Nowhere, Refused, and_then, Ends, Within, IfValue, Answers, Here, Reads, EndsOrRefused}
 use Rattle.chumsky_parser.specs.EndingLaws.{and_then_some, ends_there, weaker-here, chained-here, given-here, asked-here}
 use Rattle.chumsky_parser.specs.FurtherLaws.{then-decided}
-use Rattle.chumsky_parser.specs.Language.{Language, Described, Accepts, Begins, TakesOnly, GivesOnly, TakesEach, EndsFurther, NeverRefusedBelow, IsBelow, sooner, later}
+use Rattle.chumsky_parser.specs.Language.{Language, Described, Accepts, TakesOnly, GivesOnly, TakesEach, EndsFurther, NeverRefusedBelow, IsBelow, sooner, later}
 use Rattle.chumsky_parser.specs.LanguageLaws.{fewer-accepts}
 use Rattle.chumsky_parser.specs.Laws.{chained-ends, given-ends, asked-ends}
 use Rattle.chumsky_parser.specs.Memory.{NeverOutOfMemory}

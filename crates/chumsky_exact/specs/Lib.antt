@@ -16,3 +16,6 @@ pub mod Lists
 pub mod Members
 pub mod Numerals
 pub mod Parts
+pub mod Sets
+pub mod Deep
+pub mod Taken

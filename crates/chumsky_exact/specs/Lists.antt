@@ -1,11 +1,12 @@
 -- Lists of any number of items, with a separator between each two and nowhere else, as lists of one's own.
--- Main words: IsList, Items, BracketedOnce. Main laws: listed, listed-by, none-list, items-list, bracketed-once. Read first: ListWords.antt of chumsky_items.
-use Rattle.std.proofs.Common.{◌≡◌, ℕ, suc, nat_eq, false, None, List, [], ◌∷◌, ◌++◌, append_assoc, refl, sym, ◌∙◌, ap, subst, arith}
+-- Main words: Items, IsList, BracketedOnce. Main laws: listed, listed-by, none-list, items-list, bracketed-once, bracketed-below. Read first: ListWords.antt of chumsky_items.
+use Rattle.std.proofs.Common.{◌≡◌, ℕ, suc, ◌<◌, nat_eq, true, false, Option, None, List, [], ◌∷◌, ◌++◌, append_assoc, refl, sym, ◌∙◌, ap, subst, arith}
 use Rattle.std.proofs.lemmas.List.{append-nil}
 use Rattle.std.specs.Prelude.{⊤}
 use Rattle.chumsky_parser.specs.Ending.{DoesNotEnd}
+use Rattle.chumsky_parser.specs.FurtherLaws.{both-below, behind-below}
 use Rattle.chumsky_parser.specs.ItemsLanguage.{ListFrom, IsListFrom}
-use Rattle.chumsky_parser.specs.Language.{Language}
+use Rattle.chumsky_parser.specs.Language.{Language, IsBelow, sooner, later}
 use Rattle.chumsky_parser.specs.SequenceLanguage.{between_language}
 use Rattle.chumsky_primitive.specs.Literals.{equals-same}
 use Rattle.chumsky_primitive.specs.PrimitiveLanguage.{Equals, literal_ends, literal_language}
@@ -87,3 +88,7 @@ module _ {V : Type 0} (item : Language ℕ V) (o s c : List ℕ) where
     ),
     λ w rest j f. tt,
   )
+
+-- and they are refused of no text of fewer tokens than one more than what items are refused of
+pub bracketed-below : (item : Option ℕ) (depth : ℕ) → ((k : ℕ) → k < depth → IsBelow item k) → (k : ℕ) → k < suc depth → IsBelow (later (sooner (sooner item None) None) true) k
+bracketed-below item depth h = behind-below (sooner (sooner item None) None) depth (λ k l. both-below (sooner item None) None k (both-below item None k (h k l) tt) tt)

@@ -1,8 +1,8 @@
 -- The language of a list of as many items as the context asks for; and lists of just so many items, as they are written.
 -- Main words: AsksFor, so_many_language. Main laws: so_many-accepts, so_many-written, written-so_many, tokens-so_many, so_many-tokens. Read first: Contexts.antt, Rendered.antt.
-use Rattle.std.proofs.Common.{◌≡◌, ℕ, suc, ◌+◌, ◌≤◌, ◌<◌, ◌&&◌, Bool, true, false, Some, List, [], ◌∷◌, ◌++◌, length, refl, sym, ◌∙◌, ap, subst, arith, inl, inr}
+use Rattle.std.proofs.Common.{◌≡◌, ℕ, suc, ◌+◌, ◌≤◌, ◌<◌, ◌&&◌, true, false, Some, List, [], ◌∷◌, length, refl, sym, ◌∙◌, ap, subst, arith, inl, inr}
 use Rattle.std.specs.Prelude.{⊤, map}
-use Rattle.chumsky_input.specs.Outcome.{Meaning, EndsAfterStart, Agreeing}
+use Rattle.chumsky_input.specs.Outcome.{Meaning, Agreeing}
 use Rattle.chumsky_parser.specs.ChoiceLaws.{agree-weaker}
 use Rattle.chumsky_parser.specs.ItemsLanguage.{ListFrom, IsListFrom}
 use Rattle.chumsky_parser.specs.Language.{Language, Accepts}

@@ -1,6 +1,6 @@
 -- A choice of parsers that take a word each accepts just the words of their table.
 -- Main laws: word-spelled, choice-of_table. Read first: Table.antt.
-use Rattle.std.proofs.Common.{◌≡◌, ℕ, Bool, true, false, cond, nat_eq, ◌&&◌, None, List, [], ◌∷◌, ◌++◌, refl, subst, sym, inl, inr}
+use Rattle.std.proofs.Common.{◌≡◌, ℕ, Bool, true, false, cond, nat_eq, ◌&&◌, ◌||◌, None, List, [], ◌∷◌, ◌++◌, refl, subst, sym, inl, inr}
 use Rattle.std.specs.Prelude.{map}
 use Rattle.chumsky_parser.specs.Ending.{Ending, At, Nowhere, Refused, or_else, DoesNotEnd}
 use Rattle.chumsky_parser.specs.Language.{Language}
@@ -13,6 +13,10 @@ use Rattle.chumsky_exact.specs.Table.{Names, differ, differs_from_each, apart, B
 pub both_true : (a b : Bool) → (a && b) ≡ true → (a ≡ true) × (b ≡ true)
 both_true true b e = (refl, e)
 both_true false b e = absurd (cc e)
+
+pub both_false : (a b : Bool) → (a || b) ≡ false → (a ≡ false) × (b ≡ false)
+both_false true b e = absurd (cc e)
+both_false false b e = (refl, e)
 
 neither : {T : Type 0} (a b : Ending T) → DoesNotEnd a → DoesNotEnd b → DoesNotEnd (or_else a b)
 neither (At x) b m n = absurd m

@@ -10,5 +10,6 @@ pub mod Founded
 pub mod FoundedLaws
 pub mod Leaves
 pub mod ExactlyLaws
+pub mod Enclosed
 pub mod SeparatedLaws
 pub mod ValueMakes

@@ -1,6 +1,6 @@
 -- The parser of bits accepts just these.
 -- Main laws: bits-sound, bits-complete. Read first: Bits.antt.
-use Rattle.std.proofs.Common.{◌≡◌, ℕ, Bool, true, nat_eq, None, List, [], ◌∷◌, length, refl, ◌∙◌, arith, inl, inr}
+use Rattle.std.proofs.Common.{◌≡◌, ℕ, Bool, true, nat_eq, None, List, [], ◌∷◌, refl, ◌∙◌, arith, inl, inr}
 use Rattle.std.proofs.lemmas.Bool.Decides.{nat_tests}
 use Rattle.std.specs.Prelude.{codes, ⊤}
 use Rattle.std.specs.declared.alloc.Global.{Global}

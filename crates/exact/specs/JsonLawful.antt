@@ -1,6 +1,6 @@
 -- Parts of the parser of JSON are lawful: blanks, marks, and what stands for a character of a string.
 -- Main laws: mark-lawful, words-lawful, unit-lawful, pair-lawful, piece-lawful. Read first: chumsky_descent's Lawful.antt, JsonPicks.antt.
-use Rattle.std.proofs.Common.{◌≡◌, ℕ, Bool, true, nat_eq, Option, Some, None, List, [], ◌∷◌, refl, sym, ◌∙◌, ap, subst}
+use Rattle.std.proofs.Common.{◌≡◌, ℕ, true, nat_eq, Option, Some, None, List, [], ◌∷◌, sym, ◌∙◌, ap, subst}
 use Rattle.std.specs.Prelude.{⊤, codes}
 use Rattle.chumsky_input.specs.declared.error.Error as error_trait
 use Rattle.chumsky_input.specs.declared.inspector.Inspector as inspector_trait

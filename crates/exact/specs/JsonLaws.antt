@@ -9,7 +9,7 @@ use Rattle.std.proofs.lemmas.Bool.Decides.{nat_tests}
 use Rattle.std.proofs.lemmas.List.{append-nil}
 use Rattle.chumsky_parser.specs.Ending.{Ending, Ender, At, Nowhere, Refused, DoesNotEnd, and_then, or_else}
 use Rattle.chumsky_parser.specs.FurtherLaws.{both-below, behind-below}
-use Rattle.chumsky_parser.specs.ItemsLanguage.{IsListFrom, ListFrom}
+use Rattle.chumsky_parser.specs.ItemsLanguage.{ListFrom}
 use Rattle.chumsky_parser.specs.Language.{Language, IsBelow, sooner, later}
 use Rattle.chumsky_parser.specs.Words.{Joined, StopsAt}
 use Rattle.chumsky_primitive.specs.PrimitiveLanguage.{Equals, literal_ends}
@@ -19,12 +19,13 @@ use Rattle.chumsky_items.specs.ListWords.{SeparatedWord, SeparatedEnd}
 use Rattle.chumsky_text.specs.Leading.{leading}
 use Rattle.chumsky_text.specs.TextLanguageLaws.{leading_stops}
 use Rattle.chumsky_descent.specs.CallLanguage.{IsIntended}
+use Rattle.chumsky_exact.specs.Lists.{Items, last_item, more_items, IsList, listed, none-list, items-list, bracketed-below}
+use Rattle.chumsky_exact.specs.TableLaws.{both_false}
 use Rattle.exact.specs.declared.json_value.Json.{Json, the_lemmas}
 use Rattle.exact.specs.declared.json_value.Json as json
-use Rattle.exact.specs.Listed.{listed}
 use Rattle.exact.specs.JsonStrings.{IsString, quoted}
 use Rattle.exact.specs.JsonNumbers.{IsNumberText, begins_number, number_goes_on}
-use Rattle.exact.specs.JsonNumbersOnce.{both_false, number-begins}
+use Rattle.exact.specs.JsonNumbersOnce.{number-begins}
 use Rattle.exact.specs.JsonForms.{Form, null, truth, number, string, array, object, Forms, no_forms, form, Members, no_members, member, forms_of, members_of, form_of, is_blank, AreBlanks}
 use Rattle.exact.specs.JsonForms.{IsValue, is_null, is_true, is_false, is_number, is_string, is_array, is_object, IsElement, is_element, AreElements, no_element, one_element, more_elements, IsMember, is_member, AreMembers, no_member, one_member, more_members, IsJson}
 use Rattle.exact.specs.JsonGrammar.{mark, words, scalar_language, listed_language, name_language, member_language, bare_language, value_language, begins_scalar, begins_value, past_blanks, IsText, values}
@@ -152,7 +153,7 @@ blanks-follow (c ∷ cs) k = (blank_alone c k.0).0
 marked : (c : ℕ) (w : List ℕ) → IsMark c w → (b : List ℕ) × AreBlanks b × (w ≡ b ++ (c ∷ []))
 marked c w j = let e : j.second ≡ c ∷ [] = equals-same (c ∷ []) j.second j.is_second in (j.first, j.is_first, cc (j.all, e))
 
-is_mark : (c : ℕ) (b : List ℕ) → AreBlanks b → IsMark c (b ++ (c ∷ []))
+pub is_mark : (c : ℕ) (b : List ℕ) → AreBlanks b → IsMark c (b ++ (c ∷ []))
 is_mark c b k = record { first = b; second = c ∷ []; all = refl; is_first = k; is_second = same-equals (c ∷ []) }
 
 before_rest : (c : ℕ) (w rest : List ℕ) (j : IsMark c w) → w ++ rest ≡ (marked c w j).0 ++ (c ∷ rest)
@@ -188,60 +189,27 @@ is_bracketed o q w b p k = record { first = o ∷ []; second = w ++ (b ++ (q ∷
 opened : {P : List ℕ → Type 0} (o : ℕ) (w : List ℕ) (j : Joined (Is (o ∷ [])) P w) → w ≡ o ∷ j.second
 opened o w j = let e : j.first ≡ o ∷ [] = equals-same (o ∷ []) j.first j.is_first in cc (j.all, e)
 
--- texts of items, one at least, with a comma between each two
-pub data AreMore (P : List ℕ → Type 0) : List ℕ → Type 0 where
-  last_one : {w : List ℕ} → P w → AreMore P w
-  one_more : {w ws : List ℕ} (b : List ℕ) → P w → AreBlanks b → AreMore P ws → AreMore P (w ++ ((b ++ codes ",") ++ ws))
-
--- they are a word of a list
+-- elements are a word of a list, and so are members
 module _ (P : List ℕ → Type 0) where
-  abbrev pub IsList : ℕ → List ℕ → Type 0
-  IsList = IsListFrom (SeparatedWord (IsMark 44) false None P) (SeparatedEnd (IsMark 44) false false 0 None)
-
-  led : {w : List ℕ} (k : ℕ) (b : List ℕ) → AreBlanks b → AreMore P w → IsList (suc k) ((b ++ codes ",") ++ w)
-  led {w} k b s (last_one i) = record {
-    items = w ∷ [];
-    are = record { first = (b ++ codes ",") ++ w; second = []; all = sym (append-nil ((b ++ codes ",") ++ w)); is_first = (tt, record { first = b ++ codes ","; second = w; all = refl; is_first = is_mark 44 b s; is_second = i }); is_second = (omega arith, refl) };
-  }
-  led k b s (one_more {w} {ws} c i t a) =
-      let l = led (suc k) c t a in record {
-        items = w ∷ l.items;
-        are = record {
-          first = (b ++ codes ",") ++ w;
-          second = (c ++ codes ",") ++ ws;
-          all = sym (append_assoc (b ++ codes ",") w ((c ++ codes ",") ++ ws));
-          is_first = (tt, record { first = b ++ codes ","; second = w; all = refl; is_first = is_mark 44 b s; is_second = i });
-          is_second = l.are;
-        };
-      }
-
-  pub none-list : IsList 0 []
-  none-list = record { items = []; are = (omega arith, refl) }
-
-  pub more-list : {w : List ℕ} → AreMore P w → IsList 0 w
-  more-list (last_one {w} i) = record { items = w ∷ []; are = record { first = w; second = []; all = sym (append-nil w); is_first = (tt, i); is_second = (omega arith, refl) } }
-  more-list (one_more {w} {ws} b i t a) = let l = led 0 b t a in record { items = w ∷ l.items; are = record { first = w; second = (b ++ codes ",") ++ ws; all = refl; is_first = (tt, i); is_second = l.are } }
-
-  -- so are elements, and members
   module _ (is : (w : List ℕ) (f : Form) → IsElement w f → P w) where
-    more_elements-are : {w : List ℕ} {f : Form} {fs : Forms} → AreElements w (form f fs) → AreMore P w
-    more_elements-are {w} {f} (one_element i) = last_one (is w f i)
-    more_elements-are {f = f} (more_elements {w} {ws} b i k a) = one_more b (is w f i) k (more_elements-are a)
+    more_elements-are : {w : List ℕ} {f : Form} {fs : Forms} → AreElements w (form f fs) → Items (IsMark 44) P w
+    more_elements-are {w} {f} (one_element i) = last_item (is w f i)
+    more_elements-are {f = f} (more_elements {w} b i k a) = more_items {s = b ++ codes ","} (is w f i) (is_mark 44 b k) (more_elements-are a)
 
-    elements-list : {w : List ℕ} {fs : Forms} → AreElements w fs → IsList 0 w
-    elements-list no_element = none-list
-    elements-list (one_element i) = more-list (more_elements-are (one_element i))
-    elements-list (more_elements b i k a) = more-list (more_elements-are (more_elements b i k a))
+    elements-list : {w : List ℕ} {fs : Forms} → AreElements w fs → IsList (IsMark 44) P 0 w
+    elements-list no_element = none-list (IsMark 44) P
+    elements-list (one_element i) = items-list (IsMark 44) P (more_elements-are (one_element i))
+    elements-list (more_elements b i k a) = items-list (IsMark 44) P (more_elements-are (more_elements b i k a))
 
   module _ (is : (w cs : List ℕ) (f : Form) → IsMember w cs f → P w) where
-    more_members-are : {w cs : List ℕ} {f : Form} {ms : Members} → AreMembers w (member cs f ms) → AreMore P w
-    more_members-are {w} {cs} {f} (one_member i) = last_one (is w cs f i)
-    more_members-are {cs = cs} {f = f} (more_members {w} {ws} b i k a) = one_more b (is w cs f i) k (more_members-are a)
+    more_members-are : {w cs : List ℕ} {f : Form} {ms : Members} → AreMembers w (member cs f ms) → Items (IsMark 44) P w
+    more_members-are {w} {cs} {f} (one_member i) = last_item (is w cs f i)
+    more_members-are {cs = cs} {f = f} (more_members {w} b i k a) = more_items {s = b ++ codes ","} (is w cs f i) (is_mark 44 b k) (more_members-are a)
 
-    members-list : {w : List ℕ} {ms : Members} → AreMembers w ms → IsList 0 w
-    members-list no_member = none-list
-    members-list (one_member i) = more-list (more_members-are (one_member i))
-    members-list (more_members b i k a) = more-list (more_members-are (more_members b i k a))
+    members-list : {w : List ℕ} {ms : Members} → AreMembers w ms → IsList (IsMark 44) P 0 w
+    members-list no_member = none-list (IsMark 44) P
+    members-list (one_member i) = items-list (IsMark 44) P (more_members-are (one_member i))
+    members-list (more_members b i k a) = items-list (IsMark 44) P (more_members-are (more_members b i k a))
 
 -- a text is some elements, or some members, as many as these words
 abbrev SomeElements : List ℕ → List (List ℕ) → Type 0
@@ -277,7 +245,7 @@ module _ {V : Type 0} (o q : ℕ) (item : Language ℕ V) (depth : ℕ) (i : IsI
   list_fails c cs e = none_then _ (literal_ends nat_eq (o ∷ []) (c ∷ cs)) (literal_fails o [] cs c e)
 
   list-refused : (k : ℕ) → k < suc depth → IsBelow (listed_language o q item).refused_from k
-  list-refused = behind-below (sooner (sooner item.refused_from None) None) depth (λ k l. both-below (sooner item.refused_from None) None k (both-below item.refused_from None k (i.refused k l) tt) tt)
+  list-refused = bracketed-below item.refused_from depth i.refused
 
   module _ (blank : is_blank q ≡ false) (stops : number_goes_on q ≡ false) (no_comma : nat_eq 44 q ≡ false) where
     goes_on : (c : ℕ) → number_goes_on c ≡ false → (w rest : List ℕ) → IsMark c w → item.follow (w ++ rest)
@@ -443,13 +411,13 @@ module _ (N S : Language ℕ (String Global)) (n : IsNumberLanguage N) (s : IsSt
     member-each _ cs f (is_member {v} {w} a b p t q e) = record { first = (a ++ v) ++ (b ++ codes ":"); second = w; all = refl; is_first = name-each a v b cs p t q; is_second = i.each w (f, e) }
 
     -- elements and members in brackets
-    elements-some : (w : List ℕ) → IsList call.word 0 w → (fs : Forms) × AreElements w fs
+    elements-some : (w : List ℕ) → IsList (IsMark 44) call.word 0 w → (fs : Forms) × AreElements w fs
     elements-some w k = elements_of w k.items (listed (IsMark 44) (λ u z. call.word u) SomeElements no_element
         (λ u z h. let t = i.only u h in (t.0, no_forms, one_element t.1))
         (λ u c us z y zs h s a. let t = i.only u h in (t.0, form a.0 a.1, by_comma (λ x. AreElements (u ++ (x ++ us)) (form t.0 (form a.0 a.1))) c s (λ b k. more_elements b t.1 k a.2)))
         k.items w k.are)
 
-    members-some : (w : List ℕ) → IsList item.word 0 w → (ms : Members) × AreMembers w ms
+    members-some : (w : List ℕ) → IsList (IsMark 44) item.word 0 w → (ms : Members) × AreMembers w ms
     members-some w k = some_members w k.items (listed (IsMark 44) (λ u z. item.word u) SomeMembers no_member
         (λ u z h. let t = member-some u h in (t.0, t.1, no_members, one_member t.2))
         (λ u c us z y zs h s a. let t = member-some u h in (t.0, t.1, member a.0 a.1 a.2, by_comma (λ x. AreMembers (u ++ (x ++ us)) (member t.0 t.1 (member a.0 a.1 a.2))) c s (λ b k. more_members b t.2 k a.3)))

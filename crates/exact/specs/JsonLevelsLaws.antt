@@ -1,5 +1,5 @@
 -- A value of fewer levels than calls may be open is taken, whatever follows it that may: it is not refused.
--- Main word: IsShallow. Main laws: value-taken, value-fails. Read first: JsonLevels.antt, Taken.antt, JsonLaws.antt.
+-- Main word: IsShallow. Main laws: value-taken, value-fails. Read first: JsonLevels.antt, Taken.antt of chumsky_exact, JsonLaws.antt.
 use Rattle.std.proofs.Common.{◌≡◌, ℕ, suc, ◌+◌, ◌<◌, nat_eq, Bool, false, ◌||◌, None, List, [], ◌∷◌, ◌++◌, length, append_assoc, refl, sym, ◌∙◌, ap, subst, arith, inl, inr}
 use Rattle.std.proofs.lemmas.List.{length-append}
 use Rattle.std.specs.Prelude.{⊤, codes, String}
@@ -16,25 +16,26 @@ use Rattle.chumsky_primitive.specs.Literals.{same-equals}
 use Rattle.chumsky_combinator.specs.MappedLanguage.{map_language}
 use Rattle.chumsky_items.specs.ListWords.{separated_next}
 use Rattle.chumsky_descent.specs.Lawful.{between-lawful, repeated-lawful}
+use Rattle.chumsky_exact.specs.Lists.{Items, last_item, more_items, IsList, none-list, items-list}
+use Rattle.chumsky_exact.specs.TableLaws.{both_false}
 use Rattle.exact.specs.declared.json_value.Json.{Json}
 use Rattle.exact.specs.declared.json_value.Json as json
 use Rattle.exact.specs.JsonForms.{Form, Forms, form, Members, member, is_blank}
 use Rattle.exact.specs.JsonForms.{IsValue, is_null, is_true, is_false, is_number, is_string, is_array, is_object, IsElement, is_element, AreElements, no_element, one_element, more_elements, IsMember, is_member, AreMembers, no_member, one_member, more_members}
 use Rattle.exact.specs.JsonGrammar.{blanks, just, mark, words, scalar_language, listed_language, name_language, member_language, bare_language, value_language, begins_scalar, begins_value, past_blanks}
-use Rattle.exact.specs.JsonLaws.{IsNumberLanguage, IsStringLanguage, Begins, Is, IsMark, past, mark_past, mark_stops, mark_fails, mark-unambiguous, is_bracketed, AreMore, last_one, one_more, IsList, none-list, more-list}
+use Rattle.exact.specs.JsonLaws.{IsNumberLanguage, IsStringLanguage, Begins, Is, IsMark, past, mark_past, mark_stops, mark_fails, mark-unambiguous, is_mark, is_bracketed}
 use Rattle.exact.specs.JsonLaws.{value-begins, value-no_blank, scalar-follows, scalar-fails, words-unambiguous, scalar-unambiguous, name-each, name-fails, name-unambiguous}
 use Rattle.exact.specs.JsonLawful.{blanks-lawful, letter-lawful, mark-lawful, words-lawful, piece-lawful}
 use Rattle.exact.specs.JsonLevels.{levels, levels_each, levels_in}
 use Rattle.exact.specs.JsonNumbers.{number_goes_on}
 use Rattle.exact.specs.JsonNumbersLanguage.{IsSlice, number_language}
-use Rattle.exact.specs.JsonNumbersOnce.{both_false}
 use Rattle.exact.specs.JsonStringsLaws.{string_language}
 use Rattle.exact.specs.Lawfully.{number-lawful}
-use Rattle.exact.specs.Taken.{AlwaysTakes, IsKnown, source, errors, states, IsLawful, lawful-known, left_below, right_below, then-always, then-known, or-known, list-always}
+use Rattle.chumsky_exact.specs.Taken.{AlwaysTakes, IsKnown, source, errors, states, IsLawful, lawful-known, left_below, right_below, then-always, then-known, or-known, list-always, HasFewerLevels}
 
 -- a text is some element of fewer levels
 abbrev pub IsShallow : ℕ → List ℕ → Type 0
-IsShallow depth w = (f : Form) × IsElement w f × (levels f < depth)
+IsShallow = HasFewerLevels IsElement levels
 
 just-known : (c : ℕ) → IsKnown (just c)
 just-known c = lawful-known (letter-lawful {source = source} {errors = errors} {states = states} c) refl tt refl
@@ -69,7 +70,7 @@ list-none o q item c cs e = let d : literal_ends nat_eq (o ∷ []) (c ∷ cs) �
 -- a list of items that are taken is taken, where its items fail on the bracket that closes it
 list-taken : {V : Type 0} (o q : ℕ) (item : Language ℕ V) (P : List ℕ → Type 0) (size : (w : List ℕ) → P w → 0 < length w) → AlwaysTakes item.ends P (StopsAt number_goes_on)
     → is_blank q ≡ false → number_goes_on q ≡ false → nat_eq 44 q ≡ false → ((w rest : List ℕ) → IsMark q w → item.ends (w ++ rest) ≡ Nowhere)
-    → AlwaysTakes (listed_language o q item).ends (Joined (Is (o ∷ [])) (Joined (IsList P 0) (IsMark q))) (λ rest. ⊤)
+    → AlwaysTakes (listed_language o q item).ends (Joined (Is (o ∷ [])) (Joined (IsList (IsMark 44) P 0) (IsMark q))) (λ rest. ⊤)
 list-taken o q item P size taken blank stops no_comma fails =
     let comma = mark-known 44 refl in
     then-always (just o).ends (then_ends (items_of item) (mark q).ends) (just-known o).each
@@ -155,29 +156,31 @@ module _ (n : IsNumberLanguage number_language) (s : IsStringLanguage string_lan
       IsShallowMember = Joined (name_language string_language).word (IsShallow depth)
 
       -- elements and members of fewer levels are a list of such
-      more_elements-shallow : {w : List ℕ} {f : Form} {fs : Forms} → AreElements w (form f fs) → levels_each (form f fs) < depth → AreMore (IsShallow depth) w
-      more_elements-shallow {w} {f} {fs} (one_element i) l = last_one (f, i, left_below (levels f) (levels_each fs) depth l)
-      more_elements-shallow {w} {f} {fs} (more_elements b i k a) l = one_more b (f, i, left_below (levels f) (levels_each fs) depth l) k (more_elements-shallow a (right_below (levels f) (levels_each fs) depth l))
+      more_elements-shallow : {w : List ℕ} {f : Form} {fs : Forms} → AreElements w (form f fs) → levels_each (form f fs) < depth → Items (IsMark 44) (IsShallow depth) w
+      more_elements-shallow {w} {f} {fs} (one_element i) l = last_item (f, i, left_below (levels f) (levels_each fs) depth l)
+      more_elements-shallow {w} {f} {fs} (more_elements b i k a) l =
+          more_items {s = b ++ codes ","} (f, i, left_below (levels f) (levels_each fs) depth l) (is_mark 44 b k) (more_elements-shallow a (right_below (levels f) (levels_each fs) depth l))
 
-      elements-shallow : {w : List ℕ} {fs : Forms} → AreElements w fs → levels_each fs < depth → IsList (IsShallow depth) 0 w
-      elements-shallow no_element l = none-list (IsShallow depth)
-      elements-shallow (one_element i) l = more-list (IsShallow depth) (more_elements-shallow (one_element i) l)
-      elements-shallow (more_elements b i k a) l = more-list (IsShallow depth) (more_elements-shallow (more_elements b i k a) l)
+      elements-shallow : {w : List ℕ} {fs : Forms} → AreElements w fs → levels_each fs < depth → IsList (IsMark 44) (IsShallow depth) 0 w
+      elements-shallow no_element l = none-list (IsMark 44) (IsShallow depth)
+      elements-shallow (one_element i) l = items-list (IsMark 44) (IsShallow depth) (more_elements-shallow (one_element i) l)
+      elements-shallow (more_elements b i k a) l = items-list (IsMark 44) (IsShallow depth) (more_elements-shallow (more_elements b i k a) l)
 
       member-shallow : {w cs : List ℕ} {f : Form} → IsMember w cs f → levels f < depth → IsShallowMember w
       member-shallow {cs = cs} {f = f} (is_member {v} {w} a b p t q e) l = record { first = (a ++ v) ++ (b ++ codes ":"); second = w; all = refl; is_first = name-each number_language string_language n s a v b cs p t q; is_second = (f, e, l) }
 
-      more_members-shallow : {w cs : List ℕ} {f : Form} {ms : Members} → AreMembers w (member cs f ms) → levels_in (member cs f ms) < depth → AreMore IsShallowMember w
-      more_members-shallow {w} {cs} {f} {ms} (one_member i) l = last_one (member-shallow i (left_below (levels f) (levels_in ms) depth l))
-      more_members-shallow {w} {cs} {f} {ms} (more_members b i k a) l = one_more b (member-shallow i (left_below (levels f) (levels_in ms) depth l)) k (more_members-shallow a (right_below (levels f) (levels_in ms) depth l))
+      more_members-shallow : {w cs : List ℕ} {f : Form} {ms : Members} → AreMembers w (member cs f ms) → levels_in (member cs f ms) < depth → Items (IsMark 44) IsShallowMember w
+      more_members-shallow {w} {cs} {f} {ms} (one_member i) l = last_item (member-shallow i (left_below (levels f) (levels_in ms) depth l))
+      more_members-shallow {w} {cs} {f} {ms} (more_members b i k a) l =
+          more_items {s = b ++ codes ","} (member-shallow i (left_below (levels f) (levels_in ms) depth l)) (is_mark 44 b k) (more_members-shallow a (right_below (levels f) (levels_in ms) depth l))
 
-      members-shallow : {w : List ℕ} {ms : Members} → AreMembers w ms → levels_in ms < depth → IsList IsShallowMember 0 w
-      members-shallow no_member l = none-list IsShallowMember
-      members-shallow (one_member i) l = more-list IsShallowMember (more_members-shallow (one_member i) l)
-      members-shallow (more_members b i k a) l = more-list IsShallowMember (more_members-shallow (more_members b i k a) l)
+      members-shallow : {w : List ℕ} {ms : Members} → AreMembers w ms → levels_in ms < depth → IsList (IsMark 44) IsShallowMember 0 w
+      members-shallow no_member l = none-list (IsMark 44) IsShallowMember
+      members-shallow (one_member i) l = items-list (IsMark 44) IsShallowMember (more_members-shallow (one_member i) l)
+      members-shallow (more_members b i k a) l = items-list (IsMark 44) IsShallowMember (more_members-shallow (more_members b i k a) l)
 
       -- so they are taken in their brackets
-      arrays-taken : 0 < depth → AlwaysTakes arrays (Joined (Is (91 ∷ [])) (Joined (IsList (IsShallow depth) 0) (IsMark 93))) (λ rest. ⊤)
+      arrays-taken : 0 < depth → AlwaysTakes arrays (Joined (Is (91 ∷ [])) (Joined (IsList (IsMark 44) (IsShallow depth) 0) (IsMark 93))) (λ rest. ⊤)
       arrays-taken l = list-taken 91 93 call (IsShallow depth) (λ w i. element_size i.1) taken refl refl refl (λ w rest j. fails l (w ++ rest) (subst (StopsAt begins_value) (sym (mark_past 93 refl w rest j)) refl))
 
       members-taken : AlwaysTakes item.ends IsShallowMember (StopsAt number_goes_on)
@@ -186,7 +189,7 @@ module _ (n : IsNumberLanguage number_language) (s : IsStringLanguage string_lan
       member_size : (w : List ℕ) → IsShallowMember w → 0 < length w
       member_size w j = subst (λ z. 0 < length z) (sym j.all) (behind_size j.first j.second (element_size j.is_second.1))
 
-      objects-taken : AlwaysTakes objects (Joined (Is (123 ∷ [])) (Joined (IsList IsShallowMember 0) (IsMark 125))) (λ rest. ⊤)
+      objects-taken : AlwaysTakes objects (Joined (Is (123 ∷ [])) (Joined (IsList (IsMark 44) IsShallowMember 0) (IsMark 125))) (λ rest. ⊤)
       objects-taken = list-taken 123 125 item IsShallowMember member_size members-taken refl refl refl no_member_ends
 
       scalar-taken : (w rest : List ℕ) → scalars.word w → StopsAt number_goes_on rest → bare (w ++ rest) ≡ At rest

@@ -17,7 +17,8 @@ use Rattle.chumsky_combinator.specs.OptionalLanguage.{or_not_language}
 use Rattle.chumsky_text.specs.Decimals.{IsInt, IsDigits, slice-bytes}
 use Rattle.exact.specs.JsonNumbers.{AreDigits, digits, IsMinus, no_minus, minus, IsSign, no_sign, plus_sign, minus_sign, IsFraction, no_fraction, fraction, IsExponent, no_exponent, exponent, IsNumberText, is_number_text, begins_number, number_goes_on}
 use Rattle.exact.specs.JsonNumbersLanguage.{fixed, one_among, fraction_language, exponent_language, pointed_language, more_language, whole_language, number_language}
-use Rattle.exact.specs.JsonNumbersOnce.{is_e, is_point, letter_is, letter-other, no_digit, no_more, both_false}
+use Rattle.chumsky_exact.specs.TableLaws.{both_false}
+use Rattle.exact.specs.JsonNumbersOnce.{is_e, is_point, letter_is, letter-other, no_digit, no_more}
 use Rattle.exact.specs.JsonPicksLaws.{both}
 use Rattle.chumsky_exact.specs.Numerals.{no_digit-stops}
 

@@ -6,6 +6,7 @@ use Rattle.std.specs.Char.{is_digit}
 use Rattle.std.proofs.lemmas.Bool.Decides.{nat_tests}
 use Rattle.chumsky_parser.specs.Words.{AllPass, StopsAt}
 use Rattle.chumsky_text.specs.Decimals.{IsInt}
+use Rattle.chumsky_exact.specs.TableLaws.{both_false}
 use Rattle.exact.specs.JsonNumbers.{AreDigits, digits, IsMinus, no_minus, minus, IsSign, no_sign, plus_sign, minus_sign, IsFraction, no_fraction, fraction, IsExponent, no_exponent, exponent, IsNumberText, is_number_text, begins_number, number_goes_on}
 
 abbrev digit : ℕ → Bool
@@ -40,10 +41,6 @@ int-digits (c ∷ cs) i = (i.0, each cs i.1)
 
 are-digits : {w : List ℕ} → AreDigits w → AllPass digit w
 are-digits (digits d ds p) = p
-
-pub both_false : (a b : Bool) → (a || b) ≡ false → (a ≡ false) × (b ≡ false)
-both_false true b e = absurd (cc e)
-both_false false b e = (refl, e)
 
 -- what follows a number: no digit, no point, and no letter of an exponent
 pub no_digit : (x : List ℕ) → StopsAt number_goes_on x → StopsAt digit x

@@ -1,7 +1,7 @@
 -- The function that reads values of JSON accepts just these.
 -- Main word: grammar. Main laws: number-is, string-is, values-intended, refused-deep. Read first: JsonLaws.antt, JsonLevelsLaws.antt, and CallLanguage.antt of chumsky_descent.
-use Rattle.std.proofs.Common.{◌≡◌, ℕ, zero, suc, ◌≤◌, ◌<◌, nat_eq, List, [], ◌∷◌, length, refl, sym, ◌∙◌, ap, arith}
-use Rattle.chumsky_parser.specs.Ending.{At, Nowhere, Refused, DoesNotEnd, and_then}
+use Rattle.std.proofs.Common.{◌≡◌, ℕ, suc, ◌≤◌, nat_eq, List, [], ◌∷◌, length, refl, sym, ◌∙◌, ap}
+use Rattle.chumsky_parser.specs.Ending.{At, Refused, DoesNotEnd, and_then}
 use Rattle.chumsky_parser.specs.Language.{Language}
 use Rattle.chumsky_parser.specs.Words.{StopsAt}
 use Rattle.chumsky_primitive.specs.EndLanguage.{end_ends}
@@ -9,17 +9,17 @@ use Rattle.chumsky_primitive.specs.PrimitiveLanguage.{literal_ends}
 use Rattle.chumsky_descent.specs.CallLanguage.{call_language, IsIntended, call-is_intended}
 use Rattle.chumsky_descent.specs.Exactly.{grammar_of}
 use Rattle.exact.specs.declared.json_value.Json.{Json}
-use Rattle.exact.specs.Deep.{IsDeep, deep-unless}
-use Rattle.exact.specs.JsonForms.{IsJson}
+use Rattle.chumsky_exact.specs.Deep.{IsDeep, deep-unless}
+use Rattle.exact.specs.JsonForms.{IsElement, IsJson}
 use Rattle.exact.specs.JsonNumbers.{number_goes_on}
 use Rattle.exact.specs.JsonNumbersLanguage.{number_language}
 use Rattle.exact.specs.JsonNumbersLaws.{number-sound, number-some, number-complete, number-follow, number-unambiguous, number-fails}
 use Rattle.exact.specs.JsonStringsLaws.{string_language, string-sound, string-some, string-complete, string-unambiguous}
-use Rattle.exact.specs.JsonGrammar.{value_language, begins_value, past_blanks, values}
+use Rattle.exact.specs.JsonGrammar.{begins_value, past_blanks, values}
 use Rattle.exact.specs.JsonLaws.{IsNumberLanguage, IsStringLanguage, literal_fails, none_then, blanks-follow, kept}
 use Rattle.exact.specs.JsonLevels.{levels}
 use Rattle.exact.specs.JsonLevelsLaws.{IsShallow, value-taken, value-fails}
-use Rattle.exact.specs.Taken.{AlwaysTakes}
+use Rattle.chumsky_exact.specs.Taken.{AlwaysTakes, taken-by_body}
 use Rattle.exact.specs.contracts.json.OfValueBodyRefStrJsonEmptyText.TheImpl.{ghosts, no_dict}
 use denote.Builtin.{unit}
 
@@ -78,15 +78,10 @@ body-kept call depth i =
 pub values-intended : (depth : ℕ) → IsIntended values (call_language values grammar depth) depth
 values-intended = call-is_intended values grammar body-kept
 
--- under one call at least it fails on what begins no value
-values-fail : (depth : ℕ) → 0 < depth → (ts : List ℕ) → StopsAt begins_value (past_blanks ts) → (call_language values grammar depth).ends ts ≡ Nowhere
-values-fail zero l ts t = absurd (omega (arith, l))
-values-fail (suc depth) l ts t = value-fails number-is string-is (call_language values grammar depth) ts t
-
 -- a value of fewer levels than calls may be open is taken
 values-taken : (depth : ℕ) → AlwaysTakes (call_language values grammar depth).ends (IsShallow depth) (StopsAt number_goes_on)
-values-taken zero w rest i t = let l : levels i.0 < 0 = i.2 in absurd (omega (arith, l))
-values-taken (suc depth) w rest i t = value-taken number-is string-is (call_language values grammar depth) depth (values-taken depth) (values-fail depth) w rest i t
+values-taken =
+    taken-by_body IsElement levels (StopsAt number_goes_on) (λ ts. StopsAt begins_value (past_blanks ts)) values grammar (value-fails number-is string-is) (value-taken number-is string-is)
 
 end_known : (ts : List ℕ) → end_ends ts ≡ Refused → ⊥
 end_known [] e = cc e

@@ -3,11 +3,9 @@ pub mod AtomLaws
 pub mod Bits
 pub mod BitsLaws
 pub mod Date
-pub mod Deep
 pub mod Expressions
 pub mod ExpressionsLaws
 pub mod ExpressionsLevelsLaws
-pub mod Listed
 pub mod JsonForms
 pub mod JsonGrammar
 pub mod JsonLawful
@@ -34,7 +32,6 @@ pub mod Number
 pub mod Owned
 pub mod Pairs
 pub mod PairsLaws
-pub mod Taken
 pub mod Trees
 pub mod TreesLaws
 pub mod TreesLevelsLaws

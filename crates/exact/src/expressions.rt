@@ -3,7 +3,7 @@ ghost use Rattle.std.specs.Prelude.{◌≡◌, ◌<◌, false, None};
 ghost use Rattle.std.specs.Str.{chars};
 ghost use Rattle.chumsky.specs.Accepted.{ExactlyUnless};
 ghost use Rattle.chumsky_exact.specs.ReadBack.{GivesBack};
-ghost use Rattle.exact.specs.Deep.{IsDeep};
+ghost use Rattle.chumsky_exact.specs.Deep.{IsDeep};
 ghost use Rattle.exact.specs.Expressions.{Form, form_of, IsExpression, IsSound, HoldsExpression, levels, written};
 
 use chumsky::combinator::{Collect, DelimitedBy, Map, Mapper, Or, SeparatedBy, run_part};

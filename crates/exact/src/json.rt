@@ -4,7 +4,7 @@ ghost use Rattle.std.specs.Str.{chars};
 ghost use Rattle.chumsky_input.specs.Run.{Runs};
 ghost use Rattle.chumsky_combinator.specs.Part.{Onward};
 ghost use Rattle.chumsky.specs.Accepted.{ExactlyUnless};
-ghost use Rattle.exact.specs.Deep.{IsDeep};
+ghost use Rattle.chumsky_exact.specs.Deep.{IsDeep};
 ghost use Rattle.exact.specs.JsonForms.{HoldsJson, IsJson};
 ghost use Rattle.exact.specs.JsonLevels.{levels};
 

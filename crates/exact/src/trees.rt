@@ -2,7 +2,7 @@
 ghost use Rattle.std.specs.Prelude.{◌≡◌, false, None};
 ghost use Rattle.std.specs.Str.{chars};
 ghost use Rattle.chumsky.specs.Accepted.{ExactlyUnless};
-ghost use Rattle.exact.specs.Deep.{IsDeep};
+ghost use Rattle.chumsky_exact.specs.Deep.{IsDeep};
 ghost use Rattle.exact.specs.Trees.{IsTree, levels};
 
 use chumsky::combinator::{Collect, DelimitedBy, Map, Mapper, Or, PickBy, SeparatedBy, run_part};

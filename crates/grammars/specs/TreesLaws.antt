@@ -1,35 +1,34 @@
 -- The rule takes just the texts of trees.
--- Main law: trees-exact. Read first: Trees.antt, SeparatedLaws.antt and ExactlyLaws.antt of chumsky_grammars.
-use Rattle.std.proofs.Common.{◌≡◌, ℕ, zero, suc, ◌<◌, ◌≤◌, nat_eq, true, false, List, [], ◌∷◌, ◌++◌, Some, None, length, refl, sym, ◌∙◌, ap, subst, arith, append_assoc, inl, inr}
+-- Main words: leaves, trees. Main laws: sound, complete. Read first: Trees.antt, SeparatedLaws.antt, Enclosed.antt and ExactlyLaws.antt of chumsky_grammars.
+use Rattle.std.proofs.Common.{◌≡◌, ℕ, zero, suc, ◌<◌, ◌≤◌, nat_eq, true, false, List, [], ◌∷◌, ◌++◌, None, length, refl, sym, ◌∙◌, ap, subst, arith, append_assoc, inl, inr}
 use Rattle.std.proofs.lemmas.Bool.Decides.{nat_tests}
-use Rattle.std.proofs.lemmas.List.{length-append, append-nil}
-use Rattle.std.specs.Prelude.{Result, ⊤, codes}
+use Rattle.std.proofs.lemmas.List.{length-append}
+use Rattle.std.specs.Prelude.{⊤, codes}
 use Rattle.std.specs.declared.alloc.Global.{Global}
 use Rattle.std.specs.declared.vec.Vec.{Vec}
-use Rattle.chumsky_input.specs.declared.stop.Stop.{Stop}
 use Rattle.chumsky_parser.specs.Ending.{Ender, At, Nowhere}
 use Rattle.chumsky_parser.specs.ItemsLanguage.{list_until, list_ends}
 use Rattle.chumsky_parser.specs.Language.{Language}
 use Rattle.chumsky_parser.specs.Words.{IsOne}
-use Rattle.chumsky_parser.specs.declared.result.ParseResult.{ParseResult}
 use Rattle.chumsky_primitive.specs.OneOf.{among}
 use Rattle.chumsky_primitive.specs.PrimitiveLanguage.{one_language}
 use Rattle.chumsky_combinator.specs.MappedLanguage.{map_language}
 use Rattle.chumsky_items.specs.ListWords.{lead_at}
-use Rattle.chumsky.specs.Accepted.{AnswersText, Exactly}
-use Rattle.chumsky_grammars.specs.ExactlyLaws.{exactly-by_rules}
-use Rattle.chumsky_grammars.specs.Founded.{Claims}
-use Rattle.chumsky_grammars.specs.Leaves.{leaves_of, leaves-are}
+use Rattle.chumsky_exact.specs.Lists.{listed}
+use Rattle.chumsky_exact.specs.Parts.{one-is}
+use Rattle.chumsky_grammars.specs.Enclosed.{IsFixed, enclosed}
+use Rattle.chumsky_grammars.specs.Expression.{Call, Leaf, Separated}
+use Rattle.chumsky_grammars.specs.Leaves.{leaves_of}
 use Rattle.chumsky_grammars.specs.RuleLanguage.{Makes, rule_language}
-use Rattle.chumsky_grammars.specs.SeparatedLaws.{plain_next, one-more, no-more, listed}
+use Rattle.chumsky_grammars.specs.SeparatedLaws.{plain_next, one-more, no-more}
 use Rattle.grammars.specs.declared.trees.Tree.{Tree}
 use Rattle.grammars.specs.declared.trees.Tree as tree
-use Rattle.grammars.specs.Trees.{IsTree, AreTexts, HoldsItems, kept, tree_expression}
+use Rattle.grammars.specs.Trees.{IsTree, AreTexts, HoldsItems, kept, plain, tree_expression}
 use Rattle.grammars.specs.Trees.IsTree.{digit, empty, list}
 use Rattle.grammars.specs.Trees.AreTexts.{one, more}
 
 -- one of these characters, as a tree
-abbrev pub symbol : List ℕ → Language ℕ Tree
+abbrev symbol : List ℕ → Language ℕ Tree
 symbol set = map_language (λ c t. t ≡ tree.Digit c) (one_language (among nat_eq set) (λ c v. v ≡ c) ((c : ℕ) → ⊤))
 
 -- the leaves
@@ -53,16 +52,16 @@ in_brackets w ts (u ∷ us) e i = let a : AreTexts w ts.items = subst (AreTexts 
 only_member : (c t : ℕ) → among nat_eq (c ∷ []) t ≡ true → t ≡ c
 only_member c t e = grind (arith, nat_tests)
 
--- a word of one character of a set of one
-one_word : (c : ℕ) (w : List ℕ) (v : ℕ) → IsOne (among nat_eq (c ∷ [])) (λ t. v ≡ t) w → w ≡ c ∷ []
-one_word c w v i = let e : i.token ≡ c = only_member c i.token i.passes in rw e at i.all
+-- a set of one character takes that one
+is_symbol : (c : ℕ) → IsFixed (symbol (c ∷ [])) (c ∷ []) (tree.Digit c)
+is_symbol c w v h = let k = one-is h.1 in let e : h.0 ≡ c = only_member c h.0 k.1 in (cc (k.0, e), h.2 ∙ ap (λ z. tree.Digit z) e)
 
--- the language of the rule
-abbrev pub language : ℕ → Language ℕ Tree
-language n = rule_language trees (leaves_of leaves) (tree_expression ∷ []) n 0
+-- the language of a call, where so many may be open
+abbrev calls : ℕ → ℕ → Language ℕ Tree
+calls = rule_language trees (leaves_of leaves) (tree_expression ∷ [])
 
 abbrev item : ℕ → Ender ℕ
-item n = (language n).ends
+item n = (calls n 0).ends
 
 abbrev comma : Ender ℕ
 comma = (symbol (codes ",")).ends
@@ -74,7 +73,7 @@ fails (suc n) rest l = refl
 
 mutual
   -- what is a tree is taken
-  complete : {w : List ℕ} {t : Tree} → IsTree w t → (rest : List ℕ) (n : ℕ) → length w < n → item n (w ++ rest) ≡ At rest
+  pub complete : {w : List ℕ} {t : Tree} → IsTree w t → (rest : List ℕ) (n : ℕ) → length w < n → item n (w ++ rest) ≡ At rest
   complete {w} i rest zero l = absurd (omega (arith, l))
   complete (digit c d) rest (suc n) l = rw d refl
   complete (empty ts e) rest (suc n) l =
@@ -102,43 +101,19 @@ mutual
       one-more (item n) comma k room us (w ++ (44 ∷ (ws ++ (93 ∷ rest)))) (44 ∷ (ws ++ (93 ∷ rest))) d (complete {w = w} i (44 ∷ (ws ++ (93 ∷ rest))) n (omega (arith, l, m)))
       ∙ all_taken {w = ws} a rest n (omega (arith, l, m)) (suc k) room (44 ∷ (ws ++ (93 ∷ rest))) refl (omega (arith, r, m, mr, ms))
 
+by_comma : (u s us : List ℕ) (t : Tree) (ts : List Tree) → IsOne (among nat_eq (44 ∷ [])) (λ c. ⊤) s → AreTexts (u ++ (44 ∷ us)) (t ∷ ts) → AreTexts (u ++ (s ++ us)) (t ∷ ts)
+by_comma u s us t ts i a = let e : i.token ≡ 44 = only_member 44 i.token i.passes in rw (i.all, e) a
+
 -- and each word is a tree
-sound : (n : ℕ) (w : List ℕ) (v : Tree) → (language n).stands_for w v → IsTree w v
+pub sound : (n : ℕ) (w : List ℕ) (v : Tree) → (calls n 0).stands_for w v → IsTree w v
 sound zero w v x = absurd x
-sound (suc n) w v (inl x) =
-    let i = x.1 in
-    let c : v ≡ tree.Digit i.token = x.2 ∙ ap (λ z. tree.Digit z) i.is in
-    rw (i.all, c) (digit i.token i.passes)
+sound (suc n) w v (inl x) = let i = x.1 in let c : v ≡ tree.Digit i.token = x.2 ∙ ap (λ z. tree.Digit z) i.is in rw (i.all, c) (digit i.token i.passes)
 sound (suc n) w v (inr x) =
-    let j = x.1 in
-    let y = j.is_second in
-    let k = y.1 in
-    let z = k.is_first in
-    let h = z.1 in
-    let o : j.first ≡ 91 ∷ [] = one_word 91 j.first j.is_first.0 j.is_first.1 in
-    let c : k.second ≡ 93 ∷ [] = one_word 93 k.second k.is_second.0 k.is_second.1 in
-    let holds : HoldsItems z.0 y.0.0 = z.2 in
-    let ts : Vec Tree Global = holds.0 in
-    let items : Items k.first h.items = listed (IsOne (among nat_eq (44 ∷ [])) (λ c. ⊤)) (language n).stands_for Items refl (λ u t s. one (sound n u t s))
-    (λ u s us t r rs p q a. by_comma u s us t (r ∷ rs) q (more (sound n u t p) a)) h.items k.first h.is in
-    let held : ts.items ≡ h.items = holds.1 ∙ h.held in
-    let all : w ≡ 91 ∷ (k.first ++ (93 ∷ [])) = (let q = rw o at j.all in let s = rw c at k.all in q ∙ ap (λ r. 91 ∷ r) s) in
-    let first : x.0.0 ≡ tree.Digit j.is_first.0 = j.is_first.2 in
-    let inner : y.0.0 ≡ tree.List ts = holds.2 in
-    let is : v ≡ tree.List ts = (let p = rw first at x.2 in let q = rw inner at y.2 in p ∙ q) in
-    rw (all, is) (in_brackets k.first ts h.items held items)
-  where
-    by_comma : (u s us : List ℕ) (t : Tree) (rs : List Tree) → IsOne (among nat_eq (44 ∷ [])) (λ c. ⊤) s → AreTexts (u ++ (44 ∷ us)) (t ∷ rs) → AreTexts (u ++ (s ++ us)) (t ∷ rs)
-    by_comma u s us t rs i a = let e : i.token ≡ 44 = only_member 44 i.token i.passes in rw (i.all, e) a
-
--- a rule that takes a token
-abbrev claims : Claims
-claims = record { count = 1; leaf_stays = λ n. false; rule_stays = λ r. false; rank = λ r. 0 }
-
--- so the answer of `parse` is exact
-pub trees-exact : {Er spare : Type 0} (limit : ℕ) (ts : List ℕ) → length ts < limit → {result : Result (ParseResult Tree Er) Stop}
-    → ((language limit).said ≡ true → AnswersText Some (language limit) ts spare result) → Exactly IsTree ts result
-trees-exact limit ts enough =
-    exactly-by_rules IsTree claims trees (leaves_of leaves) (leaves-are claims leaves refl)
-    (tree_expression ∷ []) refl refl limit 0 (omega arith) (omega arith) (sound limit ts)
-    (λ v d. let c : (language limit).ends (ts ++ []) ≡ At [] = complete {w = ts} d [] limit enough in rw append-nil at c)
+    let t = enclosed trees (leaves_of leaves) (calls n) (Separated (Call 0) (Leaf 2) plain) {o = 1} {c = 3} (is_symbol 91) (is_symbol 93) x in
+    let h = t.is.1 in
+    let holds : HoldsItems t.is.0 t.value = t.is.2 in
+    let items : Items t.inside h.items = listed (IsOne (among nat_eq (44 ∷ [])) (λ c. ⊤)) (calls n 0).stands_for Items refl (λ u r s. one (sound n u r s))
+    (λ u s us r q rs p c a. by_comma u s us r (q ∷ rs) c (more (sound n u r p) a)) h.items t.inside h.is in
+    let inner : t.value ≡ tree.List holds.0 = holds.2 in
+    let is : v ≡ tree.List holds.0 = t.opened_is ∙ (rw inner at t.closed_is) in
+    subst (λ z. IsTree z v) (sym t.all) (subst (IsTree (codes "[" ++ (t.inside ++ codes "]"))) (sym is) (in_brackets t.inside holds.0 h.items (holds.1 ∙ h.held) items))

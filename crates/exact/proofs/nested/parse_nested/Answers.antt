@@ -1,4 +1,4 @@
-use Rattle.std.proofs.Common.{ℕ, suc, refl}
+use Rattle.std.proofs.Common.{suc, refl}
 use Rattle.std.specs.Str.{chars}
 use Rattle.chumsky_exact.specs.ByCalls.{unless-by_calls}
 use Rattle.exact.specs.Nested.{nested, IsNested}

@@ -1,8 +1,7 @@
-use Rattle.std.proofs.Common.{◌∙◌, refl, length, ap, arith}
+use Rattle.std.proofs.Common.{◌∙◌, refl, ap, arith}
 use Rattle.std.specs.Str.{chars}
-use Rattle.std.proofs.lemmas.Str.{encodes-chars, length-le-encodes}
 use Rattle.chumsky_grammars.specs.Compiled.{expressions_of}
-use Rattle.chumsky_grammars.specs.ExactlyLaws.{one-rule}
+use Rattle.chumsky_grammars.specs.ExactlyLaws.{one-rule, chars-few}
 use Rattle.grammars.specs.AddressesLaws.{address-exact, each_decides}
 use Rattle.grammars.proofs.addresses.parse_over.Goals as goal
 
@@ -15,11 +14,10 @@ parse-requires g c κs =
 
 pub returns : goal.returns
 returns g c =
-    let few = length-le-encodes (chars c.args.text.now) in
-    let all = ap length (encodes-chars c.args.text.now c.utf8.text) in
+    let few = chars-few c.args.text.now c.utf8.text in
     let given = c.in-Ok.ensures.given in
     let some = c.in-Some.ensures in
     let rules_are = ap expressions_of c.in-Ok.ensures.rules.0 ∙ one-rule _ c.in_ok-rules.ensures.rules.0 in
     let start = c.in-Ok.ensures.rules.1 ∙ c.in_ok-rules.ensures.rules.1 in
     let reads = rw (c.exact_by.ensures.grammar, rules_are, start, given.0) at c.parse.ensures.3.reads in
-    address-exact _ c.requires.languages c.in-Ok.grammar.limit (chars c.args.text.now) (omega (arith, few, all, given.1, some)) reads
+    address-exact _ c.requires.languages c.in-Ok.grammar.limit (chars c.args.text.now) (omega (arith, few, given.1, some)) reads

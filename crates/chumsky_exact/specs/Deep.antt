@@ -9,7 +9,8 @@ pub record IsDeep {V : Type 0} (says : List ℕ → V → Type 0) (levels : V �
   pub nested : (v : V) → says text v → limit ≤ levels v
 
 -- so is one that is no shorter, where no value that it says has fewer levels
-pub deep-unless : {V : Type 0} (says : List ℕ → V → Type 0) (levels : V → ℕ) (limit : ℕ) (text : List ℕ) → limit ≤ length text → ((v : V) → says text v → levels v < limit → ⊥) → IsDeep says levels limit text
+pub deep-unless : {V : Type 0} (says : List ℕ → V → Type 0) (levels : V → ℕ) (limit : ℕ) (text : List ℕ) → limit ≤ length text
+    → ((v : V) → says text v → levels v < limit → ⊥) → IsDeep says levels limit text
 deep-unless {V} says levels limit text l none = record { long = l; nested = λ v s. by_levels v s (nat_lt (levels v) limit) refl }
   where
     by_levels : (v : V) → says text v → (b : Bool) → nat_lt (levels v) limit ≡ b → limit ≤ levels v

@@ -1,10 +1,11 @@
 -- Words that are taken whatever follows them that may, and never refused.
--- Main words: AlwaysTakes, IsKnown. Main laws: lawful-known, then-always, then-known, or-known, list-always. Read first: Language.antt, Words.antt of chumsky_parser.
+-- Main words: AlwaysTakes, IsKnown, HasFewerLevels. Main laws: lawful-known, then-always, then-known, or-known, list-always, bracketed-always, taken-by_body, deep-by_body.
+-- Read first: Language.antt, Words.antt of chumsky_parser, CallLanguage.antt of chumsky_descent.
 use Rattle.std.proofs.Common.{◌≡◌, ℕ, zero, suc, ◌+◌, ◌≤◌, ◌<◌, nat_eq, nat_lt, max, true, false, None, List, [], ◌∷◌, ◌++◌, length, append_assoc, refl, sym, ◌∙◌, ap, subst, arith, inl, inr}
 use Rattle.std.specs.Prelude.{⊤}
 use Rattle.std.proofs.Math.Nat.{le-max_left, le-max_right}
 use Rattle.std.proofs.lemmas.Bool.Decides.{nat_tests}
-use Rattle.std.proofs.lemmas.List.{length-append}
+use Rattle.std.proofs.lemmas.List.{append-nil, length-append}
 use Rattle.chumsky_input.specs.declared.error.Error as error_trait
 use Rattle.chumsky_input.specs.declared.inspector.Inspector as inspector_trait
 use Rattle.chumsky_input.specs.declared.input.Input as input_trait
@@ -18,9 +19,14 @@ use Rattle.chumsky_parser.specs.Language.{Language, NeverRefused, IsBelow}
 use Rattle.chumsky_parser.specs.SequenceLanguage.{joined_language, MayFollow}
 use Rattle.chumsky_parser.specs.Words.{Joined, then_ends}
 use Rattle.chumsky_parser.specs.WordsLaws.{ends-unless}
-use Rattle.chumsky_primitive.specs.PrimitiveLanguage.{literal_language, literal_ends}
-use Rattle.chumsky_descent.specs.Lawful.{Lawful, just-lawful}
+use Rattle.chumsky_primitive.specs.Literals.{equals-same}
+use Rattle.chumsky_primitive.specs.PrimitiveLanguage.{Equals, literal_language, literal_ends}
 use Rattle.chumsky_items.specs.ListWords.{separated_next, Led, SeparatedWord, SeparatedEnd}
+use Rattle.chumsky_descent.specs.CallLanguage.{call_language}
+use Rattle.chumsky_descent.specs.Calls.{Intended}
+use Rattle.chumsky_descent.specs.Lawful.{Lawful, just-lawful}
+use Rattle.chumsky_exact.specs.Deep.{IsDeep, deep-unless}
+use Rattle.chumsky_exact.specs.Lists.{IsList}
 
 -- each word with P is taken, where what follows fits: none is refused
 abbrev pub AlwaysTakes : {Tok : Type 0} → Ender Tok → (P fits : List Tok → Type 0) → Type 0
@@ -104,7 +110,8 @@ module _ {Tok : Type 0} where
       by_first ts Refused h d = absurd (cc (h tt))
 
   -- items, with a separator between each two: none is empty, nothing that follows changes a separator, and what begins with one may follow an item
-  module _ (f separator : Ender Tok) (P S fits : List Tok → Type 0) (size : (w : List Tok) → P w → 0 < length w) (item : AlwaysTakes f P fits) (between : AlwaysTakes separator S (λ rest. ⊤)) (behind : (w rest : List Tok) → S w → fits (w ++ rest)) where
+  module _ (f separator : Ender Tok) (P S fits : List Tok → Type 0) (size : (w : List Tok) → P w → 0 < length w) (item : AlwaysTakes f P fits)
+      (between : AlwaysTakes separator S (λ rest. ⊤)) (behind : (w rest : List Tok) → S w → fits (w ++ rest)) where
     abbrev next : ℕ → List Tok → Ending (Stepped Tok)
     next = separated_next f separator false false 0 None
 
@@ -166,3 +173,45 @@ module _ {Tok : Type 0} where
     list-always w rest i e =
         let s : length (w ++ rest) ≡ length w + length rest = length-append w rest in
         until-always (length (w ++ rest)) 0 i.items w rest (omega (arith, s)) i.are e
+
+module _ (f : Ender ℕ) (P fits : List ℕ → Type 0) (size : (w : List ℕ) → P w → 0 < length w) (item : AlwaysTakes f P fits) where
+  -- items between two characters, with one between each two: what begins with one of the last two may follow an item, and none begins with the last
+  pub bracketed-always : (o s c : ℕ) → nat_eq s c ≡ false → ((rest : List ℕ) → fits (s ∷ rest)) → ((rest : List ℕ) → fits (c ∷ rest)) → ((rest : List ℕ) → f (c ∷ rest) ≡ Nowhere)
+      → AlwaysTakes (then_ends (ends_of o) (then_ends (list_ends (separated_next f (ends_of s) false false 0 None)) (ends_of c)))
+      (Joined (Equals nat_eq (o ∷ [])) (Joined (IsList (Equals nat_eq (s ∷ [])) P 0) (Equals nat_eq (c ∷ [])))) (λ rest. ⊤)
+  bracketed-always o s c apart goes_on ends no_item =
+      then-always (ends_of o) (then_ends items (ends_of c)) (character-known o).each
+      (then-always items (ends_of c) (list-always f (ends_of s) P (Equals nat_eq (s ∷ [])) fits size item (character-known s).each behind) (character-known c).each
+      (λ w rest j q. let e : w ≡ c ∷ [] = equals-same (c ∷ []) w j in rw e (record { fit = ends rest; no_separator = rw apart refl; no_item = no_item rest })))
+      (λ w rest j q. tt)
+    where
+      items : Ender ℕ
+      items = list_ends (separated_next f (ends_of s) false false 0 None)
+
+      behind : (w rest : List ℕ) → Equals nat_eq (s ∷ []) w → fits (w ++ rest)
+      behind w rest j = let e : w ≡ s ∷ [] = equals-same (s ∷ []) w j in rw e (goes_on rest)
+
+-- a text says some value of fewer levels
+abbrev pub HasFewerLevels : {X : Type 0} → (List ℕ → X → Type 0) → (X → ℕ) → ℕ → List ℕ → Type 0
+HasFewerLevels {X} says levels depth w = (x : X) × says w x × (levels x < depth)
+
+-- of a function that calls itself: its body fails where no value begins; and it takes values of one level more than those that its
+-- calls take, where these fail so too
+module _ {X V : Type 0} (says : List ℕ → X → Type 0) (levels : X → ℕ) (fits none_begins : List ℕ → Type 0) (intended : Intended ℕ V) (grammar : Language ℕ V → Language ℕ V)
+    (body_fails : (call : Language ℕ V) (ts : List ℕ) → none_begins ts → (grammar call).ends ts ≡ Nowhere)
+    (body_takes : (call : Language ℕ V) (depth : ℕ) → AlwaysTakes call.ends (HasFewerLevels says levels depth) fits → (0 < depth → (ts : List ℕ) → none_begins ts → call.ends ts ≡ Nowhere)
+    → AlwaysTakes (grammar call).ends (HasFewerLevels says levels (suc depth)) fits) where
+  call_fails : (depth : ℕ) → 0 < depth → (ts : List ℕ) → none_begins ts → (call_language intended grammar depth).ends ts ≡ Nowhere
+  call_fails zero l ts s = absurd (omega (arith, l))
+  call_fails (suc depth) l ts s = body_fails (call_language intended grammar depth) ts s
+
+  -- a value of fewer levels than calls may be open is taken
+  pub taken-by_body : (depth : ℕ) → AlwaysTakes (call_language intended grammar depth).ends (HasFewerLevels says levels depth) fits
+  taken-by_body zero w rest i s = let l : levels i.0 < 0 = i.2 in absurd (omega (arith, l))
+  taken-by_body (suc depth) w rest i s = body_takes (call_language intended grammar depth) depth (taken-by_body depth) (call_fails depth) w rest i s
+
+  -- so a text that is refused, and is no shorter than the limit, is deep
+  pub deep-by_body : fits [] → (limit : ℕ) (text : List ℕ) → (call_language intended grammar limit).ends text ≡ Refused → limit ≤ length text → IsDeep says levels limit text
+  deep-by_body f limit text e l = deep-unless says levels limit text l (λ x j k.
+      let d : (call_language intended grammar limit).ends text ≡ At [] = ap (call_language intended grammar limit).ends (sym (append-nil text)) ∙ taken-by_body limit text [] (x, j, k) f in
+      absurd (cc (d, e)))
