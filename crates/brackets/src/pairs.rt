@@ -10,10 +10,10 @@ use chumsky_descent::recursive::{Recursion, RunsUnder, recursive_as};
 use chumsky_input::extra::RichText;
 use chumsky_input::input_ref::InputRef;
 use chumsky_input::stop::PResult;
-use chumsky_moves::moving::Moving;
+use chumsky_parser::moving::Moving;
 use chumsky_parser::parser::Parser;
 use chumsky_primitive::just::Just;
-use chumsky_primitive::make::just;
+use chumsky_primitive::just::just;
 use std::marker::PhantomData;
 
 /// What the body of `pairs` means.

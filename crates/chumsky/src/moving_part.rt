@@ -9,7 +9,7 @@ use chumsky_input::extra::ParserExtra;
 use chumsky_input::input::Input;
 use chumsky_input::input_ref::InputRef;
 use chumsky_input::stop::PResult;
-use chumsky_moves::moving::Moving;
+use chumsky_parser::moving::Moving;
 
 /// Runs a parser that takes a token wherever it succeeds as the body of a part, as `run_part` does, and says so of the part. An
 /// `enum` of leaves whose `run` calls it, as `run_moving(&just('['), wanted, inp)`, needs to say no more of them than

@@ -8,3 +8,5 @@ pub mod Alternatives
 pub mod AlternativesLaws
 pub mod Repeated
 pub mod ChoiceLanguages
+pub mod ChoicesMove
+pub mod ChoicesSpare

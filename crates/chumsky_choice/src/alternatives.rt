@@ -1,4 +1,8 @@
 //! What a choice among the parsers of a tuple has for alternatives.
+ghost use Rattle.std.specs.Prelude.{[], ◌∷◌, map};
+ghost use Rattle.chumsky_parser.specs.ByParts.{part, OutOnlyBy};
+ghost use Rattle.chumsky_choice.specs.Alternatives.{OnlyByOne};
+
 use crate::choice::Choice;
 use chumsky_input::extra::ParserExtra;
 use chumsky_input::input::Input;
@@ -252,3 +256,116 @@ impl<
         (and-agrees (G.agrees t.5 s.5) (and-agrees (H.agrees t.6 s.6)
         (and-agrees (J.agrees t.7 s.7) none-agree)))))))) };
 }
+
+/// `choice` of one parser; and of one, of two, and so on to eight, under a state whose mark and whose going back take no
+/// memory.
+pub fn choice_is_never_out_of_memory<
+    'src,
+    I: Input<'src>,
+    O,
+    E: ParserExtra<I>,
+    A: Parser<'src, I, O, E>,
+    T: Alternatives<'src, I, O, E>,
+>(one: &Choice<(A,)>, several: &T)
+    ensures one { OutOnlyBy E.Error.Error E.State.Inspector (part (A.meaning one.now.parsers.0) ∷ [])
+        (⟦<Choice<(A,)> as Parser<'src, I, O, E>>⟧.meaning one.now) }
+    ensures several { E.State.takes_no_memory → OutOnlyBy E.Error.Error E.State.Inspector
+        (map part (T.each_does several.now)) (T.meaning several.now) }
+{}
+
+/// A choice of one alternative, of two, and so on to eight.
+pub fn choice_is_steady<
+    'src,
+    I: Input<'src>,
+    O,
+    E: ParserExtra<I>,
+    A: Parser<'src, I, O, E>,
+    B: Parser<'src, I, O, E>,
+    C: Parser<'src, I, O, E>,
+    D: Parser<'src, I, O, E>,
+    F: Parser<'src, I, O, E>,
+    G: Parser<'src, I, O, E>,
+    H: Parser<'src, I, O, E>,
+    J: Parser<'src, I, O, E>,
+>(
+    one: &Choice<(A,)>,
+    two: &Choice<(A, B)>,
+    three: &Choice<(A, B, C)>,
+    four: &Choice<(A, B, C, D)>,
+    five: &Choice<(A, B, C, D, F)>,
+    six: &Choice<(A, B, C, D, F, G)>,
+    seven: &Choice<(A, B, C, D, F, G, H)>,
+    eight: &Choice<(A, B, C, D, F, G, H, J)>,
+)
+    ensures ready_one { let t = one.now.parsers in
+        A.ready t.0 → ⟦<Choice<(A,)> as Parser<'src, I, O, E>>⟧.ready one.now }
+    ensures ready_two { let t = two.now.parsers in
+        A.ready t.0 → B.ready t.1 → ⟦<Choice<(A, B)> as Parser<'src, I, O, E>>⟧.ready two.now }
+    ensures ready_three { let t = three.now.parsers in
+        A.ready t.0 → B.ready t.1 → C.ready t.2 →
+        ⟦<Choice<(A, B, C)> as Parser<'src, I, O, E>>⟧.ready three.now }
+    ensures ready_four { let t = four.now.parsers in
+        A.ready t.0 → B.ready t.1 → C.ready t.2 → D.ready t.3 →
+        ⟦<Choice<(A, B, C, D)> as Parser<'src, I, O, E>>⟧.ready four.now }
+    ensures ready_five { let t = five.now.parsers in
+        A.ready t.0 → B.ready t.1 → C.ready t.2 → D.ready t.3 → F.ready t.4 →
+        ⟦<Choice<(A, B, C, D, F)> as Parser<'src, I, O, E>>⟧.ready five.now }
+    ensures ready_six { let t = six.now.parsers in
+        A.ready t.0 → B.ready t.1 → C.ready t.2 → D.ready t.3 → F.ready t.4 → G.ready t.5 →
+        ⟦<Choice<(A, B, C, D, F, G)> as Parser<'src, I, O, E>>⟧.ready six.now }
+    ensures ready_seven { let t = seven.now.parsers in
+        A.ready t.0 → B.ready t.1 → C.ready t.2 → D.ready t.3 → F.ready t.4 → G.ready t.5 →
+        H.ready t.6 →
+        ⟦<Choice<(A, B, C, D, F, G, H)> as Parser<'src, I, O, E>>⟧.ready seven.now }
+    ensures ready_eight { let t = eight.now.parsers in
+        A.ready t.0 → B.ready t.1 → C.ready t.2 → D.ready t.3 → F.ready t.4 → G.ready t.5 →
+        H.ready t.6 → J.ready t.7 →
+        ⟦<Choice<(A, B, C, D, F, G, H, J)> as Parser<'src, I, O, E>>⟧.ready eight.now }
+    ensures one { let t = one.now.parsers in
+        A.steady t.0 → ⟦<Choice<(A,)> as Parser<'src, I, O, E>>⟧.steady one.now }
+    ensures two { let t = two.now.parsers in
+        A.steady t.0 → B.steady t.1 → ⟦<Choice<(A, B)> as Parser<'src, I, O, E>>⟧.steady two.now }
+    ensures three { let t = three.now.parsers in
+        A.steady t.0 → B.steady t.1 → C.steady t.2 →
+        ⟦<Choice<(A, B, C)> as Parser<'src, I, O, E>>⟧.steady three.now }
+    ensures four { let t = four.now.parsers in
+        A.steady t.0 → B.steady t.1 → C.steady t.2 → D.steady t.3 →
+        ⟦<Choice<(A, B, C, D)> as Parser<'src, I, O, E>>⟧.steady four.now }
+    ensures five { let t = five.now.parsers in
+        A.steady t.0 → B.steady t.1 → C.steady t.2 → D.steady t.3 → F.steady t.4 →
+        ⟦<Choice<(A, B, C, D, F)> as Parser<'src, I, O, E>>⟧.steady five.now }
+    ensures six { let t = six.now.parsers in
+        A.steady t.0 → B.steady t.1 → C.steady t.2 → D.steady t.3 → F.steady t.4 → G.steady t.5 →
+        ⟦<Choice<(A, B, C, D, F, G)> as Parser<'src, I, O, E>>⟧.steady six.now }
+    ensures seven { let t = seven.now.parsers in
+        A.steady t.0 → B.steady t.1 → C.steady t.2 → D.steady t.3 → F.steady t.4 → G.steady t.5 →
+        H.steady t.6 →
+        ⟦<Choice<(A, B, C, D, F, G, H)> as Parser<'src, I, O, E>>⟧.steady seven.now }
+    ensures eight { let t = eight.now.parsers in
+        A.steady t.0 → B.steady t.1 → C.steady t.2 → D.steady t.3 → F.steady t.4 → G.steady t.5 →
+        H.steady t.6 → J.steady t.7 →
+        ⟦<Choice<(A, B, C, D, F, G, H, J)> as Parser<'src, I, O, E>>⟧.steady eight.now }
+    ensures same_one { (x y : O) →
+        ⟦<Choice<(A,)> as Parser<'src, I, O, E>>⟧.same one.now x y → A.same one.now.parsers.0 x y }
+    ensures same_two { let t = two.now.parsers in OnlyByOne
+        (⟦<Choice<(A, B)> as Parser<'src, I, O, E>>⟧.same two.now)
+        (A.same t.0) (B.same t.1 ∷ []) }
+    ensures same_three { let t = three.now.parsers in OnlyByOne
+        (⟦<Choice<(A, B, C)> as Parser<'src, I, O, E>>⟧.same three.now)
+        (A.same t.0) (B.same t.1 ∷ C.same t.2 ∷ []) }
+    ensures same_four { let t = four.now.parsers in OnlyByOne
+        (⟦<Choice<(A, B, C, D)> as Parser<'src, I, O, E>>⟧.same four.now)
+        (A.same t.0) (B.same t.1 ∷ C.same t.2 ∷ D.same t.3 ∷ []) }
+    ensures same_five { let t = five.now.parsers in OnlyByOne
+        (⟦<Choice<(A, B, C, D, F)> as Parser<'src, I, O, E>>⟧.same five.now)
+        (A.same t.0) (B.same t.1 ∷ C.same t.2 ∷ D.same t.3 ∷ F.same t.4 ∷ []) }
+    ensures same_six { let t = six.now.parsers in OnlyByOne
+        (⟦<Choice<(A, B, C, D, F, G)> as Parser<'src, I, O, E>>⟧.same six.now)
+        (A.same t.0) (B.same t.1 ∷ C.same t.2 ∷ D.same t.3 ∷ F.same t.4 ∷ G.same t.5 ∷ []) }
+    ensures same_seven { let t = seven.now.parsers in OnlyByOne
+        (⟦<Choice<(A, B, C, D, F, G, H)> as Parser<'src, I, O, E>>⟧.same seven.now)
+        (A.same t.0) (B.same t.1 ∷ C.same t.2 ∷ D.same t.3 ∷ F.same t.4 ∷ G.same t.5 ∷ H.same t.6 ∷ []) }
+    ensures same_eight { let t = eight.now.parsers in OnlyByOne
+        (⟦<Choice<(A, B, C, D, F, G, H, J)> as Parser<'src, I, O, E>>⟧.same eight.now)
+        (A.same t.0) (B.same t.1 ∷ C.same t.2 ∷ D.same t.3 ∷ F.same t.4 ∷ G.same t.5 ∷ H.same t.6 ∷ J.same t.7 ∷ []) }
+{}

@@ -6,7 +6,6 @@ mod among;
 pub mod choice;
 pub mod laws;
 pub mod lists;
-pub mod make;
-pub mod steady;
+mod moves;
 mod step;
 pub mod tuples;

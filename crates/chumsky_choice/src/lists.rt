@@ -1,4 +1,9 @@
 //! Choice among the parsers of a slice, a `Vec` or an array.
+ghost use Rattle.chumsky_parser.specs.ByParts.{OutOnlyByEach};
+ghost use Rattle.std.specs.Prelude.{map};
+ghost use Rattle.std.specs.List.{All};
+ghost use Rattle.chumsky_choice.specs.Among.{SameByAny};
+
 use crate::among::{check_among, emit_among};
 use crate::choice::Choice;
 use chumsky_input::extra::ParserExtra;
@@ -121,3 +126,46 @@ impl<'src, I: Input<'src>, O, E: ParserExtra<I>, A: Parser<'src, I, O, E>, const
         check_among(&self.parsers, inp)
     }
 }
+
+/// `choice` of the parsers of a slice, a `Vec` and an array, under a state whose mark and whose going back take no memory, and
+/// errors that take none: a choice of no parsers builds one.
+pub fn choice_of_a_list_is_never_out_of_memory<
+    'src,
+    'p,
+    I: Input<'src>,
+    O,
+    E: ParserExtra<I>,
+    A: Parser<'src, I, O, E>,
+    const N: usize,
+>(slice: &Choice<&'p [A]>, vec: &Choice<Vec<A>>, array: &Choice<[A; N]>)
+    ensures slice { E.Error.takes_no_memory → E.State.takes_no_memory → OutOnlyByEach E.Error.Error E.State.Inspector
+        A.meaning slice.now.parsers.now
+        (⟦<Choice<&'p [A]> as Parser<'src, I, O, E>>⟧.meaning slice.now) }
+    ensures vec { E.Error.takes_no_memory → E.State.takes_no_memory → OutOnlyByEach E.Error.Error E.State.Inspector
+        A.meaning vec.now.parsers.items
+        (⟦<Choice<Vec<A>> as Parser<'src, I, O, E>>⟧.meaning vec.now) }
+    ensures array { E.Error.takes_no_memory → E.State.takes_no_memory → OutOnlyByEach E.Error.Error E.State.Inspector
+        A.meaning array.now.parsers
+        (⟦<Choice<[A; N]> as Parser<'src, I, O, E>>⟧.meaning array.now) }
+{}
+
+/// A choice among the parsers of a slice, a `Vec` or an array.
+pub fn choice_of_a_list_is_steady<
+    'src,
+    'p,
+    I: Input<'src>,
+    O,
+    E: ParserExtra<I>,
+    A: Parser<'src, I, O, E>,
+    const N: usize,
+>(slice: &Choice<&'p [A]>, vec: &Choice<Vec<A>>, array: &Choice<[A; N]>)
+    ensures ready_slice { All A.ready slice.now.parsers.now → ⟦<Choice<&'p [A]> as Parser<'src, I, O, E>>⟧.ready slice.now }
+    ensures ready_vec { All A.ready vec.now.parsers.items → ⟦<Choice<Vec<A>> as Parser<'src, I, O, E>>⟧.ready vec.now }
+    ensures ready_array { All A.ready array.now.parsers → ⟦<Choice<[A; N]> as Parser<'src, I, O, E>>⟧.ready array.now }
+    ensures slice { All A.steady slice.now.parsers.now → ⟦<Choice<&'p [A]> as Parser<'src, I, O, E>>⟧.steady slice.now }
+    ensures vec { All A.steady vec.now.parsers.items → ⟦<Choice<Vec<A>> as Parser<'src, I, O, E>>⟧.steady vec.now }
+    ensures array { All A.steady array.now.parsers → ⟦<Choice<[A; N]> as Parser<'src, I, O, E>>⟧.steady array.now }
+    ensures same_slice { (x y : O) → ⟦<Choice<&'p [A]> as Parser<'src, I, O, E>>⟧.same slice.now x y → SameByAny (map A.same slice.now.parsers.now) x y }
+    ensures same_vec { (x y : O) → ⟦<Choice<Vec<A>> as Parser<'src, I, O, E>>⟧.same vec.now x y → SameByAny (map A.same vec.now.parsers.items) x y }
+    ensures same_array { (x y : O) → ⟦<Choice<[A; N]> as Parser<'src, I, O, E>>⟧.same array.now x y → SameByAny (map A.same array.now.parsers) x y }
+{}

@@ -9,6 +9,8 @@ use Rattle.chumsky_parser.specs.ItemsLaws.{after_step-ends, after_step-agrees}
 use Rattle.chumsky_combinator.specs.declared.then_items.Stage.{Stage}
 use Rattle.chumsky_combinator.specs.declared.then_items.Stage.TheVariants.{First, Second}
 use Rattle.chumsky_combinator.specs.ThenItems.{SameStage, BeginsFirst, OfSecond, FirstOfSecond, GivesAt, GivesInTurn}
+use Rattle.chumsky_parser.specs.Progress.{Moves, ItemsMove}
+use Rattle.chumsky_parser.specs.ProgressLaws.{chained-first, held-items}
 
 module _ {V : Type 0} (sa sb : V → V → Type 0) where
   by_first : (v w : Option V) → SameValue sa v w → SameValue (SameEither sa sb) v w
@@ -86,3 +88,26 @@ module _ {Tok Cx St Er S T V : Type 0} (before : Meaning Tok Cx St Er S)
           begin = chained-agrees before before _ _ la (SameStage la lb) h.begin (λ s t l. given-agrees (SameStage la lb) (option_map First s) (option_map First t) (begun la lb s t l));
           step = λ x y l b c o q z m n. at-agrees h k x y l b c o q z m.step n.step;
         }
+
+module _ {Tok Cx St Er S T V : Type 0} (before : Meaning Tok Cx St Er S)
+    (firsts : S → Meaning Tok Cx St Er (Next S V)) (begins : Meaning Tok Cx St Er T)
+    (seconds : T → Meaning Tok Cx St Er (Next T V)) (ends : ItemsEnd begins seconds) where
+  second-ends : (t : Option T) → EndsAfterStart (FirstOfSecond firsts begins seconds t)
+  second-ends (Some t) =
+      chained-ends (seconds t) _ (ends.step t)
+      (after_step-ends (λ v u. Given (Some (More v (Second u)))) (Given (Some End))
+      (λ v u. given-ends (Some (More v (Second u)))) (given-ends (Some End)))
+  second-ends None = λ b o m a. absurd m
+
+  first-moves : (s : S) → Moves (firsts s) → Moves (GivesInTurn firsts begins seconds (First s))
+  first-moves s h b o m y =
+      chained-first (firsts s) _ h
+      (after_step-ends (λ v t. Given (Some (More v (First t))))
+      (Chained (Asked true begins) (FirstOfSecond firsts begins seconds))
+      (λ v t. given-ends (Some (More v (First t))))
+      (chained-ends (Asked true begins) _ (asked-ends true begins ends.begin) second-ends))
+      b o m.step y
+
+  -- the items of one parser, whose first step moves, and then those of another
+  pub in_turn-move : ItemsMove before firsts → ItemsMove (BeginsFirst before) (GivesInTurn firsts begins seconds)
+  in_turn-move h = held-items First before firsts (GivesInTurn firsts begins seconds) first-moves h

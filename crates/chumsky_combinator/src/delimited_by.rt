@@ -1,8 +1,13 @@
 //! A parser between an opening and a closing one.
+ghost use Rattle.std.specs.Prelude.{◌||◌, [], ◌∷◌};
+ghost use Rattle.chumsky_parser.specs.ByParts.{part, OutOnlyBy};
+
+use crate::padded_by::PaddedBy;
 use chumsky_input::extra::ParserExtra;
 use chumsky_input::input::Input;
 use chumsky_input::input_ref::InputRef;
 use chumsky_input::stop::PResult;
+use chumsky_parser::moving::Moving;
 use chumsky_parser::parser::{IsParser, Parser};
 use std::marker::PhantomData;
 
@@ -68,3 +73,74 @@ impl<
         self.closing.go_check(inp)
     }
 }
+
+impl<
+    'src,
+    I: Input<'src>,
+    O: Drop,
+    U,
+    V,
+    E: ParserExtra<I>,
+    A: Moving<'src, I, O, E>,
+    B: Moving<'src, I, U, E>,
+    C: Moving<'src, I, V, E>,
+> Moving<'src, I, O, E> for DelimitedBy<A, B, C, U, V> {
+    ghost use Rattle.chumsky_parser.specs.ProgressLaws.{between-moves};
+
+    ghost moves = { λ p. B.moves p.opening || (A.moves p.parser || C.moves p.closing) };
+
+    ghost moved = { λ p. between-moves _ _ _ (B.moves p.opening) (A.moves p.parser) (C.moves p.closing) (B.ends_after_start p.opening) (A.ends_after_start p.parser) (C.ends_after_start p.closing) (B.moved p.opening) (A.moved p.parser) (C.moved p.closing) };
+
+    fn always_moves(&self) -> bool {
+        self.opening.always_moves() || (self.parser.always_moves() || self.closing.always_moves())
+    }
+}
+
+/// `a.delimited_by(b, c)` and `a.padded_by(b)`.
+pub fn delimited_by_is_never_out_of_memory<
+    'src,
+    I: Input<'src>,
+    O: Drop,
+    U,
+    V,
+    E: ParserExtra<I>,
+    A: Parser<'src, I, O, E>,
+    B: Parser<'src, I, U, E>,
+    C: Parser<'src, I, V, E>,
+>(delimited_by: &DelimitedBy<A, B, C, U, V>, padded_by: &PaddedBy<A, B, U>)
+    ensures delimited { let d = delimited_by.now in OutOnlyBy E.Error.Error E.State.Inspector
+        (part (A.meaning d.parser) ∷ part (B.meaning d.opening) ∷ part (C.meaning d.closing) ∷ [])
+        (⟦<DelimitedBy<A, B, C, U, V> as Parser<'src, I, O, E>>⟧.meaning d) }
+    ensures padded_by { let p = padded_by.now in OutOnlyBy E.Error.Error E.State.Inspector
+        (part (A.meaning p.parser) ∷ part (B.meaning p.padding) ∷ [])
+        (⟦<PaddedBy<A, B, U> as Parser<'src, I, O, E>>⟧.meaning p) }
+{}
+
+/// `a.delimited_by(b, c)` and `a.padded_by(b)`.
+pub fn delimited_by_is_steady<
+    'src,
+    I: Input<'src>,
+    O: Drop,
+    U,
+    V,
+    E: ParserExtra<I>,
+    A: Parser<'src, I, O, E>,
+    B: Parser<'src, I, U, E>,
+    C: Parser<'src, I, V, E>,
+>(delimited_by: &DelimitedBy<A, B, C, U, V>, padded_by: &PaddedBy<A, B, U>)
+    ensures ready_delimited_by { let p = delimited_by.now in
+        A.ready p.parser → B.ready p.opening → C.ready p.closing →
+        ⟦<DelimitedBy<A, B, C, U, V> as Parser<'src, I, O, E>>⟧.ready p }
+    ensures ready_padded_by { let p = padded_by.now in A.ready p.parser → B.ready p.padding →
+        ⟦<PaddedBy<A, B, U> as Parser<'src, I, O, E>>⟧.ready p }
+    ensures delimited_by { let p = delimited_by.now in
+        A.steady p.parser → B.steady p.opening → C.steady p.closing →
+        ⟦<DelimitedBy<A, B, C, U, V> as Parser<'src, I, O, E>>⟧.steady p }
+    ensures padded_by { let p = padded_by.now in A.steady p.parser → B.steady p.padding →
+        ⟦<PaddedBy<A, B, U> as Parser<'src, I, O, E>>⟧.steady p }
+    ensures same_delimited { (x y : O) →
+        ⟦<DelimitedBy<A, B, C, U, V> as Parser<'src, I, O, E>>⟧.same delimited_by.now x y →
+        A.same delimited_by.now.parser x y }
+    ensures same_padded { (x y : O) → ⟦<PaddedBy<A, B, U> as Parser<'src, I, O, E>>⟧.same padded_by.now x y →
+        A.same padded_by.now.parser x y }
+{}

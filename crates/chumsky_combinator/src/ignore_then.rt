@@ -1,8 +1,12 @@
 //! Two parsers, for the output of the second.
+ghost use Rattle.std.specs.Prelude.{◌||◌, [], ◌∷◌};
+ghost use Rattle.chumsky_parser.specs.ByParts.{part, OutOnlyBy};
+
 use chumsky_input::extra::ParserExtra;
 use chumsky_input::input::Input;
 use chumsky_input::input_ref::InputRef;
 use chumsky_input::stop::PResult;
+use chumsky_parser::moving::Moving;
 use chumsky_parser::parser::{IsParser, Parser};
 use std::marker::PhantomData;
 
@@ -59,3 +63,56 @@ impl<
         self.second.go_check(inp)
     }
 }
+
+impl<
+    'src,
+    I: Input<'src>,
+    O,
+    U,
+    E: ParserExtra<I>,
+    A: Moving<'src, I, O, E>,
+    B: Moving<'src, I, U, E>,
+> Moving<'src, I, U, E> for IgnoreThen<A, B, O> {
+    ghost use Rattle.chumsky_parser.specs.ProgressLaws.{ignoring_first-moves};
+
+    ghost moves = { λ p. A.moves p.first || B.moves p.second };
+
+    ghost moved = { λ p. ignoring_first-moves _ _ (A.moves p.first) (B.moves p.second) (A.ends_after_start p.first) (B.ends_after_start p.second) (A.moved p.first) (B.moved p.second) };
+
+    fn always_moves(&self) -> bool {
+        self.first.always_moves() || self.second.always_moves()
+    }
+}
+
+/// `a.ignore_then(b)`.
+pub fn ignore_then_is_never_out_of_memory<
+    'src,
+    I: Input<'src>,
+    O,
+    U,
+    E: ParserExtra<I>,
+    A: Parser<'src, I, O, E>,
+    B: Parser<'src, I, U, E>,
+>(ignore_then: &IgnoreThen<A, B, O>)
+    ensures { let i = ignore_then.now in OutOnlyBy E.Error.Error E.State.Inspector
+        (part (A.meaning i.first) ∷ part (B.meaning i.second) ∷ [])
+        (⟦<IgnoreThen<A, B, O> as Parser<'src, I, U, E>>⟧.meaning i) }
+{}
+
+/// `a.ignore_then(b)`.
+pub fn ignore_then_is_steady<
+    'src,
+    I: Input<'src>,
+    O,
+    U,
+    E: ParserExtra<I>,
+    A: Parser<'src, I, O, E>,
+    B: Parser<'src, I, U, E>,
+>(ignore_then: &IgnoreThen<A, B, O>)
+    ensures ready { let p = ignore_then.now in A.ready p.first → B.ready p.second →
+        ⟦<IgnoreThen<A, B, O> as Parser<'src, I, U, E>>⟧.ready p }
+    ensures steady { let p = ignore_then.now in A.steady p.first → B.steady p.second →
+        ⟦<IgnoreThen<A, B, O> as Parser<'src, I, U, E>>⟧.steady p }
+    ensures same { (x y : U) → ⟦<IgnoreThen<A, B, O> as Parser<'src, I, U, E>>⟧.same ignore_then.now x y →
+        B.same ignore_then.now.second x y }
+{}

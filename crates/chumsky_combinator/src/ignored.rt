@@ -1,8 +1,11 @@
 //! A parser without its output.
+ghost use Rattle.std.specs.Prelude.{false};
+
 use chumsky_input::extra::ParserExtra;
 use chumsky_input::input::Input;
 use chumsky_input::input_ref::InputRef;
 use chumsky_input::stop::PResult;
+use chumsky_parser::moving::Moving;
 use chumsky_parser::parser::{IsParser, Parser};
 use std::marker::PhantomData;
 
@@ -47,5 +50,19 @@ impl<'src, I: Input<'src>, O, E: ParserExtra<I>, A: Parser<'src, I, O, E>> Parse
     #[inline(always)]
     fn go_check(&self, inp: &mut InputRef<'src, '_, I, E>) -> PResult<()> {
         self.parser.go_check(inp)
+    }
+}
+
+impl<'src, I: Input<'src>, O, E: ParserExtra<I>, A: Moving<'src, I, O, E>> Moving<'src, I, (), E>
+    for Ignored<A, O> {
+    ghost use Rattle.chumsky_parser.specs.IgnoringLaws.{gives-ends};
+    ghost use Rattle.chumsky_parser.specs.ProgressLaws.{chained-first, asked-moves};
+
+    ghost moves = { λ p. A.moves p.parser };
+
+    ghost moved = { λ p e. chained-first _ _ (asked-moves false _ (A.moved p.parser e)) (λ _. gives-ends tt) };
+
+    fn always_moves(&self) -> bool {
+        self.parser.always_moves()
     }
 }

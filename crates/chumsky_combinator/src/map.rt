@@ -1,10 +1,13 @@
 //! Output mappers.
-ghost use Rattle.std.specs.Prelude.{⊤};
+ghost use Rattle.std.specs.Prelude.{⊤, [], ◌∷◌, map};
+ghost use Rattle.chumsky_parser.specs.ByParts.{part, OutOnlyBy};
+ghost use Rattle.chumsky_combinator.specs.Mapped.{IsFunction, SameMapped};
 
 use chumsky_input::extra::ParserExtra;
 use chumsky_input::input::Input;
 use chumsky_input::input_ref::InputRef;
 use chumsky_input::stop::PResult;
+use chumsky_parser::moving::Moving;
 use chumsky_parser::parser::{IsParser, Parser};
 use std::marker::PhantomData;
 
@@ -97,3 +100,56 @@ impl<
         self.parser.go_check(inp)
     }
 }
+
+impl<
+    'src,
+    I: Input<'src>,
+    O,
+    U,
+    E: ParserExtra<I>,
+    A: Moving<'src, I, O, E>,
+    F: Mapper<O, U>,
+> Moving<'src, I, U, E> for Map<A, O, F, U> {
+    ghost use Rattle.chumsky_combinator.specs.MappedLaws.{mapped-moves};
+
+    ghost moves = { λ p. A.moves p.parser };
+
+    ghost moved = { λ p e. mapped-moves (F.gives p.mapper) _ (A.moved p.parser e) };
+
+    fn always_moves(&self) -> bool {
+        self.parser.always_moves()
+    }
+}
+
+/// `a.map(f)` and `a.map_by(f)`.
+pub fn map_is_never_out_of_memory<
+    'src,
+    I: Input<'src>,
+    O,
+    U,
+    E: ParserExtra<I>,
+    A: Parser<'src, I, O, E>,
+    F: Mapper<O, U>,
+>(map: &Map<A, O, F, U>)
+    ensures { let m = map.now in OutOnlyBy E.Error.Error E.State.Inspector
+        (part (A.meaning m.parser) ∷ [])
+        (⟦<Map<A, O, F, U> as Parser<'src, I, U, E>>⟧.meaning m) }
+{}
+
+/// `a.map(f)` and `a.map_by(f)`, where `f` gives one answer to each argument.
+pub fn map_is_steady<
+    'src,
+    I: Input<'src>,
+    O,
+    U,
+    E: ParserExtra<I>,
+    A: Parser<'src, I, O, E>,
+    F: Mapper<O, U>,
+>(map: &Map<A, O, F, U>)
+    ensures ready { A.ready map.now.parser → F.callable map.now.mapper →
+        ⟦<Map<A, O, F, U> as Parser<'src, I, U, E>>⟧.ready map.now }
+    ensures steady { A.steady map.now.parser → IsFunction (F.gives map.now.mapper) →
+        ⟦<Map<A, O, F, U> as Parser<'src, I, U, E>>⟧.steady map.now }
+    ensures same { (x y : U) → ⟦<Map<A, O, F, U> as Parser<'src, I, U, E>>⟧.same map.now x y →
+        SameMapped (A.same map.now.parser) (F.gives map.now.mapper) x y }
+{}

@@ -1,10 +1,13 @@
 //! Items whose outputs go through a mapper.
+ghost use Rattle.chumsky_combinator.specs.Mapped.{IsFunction, SameMapped};
+
 use crate::map::{Map, Mapper};
 use chumsky_input::extra::ParserExtra;
 use chumsky_input::input::Input;
 use chumsky_input::input_ref::InputRef;
 use chumsky_input::stop::PResult;
 use chumsky_parser::iter::{IsIterParser, IterParser, IterParserDebug, Iterates};
+use chumsky_parser::moving::MovingItems;
 
 impl<I, O, U, E, A: IsIterParser<I, O, E>, F> IsIterParser<I, U, E> for Map<A, O, F, U> {}
 
@@ -77,3 +80,42 @@ impl<
         self.parser.next_check(inp, state, debug)
     }
 }
+
+impl<
+    'src,
+    I: Input<'src>,
+    O,
+    U,
+    E: ParserExtra<I>,
+    A: MovingItems<'src, I, O, E>,
+    F: Mapper<O, U>,
+> MovingItems<'src, I, U, E> for Map<A, O, F, U> {
+    ghost use Rattle.chumsky_combinator.specs.MappedItemsLaws.{maps_item-move};
+
+    ghost first_moves = { λ p. A.first_moves p.parser };
+
+    ghost first_moved = { λ p e d. maps_item-move (F.gives p.mapper) _ _ (A.first_moved p.parser e d) };
+
+    fn first_always_moves(&self) -> bool {
+        self.parser.first_always_moves()
+    }
+}
+
+/// `a.map_items(f)` and `a.map_items_by(f)`, where `f` gives one answer to each item.
+pub fn map_items_is_steady<
+    'src,
+    I: Input<'src>,
+    O,
+    U,
+    E: ParserExtra<I>,
+    A: IterParser<'src, I, O, E>,
+    F: Mapper<O, U>,
+>(map_items: &Map<A, O, F, U>)
+    ensures ready { let p = map_items.now in A.ready p.parser → F.callable p.mapper →
+        ⟦<Map<A, O, F, U> as IterParser<'src, I, U, E>>⟧.ready p }
+    ensures steady { let p = map_items.now in A.steady p.parser → IsFunction (F.gives p.mapper) →
+        ⟦<Map<A, O, F, U> as IterParser<'src, I, U, E>>⟧.steady p }
+    ensures same { let p = map_items.now in (x y : U) →
+        ⟦<Map<A, O, F, U> as IterParser<'src, I, U, E>>⟧.same p x y →
+        SameMapped (A.same p.parser) (F.gives p.mapper) x y }
+{}

@@ -1,10 +1,13 @@
 //! Items whose outputs go through a mapper that is shown the run.
+ghost use Rattle.chumsky_parser.specs.Showing.{OnlyAnswers, SameShown};
+
 use crate::map_with::{MapWith, MapperWith};
 use chumsky_input::extra::ParserExtra;
 use chumsky_input::input::Input;
 use chumsky_input::input_ref::InputRef;
 use chumsky_input::stop::PResult;
 use chumsky_parser::iter::{IsIterParser, IterParser, IterParserDebug, Iterates};
+use chumsky_parser::moving::MovingItems;
 use chumsky_parser::onward::next_item;
 
 impl<I, O, U, E, A: IsIterParser<I, O, E>, F> IsIterParser<I, U, E> for MapWith<A, O, F, U> {}
@@ -79,3 +82,43 @@ impl<
         self.parser.next_check(inp, state, debug)
     }
 }
+
+impl<
+    'src,
+    I: Input<'src>,
+    O,
+    U,
+    E: ParserExtra<I>,
+    A: MovingItems<'src, I, O, E>,
+    F: MapperWith<'src, I, O, U, E>,
+> MovingItems<'src, I, U, E> for MapWith<A, O, F, U> {
+    ghost use Rattle.chumsky_combinator.specs.MappedItemsLaws.{maps_item_with-move};
+
+    ghost first_moves = { λ p. A.first_moves p.parser };
+
+    ghost first_moved = { λ p e d. maps_item_with-move _ _ _ (A.first_moved p.parser e d) };
+
+    fn first_always_moves(&self) -> bool {
+        self.parser.first_always_moves()
+    }
+}
+
+/// `a.map_items_with(f)`, where `f` gives one answer to each item and what it is shown, and leaves the state as it is.
+pub fn map_items_with_is_steady<
+    'src,
+    I: Input<'src>,
+    O,
+    U,
+    E: ParserExtra<I>,
+    A: IterParser<'src, I, O, E>,
+    F: MapperWith<'src, I, O, U, E>,
+>(map_items: &MapWith<A, O, F, U>)
+    ensures ready { let p = map_items.now in A.ready p.parser → F.callable p.mapper →
+        ⟦<MapWith<A, O, F, U> as IterParser<'src, I, U, E>>⟧.ready p }
+    ensures steady { let p = map_items.now in
+        A.steady p.parser → OnlyAnswers (F.gives p.mapper E.State.Inspector) →
+        ⟦<MapWith<A, O, F, U> as IterParser<'src, I, U, E>>⟧.steady p }
+    ensures same { let p = map_items.now in (x y : U) →
+        ⟦<MapWith<A, O, F, U> as IterParser<'src, I, U, E>>⟧.same p x y →
+        SameShown (F.gives p.mapper E.State.Inspector) (A.same p.parser) x y }
+{}

@@ -2,12 +2,15 @@
 ghost use Rattle.std.specs.Prelude.{◌≡◌, ◌≤◌};
 ghost use Rattle.chumsky_input.specs.Extra.{KeepsState, MayAnswer, shown_from};
 ghost use Rattle.chumsky_input.specs.Held.{held};
+ghost use Rattle.chumsky_parser.specs.Showing.{OnlyAnswers, SameShown};
 
+use crate::map::Mapper;
 use chumsky_input::extra::ParserExtra;
 use chumsky_input::input::Input;
 use chumsky_input::input_ref::InputRef;
 use chumsky_input::map_extra::{MapExtra, call_with_extra};
 use chumsky_input::stop::PResult;
+use chumsky_parser::moving::Moving;
 use chumsky_parser::parser::{IsParser, Parser};
 use std::marker::PhantomData;
 
@@ -101,3 +104,53 @@ where
         self.parser.go_check(inp)
     }
 }
+
+impl<'src, I, O, U, E, A, F> Moving<'src, I, U, E> for MapWith<A, O, F, U>
+where
+    I: Input<'src>,
+    E: ParserExtra<I>,
+    A: Moving<'src, I, O, E>,
+    F: MapperWith<'src, I, O, U, E>,
+{
+    ghost use Rattle.chumsky_combinator.specs.MappedWithLaws.{mapped_with-moves};
+
+    ghost moves = { λ p. A.moves p.parser };
+
+    ghost moved = { λ p e. mapped_with-moves _ _ (A.moved p.parser e) };
+
+    fn always_moves(&self) -> bool {
+        self.parser.always_moves()
+    }
+}
+
+/// `a.map_with(f)`, where `f` gives one answer to each value and each run that it is shown, and leaves the state as it is.
+pub fn map_with_is_steady<
+    'src,
+    I: Input<'src>,
+    O,
+    U,
+    E: ParserExtra<I>,
+    A: Parser<'src, I, O, E>,
+    F: MapperWith<'src, I, O, U, E>,
+>(map_with: &MapWith<A, O, F, U>)
+    ensures ready { let p = map_with.now in A.ready p.parser → F.callable p.mapper →
+        ⟦<MapWith<A, O, F, U> as Parser<'src, I, U, E>>⟧.ready p }
+    ensures steady { let p = map_with.now in
+        A.steady p.parser → OnlyAnswers (F.gives p.mapper E.State.Inspector) →
+        ⟦<MapWith<A, O, F, U> as Parser<'src, I, U, E>>⟧.steady p }
+    ensures same { let p = map_with.now in (x y : U) →
+        ⟦<MapWith<A, O, F, U> as Parser<'src, I, U, E>>⟧.same p x y →
+        SameShown (F.gives p.mapper E.State.Inspector) (A.same p.parser) x y }
+{}
+
+/// A closure maps where it may be called, and one that is shown the run where it keeps the reference to the state too.
+pub fn closures_may_map<'src, I, O, U, E, F, G>(mapper: &F, mapper_with: &G)
+where
+    I: Input<'src>,
+    E: ParserExtra<I>,
+    F: Fn(O) -> U,
+    G: Fn(O, &mut MapExtra<'src, '_, I, E>) -> U,
+    ensures mapper { F.IsAlwaysCallable mapper.now → ⟦<F as Mapper<O, U>>⟧.callable mapper.now }
+    ensures mapper_with { KeepsState I.Input E.State.Inspector G.Fn mapper_with.now →
+        ⟦<G as MapperWith<'src, I, O, U, E>>⟧.callable mapper_with.now }
+{}

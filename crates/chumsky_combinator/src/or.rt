@@ -1,8 +1,15 @@
 //! Ordered choice.
+ghost use Rattle.std.specs.Prelude.{◌&&◌, [], ◌∷◌, Option, ◌⊎◌};
+ghost use Rattle.chumsky_parser.specs.ByParts.{part, OutOnlyBy};
+ghost use Rattle.chumsky_combinator.specs.Optional.{SameOption};
+
+use crate::or_not::OrNot;
 use chumsky_input::extra::ParserExtra;
 use chumsky_input::input::Input;
 use chumsky_input::input_ref::InputRef;
 use chumsky_input::stop::{Fault, PResult};
+use chumsky_parser::iter::IterParser;
+use chumsky_parser::moving::Moving;
 use chumsky_parser::parser::{IsParser, Parser};
 
 /// The first of two parsers, and where that fails, gone back from, the second. See `or`.
@@ -68,3 +75,68 @@ impl<
         }
     }
 }
+
+impl<
+    'src,
+    I: Input<'src>,
+    O,
+    E: ParserExtra<I>,
+    A: Moving<'src, I, O, E>,
+    B: Moving<'src, I, O, E>,
+> Moving<'src, I, O, E> for Or<A, B> {
+    ghost use Rattle.chumsky_parser.specs.ProgressLaws.{or-moves};
+
+    ghost moves = { λ p. A.moves p.first && B.moves p.second };
+
+    ghost moved = { λ p. or-moves _ _ _ _ _ (A.moves p.first) (B.moves p.second) (A.moved p.first) (B.moved p.second) };
+
+    fn always_moves(&self) -> bool {
+        self.first.always_moves() && self.second.always_moves()
+    }
+}
+
+/// `a.or(b)` and `a.or_not()`, under a state whose mark and whose going back take no memory.
+pub fn or_is_never_out_of_memory<
+    'src,
+    I: Input<'src>,
+    O,
+    E: ParserExtra<I>,
+    A: Parser<'src, I, O, E>,
+    B: Parser<'src, I, O, E>,
+>(or: &Or<A, B>, or_not: &OrNot<A>)
+    ensures or { let o = or.now in E.State.takes_no_memory → OutOnlyBy E.Error.Error E.State.Inspector
+        (part (A.meaning o.first) ∷ part (B.meaning o.second) ∷ [])
+        (⟦<Or<A, B> as Parser<'src, I, O, E>>⟧.meaning o) }
+    ensures or_not { let o = or_not.now in E.State.takes_no_memory → OutOnlyBy E.Error.Error E.State.Inspector
+        (part (A.meaning o.parser) ∷ [])
+        (⟦<OrNot<A> as Parser<'src, I, Option<O>, E>>⟧.meaning o) }
+{}
+
+/// `a.or(b)`, and `a.or_not()` as a plain parser and as a parser of items.
+pub fn or_is_steady<
+    'src,
+    I: Input<'src>,
+    O,
+    E: ParserExtra<I>,
+    A: Parser<'src, I, O, E>,
+    B: Parser<'src, I, O, E>,
+>(or: &Or<A, B>, or_not: &OrNot<A>)
+    ensures ready_or { A.ready or.now.first → B.ready or.now.second →
+        ⟦<Or<A, B> as Parser<'src, I, O, E>>⟧.ready or.now }
+    ensures ready_or_not { A.ready or_not.now.parser →
+        ⟦<OrNot<A> as Parser<'src, I, Option<O>, E>>⟧.ready or_not.now }
+    ensures ready_or_not_items { A.ready or_not.now.parser →
+        ⟦<OrNot<A> as IterParser<'src, I, O, E>>⟧.ready or_not.now }
+    ensures or { A.steady or.now.first → B.steady or.now.second →
+        ⟦<Or<A, B> as Parser<'src, I, O, E>>⟧.steady or.now }
+    ensures or_not { A.steady or_not.now.parser →
+        ⟦<OrNot<A> as Parser<'src, I, Option<O>, E>>⟧.steady or_not.now }
+    ensures or_not_items { A.steady or_not.now.parser →
+        ⟦<OrNot<A> as IterParser<'src, I, O, E>>⟧.steady or_not.now }
+    ensures same_either { (x y : O) → ⟦<Or<A, B> as Parser<'src, I, O, E>>⟧.same or.now x y →
+        A.same or.now.first x y ⊎ B.same or.now.second x y }
+    ensures same_option { (x y : Option O) → ⟦<OrNot<A> as Parser<'src, I, Option<O>, E>>⟧.same or_not.now x y →
+        SameOption (A.same or_not.now.parser) x y }
+    ensures same_item { (x y : O) → ⟦<OrNot<A> as IterParser<'src, I, O, E>>⟧.same or_not.now x y →
+        A.same or_not.now.parser x y }
+{}

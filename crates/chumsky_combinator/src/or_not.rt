@@ -3,6 +3,7 @@ use chumsky_input::extra::ParserExtra;
 use chumsky_input::input::Input;
 use chumsky_input::input_ref::InputRef;
 use chumsky_input::stop::{Fault, PResult};
+use chumsky_parser::moving::MayStay;
 use chumsky_parser::parser::{IsParser, Parser};
 
 /// A parser's output where it succeeds, and none where it fails. See `or_not`.
@@ -65,3 +66,5 @@ impl<'src, I: Input<'src>, O, E: ParserExtra<I>, A: Parser<'src, I, O, E>> Parse
         }
     }
 }
+
+impl<A> MayStay for OrNot<A> {}

@@ -1,8 +1,11 @@
 //! A parser with padding around it.
+ghost use Rattle.std.specs.Prelude.{◌||◌};
+
 use chumsky_input::extra::ParserExtra;
 use chumsky_input::input::Input;
 use chumsky_input::input_ref::InputRef;
 use chumsky_input::stop::PResult;
+use chumsky_parser::moving::Moving;
 use chumsky_parser::parser::{IsParser, Parser};
 use std::marker::PhantomData;
 
@@ -60,5 +63,25 @@ impl<
         self.padding.go_check(inp)?;
         self.parser.go_check(inp)?;
         self.padding.go_check(inp)
+    }
+}
+
+impl<
+    'src,
+    I: Input<'src>,
+    O: Drop,
+    U,
+    E: ParserExtra<I>,
+    A: Moving<'src, I, O, E>,
+    B: Moving<'src, I, U, E>,
+> Moving<'src, I, O, E> for PaddedBy<A, B, U> {
+    ghost use Rattle.chumsky_parser.specs.ProgressLaws.{between-moves};
+
+    ghost moves = { λ p. B.moves p.padding || (A.moves p.parser || B.moves p.padding) };
+
+    ghost moved = { λ p. between-moves _ _ _ (B.moves p.padding) (A.moves p.parser) (B.moves p.padding) (B.ends_after_start p.padding) (A.ends_after_start p.parser) (B.ends_after_start p.padding) (B.moved p.padding) (A.moved p.parser) (B.moved p.padding) };
+
+    fn always_moves(&self) -> bool {
+        self.padding.always_moves() || (self.parser.always_moves() || self.padding.always_moves())
     }
 }

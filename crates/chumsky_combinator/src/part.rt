@@ -1,12 +1,14 @@
 //! Parts of a grammar, each known to its users by a type of its own.
-ghost use Rattle.std.specs.Prelude.{◌≡◌, IfOk, is_some, ⊤};
+ghost use Rattle.std.specs.Prelude.{◌≡◌, IfOk, is_some, ⊤, Bool, true};
 ghost use Rattle.chumsky_input.specs.Run.{Runs};
 ghost use Rattle.chumsky_combinator.specs.Part.{Onward};
+ghost use Rattle.chumsky_combinator.specs.Compared.{DoesNoMore};
 
 use chumsky_input::extra::ParserExtra;
 use chumsky_input::input::Input;
 use chumsky_input::input_ref::InputRef;
 use chumsky_input::stop::PResult;
+use chumsky_parser::moving::{MayStay, Moving};
 use chumsky_parser::parser::{IsParser, Parser};
 
 /// A part of a grammar: what it may do, and a body that runs a parser by `run_part`.
@@ -109,3 +111,69 @@ impl<'src, I: Input<'src>, O: Drop, E: ParserExtra<I>, P: Part<'src, I, O, E>> P
         Ok(())
     }
 }
+
+/// Whether a part of a grammar moves wherever it succeeds; see `Moving`.
+pub trait MovingPart<'src, I: Input<'src>, O, E: ParserExtra<I>>: Part<'src, I, O, E> {
+    ghost use Rattle.chumsky_parser.specs.Progress.{Moves};
+
+    /// That each success ends past its start.
+    ghost moves: { Self → Bool } = { λ _. false };
+
+    /// Whether each success ends past its start.
+    fn always_moves(&self) -> bool
+        ensures { result ≡ moves self.now };
+
+    /// It does, where that is said.
+    ghost moved: { (p : Self) → moves p ≡ true → Moves (Self.means p E.Error.Error E.State.Inspector) };
+}
+
+impl<'src, I: Input<'src>, O: Drop, E: ParserExtra<I>, P: MovingPart<'src, I, O, E>> Moving<
+    'src,
+    I,
+    O,
+    E,
+> for OfPart<P> {
+    ghost use Rattle.chumsky_combinator.specs.PartLaws.{onward-moves};
+
+    ghost moves = { λ p. P.moves p.part };
+
+    ghost moved = { λ p e. onward-moves _ (P.moved p.part e) };
+
+    fn always_moves(&self) -> bool {
+        self.part.always_moves()
+    }
+}
+
+impl<'src, I: Input<'src>, O, E: ParserExtra<I>, P: MayStay + Part<'src, I, O, E>> MovingPart<
+    'src,
+    I,
+    O,
+    E,
+> for P {
+    ghost use Rattle.chumsky_parser.specs.ProgressLaws.{never};
+
+    ghost moved = { λ _. never };
+
+    fn always_moves(&self) -> bool {
+        false
+    }
+}
+
+/// `part_of(p)`, where `p` means no more than a steady parser, and outputs that are the same to that parser are alike to
+/// `p`.
+pub fn part_is_steady<
+    'src,
+    I: Input<'src>,
+    O: Drop,
+    E: ParserExtra<I>,
+    A: Parser<'src, I, O, E>,
+    P: Part<'src, I, O, E>,
+>(part: &OfPart<P>, inside: &A)
+    ensures ready { ⟦<OfPart<P> as Parser<'src, I, O, E>>⟧.ready part.now }
+    ensures steady { let p = inside.now in
+        A.steady p → DoesNoMore E.Error.Error E.State.Inspector (P.means part.now.part) (A.meaning p) →
+        ((v w : O) → A.same p v w → P.alike part.now.part v w) →
+        ⟦<OfPart<P> as Parser<'src, I, O, E>>⟧.steady part.now }
+    ensures same { (x y : O) → ⟦<OfPart<P> as Parser<'src, I, O, E>>⟧.same part.now x y →
+        P.alike part.now.part x y }
+{}

@@ -1,8 +1,13 @@
 //! One parser after another.
+ghost use Rattle.std.specs.Prelude.{◌||◌, [], ◌∷◌};
+ghost use Rattle.chumsky_parser.specs.ByParts.{part, OutOnlyBy};
+
+use crate::then_ignore::ThenIgnore;
 use chumsky_input::extra::ParserExtra;
 use chumsky_input::input::Input;
 use chumsky_input::input_ref::InputRef;
 use chumsky_input::stop::PResult;
+use chumsky_parser::moving::Moving;
 use chumsky_parser::parser::{IsParser, Parser};
 use std::marker::PhantomData;
 
@@ -60,3 +65,65 @@ impl<
         self.second.go_check(inp)
     }
 }
+
+impl<
+    'src,
+    I: Input<'src>,
+    O: Drop,
+    U,
+    E: ParserExtra<I>,
+    A: Moving<'src, I, O, E>,
+    B: Moving<'src, I, U, E>,
+> Moving<'src, I, (O, U), E> for Then<A, B, O, U> {
+    ghost use Rattle.chumsky_parser.specs.ProgressLaws.{sequence-moves};
+
+    ghost moves = { λ p. A.moves p.first || B.moves p.second };
+
+    ghost moved = { λ p. sequence-moves _ _ (A.moves p.first) (B.moves p.second) (A.ends_after_start p.first) (B.ends_after_start p.second) (A.moved p.first) (B.moved p.second) };
+
+    fn always_moves(&self) -> bool {
+        self.first.always_moves() || self.second.always_moves()
+    }
+}
+
+/// `a.then(b)` and `a.then_ignore(b)`.
+pub fn then_is_never_out_of_memory<
+    'src,
+    I: Input<'src>,
+    O: Drop,
+    U,
+    E: ParserExtra<I>,
+    A: Parser<'src, I, O, E>,
+    B: Parser<'src, I, U, E>,
+>(then: &Then<A, B, O, U>, then_ignore: &ThenIgnore<A, B, U>)
+    ensures then { let t = then.now in OutOnlyBy E.Error.Error E.State.Inspector
+        (part (A.meaning t.first) ∷ part (B.meaning t.second) ∷ [])
+        (⟦<Then<A, B, O, U> as Parser<'src, I, (O, U), E>>⟧.meaning t) }
+    ensures then_ignore { let i = then_ignore.now in OutOnlyBy E.Error.Error E.State.Inspector
+        (part (A.meaning i.first) ∷ part (B.meaning i.second) ∷ [])
+        (⟦<ThenIgnore<A, B, U> as Parser<'src, I, O, E>>⟧.meaning i) }
+{}
+
+/// `a.then(b)` and `a.then_ignore(b)`.
+pub fn then_is_steady<
+    'src,
+    I: Input<'src>,
+    O: Drop,
+    U,
+    E: ParserExtra<I>,
+    A: Parser<'src, I, O, E>,
+    B: Parser<'src, I, U, E>,
+>(then: &Then<A, B, O, U>, then_ignore: &ThenIgnore<A, B, U>)
+    ensures ready_then { A.ready then.now.first → B.ready then.now.second →
+        ⟦<Then<A, B, O, U> as Parser<'src, I, (O, U), E>>⟧.ready then.now }
+    ensures ready_then_ignore { let p = then_ignore.now in A.ready p.first → B.ready p.second →
+        ⟦<ThenIgnore<A, B, U> as Parser<'src, I, O, E>>⟧.ready p }
+    ensures then { A.steady then.now.first → B.steady then.now.second →
+        ⟦<Then<A, B, O, U> as Parser<'src, I, (O, U), E>>⟧.steady then.now }
+    ensures then_ignore { let p = then_ignore.now in A.steady p.first → B.steady p.second →
+        ⟦<ThenIgnore<A, B, U> as Parser<'src, I, O, E>>⟧.steady p }
+    ensures same_pair { (x y : O × U) → ⟦<Then<A, B, O, U> as Parser<'src, I, (O, U), E>>⟧.same then.now x y →
+        A.same then.now.first x.0 y.0 × B.same then.now.second x.1 y.1 }
+    ensures same_first { (x y : O) → ⟦<ThenIgnore<A, B, U> as Parser<'src, I, O, E>>⟧.same then_ignore.now x y →
+        A.same then_ignore.now.first x y }
+{}

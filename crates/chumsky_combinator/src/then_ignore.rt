@@ -1,8 +1,11 @@
 //! Two parsers, for the output of the first.
+ghost use Rattle.std.specs.Prelude.{◌||◌};
+
 use chumsky_input::extra::ParserExtra;
 use chumsky_input::input::Input;
 use chumsky_input::input_ref::InputRef;
 use chumsky_input::stop::PResult;
+use chumsky_parser::moving::Moving;
 use chumsky_parser::parser::{IsParser, Parser};
 use std::marker::PhantomData;
 
@@ -58,5 +61,25 @@ impl<
     fn go_check(&self, inp: &mut InputRef<'src, '_, I, E>) -> PResult<()> {
         self.first.go_check(inp)?;
         self.second.go_check(inp)
+    }
+}
+
+impl<
+    'src,
+    I: Input<'src>,
+    O: Drop,
+    U,
+    E: ParserExtra<I>,
+    A: Moving<'src, I, O, E>,
+    B: Moving<'src, I, U, E>,
+> Moving<'src, I, O, E> for ThenIgnore<A, B, U> {
+    ghost use Rattle.chumsky_parser.specs.ProgressLaws.{ignoring_second-moves};
+
+    ghost moves = { λ p. A.moves p.first || B.moves p.second };
+
+    ghost moved = { λ p. ignoring_second-moves _ _ (A.moves p.first) (B.moves p.second) (A.ends_after_start p.first) (B.ends_after_start p.second) (A.moved p.first) (B.moved p.second) };
+
+    fn always_moves(&self) -> bool {
+        self.first.always_moves() || self.second.always_moves()
     }
 }

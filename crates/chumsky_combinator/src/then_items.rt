@@ -1,10 +1,13 @@
 //! The items of one parser, and then those of another.
+ghost use Rattle.std.specs.Prelude.{◌⊎◌};
+
 use crate::then::Then;
 use chumsky_input::extra::ParserExtra;
 use chumsky_input::input::Input;
 use chumsky_input::input_ref::InputRef;
 use chumsky_input::stop::PResult;
 use chumsky_parser::iter::{IsIterParser, IterParser, IterParserDebug, Iterates};
+use chumsky_parser::moving::MovingItems;
 
 /// Where an iteration over the items of two parsers stands: in those of the first, or in those of the second.
 #[derive(Drop)]
@@ -107,3 +110,46 @@ impl<
         }
     }
 }
+
+/// The first step runs the first parser's first step, whether that gives an item or not.
+impl<
+    'src,
+    I: Input<'src>,
+    O,
+    U,
+    V,
+    E: ParserExtra<I>,
+    A: MovingItems<'src, I, V, E>,
+    B: IterParser<'src, I, V, E>,
+> MovingItems<'src, I, V, E> for Then<A, B, O, U> {
+    ghost use Rattle.chumsky_combinator.specs.ThenItemsLaws.{in_turn-move};
+
+    ghost first_moves = { λ p. A.first_moves p.first };
+
+    ghost first_moved = { λ p e d. in_turn-move _ _ _ _ (B.ends_after_start p.second d) (A.first_moved p.first e d) };
+
+    fn first_always_moves(&self) -> bool {
+        self.first.first_always_moves()
+    }
+}
+
+/// `a.then_items(b)`, and `a.then(b)` of two lists, as parsers of items. Two items are the same where one of the two calls
+/// them so.
+pub fn then_items_is_steady<
+    'src,
+    I: Input<'src>,
+    O,
+    U,
+    V,
+    E: ParserExtra<I>,
+    A: IterParser<'src, I, V, E>,
+    B: IterParser<'src, I, V, E>,
+>(then_items: &Then<A, B, O, U>)
+    ensures ready { let p = then_items.now in A.ready p.first → B.ready p.second →
+        ⟦<Then<A, B, O, U> as IterParser<'src, I, V, E>>⟧.ready p }
+    ensures steady { let p = then_items.now in A.steady p.first → B.steady p.second →
+        ⟦<Then<A, B, O, U> as IterParser<'src, I, V, E>>⟧.steady p }
+    ensures same { let p = then_items.now in (x y : V) →
+        ⟦<Then<A, B, O, U> as IterParser<'src, I, V, E>>⟧.same p x y →
+        A.same p.first x y ⊎ B.same p.second x y }
+{}

@@ -1,8 +1,13 @@
 //! A parser with a value in place of its output.
+ghost use Rattle.std.specs.Prelude.{false, [], ◌∷◌};
+ghost use Rattle.chumsky_parser.specs.ByParts.{part, OutOnlyBy};
+
+use crate::ignored::Ignored;
 use chumsky_input::extra::ParserExtra;
 use chumsky_input::input::Input;
 use chumsky_input::input_ref::InputRef;
 use chumsky_input::stop::PResult;
+use chumsky_parser::moving::Moving;
 use chumsky_parser::parser::{IsParser, Parser};
 use std::marker::PhantomData;
 
@@ -56,3 +61,53 @@ impl<'src, I: Input<'src>, O, U: Clone, E: ParserExtra<I>, A: Parser<'src, I, O,
         self.parser.go_check(inp)
     }
 }
+
+impl<'src, I: Input<'src>, O, U: Clone, E: ParserExtra<I>, A: Moving<'src, I, O, E>> Moving<
+    'src,
+    I,
+    U,
+    E,
+> for To<A, O, U> {
+    ghost use Rattle.chumsky_parser.specs.IgnoringLaws.{copy-ends};
+    ghost use Rattle.chumsky_parser.specs.ProgressLaws.{chained-first, asked-moves};
+
+    ghost moves = { λ p. A.moves p.parser };
+
+    ghost moved = { λ p e. chained-first _ _ (asked-moves false _ (A.moved p.parser e)) (λ _. copy-ends (U.is_clone p.value) (U.is_infallible p.value)) };
+
+    fn always_moves(&self) -> bool {
+        self.parser.always_moves()
+    }
+}
+
+/// `a.to(v)`, of a value whose clone takes no memory, and `a.ignored()`.
+pub fn to_is_never_out_of_memory<
+    'src,
+    I: Input<'src>,
+    O,
+    U: Clone,
+    E: ParserExtra<I>,
+    A: Parser<'src, I, O, E>,
+>(to: &To<A, O, U>, ignored: &Ignored<A, O>)
+    ensures to { let t = to.now in U.is_infallible t.value → OutOnlyBy E.Error.Error E.State.Inspector
+        (part (A.meaning t.parser) ∷ [])
+        (⟦<To<A, O, U> as Parser<'src, I, U, E>>⟧.meaning t) }
+    ensures ignored { let i = ignored.now in OutOnlyBy E.Error.Error E.State.Inspector
+        (part (A.meaning i.parser) ∷ [])
+        (⟦<Ignored<A, O> as Parser<'src, I, (), E>>⟧.meaning i) }
+{}
+
+/// `a.to(v)` and `a.ignored()`.
+pub fn to_is_steady<'src, I: Input<'src>, O, U: Clone, E: ParserExtra<I>, A: Parser<'src, I, O, E>>(
+    to: &To<A, O, U>,
+    ignored: &Ignored<A, O>,
+)
+    ensures ready_to { A.ready to.now.parser → ⟦<To<A, O, U> as Parser<'src, I, U, E>>⟧.ready to.now }
+    ensures ready_ignored { A.ready ignored.now.parser →
+        ⟦<Ignored<A, O> as Parser<'src, I, (), E>>⟧.ready ignored.now }
+    ensures to { A.steady to.now.parser → ⟦<To<A, O, U> as Parser<'src, I, U, E>>⟧.steady to.now }
+    ensures ignored { A.steady ignored.now.parser →
+        ⟦<Ignored<A, O> as Parser<'src, I, (), E>>⟧.steady ignored.now }
+    ensures same { (x y : U) → ⟦<To<A, O, U> as Parser<'src, I, U, E>>⟧.same to.now x y →
+        U.is_clone to.now.value x × U.is_clone to.now.value y }
+{}

@@ -1,10 +1,13 @@
 //! `Configure`: a parser that is configured by the context.
+ghost use Rattle.chumsky_context.specs.Configured.{Sets, IsDeterministic, SameByConfig};
+
 use crate::config::{ConfigParser, IsConfigParser};
 use crate::configurer::Configurer;
 use chumsky_input::extra::ParserExtra;
 use chumsky_input::input::Input;
 use chumsky_input::input_ref::InputRef;
 use chumsky_input::stop::PResult;
+use chumsky_parser::moving::MayStay;
 use chumsky_parser::parser::{IsParser, Parser};
 
 /// A parser that is configured by the context at each run, on both paths. See `configure`.
@@ -53,3 +56,18 @@ where
         self.parser.go_check_cfg(inp, config)
     }
 }
+
+impl<A, F> MayStay for Configure<A, F> {}
+
+/// `configure` is steady where its part is, and the configurer makes one configuration under one context. Its outputs that are
+/// the same are so to the part by some configuration.
+pub fn configure_is_steady<'src, I, O, E, A, F>(parser: &Configure<A, F>)
+where
+    I: Input<'src>,
+    E: ParserExtra<I>,
+    A: ConfigParser<'src, I, O, E>,
+    F: Configurer<A::Config, E::Context>,
+    ensures ready { A.ready parser.now.parser → F.callable parser.now.configurer → ⟦<Configure<A, F> as Parser<'src, I, O, E>>⟧.ready parser.now }
+    ensures steady { A.steady parser.now.parser → IsDeterministic (Sets A.Config.is_default (F.gives parser.now.configurer)) → ⟦<Configure<A, F> as Parser<'src, I, O, E>>⟧.steady parser.now }
+    ensures same { (x y : O) → ⟦<Configure<A, F> as Parser<'src, I, O, E>>⟧.same parser.now x y → SameByConfig (A.same parser.now.parser) x y }
+{}

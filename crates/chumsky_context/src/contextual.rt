@@ -1,10 +1,13 @@
 //! `Contextual`: a parser that the context can turn off.
+ghost use Rattle.std.specs.Prelude.{Bool};
+
 use crate::config::{ConfigParser, Configurable, IsConfigParser};
 use chumsky_input::extra::ParserExtra;
 use chumsky_input::input::Input;
 use chumsky_input::input_ref::InputRef;
 use chumsky_input::stop::PResult;
 use chumsky_input::util::Plain;
+use chumsky_parser::moving::MayStay;
 use chumsky_parser::parser::{IsParser, Parser};
 
 /// A parser that a configuration can turn off. Where it is off it fails here, and expects nothing else. See `contextual`.
@@ -88,3 +91,19 @@ impl<'src, I: Input<'src>, O, E: ParserExtra<I>, A: Parser<'src, I, O, E>> Confi
         Err(inp.expected(&here, &here, Plain::NothingElse, None))
     }
 }
+
+impl<A> MayStay for Contextual<A> {}
+
+/// `contextual` is steady where its part is, configured or not. Its outputs that are the same are so to the part.
+pub fn contextual_is_steady<'src, I, O, E, A>(parser: &Contextual<A>)
+where
+    I: Input<'src>,
+    E: ParserExtra<I>,
+    A: Parser<'src, I, O, E>,
+    ensures ready { A.ready parser.now.inner → ⟦<Contextual<A> as Parser<'src, I, O, E>>⟧.ready parser.now }
+    ensures ready_configured { A.ready parser.now.inner → ⟦<Contextual<A> as ConfigParser<'src, I, O, E>>⟧.ready parser.now }
+    ensures steady { A.steady parser.now.inner → ⟦<Contextual<A> as Parser<'src, I, O, E>>⟧.steady parser.now }
+    ensures configured { A.steady parser.now.inner → ⟦<Contextual<A> as ConfigParser<'src, I, O, E>>⟧.steady parser.now }
+    ensures same { (x y : O) → ⟦<Contextual<A> as Parser<'src, I, O, E>>⟧.same parser.now x y → A.same parser.now.inner x y }
+    ensures same_configured { (on : Bool) (x y : O) → ⟦<Contextual<A> as ConfigParser<'src, I, O, E>>⟧.same parser.now on x y → A.same parser.now.inner x y }
+{}

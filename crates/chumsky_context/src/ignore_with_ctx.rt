@@ -1,10 +1,16 @@
 //! `IgnoreWithCtx`: a parser, and another under its output, for the output of the second.
+ghost use Rattle.chumsky_context.specs.Under.{SameAreEqual};
+ghost use Rattle.std.specs.Prelude.{◌≡◌, ℕ};
+
 use crate::under::{check_under, emit_under};
-use chumsky_input::extra::ParserExtra;
+use chumsky_input::error::{EmptyErr, Error};
+use chumsky_input::extra::{Err, Full, ParserExtra};
 use chumsky_input::input::Input;
 use chumsky_input::input_ref::InputRef;
 use chumsky_input::stop::PResult;
+use chumsky_parser::moving::MayStay;
 use chumsky_parser::parser::{IsParser, Parser};
+use chumsky_primitive::any::Any;
 use std::marker::PhantomData;
 
 /// Two parsers, the second with the output of the first as its context, for the output of the second. `X` is the extra of the
@@ -60,3 +66,35 @@ where
         check_under::<I, U, E, X, B>(&self.then, &value, inp)
     }
 }
+
+impl<A, B, O, I, X> MayStay for IgnoreWithCtx<A, B, O, I, X> {}
+
+/// `ignore_with_ctx` is steady where both parts are, and outputs of the first that are the same are equal. Its outputs that are
+/// the same are so to the second part.
+pub fn ignore_with_ctx_is_steady<'src, I, O, U, E, X, A, B>(parser: &IgnoreWithCtx<A, B, O, I, X>)
+where
+    I: Input<'src>,
+    I::Token: 'src,
+    O: Drop,
+    E: ParserExtra<I>,
+    A: Parser<'src, I, O, E>,
+    X: ParserExtra<I, Error = E::Error, State = E::State, Context = O>,
+    B: Parser<'src, I, U, X>,
+    ensures ready { A.ready parser.now.parser → B.ready parser.now.then → ⟦<IgnoreWithCtx<A, B, O, I, X> as Parser<'src, I, U, E>>⟧.ready parser.now }
+    ensures steady { A.steady parser.now.parser → B.steady parser.now.then → SameAreEqual (A.same parser.now.parser) → ⟦<IgnoreWithCtx<A, B, O, I, X> as Parser<'src, I, U, E>>⟧.steady parser.now }
+    ensures same { (x y : U) → ⟦<IgnoreWithCtx<A, B, O, I, X> as Parser<'src, I, U, E>>⟧.same parser.now x y → B.same parser.now.then x y }
+{}
+
+/// Characters are such outputs: `any()` under that of another `any()` is steady, and its outputs that are the same are equal.
+pub fn any_under_any_is_steady<'src>(
+    parser: &IgnoreWithCtx<
+        Any<&'src str, Err<EmptyErr>>,
+        Any<&'src str, Full<EmptyErr, (), char>>,
+        char,
+        &'src str,
+        Full<EmptyErr, (), char>,
+    >,
+)
+    ensures steady { ⟦<IgnoreWithCtx<Any<&'src str, Err<EmptyErr>>, Any<&'src str, Full<EmptyErr, (), char>>, char, &'src str, Full<EmptyErr, (), char>> as Parser<'src, &'src str, char, Err<EmptyErr>>>⟧.steady parser.now }
+    ensures same { (x y : ℕ) → ⟦<IgnoreWithCtx<Any<&'src str, Err<EmptyErr>>, Any<&'src str, Full<EmptyErr, (), char>>, char, &'src str, Full<EmptyErr, (), char>> as Parser<'src, &'src str, char, Err<EmptyErr>>>⟧.same parser.now x y → x ≡ y }
+{}

@@ -1,6 +1,9 @@
 //! `IgnoreWithCtx` as a parser of items: those of its second part, under the output of the first.
+ghost use Rattle.chumsky_context.specs.Under.{SameAreEqual};
+
 use crate::ignore_with_ctx::IgnoreWithCtx;
 use crate::items_under::{make_iter_under, next_check_under, next_emit_under};
+use chumsky_input::error::Error;
 use chumsky_input::extra::ParserExtra;
 use chumsky_input::input::Input;
 use chumsky_input::input_ref::InputRef;
@@ -77,3 +80,21 @@ where
         next_check_under::<I, U, E, X, B>(&self.then, &state.0, &mut state.1, debug, inp)
     }
 }
+
+/// Such items for the output of the second parser alone are steady where both parts are, and outputs of the first that are the
+/// same are equal. Items that are the same are so to the second part.
+pub fn ignored_items_with_ctx_are_steady<'src, I, O, U, E, X, A, B>(
+    second: &IgnoreWithCtx<A, B, O, I, X>,
+)
+where
+    I: Input<'src>,
+    I::Token: 'src,
+    O: Drop,
+    E: ParserExtra<I>,
+    A: Parser<'src, I, O, E>,
+    X: ParserExtra<I, Error = E::Error, State = E::State, Context = O>,
+    B: IterParser<'src, I, U, X>,
+    ensures ready { A.ready second.now.parser → B.ready second.now.then → ⟦<IgnoreWithCtx<A, B, O, I, X> as IterParser<'src, I, U, E>>⟧.ready second.now }
+    ensures steady { A.steady second.now.parser → B.steady second.now.then → SameAreEqual (A.same second.now.parser) → ⟦<IgnoreWithCtx<A, B, O, I, X> as IterParser<'src, I, U, E>>⟧.steady second.now }
+    ensures same { (x y : U) → ⟦<IgnoreWithCtx<A, B, O, I, X> as IterParser<'src, I, U, E>>⟧.same second.now x y → B.same second.now.then x y }
+{}

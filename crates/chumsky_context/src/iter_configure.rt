@@ -1,4 +1,6 @@
 //! `IterConfigure`: items that are configured by the context.
+ghost use Rattle.chumsky_context.specs.Configured.{Sets, IsDeterministic};
+
 use crate::config::Configurable;
 use crate::config_iter::{ConfigIterParser, IsConfigIterParser};
 use crate::configurer::Configurer;
@@ -8,6 +10,7 @@ use chumsky_input::input_ref::InputRef;
 use chumsky_input::stop::PResult;
 use chumsky_items::pass::pass_all;
 use chumsky_parser::iter::{IsIterParser, IterParser, IterParserDebug, Iterates};
+use chumsky_parser::moving::MayStay;
 use chumsky_parser::parser::{IsParser, Parser};
 use std::marker::PhantomData;
 
@@ -135,3 +138,31 @@ where
         pass_all::<(), I, O, E, IterConfigure<A, F, O>>(self, inp)
     }
 }
+
+impl<A, F, O> MayStay for IterConfigure<A, F, O> {}
+
+/// Configured items are steady where the items are, and the configurer makes one configuration under one context. Items that are
+/// the same are so to the part.
+pub fn configured_items_are_steady<'src, I, O, E, A, F>(items: &IterConfigure<A, F, O>)
+where
+    I: Input<'src>,
+    E: ParserExtra<I>,
+    A: ConfigIterParser<'src, I, O, E>,
+    F: Configurer<A::Config, E::Context>,
+    ensures ready { A.ready items.now.parser → F.callable items.now.configurer → ⟦<IterConfigure<A, F, O> as IterParser<'src, I, O, E>>⟧.ready items.now }
+    ensures steady { A.steady items.now.parser → IsDeterministic (Sets A.Config.is_default (F.gives items.now.configurer)) → ⟦<IterConfigure<A, F, O> as IterParser<'src, I, O, E>>⟧.steady items.now }
+    ensures same { (x y : O) → ⟦<IterConfigure<A, F, O> as IterParser<'src, I, O, E>>⟧.same items.now x y → A.same items.now.parser x y }
+{}
+
+/// A configured list that stands as a parser of `()` is steady where its items are, and the configurer makes one configuration
+/// under one context.
+pub fn configured_list_is_steady<'src, I, O, E, A, F>(list: &IterConfigure<A, F, O>)
+where
+    I: Input<'src>,
+    O: Drop,
+    E: ParserExtra<I>,
+    A: ConfigIterParser<'src, I, O, E>,
+    F: Configurer<A::Config, E::Context>,
+    ensures ready { A.ready list.now.parser → F.callable list.now.configurer → ⟦<IterConfigure<A, F, O> as Parser<'src, I, (), E>>⟧.ready list.now }
+    ensures steady { A.steady list.now.parser → IsDeterministic (Sets A.Config.is_default (F.gives list.now.configurer)) → ⟦<IterConfigure<A, F, O> as Parser<'src, I, (), E>>⟧.steady list.now }
+{}

@@ -1,5 +1,7 @@
 //! `JustCfg`: `just` of a sequence that the context says.
 ghost use Rattle.std.specs.Prelude.{◌≡◌, Some, None};
+ghost use Rattle.chumsky_parser.specs.Copied.{BothCopies};
+ghost use Rattle.chumsky_context.specs.Configured.{set_or};
 
 use crate::config::{ConfigParser, Configurable, IsConfigParser};
 use chumsky_input::extra::ParserExtra;
@@ -93,3 +95,16 @@ where
         }
     }
 }
+
+/// `just` is ready and steady by each configuration. Its outputs that are the same are clones of the sequence that is set, or of
+/// its own.
+pub fn configured_just_is_steady<'src, T, I, E>(just: &Just<T, I, E>)
+where
+    T: OrderedSeq<I::Token> + Clone + Drop,
+    I: Input<'src>,
+    I::Token: PartialEq,
+    E: ParserExtra<I>,
+    ensures ready { ⟦<Just<T, I, E> as ConfigParser<'src, I, T, E>>⟧.ready just.now }
+    ensures steady { ⟦<Just<T, I, E> as ConfigParser<'src, I, T, E>>⟧.steady just.now }
+    ensures same { (c : config.JustCfg T) (x y : T) → ⟦<Just<T, I, E> as ConfigParser<'src, I, T, E>>⟧.same just.now c x y → BothCopies (T.is_clone (set_or c.seq just.now.seq)) x y }
+{}

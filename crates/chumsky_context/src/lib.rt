@@ -18,7 +18,6 @@ pub mod one_of_cfg;
 pub mod repeated_cfg;
 pub mod spanned;
 pub mod states;
-pub mod steady;
 pub mod then_with_ctx;
 mod then_with_ctx_items;
 pub mod to_slice;

@@ -1,12 +1,15 @@
 //! `MapCtx`: a parser under a context that is made of the run's.
 ghost use Rattle.std.specs.Prelude.{◌≡◌, ⊤};
 ghost use Rattle.std.specs.Fn.{FnReturnsAt};
+ghost use Rattle.chumsky_context.specs.Configured.{IsDeterministic};
 
 use crate::under::{check_under, emit_under};
+use chumsky_input::error::Error;
 use chumsky_input::extra::ParserExtra;
 use chumsky_input::input::{Input, Tokens};
 use chumsky_input::input_ref::InputRef;
 use chumsky_input::stop::PResult;
+use chumsky_parser::moving::MayStay;
 use chumsky_parser::parser::{IsParser, Parser};
 use std::marker::PhantomData;
 
@@ -130,3 +133,20 @@ where
         of: PhantomData,
     }
 }
+
+impl<A, X, F, I, E> MayStay for MapCtx<A, X, F, I, E> {}
+
+/// `map_ctx` is steady where its part is, and the mapper makes one context of one context.
+pub fn map_ctx_is_steady<'src, I, O, X, E, A, F>(parser: &MapCtx<A, X, F, I, E>)
+where
+    I: Input<'src>,
+    I::Token: 'src,
+    X: ParserExtra<I, Error = E::Error, State = E::State>,
+    X::Context: Drop,
+    E: ParserExtra<I>,
+    A: Parser<'src, I, O, X>,
+    F: ContextMapper<E::Context, X::Context>,
+    ensures ready { A.ready parser.now.parser → F.callable parser.now.mapper → ⟦<MapCtx<A, X, F, I, E> as Parser<'src, I, O, E>>⟧.ready parser.now }
+    ensures steady { A.steady parser.now.parser → IsDeterministic (F.gives parser.now.mapper) → ⟦<MapCtx<A, X, F, I, E> as Parser<'src, I, O, E>>⟧.steady parser.now }
+    ensures same { (x y : O) → ⟦<MapCtx<A, X, F, I, E> as Parser<'src, I, O, E>>⟧.same parser.now x y → A.same parser.now.parser x y }
+{}

@@ -1,12 +1,19 @@
 //! `NestedIn`: a parser over an input that another parser gives.
+ghost use Rattle.chumsky_context.specs.Within.{SteadyNested};
+ghost use Rattle.std.specs.Prelude.{◌≡◌, ℕ};
+
 use crate::within::{check_within, emit_within};
 use chumsky_input::error::Error;
-use chumsky_input::extra::{Full, ParserExtra};
-use chumsky_input::input::{Input, Tokens};
+use chumsky_input::extra::{Err, Full, ParserExtra};
+use chumsky_input::input::{Input, TextCursor, Tokens};
 use chumsky_input::input_ref::InputRef;
 use chumsky_input::inspector::Inspector;
+use chumsky_input::simple::Cheap;
+use chumsky_input::span::SimpleSpan;
 use chumsky_input::stop::PResult;
+use chumsky_parser::moving::MayStay;
 use chumsky_parser::parser::{IsParser, Parser};
+use chumsky_primitive::any::Any;
 use std::marker::PhantomData;
 
 /// A parser that runs over the whole of the input that `outer` gives, in the state and under the context of the run. The
@@ -79,3 +86,48 @@ where
         check_within(&self.parser, input, place, inp)
     }
 }
+
+impl<A, B, J, C, T, S, M> MayStay for NestedIn<A, B, J, C, T, S, M> {}
+
+/// `nested_in` is steady where both parts are, errors and states count as the same over both inputs alike, and outputs of the
+/// outer part that are the same have the same tokens. Its outputs that are the same are so to the inner part.
+pub fn nested_in_is_steady<'src, I, J, U, E, A, B, C, T, S, M>(
+    parser: &NestedIn<A, B, J, C, T, S, M>,
+)
+where
+    I: Input<'src>,
+    I::Token: 'src,
+    J: Input<'src, Cursor = C, Token = T, Span = S>,
+    C: Copy,
+    T: Drop + 'src,
+    S: Drop,
+    U: Drop,
+    E: ParserExtra<I>,
+    E::Error: Error<J>,
+    E::State: Inspector<J, Mark = M>,
+    M: Drop,
+    A: Parser<'src, J, U, Full<E::Error, E::State, E::Context>>,
+    B: Parser<'src, I, J, E>,
+    ensures ready { A.ready parser.now.parser → B.ready parser.now.outer → ⟦<NestedIn<A, B, J, C, T, S, M> as Parser<'src, I, U, E>>⟧.ready parser.now }
+    ensures steady { SteadyNested J.Input ⟦<E::Error as Error<J>>⟧ ⟦<E::State as Inspector<J>>⟧
+        ⟦<E::Error as Error<I>>⟧ ⟦<E::State as Inspector<I>>⟧ A.steady B.steady B.same
+        ⟦<NestedIn<A, B, J, C, T, S, M> as Parser<'src, I, U, E>>⟧.steady parser.now }
+    ensures same { (x y : U) → ⟦<NestedIn<A, B, J, C, T, S, M> as Parser<'src, I, U, E>>⟧.same parser.now x y → A.same parser.now.parser x y }
+{}
+
+/// Texts that are tokens are such inputs: `any()` over a text that `any()` takes of a slice is steady, with an error that says
+/// where it stands, and its outputs that are the same are equal.
+pub fn any_nested_in_any_is_steady<'src>(
+    parser: &NestedIn<
+        Any<&'src str, Err<Cheap>>,
+        Any<&'src [&'src str], Err<Cheap>>,
+        &'src str,
+        TextCursor<'src>,
+        char,
+        SimpleSpan,
+        (),
+    >,
+)
+    ensures steady { ⟦<NestedIn<Any<&'src str, Err<Cheap>>, Any<&'src [&'src str], Err<Cheap>>, &'src str, TextCursor<'src>, char, SimpleSpan, ()> as Parser<'src, &'src [&'src str], char, Err<Cheap>>>⟧.steady parser.now }
+    ensures same { (x y : ℕ) → ⟦<NestedIn<Any<&'src str, Err<Cheap>>, Any<&'src [&'src str], Err<Cheap>>, &'src str, TextCursor<'src>, char, SimpleSpan, ()> as Parser<'src, &'src [&'src str], char, Err<Cheap>>>⟧.same parser.now x y → x ≡ y }
+{}

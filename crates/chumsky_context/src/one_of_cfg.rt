@@ -98,3 +98,15 @@ where
         }
     }
 }
+
+/// `one_of` is ready and steady by each configuration. Its outputs that are the same are seen alike.
+pub fn configured_one_of_is_steady<'src, S, I, E>(one_of: &OneOf<S, I, E>)
+where
+    S: Seq<I::Token> + Drop,
+    I: ValueInput<'src>,
+    I::Token: PartialEq,
+    E: ParserExtra<I>,
+    ensures ready { ⟦<OneOf<S, I, E> as ConfigParser<'src, I, I::Token, E>>⟧.ready one_of.now }
+    ensures steady { ⟦<OneOf<S, I, E> as ConfigParser<'src, I, I::Token, E>>⟧.steady one_of.now }
+    ensures same { (c : sequence.OneOfCfg S) (x y : I.Token) → ⟦<OneOf<S, I, E> as ConfigParser<'src, I, I::Token, E>>⟧.same one_of.now c x y → I.seen x ≡ I.seen y }
+{}

@@ -1,9 +1,12 @@
 //! `Spanned`: a parser's output with the span of what it took.
+ghost use Rattle.std.specs.Prelude.{◌≡◌};
+
 use chumsky_input::extra::ParserExtra;
 use chumsky_input::input::{Input, Tokens};
 use chumsky_input::input_ref::InputRef;
 use chumsky_input::span::Spanned as SpannedOutput;
 use chumsky_input::stop::PResult;
+use chumsky_parser::moving::Moving;
 use chumsky_parser::parser::{IsParser, Parser};
 use std::marker::PhantomData;
 
@@ -57,3 +60,32 @@ impl<'src, I: Input<'src>, O, E: ParserExtra<I>, A: Parser<'src, I, O, E>> Parse
         self.parser.go_check(inp)
     }
 }
+
+impl<'src, I, O, E, A> Moving<'src, I, SpannedOutput<O, I::Span>, E> for Spanned<A, O>
+where
+    I: Input<'src>,
+    E: ParserExtra<I>,
+    A: Moving<'src, I, O, E>,
+{
+    ghost use Rattle.chumsky_context.specs.CoveredLanguage.{with_span-moves};
+
+    ghost moves = { λ p. A.moves p.parser };
+
+    ghost moved = { λ p e. with_span-moves _ _ (A.moved p.parser e) };
+
+    fn always_moves(&self) -> bool {
+        self.parser.always_moves()
+    }
+}
+
+/// `spanned` is steady where its part is. Of its outputs that are the same the values are so to the part, and the spans are
+/// equal.
+pub fn spanned_is_steady<'src, I, O, E, A>(parser: &Spanned<A, O>)
+where
+    I: Input<'src>,
+    E: ParserExtra<I>,
+    A: Parser<'src, I, O, E>,
+    ensures ready { A.ready parser.now.parser → ⟦<Spanned<A, O> as Parser<'src, I, SpannedOutput<O, I::Span>, E>>⟧.ready parser.now }
+    ensures steady { A.steady parser.now.parser → ⟦<Spanned<A, O> as Parser<'src, I, SpannedOutput<O, I::Span>, E>>⟧.steady parser.now }
+    ensures same { (x y : output.Spanned O I.Span) → ⟦<Spanned<A, O> as Parser<'src, I, SpannedOutput<O, I::Span>, E>>⟧.same parser.now x y → A.same parser.now.parser x.inner y.inner × (x.span ≡ y.span) }
+{}

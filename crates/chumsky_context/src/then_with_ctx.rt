@@ -1,9 +1,13 @@
 //! `ThenWithCtx`: a parser, and another under its output, for both outputs.
+ghost use Rattle.chumsky_context.specs.Under.{SameAreEqual};
+
 use crate::under::{check_under, emit_under};
+use chumsky_input::error::Error;
 use chumsky_input::extra::ParserExtra;
 use chumsky_input::input::Input;
 use chumsky_input::input_ref::InputRef;
 use chumsky_input::stop::PResult;
+use chumsky_parser::moving::MayStay;
 use chumsky_parser::parser::{IsParser, Parser};
 use std::marker::PhantomData;
 
@@ -62,3 +66,21 @@ where
         check_under::<I, U, E, X, B>(&self.then, &value, inp)
     }
 }
+
+impl<A, B, O, I, X> MayStay for ThenWithCtx<A, B, O, I, X> {}
+
+/// `then_with_ctx` is steady where both parts are, and outputs of the first that are the same are equal. Its outputs that are
+/// the same are so, each, to its part.
+pub fn then_with_ctx_is_steady<'src, I, O, U, E, X, A, B>(parser: &ThenWithCtx<A, B, O, I, X>)
+where
+    I: Input<'src>,
+    I::Token: 'src,
+    O: Drop,
+    E: ParserExtra<I>,
+    A: Parser<'src, I, O, E>,
+    X: ParserExtra<I, Error = E::Error, State = E::State, Context = O>,
+    B: Parser<'src, I, U, X>,
+    ensures ready { A.ready parser.now.parser → B.ready parser.now.then → ⟦<ThenWithCtx<A, B, O, I, X> as Parser<'src, I, (O, U), E>>⟧.ready parser.now }
+    ensures steady { A.steady parser.now.parser → B.steady parser.now.then → SameAreEqual (A.same parser.now.parser) → ⟦<ThenWithCtx<A, B, O, I, X> as Parser<'src, I, (O, U), E>>⟧.steady parser.now }
+    ensures same { (x y : O × U) → ⟦<ThenWithCtx<A, B, O, I, X> as Parser<'src, I, (O, U), E>>⟧.same parser.now x y → A.same parser.now.parser x.0 y.0 × B.same parser.now.then x.1 y.1 }
+{}

@@ -1,6 +1,9 @@
 //! `ThenWithCtx` as a parser of items: those of its second part, under the output of the first.
+ghost use Rattle.chumsky_context.specs.Under.{SameAreEqual};
+
 use crate::items_under::{make_iter_under, next_check_under, next_emit_under};
 use crate::then_with_ctx::ThenWithCtx;
+use chumsky_input::error::Error;
 use chumsky_input::extra::ParserExtra;
 use chumsky_input::input::Input;
 use chumsky_input::input_ref::InputRef;
@@ -77,3 +80,19 @@ where
         next_check_under::<I, U, E, X, B>(&self.then, &state.0, &mut state.1, debug, inp)
     }
 }
+
+/// Items under the output of another parser are steady where both parts are, and outputs of the first that are the same are
+/// equal. Items that are the same are so to the second part.
+pub fn items_with_ctx_are_steady<'src, I, O, U, E, X, A, B>(items: &ThenWithCtx<A, B, O, I, X>)
+where
+    I: Input<'src>,
+    I::Token: 'src,
+    O: Drop,
+    E: ParserExtra<I>,
+    A: Parser<'src, I, O, E>,
+    X: ParserExtra<I, Error = E::Error, State = E::State, Context = O>,
+    B: IterParser<'src, I, U, X>,
+    ensures ready { A.ready items.now.parser → B.ready items.now.then → ⟦<ThenWithCtx<A, B, O, I, X> as IterParser<'src, I, U, E>>⟧.ready items.now }
+    ensures steady { A.steady items.now.parser → B.steady items.now.then → SameAreEqual (A.same items.now.parser) → ⟦<ThenWithCtx<A, B, O, I, X> as IterParser<'src, I, U, E>>⟧.steady items.now }
+    ensures same { (x y : U) → ⟦<ThenWithCtx<A, B, O, I, X> as IterParser<'src, I, U, E>>⟧.same items.now x y → B.same items.now.then x y }
+{}

@@ -1,8 +1,12 @@
 //! `ToSlice`: the part of the input that a parser took.
+ghost use Rattle.std.specs.Prelude.{[], ◌∷◌, ◌≡◌};
+ghost use Rattle.chumsky_parser.specs.ByParts.{part, OutOnlyBy};
+
 use chumsky_input::extra::ParserExtra;
 use chumsky_input::input::SliceInput;
 use chumsky_input::input_ref::InputRef;
 use chumsky_input::stop::PResult;
+use chumsky_parser::moving::Moving;
 use chumsky_parser::parser::{IsParser, Parser};
 use std::marker::PhantomData;
 
@@ -56,3 +60,42 @@ impl<'src, I: SliceInput<'src>, O, E: ParserExtra<I>, A: Parser<'src, I, O, E>> 
         self.parser.go_check(inp)
     }
 }
+
+impl<'src, I, O, E, A> Moving<'src, I, I::Slice, E> for ToSlice<A, O>
+where
+    I: SliceInput<'src>,
+    E: ParserExtra<I>,
+    A: Moving<'src, I, O, E>,
+{
+    ghost use Rattle.chumsky_context.specs.CoveredLanguage.{covers-move};
+
+    ghost moves = { λ p. A.moves p.parser };
+
+    ghost moved = { λ p e. covers-move _ _ (A.moved p.parser e) };
+
+    fn always_moves(&self) -> bool {
+        self.parser.always_moves()
+    }
+}
+
+/// `a.to_slice()`.
+pub fn to_slice_is_never_out_of_memory<'src, I, O, E, A>(to_slice: &ToSlice<A, O>)
+where
+    I: SliceInput<'src>,
+    E: ParserExtra<I>,
+    A: Parser<'src, I, O, E>,
+    ensures { let t = to_slice.now in OutOnlyBy E.Error.Error E.State.Inspector
+        (part (A.meaning t.parser) ∷ [])
+        (⟦<ToSlice<A, O> as Parser<'src, I, I::Slice, E>>⟧.meaning t) }
+{}
+
+/// `to_slice` is steady where its part is. Its outputs that are the same are seen alike.
+pub fn to_slice_is_steady<'src, I, O, E, A>(parser: &ToSlice<A, O>)
+where
+    I: SliceInput<'src>,
+    E: ParserExtra<I>,
+    A: Parser<'src, I, O, E>,
+    ensures ready { A.ready parser.now.parser → ⟦<ToSlice<A, O> as Parser<'src, I, I::Slice, E>>⟧.ready parser.now }
+    ensures steady { A.steady parser.now.parser → ⟦<ToSlice<A, O> as Parser<'src, I, I::Slice, E>>⟧.steady parser.now }
+    ensures same { (x y : I.Slice) → ⟦<ToSlice<A, O> as Parser<'src, I, I::Slice, E>>⟧.same parser.now x y → I.slice_seen x ≡ I.slice_seen y }
+{}

@@ -1,8 +1,12 @@
 //! `ToSpan`: the span of what a parser took.
+ghost use Rattle.std.specs.Prelude.{[], ◌∷◌, ◌≡◌};
+ghost use Rattle.chumsky_parser.specs.ByParts.{part, OutOnlyBy};
+
 use chumsky_input::extra::ParserExtra;
 use chumsky_input::input::{Input, Tokens};
 use chumsky_input::input_ref::InputRef;
 use chumsky_input::stop::PResult;
+use chumsky_parser::moving::Moving;
 use chumsky_parser::parser::{IsParser, Parser};
 use std::marker::PhantomData;
 
@@ -55,3 +59,42 @@ impl<'src, I: Input<'src>, O, E: ParserExtra<I>, A: Parser<'src, I, O, E>> Parse
         self.parser.go_check(inp)
     }
 }
+
+impl<'src, I, O, E, A> Moving<'src, I, I::Span, E> for ToSpan<A, O>
+where
+    I: Input<'src>,
+    E: ParserExtra<I>,
+    A: Moving<'src, I, O, E>,
+{
+    ghost use Rattle.chumsky_context.specs.CoveredLanguage.{covers-move};
+
+    ghost moves = { λ p. A.moves p.parser };
+
+    ghost moved = { λ p e. covers-move _ _ (A.moved p.parser e) };
+
+    fn always_moves(&self) -> bool {
+        self.parser.always_moves()
+    }
+}
+
+/// `a.to_span()`.
+pub fn to_span_is_never_out_of_memory<'src, I, O, E, A>(to_span: &ToSpan<A, O>)
+where
+    I: Input<'src>,
+    E: ParserExtra<I>,
+    A: Parser<'src, I, O, E>,
+    ensures { let t = to_span.now in OutOnlyBy E.Error.Error E.State.Inspector
+        (part (A.meaning t.parser) ∷ [])
+        (⟦<ToSpan<A, O> as Parser<'src, I, I::Span, E>>⟧.meaning t) }
+{}
+
+/// `to_span` is steady where its part is. Its outputs that are the same are equal.
+pub fn to_span_is_steady<'src, I, O, E, A>(parser: &ToSpan<A, O>)
+where
+    I: Input<'src>,
+    E: ParserExtra<I>,
+    A: Parser<'src, I, O, E>,
+    ensures ready { A.ready parser.now.parser → ⟦<ToSpan<A, O> as Parser<'src, I, I::Span, E>>⟧.ready parser.now }
+    ensures steady { A.steady parser.now.parser → ⟦<ToSpan<A, O> as Parser<'src, I, I::Span, E>>⟧.steady parser.now }
+    ensures same { (x y : I.Span) → ⟦<ToSpan<A, O> as Parser<'src, I, I::Span, E>>⟧.same parser.now x y → x ≡ y }
+{}

@@ -1,4 +1,6 @@
 //! `TryIterConfigure`: items that are configured by the context, or refused.
+ghost use Rattle.chumsky_context.specs.TriedItems.{TrySets, OneRuling};
+
 use crate::config::Configurable;
 use crate::config_iter::{ConfigIterParser, IsConfigIterParser};
 use crate::configurer::TryConfigurer;
@@ -8,6 +10,7 @@ use chumsky_input::input_ref::InputRef;
 use chumsky_input::stop::PResult;
 use chumsky_items::pass::pass_all;
 use chumsky_parser::iter::{IsIterParser, IterParser, IterParserDebug, Iterates};
+use chumsky_parser::moving::MayStay;
 use chumsky_parser::parser::{IsParser, Parser};
 use std::marker::PhantomData;
 
@@ -144,3 +147,31 @@ where
         pass_all::<(), I, O, E, TryIterConfigure<A, F, O>>(self, inp)
     }
 }
+
+impl<A, F, O> MayStay for TryIterConfigure<A, F, O> {}
+
+/// `try_configure` is steady where its items are, and the configurer answers one context with one configuration, or with errors
+/// that count as one. Items that are the same are so to the part.
+pub fn try_configure_is_steady<'src, I, O, E, A, F>(items: &TryIterConfigure<A, F, O>)
+where
+    I: Input<'src>,
+    E: ParserExtra<I>,
+    A: ConfigIterParser<'src, I, O, E>,
+    F: TryConfigurer<A::Config, E::Context, I::Span, E::Error>,
+    ensures ready { A.ready items.now.parser → F.callable items.now.configurer → ⟦<TryIterConfigure<A, F, O> as IterParser<'src, I, O, E>>⟧.ready items.now }
+    ensures steady { A.steady items.now.parser → OneRuling E.Error.seen (TrySets A.Config.is_default (F.gives items.now.configurer)) → ⟦<TryIterConfigure<A, F, O> as IterParser<'src, I, O, E>>⟧.steady items.now }
+    ensures same { (x y : O) → ⟦<TryIterConfigure<A, F, O> as IterParser<'src, I, O, E>>⟧.same items.now x y → A.same items.now.parser x y }
+{}
+
+/// A list under `try_configure` that stands as a parser of `()` is steady where its items are, and the configurer answers one
+/// context with one configuration, or with errors that count as one.
+pub fn tried_list_is_steady<'src, I, O, E, A, F>(list: &TryIterConfigure<A, F, O>)
+where
+    I: Input<'src>,
+    O: Drop,
+    E: ParserExtra<I>,
+    A: ConfigIterParser<'src, I, O, E>,
+    F: TryConfigurer<A::Config, E::Context, I::Span, E::Error>,
+    ensures ready { A.ready list.now.parser → F.callable list.now.configurer → ⟦<TryIterConfigure<A, F, O> as Parser<'src, I, (), E>>⟧.ready list.now }
+    ensures steady { A.steady list.now.parser → OneRuling E.Error.seen (TrySets A.Config.is_default (F.gives list.now.configurer)) → ⟦<TryIterConfigure<A, F, O> as Parser<'src, I, (), E>>⟧.steady list.now }
+{}

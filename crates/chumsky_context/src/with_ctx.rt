@@ -4,6 +4,7 @@ use chumsky_input::extra::{Full, ParserExtra};
 use chumsky_input::input::{Input, Tokens};
 use chumsky_input::input_ref::InputRef;
 use chumsky_input::stop::PResult;
+use chumsky_parser::moving::MayStay;
 use chumsky_parser::parser::{IsParser, Parser};
 
 /// A parser that runs under a context of its own, whatever that of the run is. See `with_ctx`.
@@ -57,3 +58,17 @@ where
         check_under::<I, O, E, Full<E::Error, E::State, X>, A>(&self.parser, &self.ctx, inp)
     }
 }
+
+impl<A, X> MayStay for WithCtx<A, X> {}
+
+/// `with_ctx` is steady where its part is. Its outputs that are the same are so to the part.
+pub fn with_ctx_is_steady<'src, I, O, E, A, X>(parser: &WithCtx<A, X>)
+where
+    I: Input<'src>,
+    I::Token: 'src,
+    E: ParserExtra<I>,
+    A: Parser<'src, I, O, Full<E::Error, E::State, X>>,
+    ensures ready { A.ready parser.now.parser → ⟦<WithCtx<A, X> as Parser<'src, I, O, E>>⟧.ready parser.now }
+    ensures steady { A.steady parser.now.parser → ⟦<WithCtx<A, X> as Parser<'src, I, O, E>>⟧.steady parser.now }
+    ensures same { (x y : O) → ⟦<WithCtx<A, X> as Parser<'src, I, O, E>>⟧.same parser.now x y → A.same parser.now.parser x y }
+{}

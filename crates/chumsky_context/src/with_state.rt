@@ -1,7 +1,7 @@
 //! `WithState`: a parser on a state of its own.
 ghost use Rattle.std.specs.Prelude.{◌≡◌, true, false};
 ghost use Rattle.chumsky_input.specs.Run.{Runs, with_value, without_value};
-ghost use Rattle.chumsky_context.specs.OnState.{OnState};
+ghost use Rattle.chumsky_context.specs.OnState.{OnState, CopiesCount};
 
 use crate::under::{Returned, check_parts, emit_parts};
 use chumsky_input::extra::{Full, ParserExtra};
@@ -9,6 +9,7 @@ use chumsky_input::input::{Input, Tokens};
 use chumsky_input::input_ref::InputRef;
 use chumsky_input::inspector::Inspector;
 use chumsky_input::stop::PResult;
+use chumsky_parser::moving::MayStay;
 use chumsky_parser::parser::{IsParser, Parser};
 use std::marker::PhantomData;
 
@@ -139,3 +140,18 @@ where
     inp.emitted = errors.emitted;
     answer
 }
+
+impl<A, S, I> MayStay for WithState<A, S, I> {}
+
+/// `with_state` is steady where its part is, and any two copies of the state count as the same.
+pub fn with_state_is_steady<'src, I, O, E, A, S>(parser: &WithState<A, S, I>)
+where
+    I: Input<'src>,
+    I::Token: 'src,
+    E: ParserExtra<I>,
+    S: Inspector<I> + Clone + Drop,
+    A: Parser<'src, I, O, Full<E::Error, S, E::Context>>,
+    ensures ready { A.ready parser.now.parser → ⟦<WithState<A, S, I> as Parser<'src, I, O, E>>⟧.ready parser.now }
+    ensures steady { A.steady parser.now.parser → CopiesCount (S.is_clone parser.now.state) S.seen → ⟦<WithState<A, S, I> as Parser<'src, I, O, E>>⟧.steady parser.now }
+    ensures same { (x y : O) → ⟦<WithState<A, S, I> as Parser<'src, I, O, E>>⟧.same parser.now x y → A.same parser.now.parser x y }
+{}

@@ -6,7 +6,7 @@ use Rattle.chumsky_combinator.specs.Part.{Onward}
 use Rattle.chumsky_parser.specs.Progress.{IsYes}
 use Rattle.chumsky_parser.specs.Memory.{NeverOutOfMemory}
 use Rattle.chumsky_parser.specs.Progress.{Moves}
-use Rattle.chumsky_moves.specs.PartsMove.{onward-moves}
+use Rattle.chumsky_combinator.specs.PartLaws.{onward-moves}
 use Rattle.chumsky_descent.specs.CallLaws.{does_call-ends}
 use Rattle.chumsky_descent.specs.Calls.{IsTooDeep, Said, Nothing, Means, Steady, Exact, Together, DoesCall, DoesUnder}
 

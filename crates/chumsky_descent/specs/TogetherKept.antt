@@ -4,7 +4,7 @@ use Rattle.std.proofs.Common.{ℕ, zero, suc}
 use Rattle.chumsky_input.specs.Outcome.{EndsAfterStart}
 use Rattle.chumsky_parser.specs.Memory.{NeverOutOfMemory}
 use Rattle.chumsky_parser.specs.Progress.{Moves}
-use Rattle.chumsky_moves.specs.PartsMove.{onward-moves}
+use Rattle.chumsky_combinator.specs.PartLaws.{onward-moves}
 use Rattle.chumsky_descent.specs.CallLaws.{calls-end}
 use Rattle.chumsky_descent.specs.Calls.{Bodies, CallsOf}
 use Rattle.chumsky_descent.specs.Kept.{onward-spares, too_deep-moves, too_deep-spares}

@@ -1,5 +1,5 @@
 //! What holds of calls of functions, each the contract of a function that does nothing.
-ghost use Rattle.chumsky_memory.specs.ByParts.{NeverOut};
+ghost use Rattle.chumsky_parser.specs.ByParts.{NeverOut};
 ghost use Rattle.chumsky_descent.specs.Calls.{MayCall, same_of, IsSteady};
 ghost use Rattle.chumsky_descent.specs.Kept.{KeepsSparing};
 

@@ -6,7 +6,7 @@ use chumsky_input::extra::ParserExtra;
 use chumsky_input::input::Input;
 use chumsky_input::input_ref::InputRef;
 use chumsky_input::stop::PResult;
-use chumsky_moves::moving::{MayStay, Moving};
+use chumsky_parser::moving::{MayStay, Moving};
 
 /// Whether a function that calls itself moves wherever it succeeds; see `Moving`. A marker that doesn't say so is `MayStay`, as
 /// `Unsaid` is.

@@ -10,6 +10,8 @@ use Rattle.chumsky_parser.specs.Items.{Next, More, End, SameNext, ItemsEnd, Item
 use Rattle.chumsky_parser.specs.ItemsLaws.{after_step-ends, after_step-agrees}
 use Rattle.chumsky_flatten.specs.Collections.{SameRest, SameItem, AsMany}
 use Rattle.chumsky_flatten.specs.IntoItems.{Offers, MakesItem, IteratorOf, BeginsOver, NextOf, GivesNext}
+use Rattle.chumsky_parser.specs.Progress.{Moves, ItemsMove}
+use Rattle.chumsky_parser.specs.ProgressLaws.{chained-first}
 
 module _ {J A : Type 0} (nexts : J → Option A → J → Type 0) where
   -- one more item of a run of calls
@@ -107,3 +109,12 @@ module _ {Tok Cx St Er O J A : Type 0} (makes : O → J → Type 0) (nexts : J �
           begin = chained-agrees part part _ _ same (SameRest makes nexts same) h iterator-agrees;
           step = λ i j r b c o q z m n. makes_item-agrees (SameItem makes nexts same) (SameRest makes nexts same) (NextOf nexts i) (NextOf nexts j) (next-agrees i j r) b c o q z m.step n.step;
         }
+
+module _ {Tok Cx St Er O J : Type 0} (makes : O → J → Type 0) (part : Meaning Tok Cx St Er O) where
+  iterator-ends : (o : Option O) → EndsAfterStart (IteratorOf {Tok = Tok} {Cx = Cx} {St = St} {Er = Er} makes o)
+  iterator-ends (Some o) b q m a = given-ends (Some m.0) b q m.2 a
+  iterator-ends None b q m a = absurd m
+
+  -- the items of an output, whose parser moves
+  pub into_items-move : {V : Type 0} (gives : J → Meaning Tok Cx St Er (Next J V)) → Moves part → ItemsMove (BeginsOver makes part) gives
+  into_items-move gives h = record { by = inl (chained-first part _ h iterator-ends) }

@@ -3,7 +3,7 @@ ghost use Rattle.std.specs.Prelude.{◌≡◌, true, false, None, Some, IfOk, If
 ghost use Rattle.std.specs.Option.{ForSome};
 ghost use Rattle.chumsky_input.specs.Run.{Runs};
 ghost use Rattle.chumsky_parser.specs.Items.{with_item};
-ghost use Rattle.chumsky_flatten.specs.Collections.{MayIterate};
+ghost use Rattle.chumsky_flatten.specs.Collections.{MayIterate, SameItem, AsMany};
 ghost use Rattle.chumsky_flatten.specs.Flattening.{with_rest};
 ghost use Rattle.chumsky_flatten.specs.Running.{DoesInside, DoesFirstOfNext, DoesInHandOrNext};
 
@@ -12,6 +12,7 @@ use chumsky_input::input::Input;
 use chumsky_input::input_ref::InputRef;
 use chumsky_input::stop::{Fault, PResult, Stop};
 use chumsky_parser::iter::{IsIterParser, IterParser, IterParserDebug, Iterates};
+use chumsky_parser::moving::MayStay;
 use std::marker::PhantomData;
 
 /// The items of each item of a parser. See `flatten`.
@@ -212,3 +213,19 @@ where
         }
     }
 }
+
+impl<A, O> MayStay for Flatten<A, O> {}
+
+/// `a.flatten()`. Two of its items are the same where iterators give them that have given as many items of items of `a` that
+/// are the same.
+pub fn flatten_is_steady<'src, I, O, E, A>(flatten: &Flatten<A, O>)
+where
+    I: Input<'src>,
+    O: IntoIterator,
+    O::Item: Drop,
+    E: ParserExtra<I>,
+    A: IterParser<'src, I, O, E>,
+    ensures ready { A.ready flatten.now.parser → MayIterate O.into_iter_gives O.IntoIter.can_next → ⟦<Flatten<A, O> as IterParser<'src, I, O::Item, E>>⟧.ready flatten.now }
+    ensures steady { A.steady flatten.now.parser → AsMany O.into_iter_gives O.IntoIter.next_gives (A.same flatten.now.parser) → ⟦<Flatten<A, O> as IterParser<'src, I, O::Item, E>>⟧.steady flatten.now }
+    ensures same { (x : O.Item) (y : O.Item) → ⟦<Flatten<A, O> as IterParser<'src, I, O::Item, E>>⟧.same flatten.now x y → SameItem O.into_iter_gives O.IntoIter.next_gives (A.same flatten.now.parser) x y }
+{}

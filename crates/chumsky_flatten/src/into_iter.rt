@@ -1,11 +1,13 @@
 //! The items of an output.
-ghost use Rattle.std.specs.Prelude.{◌≡◌, ◌⊎◌};
+ghost use Rattle.std.specs.Prelude.{◌≡◌, ◌⊎◌, false};
+ghost use Rattle.chumsky_flatten.specs.Collections.{MayIterate, SameItem, AsMany};
 
 use chumsky_input::extra::ParserExtra;
 use chumsky_input::input::Input;
 use chumsky_input::input_ref::InputRef;
 use chumsky_input::stop::PResult;
 use chumsky_parser::iter::{IsIterParser, IterParser, IterParserDebug, Iterates};
+use chumsky_parser::moving::{Moving, MovingItems};
 use chumsky_parser::parser::{IsParser, Parser};
 use std::marker::PhantomData;
 
@@ -129,3 +131,57 @@ impl<'src, I: Input<'src>, O: IntoIterator, E: ParserExtra<I>, A: Parser<'src, I
         self.parser.go_check(inp)
     }
 }
+
+/// The parser runs where the iteration is made.
+impl<'src, I, O, E, A> MovingItems<'src, I, O::Item, E> for IntoIter<A, O>
+where
+    I: Input<'src>,
+    O: IntoIterator,
+    O::Item: Drop,
+    E: ParserExtra<I>,
+    A: Moving<'src, I, O, E>,
+{
+    ghost use Rattle.chumsky_flatten.specs.IntoItemsLaws.{into_items-move};
+
+    ghost first_moves = { λ p. A.moves p.parser };
+
+    ghost first_moved = { λ p e d. into_items-move O.into_iter_gives _ _ (A.moved p.parser e) };
+
+    fn first_always_moves(&self) -> bool {
+        self.parser.always_moves()
+    }
+}
+
+impl<'src, I: Input<'src>, O: IntoIterator, E: ParserExtra<I>, A: Moving<'src, I, O, E>> Moving<
+    'src,
+    I,
+    (),
+    E,
+> for IntoIter<A, O> {
+    ghost use Rattle.chumsky_parser.specs.IgnoringLaws.{gives-ends};
+    ghost use Rattle.chumsky_parser.specs.ProgressLaws.{chained-first, asked-moves};
+
+    ghost moves = { λ p. A.moves p.parser };
+
+    ghost moved = { λ p e. chained-first _ _ (asked-moves false _ (A.moved p.parser e)) (λ _. gives-ends tt) };
+
+    fn always_moves(&self) -> bool {
+        self.parser.always_moves()
+    }
+}
+
+/// `a.into_iter()`, as a parser of items and as a plain parser. Two of its items are the same where iterators give them that have given as many items of outputs of `a`
+/// that are the same.
+pub fn into_iter_is_steady<'src, I, O, E, A>(into_iter: &IntoIter<A, O>)
+where
+    I: Input<'src>,
+    O: IntoIterator,
+    O::Item: Drop,
+    E: ParserExtra<I>,
+    A: Parser<'src, I, O, E>,
+    ensures ready { A.ready into_iter.now.parser → MayIterate O.into_iter_gives O.IntoIter.can_next → ⟦<IntoIter<A, O> as IterParser<'src, I, O::Item, E>>⟧.ready into_iter.now }
+    ensures ready_plain { A.ready into_iter.now.parser → ⟦<IntoIter<A, O> as Parser<'src, I, (), E>>⟧.ready into_iter.now }
+    ensures plain { A.steady into_iter.now.parser → ⟦<IntoIter<A, O> as Parser<'src, I, (), E>>⟧.steady into_iter.now }
+    ensures steady { A.steady into_iter.now.parser → AsMany O.into_iter_gives O.IntoIter.next_gives (A.same into_iter.now.parser) → ⟦<IntoIter<A, O> as IterParser<'src, I, O::Item, E>>⟧.steady into_iter.now }
+    ensures same { (x : O.Item) (y : O.Item) → ⟦<IntoIter<A, O> as IterParser<'src, I, O::Item, E>>⟧.same into_iter.now x y → SameItem O.into_iter_gives O.IntoIter.next_gives (A.same into_iter.now.parser) x y }
+{}

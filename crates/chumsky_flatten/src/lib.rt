@@ -4,4 +4,3 @@
 pub mod flatten;
 pub mod into_iter;
 pub mod laws;
-pub mod steady;

@@ -19,3 +19,4 @@ pub mod AsParsers
 pub mod Standing
 pub mod FoldsLanguage
 pub mod EnumeratedLanguage
+pub mod FoldsMove

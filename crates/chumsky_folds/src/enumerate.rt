@@ -1,9 +1,13 @@
 //! Items with their numbers.
+ghost use Rattle.std.specs.Prelude.{ℕ};
+ghost use Rattle.chumsky_folds.specs.Enumerating.{SameNumbered};
+
 use chumsky_input::extra::ParserExtra;
 use chumsky_input::input::Input;
 use chumsky_input::input_ref::InputRef;
 use chumsky_input::stop::{Fault, PResult, Stop};
 use chumsky_parser::iter::{IsIterParser, IterParser, IterParserDebug, Iterates};
+use chumsky_parser::moving::MovingItems;
 use std::marker::PhantomData;
 
 /// The items of a parser, each with the number of items before it. See `enumerate`.
@@ -99,3 +103,33 @@ impl<'src, I: Input<'src>, O: Drop, E: ParserExtra<I>, A: IterParser<'src, I, O,
         }
     }
 }
+
+impl<'src, I: Input<'src>, O: Drop, E: ParserExtra<I>, A: MovingItems<'src, I, O, E>> MovingItems<
+    'src,
+    I,
+    (usize, O),
+    E,
+> for Enumerate<A, O> {
+    ghost use Rattle.chumsky_folds.specs.EnumeratingLaws.{enumerates-move};
+
+    ghost first_moves = { λ p. A.first_moves p.parser };
+
+    ghost first_moved = { λ p e d. enumerates-move _ _ (A.first_moved p.parser e d) };
+
+    fn first_always_moves(&self) -> bool {
+        self.parser.first_always_moves()
+    }
+}
+
+/// `a.enumerate()`. Two of its items are the same where their numbers are equal, and the items of `a` in them are the same.
+pub fn enumerate_is_steady<
+    'src,
+    I: Input<'src>,
+    O: Drop,
+    E: ParserExtra<I>,
+    A: IterParser<'src, I, O, E>,
+>(enumerate: &Enumerate<A, O>)
+    ensures ready { A.ready enumerate.now.parser → ⟦<Enumerate<A, O> as IterParser<'src, I, (usize, O), E>>⟧.ready enumerate.now }
+    ensures steady { A.steady enumerate.now.parser → ⟦<Enumerate<A, O> as IterParser<'src, I, (usize, O), E>>⟧.steady enumerate.now }
+    ensures same { (x y : ℕ × O) → ⟦<Enumerate<A, O> as IterParser<'src, I, (usize, O), E>>⟧.same enumerate.now x y → SameNumbered (A.same enumerate.now.parser) x y }
+{}

@@ -1,5 +1,7 @@
 //! All items, folded from a value.
 ghost use Rattle.std.specs.Prelude.{false};
+ghost use Rattle.chumsky_parser.specs.Copied.{BothCopies};
+ghost use Rattle.chumsky_folds.specs.Folding.{IsFunctionOfTwo, SameFolded};
 
 use crate::folder::Folder;
 use crate::from_left::fold_from_left;
@@ -9,6 +11,7 @@ use chumsky_input::input_ref::InputRef;
 use chumsky_input::stop::PResult;
 use chumsky_items::pass::pass_all;
 use chumsky_parser::iter::{IsIterParser, IterParser};
+use chumsky_parser::moving::{Moving, MovingItems};
 use chumsky_parser::parser::{IsParser, Parser};
 use std::marker::PhantomData;
 
@@ -65,3 +68,39 @@ impl<
         pass_all::<B, I, O, E, A>(&self.parser, inp)
     }
 }
+
+impl<
+    'src,
+    I: Input<'src>,
+    O: Drop,
+    E: ParserExtra<I>,
+    A: MovingItems<'src, I, O, E>,
+    B: Clone + Drop,
+    F: Folder<B, O>,
+> Moving<'src, I, B, E> for Fold<F, A, B, O> {
+    ghost use Rattle.chumsky_folds.specs.FoldsMove.{fold-moves};
+
+    ghost moves = { λ p. A.first_moves p.parser };
+
+    ghost moved = { λ p e. fold-moves _ _ (A.ends_after_start p.parser (record { nonconsumption_is_ok = false })) (F.gives p.folder) (B.is_clone p.init) (B.is_infallible p.init) (A.first_moved p.parser e (record { nonconsumption_is_ok = false })) };
+
+    fn always_moves(&self) -> bool {
+        self.parser.first_always_moves()
+    }
+}
+
+/// `a.fold(init, f)` and `a.fold_by(init, f)`. Two outputs are the same where they are left folds, from clones of `init`, of
+/// as many items that are the same.
+pub fn fold_is_steady<
+    'src,
+    I: Input<'src>,
+    O: Drop,
+    E: ParserExtra<I>,
+    A: IterParser<'src, I, O, E>,
+    B: Clone + Drop,
+    F: Folder<B, O>,
+>(fold: &Fold<F, A, B, O>)
+    ensures ready { A.ready fold.now.parser → F.callable fold.now.folder → ⟦<Fold<F, A, B, O> as Parser<'src, I, B, E>>⟧.ready fold.now }
+    ensures steady { A.steady fold.now.parser → IsFunctionOfTwo (F.gives fold.now.folder) → ⟦<Fold<F, A, B, O> as Parser<'src, I, B, E>>⟧.steady fold.now }
+    ensures same { (x y : B) → ⟦<Fold<F, A, B, O> as Parser<'src, I, B, E>>⟧.same fold.now x y → SameFolded (BothCopies (B.is_clone fold.now.init)) (A.same fold.now.parser) (F.gives fold.now.folder) x y }
+{}

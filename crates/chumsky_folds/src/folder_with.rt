@@ -3,6 +3,7 @@ ghost use Rattle.std.specs.Prelude.{◌≡◌};
 ghost use Rattle.chumsky_folds.specs.CalledWithTwo.{KeepsStateOfTwo, AnswersTwo};
 ghost use Rattle.chumsky_folds.specs.Running.{InTokens, NotPast, OnlyState, AnswersSince};
 
+use crate::folder::{Folder, RightFolder};
 use chumsky_input::extra::ParserExtra;
 use chumsky_input::input::Input;
 use chumsky_input::input_ref::InputRef;
@@ -198,3 +199,27 @@ where
     let _last = &*lent;
     answer
 }
+
+/// A closure is a folder that may be called where it may be called at all, and one that is shown the run where it keeps the
+/// reference to the state too.
+pub fn closures_may_fold<'src, I, A, O, E, F, G, H, J, K>(
+    left: &F,
+    right: &G,
+    left_with: &H,
+    right_with: &J,
+    trying: &K,
+)
+where
+    I: Input<'src>,
+    E: ParserExtra<I>,
+    F: Fn(A, O) -> A,
+    G: Fn(O, A) -> A,
+    H: Fn(A, O, &mut MapExtra<'src, '_, I, E>) -> A,
+    J: Fn(O, A, &mut MapExtra<'src, '_, I, E>) -> A,
+    K: Fn(A, O, &mut MapExtra<'src, '_, I, E>) -> Result<A, E::Error>,
+    ensures left { F.IsAlwaysCallable left.now → ⟦<F as Folder<A, O>>⟧.callable left.now }
+    ensures right { G.IsAlwaysCallable right.now → ⟦<G as RightFolder<O, A>>⟧.callable right.now }
+    ensures left_with { KeepsStateOfTwo I.Input E.State.Inspector H.Fn left_with.now → ⟦<H as FolderWith<'src, I, A, O, E>>⟧.callable left_with.now }
+    ensures right_with { KeepsStateOfTwo I.Input E.State.Inspector J.Fn right_with.now → ⟦<J as RightFolderWith<'src, I, O, A, E>>⟧.callable right_with.now }
+    ensures trying { KeepsStateOfTwo I.Input E.State.Inspector K.Fn trying.now → ⟦<K as TryFolder<'src, I, A, O, E>>⟧.callable trying.now }
+{}

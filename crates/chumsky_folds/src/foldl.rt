@@ -1,5 +1,6 @@
 //! A parser and then items, folded from its output.
-ghost use Rattle.std.specs.Prelude.{false};
+ghost use Rattle.std.specs.Prelude.{false, ◌||◌};
+ghost use Rattle.chumsky_folds.specs.Folding.{IsFunctionOfTwo, SameFolded};
 
 use crate::folder::Folder;
 use crate::from_left::fold_from_left;
@@ -9,6 +10,7 @@ use chumsky_input::input_ref::InputRef;
 use chumsky_input::stop::PResult;
 use chumsky_items::pass::pass_all;
 use chumsky_parser::iter::{IsIterParser, IterParser};
+use chumsky_parser::moving::{Moving, MovingItems};
 use chumsky_parser::parser::{IsParser, Parser};
 use std::marker::PhantomData;
 
@@ -67,3 +69,41 @@ impl<
         pass_all::<O, I, U, E, B>(&self.items, inp)
     }
 }
+
+impl<
+    'src,
+    I: Input<'src>,
+    O: Drop,
+    U: Drop,
+    E: ParserExtra<I>,
+    A: Moving<'src, I, O, E>,
+    B: MovingItems<'src, I, U, E>,
+    F: Folder<O, U>,
+> Moving<'src, I, O, E> for Foldl<F, A, B, U> {
+    ghost use Rattle.chumsky_folds.specs.FoldsMove.{foldl-moves};
+
+    ghost moves = { λ p. A.moves p.parser || B.first_moves p.items };
+
+    ghost moved = { λ p. foldl-moves _ _ (B.ends_after_start p.items (record { nonconsumption_is_ok = false })) (F.gives p.folder) _ (A.moves p.parser) (B.first_moves p.items) (A.ends_after_start p.parser) (A.moved p.parser) (λ e. B.first_moved p.items e (record { nonconsumption_is_ok = false })) };
+
+    fn always_moves(&self) -> bool {
+        self.parser.always_moves() || self.items.first_always_moves()
+    }
+}
+
+/// `a.foldl(b, f)` and `a.foldl_by(b, f)`. Two outputs are the same where they are left folds, from outputs of `a` that are
+/// the same, of as many items that are.
+pub fn foldl_is_steady<
+    'src,
+    I: Input<'src>,
+    O: Drop,
+    U: Drop,
+    E: ParserExtra<I>,
+    A: Parser<'src, I, O, E>,
+    B: IterParser<'src, I, U, E>,
+    F: Folder<O, U>,
+>(foldl: &Foldl<F, A, B, U>)
+    ensures ready { A.ready foldl.now.parser → B.ready foldl.now.items → F.callable foldl.now.folder → ⟦<Foldl<F, A, B, U> as Parser<'src, I, O, E>>⟧.ready foldl.now }
+    ensures steady { A.steady foldl.now.parser → B.steady foldl.now.items → IsFunctionOfTwo (F.gives foldl.now.folder) → ⟦<Foldl<F, A, B, U> as Parser<'src, I, O, E>>⟧.steady foldl.now }
+    ensures same { (x y : O) → ⟦<Foldl<F, A, B, U> as Parser<'src, I, O, E>>⟧.same foldl.now x y → SameFolded (A.same foldl.now.parser) (B.same foldl.now.items) (F.gives foldl.now.folder) x y }
+{}

@@ -1,7 +1,10 @@
 //! A parser and then items, folded from its output by what is shown the run.
-ghost use Rattle.std.specs.Prelude.{◌≡◌, true, false};
+ghost use Rattle.std.specs.Prelude.{◌≡◌, true, false, ◌||◌};
 ghost use Rattle.chumsky_input.specs.Run.{Runs, with_value};
 ghost use Rattle.chumsky_folds.specs.Running.{DoesFoldShown, InTokens, NotPast};
+ghost use Rattle.chumsky_parser.specs.Showing.{OnlyAnswers};
+ghost use Rattle.chumsky_folds.specs.Folding.{SameFolded};
+ghost use Rattle.chumsky_folds.specs.FoldingShown.{StepsShown, SameTaken};
 
 use crate::folder_with::FolderWith;
 use chumsky_input::extra::ParserExtra;
@@ -10,6 +13,7 @@ use chumsky_input::input_ref::InputRef;
 use chumsky_input::stop::{Fault, PResult, Stop};
 use chumsky_items::pass::pass_all;
 use chumsky_parser::iter::{IsIterParser, IterParser, IterParserDebug};
+use chumsky_parser::moving::{Moving, MovingItems};
 use chumsky_parser::onward::next_item;
 use chumsky_parser::parser::{IsParser, Parser};
 use std::marker::PhantomData;
@@ -116,3 +120,42 @@ fn fold_with<
         }
     }
 }
+
+impl<
+    'src,
+    I: Input<'src>,
+    O: Drop,
+    U: Drop,
+    E: ParserExtra<I>,
+    A: Moving<'src, I, O, E>,
+    B: MovingItems<'src, I, U, E>,
+    F: FolderWith<'src, I, O, U, E>,
+> Moving<'src, I, O, E> for FoldlWith<F, A, B, U> {
+    ghost use Rattle.chumsky_folds.specs.FoldsMove.{foldl_with-moves};
+
+    ghost moves = { λ p. A.moves p.parser || B.first_moves p.items };
+
+    ghost moved = { λ p. foldl_with-moves _ _ (B.ends_after_start p.items (record { nonconsumption_is_ok = false })) _ _ (A.moves p.parser) (B.first_moves p.items) (A.ends_after_start p.parser) (A.moved p.parser) (λ e. B.first_moved p.items e (record { nonconsumption_is_ok = false })) };
+
+    fn always_moves(&self) -> bool {
+        self.parser.always_moves() || self.items.first_always_moves()
+    }
+}
+
+/// `a.foldl_with(b, f)`, where `f` gives one answer to each accumulator, item and what it is shown, and leaves the state as it
+/// is. Two outputs are the same where they are left folds, from outputs of `a` that are the same, of as many items that are,
+/// each shown one run.
+pub fn foldl_with_is_steady<
+    'src,
+    I: Input<'src>,
+    O: Drop,
+    U: Drop,
+    E: ParserExtra<I>,
+    A: Parser<'src, I, O, E>,
+    B: IterParser<'src, I, U, E>,
+    F: FolderWith<'src, I, O, U, E>,
+>(foldl: &FoldlWith<F, A, B, U>)
+    ensures ready { A.ready foldl.now.parser → B.ready foldl.now.items → F.callable foldl.now.folder → ⟦<FoldlWith<F, A, B, U> as Parser<'src, I, O, E>>⟧.ready foldl.now }
+    ensures steady { A.steady foldl.now.parser → B.steady foldl.now.items → OnlyAnswers (F.gives foldl.now.folder E.State.Inspector) → ⟦<FoldlWith<F, A, B, U> as Parser<'src, I, O, E>>⟧.steady foldl.now }
+    ensures same { (x y : O) → ⟦<FoldlWith<F, A, B, U> as Parser<'src, I, O, E>>⟧.same foldl.now x y → SameFolded (A.same foldl.now.parser) (SameTaken (B.same foldl.now.items)) (StepsShown (F.gives foldl.now.folder E.State.Inspector)) x y }
+{}

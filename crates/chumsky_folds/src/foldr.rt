@@ -1,7 +1,8 @@
 //! Items and then a parser, folded from its output back.
-ghost use Rattle.std.specs.Prelude.{false};
+ghost use Rattle.std.specs.Prelude.{false, ◌||◌};
 ghost use Rattle.std.proofs.Common.{sym, ◌∙◌};
-ghost use Rattle.chumsky_folds.specs.FoldingBack.{FoldsRight};
+ghost use Rattle.chumsky_folds.specs.FoldingBack.{FoldsRight, SameFoldedBack};
+ghost use Rattle.chumsky_folds.specs.Folding.{IsFunctionOfTwo};
 
 use crate::folder::RightFolder;
 use chumsky_input::extra::ParserExtra;
@@ -11,6 +12,7 @@ use chumsky_input::stop::PResult;
 use chumsky_items::collect::Collect;
 use chumsky_items::container::Container;
 use chumsky_parser::iter::{IsIterParser, IterParser};
+use chumsky_parser::moving::{Moving, MovingItems};
 use chumsky_parser::parser::{IsParser, Parser};
 
 /// The items of a parser, and then another parser, folded from the right, from the other one's output. See `foldr` and
@@ -84,3 +86,41 @@ fn fold_from_right<O: Drop, U, F: RightFolder<O, U>>(items: Vec<O>, last: U, fol
     }
     accumulator
 }
+
+impl<
+    'src,
+    I: Input<'src>,
+    O: Drop,
+    U: Drop,
+    E: ParserExtra<I>,
+    A: MovingItems<'src, I, O, E>,
+    B: Moving<'src, I, U, E>,
+    F: RightFolder<O, U>,
+> Moving<'src, I, U, E> for Foldr<F, A, B, O> {
+    ghost use Rattle.chumsky_folds.specs.FoldsMove.{foldr-moves};
+
+    ghost moves = { λ p. A.first_moves p.items.parser || B.moves p.parser };
+
+    ghost moved = { λ p. foldr-moves _ _ (A.ends_after_start p.items.parser (record { nonconsumption_is_ok = false })) ⟦<Vec<O> as Container<O>>⟧.holds ⟦<Vec<O> as Container<O>>⟧.takes_no_memory _ (F.gives p.folder) (A.first_moves p.items.parser) (B.moves p.parser) (B.ends_after_start p.parser) (λ e. A.first_moved p.items.parser e (record { nonconsumption_is_ok = false })) (B.moved p.parser) };
+
+    fn always_moves(&self) -> bool {
+        self.items.parser.first_always_moves() || self.parser.always_moves()
+    }
+}
+
+/// `a.foldr(b, f)` and `a.foldr_by(b, f)`. Two outputs are the same where they are right folds, from outputs of `b` that are
+/// the same, of as many items that are.
+pub fn foldr_is_steady<
+    'src,
+    I: Input<'src>,
+    O: Drop,
+    U: Drop,
+    E: ParserExtra<I>,
+    A: IterParser<'src, I, O, E>,
+    B: Parser<'src, I, U, E>,
+    F: RightFolder<O, U>,
+>(foldr: &Foldr<F, A, B, O>)
+    ensures ready { A.ready foldr.now.items.parser → B.ready foldr.now.parser → F.callable foldr.now.folder → ⟦<Foldr<F, A, B, O> as Parser<'src, I, U, E>>⟧.ready foldr.now }
+    ensures steady { A.steady foldr.now.items.parser → B.steady foldr.now.parser → IsFunctionOfTwo (F.gives foldr.now.folder) → ⟦<Foldr<F, A, B, O> as Parser<'src, I, U, E>>⟧.steady foldr.now }
+    ensures same { (x y : U) → ⟦<Foldr<F, A, B, O> as Parser<'src, I, U, E>>⟧.same foldr.now x y → SameFoldedBack (B.same foldr.now.parser) (A.same foldr.now.items.parser) (F.gives foldr.now.folder) x y }
+{}

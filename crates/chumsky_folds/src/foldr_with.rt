@@ -1,8 +1,12 @@
 //! Items and then a parser, folded from its output back by what is shown the run.
-ghost use Rattle.std.specs.Prelude.{◌≡◌, true, false, IfOk};
+ghost use Rattle.std.specs.Prelude.{◌≡◌, true, false, IfOk, ◌||◌};
 ghost use Rattle.chumsky_input.specs.Run.{Runs, with_value};
 ghost use Rattle.chumsky_folds.specs.Placed.{HoldsPlaced};
 ghost use Rattle.chumsky_folds.specs.Running.{DoesCollectPlaced, AllNotPast, OnlyState, FoldsItemsBack};
+ghost use Rattle.chumsky_parser.specs.Showing.{OnlyAnswers};
+ghost use Rattle.chumsky_folds.specs.FoldingBack.{SameFoldedBack};
+ghost use Rattle.chumsky_folds.specs.FoldingShown.{SameTaken};
+ghost use Rattle.chumsky_folds.specs.FoldingBackShown.{StepsBackShown};
 
 use crate::folder_with::RightFolderWith;
 use chumsky_input::extra::ParserExtra;
@@ -11,6 +15,7 @@ use chumsky_input::input_ref::InputRef;
 use chumsky_input::stop::{Fault, PResult, Stop};
 use chumsky_items::pass::pass_all;
 use chumsky_parser::iter::{IsIterParser, IterParser, IterParserDebug};
+use chumsky_parser::moving::{Moving, MovingItems};
 use chumsky_parser::onward::next_item;
 use chumsky_parser::parser::{IsParser, Parser};
 use std::marker::PhantomData;
@@ -134,3 +139,42 @@ fn fold_back_with<
     }
     accumulator
 }
+
+impl<
+    'src,
+    I: Input<'src>,
+    O: Drop,
+    U: Drop,
+    E: ParserExtra<I>,
+    A: MovingItems<'src, I, O, E>,
+    B: Moving<'src, I, U, E>,
+    F: RightFolderWith<'src, I, O, U, E>,
+> Moving<'src, I, U, E> for FoldrWith<F, A, B, O> {
+    ghost use Rattle.chumsky_folds.specs.FoldsMove.{foldr_with-moves};
+
+    ghost moves = { λ p. A.first_moves p.items || B.moves p.parser };
+
+    ghost moved = { λ p. foldr_with-moves _ _ (A.ends_after_start p.items (record { nonconsumption_is_ok = false })) _ _ _ (A.first_moves p.items) (B.moves p.parser) (B.ends_after_start p.parser) (λ e. A.first_moved p.items e (record { nonconsumption_is_ok = false })) (B.moved p.parser) };
+
+    fn always_moves(&self) -> bool {
+        self.items.first_always_moves() || self.parser.always_moves()
+    }
+}
+
+/// `a.foldr_with(b, f)`, where `f` gives one answer to each item, accumulator and what it is shown, and leaves the state as it
+/// is. Two outputs are the same where they are right folds, from outputs of `b` that are the same, of as many items that are,
+/// each shown one run.
+pub fn foldr_with_is_steady<
+    'src,
+    I: Input<'src>,
+    O: Drop,
+    U: Drop,
+    E: ParserExtra<I>,
+    A: IterParser<'src, I, O, E>,
+    B: Parser<'src, I, U, E>,
+    F: RightFolderWith<'src, I, O, U, E>,
+>(foldr: &FoldrWith<F, A, B, O>)
+    ensures ready { A.ready foldr.now.items → B.ready foldr.now.parser → F.callable foldr.now.folder → ⟦<FoldrWith<F, A, B, O> as Parser<'src, I, U, E>>⟧.ready foldr.now }
+    ensures steady { A.steady foldr.now.items → B.steady foldr.now.parser → OnlyAnswers (F.gives foldr.now.folder E.State.Inspector) → ⟦<FoldrWith<F, A, B, O> as Parser<'src, I, U, E>>⟧.steady foldr.now }
+    ensures same { (x y : U) → ⟦<FoldrWith<F, A, B, O> as Parser<'src, I, U, E>>⟧.same foldr.now x y → SameFoldedBack (B.same foldr.now.parser) (SameTaken (A.same foldr.now.items)) (StepsBackShown (F.gives foldr.now.folder E.State.Inspector)) x y }
+{}

@@ -11,5 +11,4 @@ pub mod foldr;
 pub mod foldr_with;
 mod from_left;
 pub mod laws;
-pub mod steady;
 pub mod try_foldl;

@@ -1,8 +1,11 @@
 //! A parser and then items, folded from its output by what may refuse.
-ghost use Rattle.std.specs.Prelude.{◌≡◌, true, false, Bool};
+ghost use Rattle.std.specs.Prelude.{◌≡◌, true, false, Bool, ◌||◌};
 ghost use Rattle.chumsky_input.specs.Run.{Runs, with_value};
 ghost use Rattle.chumsky_parser.specs.Failure.{asked};
 ghost use Rattle.chumsky_folds.specs.Running.{DoesFoldTrying, DoesFoldTried, InTokens, NotPast};
+ghost use Rattle.chumsky_folds.specs.Folding.{SameFolded};
+ghost use Rattle.chumsky_folds.specs.FoldingShown.{SameTaken};
+ghost use Rattle.chumsky_folds.specs.FoldingTried.{StepsTried, TakesAlike};
 
 use crate::folder_with::TryFolder;
 use chumsky_input::error::Error;
@@ -11,6 +14,7 @@ use chumsky_input::input::Input;
 use chumsky_input::input_ref::InputRef;
 use chumsky_input::stop::{Fault, PResult, Stop};
 use chumsky_parser::iter::{IsIterParser, IterParser, IterParserDebug};
+use chumsky_parser::moving::{Moving, MovingItems};
 use chumsky_parser::onward::next_item;
 use chumsky_parser::parser::{IsParser, Parser};
 use std::marker::PhantomData;
@@ -144,3 +148,41 @@ fn try_fold_with<
         }
     }
 }
+
+impl<
+    'src,
+    I: Input<'src>,
+    O: Drop,
+    U: Drop,
+    E: ParserExtra<I>,
+    A: Moving<'src, I, O, E>,
+    B: MovingItems<'src, I, U, E>,
+    F: TryFolder<'src, I, O, U, E>,
+> Moving<'src, I, O, E> for TryFoldl<F, A, B, U> {
+    ghost use Rattle.chumsky_folds.specs.FoldsMove.{try_foldl-moves};
+
+    ghost moves = { λ p. A.moves p.parser || B.first_moves p.items };
+
+    ghost moved = { λ p. try_foldl-moves _ _ (B.ends_after_start p.items (record { nonconsumption_is_ok = false })) _ _ _ (A.moves p.parser) (B.first_moves p.items) (A.ends_after_start p.parser) (A.moved p.parser) (λ e. B.first_moved p.items e (record { nonconsumption_is_ok = false })) };
+
+    fn always_moves(&self) -> bool {
+        self.parser.always_moves() || self.items.first_always_moves()
+    }
+}
+
+/// `a.try_foldl(b, f)`, where `f` takes both of two items that are the same, into accumulators that were folded alike, or
+/// refuses both with errors that count as one, and leaves one state; it may change the state, since both paths call it.
+pub fn try_foldl_is_steady<
+    'src,
+    I: Input<'src>,
+    O: Drop,
+    U: Drop,
+    E: ParserExtra<I>,
+    A: Parser<'src, I, O, E>,
+    B: IterParser<'src, I, U, E>,
+    F: TryFolder<'src, I, O, U, E>,
+>(foldl: &TryFoldl<F, A, B, U>)
+    ensures ready { A.ready foldl.now.parser → B.ready foldl.now.items → F.callable foldl.now.folder → ⟦<TryFoldl<F, A, B, U> as Parser<'src, I, O, E>>⟧.ready foldl.now }
+    ensures steady { let p = foldl.now in A.steady p.parser → B.steady p.items → TakesAlike E.Error.seen (F.gives p.folder E.State.Inspector) (A.same p.parser) (B.same p.items) → ⟦<TryFoldl<F, A, B, U> as Parser<'src, I, O, E>>⟧.steady p }
+    ensures same { (x y : O) → ⟦<TryFoldl<F, A, B, U> as Parser<'src, I, O, E>>⟧.same foldl.now x y → SameFolded (A.same foldl.now.parser) (SameTaken (B.same foldl.now.items)) (StepsTried (F.gives foldl.now.folder E.State.Inspector)) x y }
+{}

@@ -8,3 +8,5 @@ pub mod Parts
 pub mod PartsLaws
 pub mod GroupLanguage
 pub mod InTurnLanguage
+pub mod GroupsMove
+pub mod GroupsSpare

@@ -1,19 +1,12 @@
--- The parts of a group, each in the words of its errors and of its states.
--- Main words: Part, StopsOnlyByAny. Laws: PartsLaws.antt. Read first: Regrouped.antt.
+-- What a group does is stopped by its parts alone.
+-- Main word: StopsOnlyByAny. Laws: PartsLaws.antt. Read first: Regrouped.antt.
 use Rattle.std.specs.Prelude.{◌≡◌, List, [], ◌∷◌, ◌⊎◌}
 use Rattle.chumsky_input.specs.declared.error.Error as error_trait
 use Rattle.chumsky_input.specs.declared.inspector.Inspector as inspector_trait
 use Rattle.chumsky_input.specs.declared.stop.Stop.{Stop}
 use Rattle.chumsky_input.specs.Outcome.{Meaning, Beginning, Outcome, Halt}
 use Rattle.chumsky_input.specs.Words.{Does}
-
--- what a part does, whose outputs are of its own type
-pub record Part (I Tok Sp Er St Mk Cx : Type 0) : Type 1 where
-  pub Output : Type 0
-  pub does : Does I Tok Sp Er St Mk Cx Output
-
-abbrev pub part : {I Tok Sp Er St Mk Cx V : Type 0} → Does I Tok Sp Er St Mk Cx V → Part I Tok Sp Er St Mk Cx
-part {V} does = record { Output = V; does = does }
+use Rattle.chumsky_parser.specs.ByParts.{Part}
 
 -- a run of the part stops, for this reason
 pub record StopsBy {Tok Cx St Er V : Type 0} (s : Stop) (runs : Meaning Tok Cx St Er V) : Type 0 where

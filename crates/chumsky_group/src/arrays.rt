@@ -1,5 +1,8 @@
 //! Groups that are arrays.
-ghost use Rattle.std.specs.Prelude.{◌≡◌, length};
+ghost use Rattle.std.specs.Prelude.{◌≡◌, length, map};
+ghost use Rattle.chumsky_parser.specs.ByParts.{OutOnlyByEach};
+ghost use Rattle.std.specs.List.{All};
+ghost use Rattle.chumsky_group.specs.InTurn.{SameVectors};
 
 use crate::group::Group;
 use arrayvec::ArrayVec;
@@ -71,3 +74,31 @@ fn slice_of<P, const N: usize>(parsers: &[P; N]) -> &[P]
 {
     parsers
 }
+
+/// `group` of the parsers of an array.
+pub fn group_of_an_array_is_never_out_of_memory<
+    'src,
+    I: Input<'src>,
+    O: Default + Drop,
+    E: ParserExtra<I>,
+    P: Parser<'src, I, O, E>,
+    const N: usize,
+>(group: &Group<[P; N]>)
+    ensures { OutOnlyByEach E.Error.Error E.State.Inspector
+        P.meaning group.now.parsers
+        (⟦<Group<[P; N]> as Parser<'src, I, ArrayVec<O, N>, E>>⟧.meaning group.now) }
+{}
+
+/// A group of the parsers of an array.
+pub fn group_of_an_array_is_steady<
+    'src,
+    I: Input<'src>,
+    O: Default + Drop,
+    E: ParserExtra<I>,
+    P: Parser<'src, I, O, E>,
+    const N: usize,
+>(group: &Group<[P; N]>)
+    ensures ready { All P.ready group.now.parsers → ⟦<Group<[P; N]> as Parser<'src, I, ArrayVec<O, N>, E>>⟧.ready group.now }
+    ensures steady { All P.steady group.now.parsers → ⟦<Group<[P; N]> as Parser<'src, I, ArrayVec<O, N>, E>>⟧.steady group.now }
+    ensures same { (x y : _) → ⟦<Group<[P; N]> as Parser<'src, I, ArrayVec<O, N>, E>>⟧.same group.now x y → SameVectors (map P.same group.now.parsers) x y }
+{}

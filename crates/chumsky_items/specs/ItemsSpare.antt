@@ -1,7 +1,7 @@
 -- Lists are never refused for memory where their items aren't, nor what is made of them without a collection.
 -- Main laws: repeats-spare, separates-spare, items-spare, counts-spare. Read first: Memory.antt, MemoryLaws.antt.
 use Rattle.std.proofs.Common.{ℕ, zero, suc, ◌+◌, Bool, true, false, Option, Some, None}
-use Rattle.std.specs.Prelude.{option_map, nat_eq, nat_lt}
+use Rattle.std.specs.Prelude.{option_map, nat_eq, nat_lt, List, [], ◌∷◌}
 use Rattle.chumsky_input.specs.declared.stop.Stop.TheVariants.{NoProgress, CountTooLarge}
 use Rattle.chumsky_input.specs.Outcome.{Meaning}
 use Rattle.chumsky_parser.specs.Chained.{Chained, Given, Asked}
@@ -13,6 +13,9 @@ use Rattle.chumsky_items.specs.Repeating.{Settled, Settles, Counted, EndsUnlessF
 use Rattle.chumsky_items.specs.Separating.{Bounds, Perhaps, Lead, Last, Staying, Round, Unfilled, Separates, asks_after, stays, trails}
 use Rattle.chumsky_parser.specs.Memory.{NeverOutOfMemory, ItemsNeverOutOfMemory}
 use Rattle.chumsky_parser.specs.MemoryLaws.{given-spares, no-spares, stops-spares, asked-spares, chained-spares, or_else-spares}
+use Rattle.chumsky_input.specs.Words.{Does}
+use Rattle.chumsky_items.specs.declared.separated_by.SeparatedBy.{SeparatedBy}
+use Rattle.chumsky_parser.specs.ByParts.{Part, part}
 
 module _ {Tok Cx St Er S V W : Type 0} where
   after_step-spares : (on : Option V → S → Meaning Tok Cx St Er W) (ended : Meaning Tok Cx St Er W)
@@ -106,3 +109,8 @@ module _ {Tok Cx St Mk Er U V : Type 0} (mark : St → Mk) (back : St → Mk →
     -- an item more and its separator, where neither is ever refused
     pub separates-spare : (k : ℕ) → NeverOutOfMemory (Separates mark back safe separator item d k)
     separates-spare k b o m = unfilled-spares (at_cap d.most k) k b.start b o m.step
+
+module _ {I Tok Sp Er St Mk Cx A B O U X F V W : Type 0} where
+  -- the parts of a list: its items and its separators
+  abbrev pub list_parts : (A → Does I Tok Sp Er St Mk Cx V) → (B → Does I Tok Sp Er St Mk Cx W) → SeparatedBy A B O U X F → List (Part I Tok Sp Er St Mk Cx)
+  list_parts item separator list = part (item list.parser) ∷ part (separator list.separator) ∷ []

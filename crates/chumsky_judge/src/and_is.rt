@@ -1,8 +1,10 @@
 //! Two parsers that both have to succeed at one place.
+use crate::rewind::Rewind;
 use chumsky_input::extra::ParserExtra;
 use chumsky_input::input::Input;
 use chumsky_input::input_ref::InputRef;
 use chumsky_input::stop::{Fault, PResult};
+use chumsky_parser::moving::Moving;
 use chumsky_parser::parser::{IsParser, Parser};
 use std::marker::PhantomData;
 
@@ -83,3 +85,41 @@ where
         }
     }
 }
+
+/// It ends where its part ends; the other one is only looked at.
+impl<'src, I, O, U, E, A, B> Moving<'src, I, O, E> for AndIs<A, B, U>
+where
+    I: Input<'src>,
+    O: Drop,
+    E: ParserExtra<I>,
+    A: Moving<'src, I, O, E>,
+    B: Parser<'src, I, U, E>,
+{
+    ghost use Rattle.chumsky_judge.specs.JudgedMoves.{and_is-moves};
+
+    ghost moves = { λ p. A.moves p.parser };
+
+    ghost moved = { λ p e. and_is-moves _ _ _ _ _ (A.moved p.parser e) };
+
+    fn always_moves(&self) -> bool {
+        self.parser.always_moves()
+    }
+}
+
+/// `a.and_is(b)` and `a.rewind()`.
+pub fn and_is_is_steady<
+    'src,
+    I: Input<'src>,
+    O: Drop,
+    U,
+    E: ParserExtra<I>,
+    A: Parser<'src, I, O, E>,
+    B: Parser<'src, I, U, E>,
+>(and_is: &AndIs<A, B, U>, rewind: &Rewind<A>)
+    ensures ready_and_is { A.ready and_is.now.parser → B.ready and_is.now.other → ⟦<AndIs<A, B, U> as Parser<'src, I, O, E>>⟧.ready and_is.now }
+    ensures ready_rewind { A.ready rewind.now.parser → ⟦<Rewind<A> as Parser<'src, I, O, E>>⟧.ready rewind.now }
+    ensures and_is { A.steady and_is.now.parser → B.steady and_is.now.other → ⟦<AndIs<A, B, U> as Parser<'src, I, O, E>>⟧.steady and_is.now }
+    ensures rewind { A.steady rewind.now.parser → ⟦<Rewind<A> as Parser<'src, I, O, E>>⟧.steady rewind.now }
+    ensures same_and_is { (x y : O) → ⟦<AndIs<A, B, U> as Parser<'src, I, O, E>>⟧.same and_is.now x y → A.same and_is.now.parser x y }
+    ensures same_rewind { (x y : O) → ⟦<Rewind<A> as Parser<'src, I, O, E>>⟧.same rewind.now x y → A.same rewind.now.parser x y }
+{}

@@ -1,8 +1,9 @@
 //! A parser whose output has to pass a test.
-ghost use Rattle.std.specs.Prelude.{◌≡◌, Bool, ⊤};
+ghost use Rattle.std.specs.Prelude.{◌≡◌, Bool, ⊤, [], ◌∷◌};
 ghost use Rattle.std.specs.Fn.{FnReturnsAt};
 ghost use Rattle.chumsky_judge.specs.Calls.{RunsAnyway};
-ghost use Rattle.chumsky_judge.specs.Vetted.{Vetted, ByTest};
+ghost use Rattle.chumsky_judge.specs.Vetted.{Vetted, ByTest, TestsAlike};
+ghost use Rattle.chumsky_parser.specs.ByParts.{part, OutOnlyBy};
 
 use crate::refuse::{fail_as_one, something_else};
 use chumsky_input::error::Error;
@@ -11,6 +12,7 @@ use chumsky_input::input::Input;
 use chumsky_input::input_ref::InputRef;
 use chumsky_input::inspector::Inspector;
 use chumsky_input::stop::{Fault, PResult};
+use chumsky_parser::moving::Moving;
 use chumsky_parser::parser::{IsParser, Parser};
 
 /// What tests an output. Each closure `Fn(&O) -> bool` is one, and so is a type of one's own that has an impl, which says
@@ -135,3 +137,50 @@ where
         Err(Fault::Stop(stop)) => Err(Fault::Stop(stop)),
     }
 }
+
+impl<
+    'src,
+    I: Input<'src>,
+    O: Drop,
+    E: ParserExtra<I>,
+    A: Moving<'src, I, O, E>,
+    F: Tester<O>,
+> Moving<'src, I, O, E> for Filter<A, F> {
+    ghost use Rattle.chumsky_judge.specs.JudgedMoves.{vetted-moves};
+
+    ghost moves = { λ p. A.moves p.parser };
+
+    ghost moved = { λ p e. vetted-moves _ _ _ _ (A.moved p.parser e) };
+
+    fn always_moves(&self) -> bool {
+        self.parser.always_moves()
+    }
+}
+
+/// `a.filter(f)` and `a.filter_by(f)`, under errors that take no memory: one is built for a value that doesn't pass.
+pub fn filter_is_never_out_of_memory<
+    'src,
+    I: Input<'src>,
+    O: Drop,
+    E: ParserExtra<I>,
+    A: Parser<'src, I, O, E>,
+    F: Tester<O>,
+>(filter: &Filter<A, F>)
+    ensures { let f = filter.now in E.Error.takes_no_memory → OutOnlyBy E.Error.Error E.State.Inspector
+        (part (A.meaning f.parser) ∷ [])
+        (⟦<Filter<A, F> as Parser<'src, I, O, E>>⟧.meaning f) }
+{}
+
+/// `a.filter(f)` and `a.filter_by(f)`.
+pub fn filter_is_steady<
+    'src,
+    I: Input<'src>,
+    O: Drop,
+    E: ParserExtra<I>,
+    A: Parser<'src, I, O, E>,
+    F: Tester<O>,
+>(filter: &Filter<A, F>)
+    ensures ready { A.ready filter.now.parser → F.callable filter.now.tester → ⟦<Filter<A, F> as Parser<'src, I, O, E>>⟧.ready filter.now }
+    ensures steady { A.steady filter.now.parser → TestsAlike (A.same filter.now.parser) (F.gives filter.now.tester) → ⟦<Filter<A, F> as Parser<'src, I, O, E>>⟧.steady filter.now }
+    ensures same { (x y : O) → ⟦<Filter<A, F> as Parser<'src, I, O, E>>⟧.same filter.now x y → A.same filter.now.parser x y }
+{}

@@ -1,8 +1,9 @@
 //! A parser whose output is picked.
-ghost use Rattle.std.specs.Prelude.{◌≡◌, ⊤, Option};
+ghost use Rattle.std.specs.Prelude.{◌≡◌, ⊤, Option, [], ◌∷◌};
 ghost use Rattle.chumsky_judge.specs.Calls.{RunsAnyway};
 ghost use Rattle.chumsky_judge.specs.Vetted.{Vetted};
-ghost use Rattle.chumsky_judge.specs.Tried.{ByPick};
+ghost use Rattle.chumsky_judge.specs.Tried.{ByPick, FilterMapsAlike, SameFilterMapped};
+ghost use Rattle.chumsky_parser.specs.ByParts.{part, OutOnlyBy};
 
 use crate::refuse::{fail_as_one, something_else};
 use chumsky_input::error::Error;
@@ -11,6 +12,7 @@ use chumsky_input::input::Input;
 use chumsky_input::input_ref::InputRef;
 use chumsky_input::inspector::Inspector;
 use chumsky_input::stop::{Fault, PResult};
+use chumsky_parser::moving::Moving;
 use chumsky_parser::parser::{IsParser, Parser};
 use std::marker::PhantomData;
 
@@ -142,3 +144,52 @@ where
         Err(Fault::Stop(stop)) => Err(Fault::Stop(stop)),
     }
 }
+
+impl<'src, I, O, U, E, A, F> Moving<'src, I, U, E> for FilterMap<A, O, F, U>
+where
+    I: Input<'src>,
+    U: Drop,
+    E: ParserExtra<I>,
+    A: Moving<'src, I, O, E>,
+    F: Picker<O, U>,
+{
+    ghost use Rattle.chumsky_judge.specs.JudgedMoves.{vetted-moves};
+
+    ghost moves = { λ p. A.moves p.parser };
+
+    ghost moved = { λ p e. vetted-moves _ _ _ _ (A.moved p.parser e) };
+
+    fn always_moves(&self) -> bool {
+        self.parser.always_moves()
+    }
+}
+
+/// `a.filter_map(f)` and `a.filter_map_by(f)`, under errors that take no memory: one is built for a value that isn't picked.
+pub fn filter_map_is_never_out_of_memory<
+    'src,
+    I: Input<'src>,
+    O,
+    U: Drop,
+    E: ParserExtra<I>,
+    A: Parser<'src, I, O, E>,
+    F: Picker<O, U>,
+>(filter_map: &FilterMap<A, O, F, U>)
+    ensures { let f = filter_map.now in E.Error.takes_no_memory → OutOnlyBy E.Error.Error E.State.Inspector
+        (part (A.meaning f.parser) ∷ [])
+        (⟦<FilterMap<A, O, F, U> as Parser<'src, I, U, E>>⟧.meaning f) }
+{}
+
+/// `a.filter_map(f)` and `a.filter_map_by(f)`.
+pub fn filter_map_is_steady<
+    'src,
+    I: Input<'src>,
+    O,
+    U: Drop,
+    E: ParserExtra<I>,
+    A: Parser<'src, I, O, E>,
+    F: Picker<O, U>,
+>(filter_map: &FilterMap<A, O, F, U>)
+    ensures ready { A.ready filter_map.now.parser → F.callable filter_map.now.picker → ⟦<FilterMap<A, O, F, U> as Parser<'src, I, U, E>>⟧.ready filter_map.now }
+    ensures steady { A.steady filter_map.now.parser → FilterMapsAlike (A.same filter_map.now.parser) (F.gives filter_map.now.picker) → ⟦<FilterMap<A, O, F, U> as Parser<'src, I, U, E>>⟧.steady filter_map.now }
+    ensures same { (x y : U) → ⟦<FilterMap<A, O, F, U> as Parser<'src, I, U, E>>⟧.same filter_map.now x y → SameFilterMapped (A.same filter_map.now.parser) (F.gives filter_map.now.picker) x y }
+{}

@@ -12,7 +12,6 @@ pub mod not;
 pub mod pick_by;
 mod refuse;
 pub mod rewind;
-pub mod steady;
 pub mod test_by;
 pub mod try_map;
 pub mod try_map_with;

@@ -1,6 +1,6 @@
 //! A parser whose failures are mapped.
 ghost use Rattle.std.specs.Prelude.{◌≡◌};
-ghost use Rattle.chumsky_judge.specs.MapErr.{MapsSeen, MapsKeptOf};
+ghost use Rattle.chumsky_judge.specs.MapErr.{MapsSeen, MapsKeptOf, MapsOnce};
 
 use chumsky_input::error::Error;
 use chumsky_input::extra::ParserExtra;
@@ -8,6 +8,7 @@ use chumsky_input::input::Input;
 use chumsky_input::input_ref::{InputRef, Located};
 use chumsky_input::inspector::Inspector;
 use chumsky_input::stop::{Fault, PResult};
+use chumsky_parser::moving::Moving;
 use chumsky_parser::parser::{IsParser, Parser};
 
 /// A parser whose failures are mapped. See `map_err`.
@@ -98,3 +99,36 @@ fn map_kept<'src, I: Input<'src>, E: ParserExtra<I>, F: Fn(E::Error) -> E::Error
         }
     }
 }
+
+impl<'src, I, O, E, A, F> Moving<'src, I, O, E> for MapErr<A, F>
+where
+    I: Input<'src>,
+    O: Drop,
+    E: ParserExtra<I>,
+    A: Moving<'src, I, O, E>,
+    F: Fn(E::Error) -> E::Error,
+{
+    ghost use Rattle.chumsky_judge.specs.JudgedMoves.{map_err-moves};
+
+    ghost moves = { λ p. A.moves p.parser };
+
+    ghost moved = { λ p e. map_err-moves _ _ _ (A.moved p.parser e) };
+
+    fn always_moves(&self) -> bool {
+        self.parser.always_moves()
+    }
+}
+
+/// `a.map_err(f)`, where `f` gives one error to each, by what counts of them.
+pub fn map_err_is_steady<
+    'src,
+    I: Input<'src>,
+    O: Drop,
+    E: ParserExtra<I>,
+    A: Parser<'src, I, O, E>,
+    F: Fn(E::Error) -> E::Error,
+>(map_err: &MapErr<A, F>)
+    ensures ready { A.ready map_err.now.parser → F.IsAlwaysCallable map_err.now.mapper → ⟦<MapErr<A, F> as Parser<'src, I, O, E>>⟧.ready map_err.now }
+    ensures steady { A.steady map_err.now.parser → MapsOnce (MapsSeen E.Error.seen (F.post map_err.now.mapper)) → ⟦<MapErr<A, F> as Parser<'src, I, O, E>>⟧.steady map_err.now }
+    ensures same { (x y : O) → ⟦<MapErr<A, F> as Parser<'src, I, O, E>>⟧.same map_err.now x y → A.same map_err.now.parser x y }
+{}

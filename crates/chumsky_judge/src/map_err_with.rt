@@ -1,7 +1,7 @@
 //! A parser whose failures are mapped by a closure that is shown the run.
 ghost use Rattle.std.specs.Prelude.{◌≡◌, ◌≤◌};
 ghost use Rattle.chumsky_input.specs.Extra.{KeepsState, MayAnswer, shown_from};
-ghost use Rattle.chumsky_judge.specs.MapErr.{MapsShown, MapsKeptOf};
+ghost use Rattle.chumsky_judge.specs.MapErr.{MapsShown, MapsKeptOf, MapsOnceShown};
 
 use chumsky_input::error::Error;
 use chumsky_input::extra::ParserExtra;
@@ -10,6 +10,7 @@ use chumsky_input::input_ref::{InputRef, Located};
 use chumsky_input::inspector::Inspector;
 use chumsky_input::map_extra::{MapExtra, call_with_extra};
 use chumsky_input::stop::{Fault, PResult};
+use chumsky_parser::moving::Moving;
 use chumsky_parser::parser::{IsParser, Parser};
 
 /// A parser whose failures are mapped by a closure that is shown the run. See `map_err_with`.
@@ -110,3 +111,36 @@ where
         }
     }
 }
+
+impl<'src, I, O, E, A, F> Moving<'src, I, O, E> for MapErrWith<A, F>
+where
+    I: Input<'src>,
+    O: Drop,
+    E: ParserExtra<I>,
+    A: Moving<'src, I, O, E>,
+    F: Fn(E::Error, &mut MapExtra<'src, '_, I, E>) -> E::Error,
+{
+    ghost use Rattle.chumsky_judge.specs.JudgedMoves.{map_err-moves};
+
+    ghost moves = { λ p. A.moves p.parser };
+
+    ghost moved = { λ p e. map_err-moves _ _ _ (A.moved p.parser e) };
+
+    fn always_moves(&self) -> bool {
+        self.parser.always_moves()
+    }
+}
+
+/// `a.map_err_with(f)`, where `f` gives one error and leaves one state, to each error and each run that it is shown.
+pub fn map_err_with_is_steady<
+    'src,
+    I: Input<'src>,
+    O: Drop,
+    E: ParserExtra<I>,
+    A: Parser<'src, I, O, E>,
+    F: Fn(E::Error, &mut MapExtra<'src, '_, I, E>) -> E::Error,
+>(map_err: &MapErrWith<A, F>)
+    ensures ready { A.ready map_err.now.parser → KeepsState I.Input E.State.Inspector F.Fn map_err.now.mapper → ⟦<MapErrWith<A, F> as Parser<'src, I, O, E>>⟧.ready map_err.now }
+    ensures steady { A.steady map_err.now.parser → MapsOnceShown (MapsShown E.Error.seen (MayAnswer I.Input E.State.Inspector F.Fn map_err.now.mapper)) → ⟦<MapErrWith<A, F> as Parser<'src, I, O, E>>⟧.steady map_err.now }
+    ensures same { (x y : O) → ⟦<MapErrWith<A, F> as Parser<'src, I, O, E>>⟧.same map_err.now x y → A.same map_err.now.parser x y }
+{}

@@ -1,7 +1,7 @@
 //! A parser whose failures are mapped by a closure that is handed the state.
 ghost use Rattle.std.specs.Prelude.{◌≡◌};
 ghost use Rattle.chumsky_judge.specs.Calls.{Changes, SameButState};
-ghost use Rattle.chumsky_judge.specs.MapErr.{MapsWithState, MapsKeptOf};
+ghost use Rattle.chumsky_judge.specs.MapErr.{MapsWithState, MapsKeptOf, MapsOnceFrom};
 
 use chumsky_input::error::Error;
 use chumsky_input::extra::ParserExtra;
@@ -9,6 +9,7 @@ use chumsky_input::input::{Input, Tokens};
 use chumsky_input::input_ref::{InputRef, Located};
 use chumsky_input::inspector::Inspector;
 use chumsky_input::stop::{Fault, PResult};
+use chumsky_parser::moving::Moving;
 use chumsky_parser::parser::{IsParser, Parser};
 
 /// A parser whose failures are mapped by a closure that is handed the state. See `map_err_with_state`.
@@ -133,3 +134,36 @@ where
 {
     mapper(error, span, &mut *inp.state)
 }
+
+impl<'src, I, O, E, A, F> Moving<'src, I, O, E> for MapErrWithState<A, F>
+where
+    I: Input<'src>,
+    O: Drop,
+    E: ParserExtra<I>,
+    A: Moving<'src, I, O, E>,
+    F: Fn(E::Error, I::Span, &mut E::State) -> E::Error,
+{
+    ghost use Rattle.chumsky_judge.specs.JudgedMoves.{map_err-moves};
+
+    ghost moves = { λ p. A.moves p.parser };
+
+    ghost moved = { λ p e. map_err-moves _ _ _ (A.moved p.parser e) };
+
+    fn always_moves(&self) -> bool {
+        self.parser.always_moves()
+    }
+}
+
+/// `a.map_err_with_state(f)`, where `f` gives one error and leaves one state, to each error, span and state.
+pub fn map_err_with_state_is_steady<
+    'src,
+    I: Input<'src>,
+    O: Drop,
+    E: ParserExtra<I>,
+    A: Parser<'src, I, O, E>,
+    F: Fn(E::Error, I::Span, &mut E::State) -> E::Error,
+>(map_err: &MapErrWithState<A, F>)
+    ensures ready { A.ready map_err.now.parser → F.IsAlwaysCallable map_err.now.mapper → ⟦<MapErrWithState<A, F> as Parser<'src, I, O, E>>⟧.ready map_err.now }
+    ensures steady { A.steady map_err.now.parser → ((span : I.Span) → MapsOnceFrom (MapsWithState E.Error.Error E.State.Inspector F.Fn map_err.now.mapper span)) → ⟦<MapErrWithState<A, F> as Parser<'src, I, O, E>>⟧.steady map_err.now }
+    ensures same { (x y : O) → ⟦<MapErrWithState<A, F> as Parser<'src, I, O, E>>⟧.same map_err.now x y → A.same map_err.now.parser x y }
+{}

@@ -10,6 +10,7 @@ use chumsky_input::input::Input;
 use chumsky_input::input_ref::InputRef;
 use chumsky_input::inspector::Inspector;
 use chumsky_input::stop::{Fault, PResult};
+use chumsky_parser::moving::MayStay;
 use chumsky_parser::parser::{IsParser, Parser};
 use std::marker::PhantomData;
 
@@ -84,3 +85,13 @@ fn deny<'src, I: Input<'src>, O, E: ParserExtra<I>, A: Parser<'src, I, O, E>>(
         Err(Fault::Stop(stop)) => Err(Fault::Stop(stop)),
     }
 }
+
+impl<A, O> MayStay for Not<A, O> {}
+
+/// `a.not()`.
+pub fn not_is_steady<'src, I: Input<'src>, O, E: ParserExtra<I>, A: Parser<'src, I, O, E>>(
+    not: &Not<A, O>,
+)
+    ensures ready { A.ready not.now.parser → ⟦<Not<A, O> as Parser<'src, I, (), E>>⟧.ready not.now }
+    ensures steady { A.steady not.now.parser → ⟦<Not<A, O> as Parser<'src, I, (), E>>⟧.steady not.now }
+{}

@@ -1,6 +1,7 @@
 //! A parser whose output is picked, as is known by the word that was taken.
 ghost use Rattle.std.specs.Prelude.{List, Option};
 ghost use Rattle.chumsky_judge.specs.Picked.{PicksByWord};
+ghost use Rattle.chumsky_judge.specs.Tried.{FilterMapsAlike, SameFilterMapped};
 
 use crate::filter_map::{FilterMap, Picker};
 use chumsky_input::extra::ParserExtra;
@@ -77,3 +78,18 @@ where
         self.picked.go_check(inp)
     }
 }
+
+/// `a.pick_by(f)`.
+pub fn pick_by_is_steady<
+    'src,
+    I: Input<'src>,
+    O,
+    U: Drop,
+    E: ParserExtra<I>,
+    A: Parser<'src, I, O, E>,
+    F: WordPicker<'src, I, O, U, E, A>,
+>(pick_by: &PickBy<A, O, F, U>)
+    ensures ready { A.ready pick_by.now.picked.parser → F.callable pick_by.now.picked.picker → ⟦<PickBy<A, O, F, U> as Parser<'src, I, U, E>>⟧.ready pick_by.now }
+    ensures steady { A.steady pick_by.now.picked.parser → FilterMapsAlike (A.same pick_by.now.picked.parser) (F.gives pick_by.now.picked.picker) → ⟦<PickBy<A, O, F, U> as Parser<'src, I, U, E>>⟧.steady pick_by.now }
+    ensures same { (x y : U) → ⟦<PickBy<A, O, F, U> as Parser<'src, I, U, E>>⟧.same pick_by.now x y → SameFilterMapped (A.same pick_by.now.picked.parser) (F.gives pick_by.now.picked.picker) x y }
+{}

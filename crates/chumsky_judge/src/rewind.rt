@@ -4,6 +4,7 @@ use chumsky_input::extra::ParserExtra;
 use chumsky_input::input::Input;
 use chumsky_input::input_ref::InputRef;
 use chumsky_input::stop::{Fault, PResult};
+use chumsky_parser::moving::MayStay;
 use chumsky_parser::parser::{IsParser, Parser};
 
 /// A parser that stands at its start again where it succeeds. See `rewind`.
@@ -78,3 +79,5 @@ impl<'src, I: Input<'src>, O: Drop, E: ParserExtra<I>, A: Parser<'src, I, O, E>>
         }
     }
 }
+
+impl<A> MayStay for Rewind<A> {}

@@ -1,6 +1,7 @@
 //! A parser whose output has to pass a test, which says of it what is known by the word that was taken.
 ghost use Rattle.std.specs.Prelude.{Bool, List};
 ghost use Rattle.chumsky_judge.specs.Tested.{TestsByWord};
+ghost use Rattle.chumsky_judge.specs.Vetted.{TestsAlike};
 
 use crate::filter::{Filter, Tester};
 use chumsky_input::extra::ParserExtra;
@@ -66,3 +67,17 @@ where
         self.tested.go_check(inp)
     }
 }
+
+/// `a.test_by(f)`.
+pub fn test_by_is_steady<
+    'src,
+    I: Input<'src>,
+    O: Drop,
+    E: ParserExtra<I>,
+    A: Parser<'src, I, O, E>,
+    F: WordTester<'src, I, O, E, A>,
+>(test_by: &TestBy<A, F>)
+    ensures ready { A.ready test_by.now.tested.parser → F.callable test_by.now.tested.tester → ⟦<TestBy<A, F> as Parser<'src, I, O, E>>⟧.ready test_by.now }
+    ensures steady { A.steady test_by.now.tested.parser → TestsAlike (A.same test_by.now.tested.parser) (F.gives test_by.now.tested.tester) → ⟦<TestBy<A, F> as Parser<'src, I, O, E>>⟧.steady test_by.now }
+    ensures same { (x y : O) → ⟦<TestBy<A, F> as Parser<'src, I, O, E>>⟧.same test_by.now x y → A.same test_by.now.tested.parser x y }
+{}

@@ -1,9 +1,12 @@
 //! A mapper that may refuse.
-ghost use Rattle.std.specs.Prelude.{◌≡◌, ⊤, Result};
+ghost use Rattle.std.specs.Prelude.{◌≡◌, ⊤, Result, [], ◌∷◌};
 ghost use Rattle.chumsky_judge.specs.Calls.{RunsAnyway};
 ghost use Rattle.chumsky_judge.specs.Vetted.{Vetted};
-ghost use Rattle.chumsky_judge.specs.Tried.{ByTry};
+ghost use Rattle.chumsky_judge.specs.Tried.{ByTry, TriesAlike, SameTryMapped};
+ghost use Rattle.chumsky_parser.specs.ByParts.{part, OutOnlyBy};
 
+use crate::filter::Tester;
+use crate::filter_map::Picker;
 use crate::refuse::fail_as_one;
 use chumsky_input::error::Error;
 use chumsky_input::extra::ParserExtra;
@@ -11,6 +14,7 @@ use chumsky_input::input::{Input, Tokens};
 use chumsky_input::input_ref::InputRef;
 use chumsky_input::inspector::Inspector;
 use chumsky_input::stop::{Fault, PResult};
+use chumsky_parser::moving::Moving;
 use chumsky_parser::parser::{IsParser, Parser};
 use std::marker::PhantomData;
 
@@ -131,3 +135,67 @@ where
         Err(Fault::Stop(stop)) => Err(Fault::Stop(stop)),
     }
 }
+
+impl<'src, I, O, U, E, A, F> Moving<'src, I, U, E> for TryMap<A, O, F, U>
+where
+    I: Input<'src>,
+    U: Drop,
+    E: ParserExtra<I>,
+    A: Moving<'src, I, O, E>,
+    F: TryMapper<O, I::Span, U, E::Error>,
+{
+    ghost use Rattle.chumsky_judge.specs.JudgedMoves.{vetted-moves};
+
+    ghost moves = { λ p. A.moves p.parser };
+
+    ghost moved = { λ p e. vetted-moves _ _ _ _ (A.moved p.parser e) };
+
+    fn always_moves(&self) -> bool {
+        self.parser.always_moves()
+    }
+}
+
+/// `a.try_map(f)` and `a.try_map_by(f)`, under any errors: the mapper brings its own.
+pub fn try_map_is_never_out_of_memory<
+    'src,
+    I: Input<'src>,
+    O,
+    U: Drop,
+    E: ParserExtra<I>,
+    A: Parser<'src, I, O, E>,
+    F: TryMapper<O, I::Span, U, E::Error>,
+>(try_map: &TryMap<A, O, F, U>)
+    ensures { let t = try_map.now in OutOnlyBy E.Error.Error E.State.Inspector
+        (part (A.meaning t.parser) ∷ [])
+        (⟦<TryMap<A, O, F, U> as Parser<'src, I, U, E>>⟧.meaning t) }
+{}
+
+/// `a.try_map(f)` and `a.try_map_by(f)`.
+pub fn try_map_is_steady<
+    'src,
+    I: Input<'src>,
+    O,
+    U: Drop,
+    E: ParserExtra<I>,
+    A: Parser<'src, I, O, E>,
+    F: TryMapper<O, I::Span, U, E::Error>,
+>(try_map: &TryMap<A, O, F, U>)
+    ensures ready { A.ready try_map.now.parser → F.callable try_map.now.mapper → ⟦<TryMap<A, O, F, U> as Parser<'src, I, U, E>>⟧.ready try_map.now }
+    ensures steady { A.steady try_map.now.parser → TriesAlike (A.same try_map.now.parser) E.Error.seen (F.gives try_map.now.mapper) → ⟦<TryMap<A, O, F, U> as Parser<'src, I, U, E>>⟧.steady try_map.now }
+    ensures same { (x y : U) → ⟦<TryMap<A, O, F, U> as Parser<'src, I, U, E>>⟧.same try_map.now x y → SameTryMapped (A.same try_map.now.parser) E.Error.seen (F.gives try_map.now.mapper) x y }
+{}
+
+/// A closure tests, picks and maps where it may be called.
+pub fn closures_may_judge<
+    O,
+    S,
+    U,
+    R,
+    F: Fn(&O) -> bool,
+    G: Fn(O) -> Option<U>,
+    H: Fn(O, S) -> Result<U, R>,
+>(tester: &F, picker: &G, mapper: &H)
+    ensures tester { F.IsAlwaysCallable tester.now → ⟦<F as Tester<O>>⟧.callable tester.now }
+    ensures picker { G.IsAlwaysCallable picker.now → ⟦<G as Picker<O, U>>⟧.callable picker.now }
+    ensures mapper { H.IsAlwaysCallable mapper.now → ⟦<H as TryMapper<O, S, U, R>>⟧.callable mapper.now }
+{}

@@ -3,7 +3,7 @@ ghost use Rattle.std.specs.Prelude.{◌≡◌, ⊤};
 ghost use Rattle.chumsky_input.specs.Extra.{KeepsState, MayAnswer};
 ghost use Rattle.chumsky_judge.specs.Calls.{RunsAnyway};
 ghost use Rattle.chumsky_judge.specs.Vetted.{Vetted};
-ghost use Rattle.chumsky_judge.specs.TriedWith.{ByTryWith};
+ghost use Rattle.chumsky_judge.specs.TriedWith.{ByTryWith, TriesWithAlike, SameTriedWith};
 
 use crate::refuse::fail_as_one;
 use chumsky_input::error::Error;
@@ -13,6 +13,7 @@ use chumsky_input::input_ref::InputRef;
 use chumsky_input::inspector::Inspector;
 use chumsky_input::map_extra::{MapExtra, call_with_extra};
 use chumsky_input::stop::{Fault, PResult};
+use chumsky_parser::moving::Moving;
 use chumsky_parser::parser::{IsParser, Parser};
 use std::marker::PhantomData;
 
@@ -104,3 +105,37 @@ where
         Err(Fault::Stop(stop)) => Err(Fault::Stop(stop)),
     }
 }
+
+impl<'src, I, O, U, E, A, F> Moving<'src, I, U, E> for TryMapWith<A, O, F, U>
+where
+    I: Input<'src>,
+    U: Drop,
+    E: ParserExtra<I>,
+    A: Moving<'src, I, O, E>,
+    F: Fn(O, &mut MapExtra<'src, '_, I, E>) -> Result<U, E::Error>,
+{
+    ghost use Rattle.chumsky_judge.specs.JudgedMoves.{vetted-moves};
+
+    ghost moves = { λ p. A.moves p.parser };
+
+    ghost moved = { λ p e. vetted-moves _ _ _ _ (A.moved p.parser e) };
+
+    fn always_moves(&self) -> bool {
+        self.parser.always_moves()
+    }
+}
+
+/// `a.try_map_with(f)`.
+pub fn try_map_with_is_steady<
+    'src,
+    I: Input<'src>,
+    O,
+    U: Drop,
+    E: ParserExtra<I>,
+    A: Parser<'src, I, O, E>,
+    F: Fn(O, &mut MapExtra<'src, '_, I, E>) -> Result<U, E::Error>,
+>(try_map: &TryMapWith<A, O, F, U>)
+    ensures ready { A.ready try_map.now.parser → KeepsState I.Input E.State.Inspector F.Fn try_map.now.mapper → ⟦<TryMapWith<A, O, F, U> as Parser<'src, I, U, E>>⟧.ready try_map.now }
+    ensures steady { A.steady try_map.now.parser → TriesWithAlike E.Error.seen (MayAnswer I.Input E.State.Inspector F.Fn try_map.now.mapper) (A.same try_map.now.parser) → ⟦<TryMapWith<A, O, F, U> as Parser<'src, I, U, E>>⟧.steady try_map.now }
+    ensures same { (x y : U) → ⟦<TryMapWith<A, O, F, U> as Parser<'src, I, U, E>>⟧.same try_map.now x y → SameTriedWith E.Error.seen (MayAnswer I.Input E.State.Inspector F.Fn try_map.now.mapper) (A.same try_map.now.parser) x y }
+{}

@@ -1,8 +1,13 @@
 //! What is in an output that is always `Some`, or always `Ok`.
+ghost use Rattle.std.specs.Option.{IsSome};
+ghost use Rattle.std.specs.Prelude.{Some, Ok, IsOk};
+ghost use Rattle.chumsky_judge.specs.Unwrapped.{AlwaysGives};
+
 use chumsky_input::extra::ParserExtra;
 use chumsky_input::input::Input;
 use chumsky_input::input_ref::InputRef;
 use chumsky_input::stop::PResult;
+use chumsky_parser::moving::Moving;
 use chumsky_parser::parser::{IsParser, Parser};
 use std::marker::PhantomData;
 
@@ -99,3 +104,56 @@ where
         self.parser.go_check(inp)
     }
 }
+
+impl<'src, I, O, E, A> Moving<'src, I, O, E> for Unwrapped<A, Option<O>>
+where
+    I: Input<'src>,
+    E: ParserExtra<I>,
+    A: Moving<'src, I, Option<O>, E>,
+{
+    ghost use Rattle.chumsky_combinator.specs.MappedLaws.{mapped-moves};
+
+    ghost moves = { λ p. A.moves p.parser };
+
+    ghost moved = { λ p e. mapped-moves _ _ (A.moved p.parser e) };
+
+    fn always_moves(&self) -> bool {
+        self.parser.always_moves()
+    }
+}
+
+impl<'src, I, O, X, E, A> Moving<'src, I, O, E> for Unwrapped<A, Result<O, X>>
+where
+    I: Input<'src>,
+    X: Drop,
+    E: ParserExtra<I>,
+    A: Moving<'src, I, Result<O, X>, E>,
+{
+    ghost use Rattle.chumsky_combinator.specs.MappedLaws.{mapped-moves};
+
+    ghost moves = { λ p. A.moves p.parser };
+
+    ghost moved = { λ p e. mapped-moves _ _ (A.moved p.parser e) };
+
+    fn always_moves(&self) -> bool {
+        self.parser.always_moves()
+    }
+}
+
+/// `a.unwrapped()`.
+pub fn unwrapped_is_steady<
+    'src,
+    I: Input<'src>,
+    O,
+    X: Drop,
+    E: ParserExtra<I>,
+    A: Parser<'src, I, Option<O>, E>,
+    B: Parser<'src, I, Result<O, X>, E>,
+>(of_some: &Unwrapped<A, Option<O>>, of_ok: &Unwrapped<B, Result<O, X>>)
+    ensures ready_of_some { A.ready of_some.now.parser → AlwaysGives IsSome (A.meaning of_some.now.parser E.Error.Error E.State.Inspector) → ⟦<Unwrapped<A, Option<O>> as Parser<'src, I, O, E>>⟧.ready of_some.now }
+    ensures ready_of_ok { B.ready of_ok.now.parser → AlwaysGives IsOk (B.meaning of_ok.now.parser E.Error.Error E.State.Inspector) → ⟦<Unwrapped<B, Result<O, X>> as Parser<'src, I, O, E>>⟧.ready of_ok.now }
+    ensures of_some { A.steady of_some.now.parser → ⟦<Unwrapped<A, Option<O>> as Parser<'src, I, O, E>>⟧.steady of_some.now }
+    ensures of_ok { B.steady of_ok.now.parser → ⟦<Unwrapped<B, Result<O, X>> as Parser<'src, I, O, E>>⟧.steady of_ok.now }
+    ensures same_of_some { (x y : O) → ⟦<Unwrapped<A, Option<O>> as Parser<'src, I, O, E>>⟧.same of_some.now x y → A.same of_some.now.parser (Some x) (Some y) }
+    ensures same_of_ok { (x y : O) → ⟦<Unwrapped<B, Result<O, X>> as Parser<'src, I, O, E>>⟧.same of_ok.now x y → B.same of_ok.now.parser (Ok x) (Ok y) }
+{}

@@ -3,7 +3,7 @@ ghost use Rattle.std.specs.Prelude.{◌≡◌, ◌≤◌, Some, [], MatchResult}
 ghost use Rattle.chumsky_input.specs.Aside.{SameButErrors};
 ghost use Rattle.chumsky_input.specs.Extra.{shown_from};
 ghost use Rattle.chumsky_judge.specs.Calls.{Changes, RunsAnyway, SameButState};
-ghost use Rattle.chumsky_judge.specs.Validated.{MayValidate, Validates, ByEmitter, MeansValidate, EmitsAfter, emitted_by};
+ghost use Rattle.chumsky_judge.specs.Validated.{MayValidate, Validates, ByEmitter, MeansValidate, EmitsAfter, emitted_by, EmitsAlike, SameValidated};
 
 use chumsky_input::aside::Aside;
 use chumsky_input::emitter::Emitter;
@@ -14,6 +14,7 @@ use chumsky_input::input_ref::InputRef;
 use chumsky_input::inspector::Inspector;
 use chumsky_input::map_extra::MapExtra;
 use chumsky_input::stop::PResult;
+use chumsky_parser::moving::Moving;
 use chumsky_parser::parser::{IsParser, Parser};
 use std::alloc::AllocError;
 use std::marker::PhantomData;
@@ -161,3 +162,37 @@ fn emit_all<'src, I: Input<'src>, E: ParserExtra<I>>(
         emitted: older,
     })
 }
+
+impl<'src, I, O, U, E, A, F> Moving<'src, I, U, E> for Validate<A, O, F, U>
+where
+    I: Input<'src>,
+    U: Drop,
+    E: ParserExtra<I>,
+    A: Moving<'src, I, O, E>,
+    F: Fn(O, &mut MapExtra<'src, '_, I, E>, &mut Emitter<E::Error>) -> U,
+{
+    ghost use Rattle.chumsky_judge.specs.ValidatedLanguage.{validated-moves};
+
+    ghost moves = { λ p. A.moves p.parser };
+
+    ghost moved = { λ p e. validated-moves _ _ (A.moved p.parser e) };
+
+    fn always_moves(&self) -> bool {
+        self.parser.always_moves()
+    }
+}
+
+/// `a.validate(f)`.
+pub fn validate_is_steady<
+    'src,
+    I: Input<'src>,
+    O,
+    U: Drop,
+    E: ParserExtra<I>,
+    A: Parser<'src, I, O, E>,
+    F: Fn(O, &mut MapExtra<'src, '_, I, E>, &mut Emitter<E::Error>) -> U,
+>(validate: &Validate<A, O, F, U>)
+    ensures ready { A.ready validate.now.parser → MayValidate I.Input E.State.Inspector F.Fn validate.now.validator → ⟦<Validate<A, O, F, U> as Parser<'src, I, U, E>>⟧.ready validate.now }
+    ensures steady { A.steady validate.now.parser → EmitsAlike (ByEmitter I.Input E.State.Inspector F.Fn validate.now.validator E.Error.seen) (A.same validate.now.parser) → ⟦<Validate<A, O, F, U> as Parser<'src, I, U, E>>⟧.steady validate.now }
+    ensures same { (x y : U) → ⟦<Validate<A, O, F, U> as Parser<'src, I, U, E>>⟧.same validate.now x y → SameValidated (ByEmitter I.Input E.State.Inspector F.Fn validate.now.validator E.Error.seen) (A.same validate.now.parser) x y }
+{}

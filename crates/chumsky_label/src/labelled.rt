@@ -3,12 +3,14 @@ ghost use Rattle.std.specs.Prelude.{◌≡◌, ◌<◌, IsTrue, MatchOption};
 ghost use Rattle.chumsky_judge.specs.Calls.{Changes};
 ghost use Rattle.chumsky_label.specs.Labelling.{LabelsSeen};
 ghost use Rattle.chumsky_label.specs.Labelled.{RelabelsOrLoses, KeepsOrLoses};
+ghost use Rattle.chumsky_judge.specs.MapErr.{MapsOnce};
 
 use crate::label_error::LabelError;
 use chumsky_input::extra::ParserExtra;
 use chumsky_input::input::Input;
 use chumsky_input::input_ref::{InputRef, Located};
 use chumsky_input::stop::{Fault, PResult};
+use chumsky_parser::moving::Moving;
 use chumsky_parser::parser::{IsParser, Parser};
 use std::alloc::AllocError;
 
@@ -148,3 +150,38 @@ where
         }
     }
 }
+
+impl<'src, I, O, E, A, L> Moving<'src, I, O, E> for Labelled<A, L>
+where
+    I: Input<'src>,
+    O: Drop,
+    E: ParserExtra<I>,
+    E::Error: LabelError<I, L>,
+    A: Moving<'src, I, O, E>,
+{
+    ghost use Rattle.chumsky_label.specs.LabelledLanguage.{labelled-moves};
+
+    ghost moves = { λ p. A.moves p.parser };
+
+    ghost moved = { λ p e. labelled-moves _ _ _ _ (A.moved p.parser e) };
+
+    fn always_moves(&self) -> bool {
+        self.parser.always_moves()
+    }
+}
+
+/// `a.labelled(label)`: ready where `a` is, and steady where to each error there is one that the label makes of it.
+pub fn labelled_is_steady<
+    'src,
+    I: Input<'src>,
+    O: Drop,
+    E: ParserExtra<I>,
+    A: Parser<'src, I, O, E>,
+    L,
+>(parser: &Labelled<A, L>)
+where
+    E::Error: LabelError<I, L>,
+    ensures ready { A.ready parser.now.parser → ⟦<Labelled<A, L> as Parser<'src, I, O, E>>⟧.ready parser.now }
+    ensures steady { A.steady parser.now.parser → MapsOnce (LabelsSeen E.Error.Error.seen (E.Error.LabelError.labelled E.Error.Error parser.now.label)) → ⟦<Labelled<A, L> as Parser<'src, I, O, E>>⟧.steady parser.now }
+    ensures same { (x y : O) → ⟦<Labelled<A, L> as Parser<'src, I, O, E>>⟧.same parser.now x y → A.same parser.now.parser x y }
+{}

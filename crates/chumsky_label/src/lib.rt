@@ -4,4 +4,3 @@
 pub mod label_error;
 pub mod labelled;
 pub mod laws;
-pub mod steady;

@@ -1,4 +1,7 @@
 //! Parsers by reference and in boxes, which do as the parser within.
+ghost use Rattle.std.specs.Rc.{rc_value};
+
+use crate::moving::Moving;
 use crate::parser::{IsParser, Parser};
 use chumsky_input::extra::ParserExtra;
 use chumsky_input::input::Input;
@@ -100,3 +103,47 @@ impl<'src, I: Input<'src>, O, E: ParserExtra<I>, P: Parser<'src, I, O, E>> Parse
         self.as_ref().go_check(inp)
     }
 }
+
+impl<'src, I: Input<'src>, O, E: ParserExtra<I>, P: Moving<'src, I, O, E>> Moving<'src, I, O, E>
+    for Box<P> {
+    ghost moves = { λ p. P.moves p.value };
+
+    ghost moved = { λ p. P.moved p.value };
+
+    fn always_moves(&self) -> bool {
+        (**self).always_moves()
+    }
+}
+
+impl<'src, I: Input<'src>, O, E: ParserExtra<I>, P: Moving<'src, I, O, E>> Moving<'src, I, O, E>
+    for Rc<P> {
+    ghost use Rattle.std.specs.Rc.{rc_value};
+
+    ghost moves = { λ p. P.moves (rc_value p) };
+
+    ghost moved = { λ p. P.moved (rc_value p) };
+
+    fn always_moves(&self) -> bool {
+        self.as_ref().always_moves()
+    }
+}
+
+/// A parser by reference, in a `Box` and in an `Rc`.
+pub fn by_reference_is_steady<
+    'src,
+    'a,
+    I: Input<'src>,
+    O,
+    E: ParserExtra<I>,
+    P: Parser<'src, I, O, E>,
+>(reference: &&'a P, boxed: &Box<P>, counted: &Rc<P>)
+    ensures ready_by_reference { P.ready reference.now.now → ⟦<&'a P as Parser<'src, I, O, E>>⟧.ready reference.now }
+    ensures ready_boxed { P.ready boxed.now.value → ⟦<Box<P> as Parser<'src, I, O, E>>⟧.ready boxed.now }
+    ensures ready_counted { P.ready (rc_value counted.now) → ⟦<Rc<P> as Parser<'src, I, O, E>>⟧.ready counted.now }
+    ensures reference { P.steady reference.now.now → ⟦<&'a P as Parser<'src, I, O, E>>⟧.steady reference.now }
+    ensures boxed { P.steady boxed.now.value → ⟦<Box<P> as Parser<'src, I, O, E>>⟧.steady boxed.now }
+    ensures counted { P.steady (rc_value counted.now) → ⟦<Rc<P> as Parser<'src, I, O, E>>⟧.steady counted.now }
+    ensures same_by_reference { (x y : O) → ⟦<&'a P as Parser<'src, I, O, E>>⟧.same reference.now x y → P.same reference.now.now x y }
+    ensures same_boxed { (x y : O) → ⟦<Box<P> as Parser<'src, I, O, E>>⟧.same boxed.now x y → P.same boxed.now.value x y }
+    ensures same_counted { (x y : O) → ⟦<Rc<P> as Parser<'src, I, O, E>>⟧.same counted.now x y → P.same (rc_value counted.now) x y }
+{}

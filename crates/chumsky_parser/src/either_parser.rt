@@ -2,6 +2,7 @@
 ghost use Rattle.either.specs.Either.{MatchEither};
 ghost use Rattle.chumsky_parser.specs.EitherLaws.{either-ends, either-agrees};
 
+use crate::moving::Moving;
 use crate::parser::{IsParser, Parser};
 use chumsky_input::extra::ParserExtra;
 use chumsky_input::input::Input;
@@ -53,3 +54,40 @@ impl<
         }
     }
 }
+
+impl<
+    'src,
+    I: Input<'src>,
+    O,
+    E: ParserExtra<I>,
+    A: Moving<'src, I, O, E>,
+    B: Moving<'src, I, O, E>,
+> Moving<'src, I, O, E> for Either<A, B> {
+    ghost use Rattle.chumsky_parser.specs.EitherLaws.{of_either};
+    ghost use Rattle.chumsky_parser.specs.EitherLaws.{either-moves};
+
+    ghost moves = { of_either A.moves B.moves };
+
+    ghost moved = { either-moves _ _ A.moves B.moves A.moved B.moved };
+
+    fn always_moves(&self) -> bool {
+        match self {
+            Either::Left(first) => first.always_moves(),
+            Either::Right(second) => second.always_moves(),
+        }
+    }
+}
+
+/// A parser of one of two types.
+pub fn either_is_steady<
+    'src,
+    I: Input<'src>,
+    O,
+    E: ParserExtra<I>,
+    A: Parser<'src, I, O, E>,
+    B: Parser<'src, I, O, E>,
+>(either: &Either<A, B>)
+    ensures ready { MatchEither either.now A.ready B.ready → ⟦<Either<A, B> as Parser<'src, I, O, E>>⟧.ready either.now }
+    ensures steady { MatchEither either.now A.steady B.steady → ⟦<Either<A, B> as Parser<'src, I, O, E>>⟧.steady either.now }
+    ensures same { (x y : O) → ⟦<Either<A, B> as Parser<'src, I, O, E>>⟧.same either.now x y → MatchEither either.now (λ a. A.same a x y) (λ b. B.same b x y) }
+{}

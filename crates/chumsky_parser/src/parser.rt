@@ -1,6 +1,7 @@
 //! What a parser is.
 ghost use Rattle.std.specs.Prelude.{◌≡◌, true, false};
 ghost use Rattle.chumsky_input.specs.Run.{Runs, with_value, without_value};
+ghost use Rattle.chumsky_parser.specs.ByParts.{NeverOut, NoRunOut};
 
 use chumsky_input::extra::ParserExtra;
 use chumsky_input::input::Input;
@@ -55,3 +56,16 @@ pub trait Parser<'src, I: Input<'src>, O, E: ParserExtra<I>> {
     /// What is said of its language holds.
     ghost accepts: { (p : Self) → Accepts (meaning p E.Error.Error E.State.Inspector) (language p) (E.Error.takes_no_memory × E.State.takes_no_memory) };
 }
+
+/// A run of such a parser is not refused for memory, for its value or without it, where errors take none: each call of
+/// `go_emit` and `go_check` shows that it runs so.
+pub fn a_run_is_never_out_of_memory<
+    'src,
+    I: Input<'src>,
+    O,
+    E: ParserExtra<I>,
+    P: Parser<'src, I, O, E>,
+>(parser: &P)
+    ensures { NeverOut E.Error.Error E.State.Inspector (P.meaning parser.now) → E.Error.takes_no_memory →
+        NoRunOut E.Error.Error E.State.Inspector (P.meaning parser.now) }
+{}

@@ -2,7 +2,7 @@
 ghost use Rattle.std.specs.Prelude.{◌≡◌, ◌<◌, true, false, length, All};
 ghost use Rattle.chumsky_input.specs.Run.{Runs, with_value, without_value};
 ghost use Rattle.chumsky_folds.specs.Running.{InTokens, NotPast, OnlyState, AnswersSince};
-ghost use Rattle.chumsky_pratt.specs.Listed.{fixity_in, GivesIn, gives_in, reads_in};
+ghost use Rattle.chumsky_pratt.specs.Listed.{fixity_in, GivesIn, gives_in, reads_in, SameIn};
 
 use crate::fixity::Fixity;
 use crate::operands::Operands;
@@ -180,3 +180,18 @@ impl<
         fold_at::<I, O, E, T>(self.operators.as_slice(), found, operands, since, inp)
     }
 }
+
+/// Operators of one type in a slice, a `Vec` or an array. What is read of two is the same where both are one operator, which calls
+/// it so.
+pub fn operators_of_a_list_are_steady<
+    'src,
+    I: Input<'src>,
+    O: Drop,
+    E: ParserExtra<I>,
+    T: Operator<'src, I, O, E>,
+    L: AsSlice<T>,
+>(list: &OperatorList<T, L>)
+    ensures ready { All T.ready (L.items list.now.operators) → ⟦<OperatorList<T, L> as Operators<'src, I, O, E>>⟧.ready list.now }
+    ensures steady { All T.steady (L.items list.now.operators) → ⟦<OperatorList<T, L> as Operators<'src, I, O, E>>⟧.steady list.now }
+    ensures same { (x y : _) → ⟦<OperatorList<T, L> as Operators<'src, I, O, E>>⟧.same list.now x y → SameIn T.same (L.items list.now.operators) x y }
+{}

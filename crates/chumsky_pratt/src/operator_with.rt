@@ -1,7 +1,9 @@
 //! Operators whose folders are shown the run.
-ghost use Rattle.std.specs.Prelude.{◌≡◌, true, false};
+ghost use Rattle.std.specs.Prelude.{◌≡◌, true, false, ◌<◌};
 ghost use Rattle.chumsky_input.specs.Run.{Runs, with_value, without_value};
 ghost use Rattle.chumsky_folds.specs.Running.{InTokens, NotPast, OnlyState, AnswersSince};
+ghost use Rattle.chumsky_parser.specs.Showing.{OnlyAnswers};
+ghost use Rattle.chumsky_pratt.specs.Operators.{GivesPrefixWith, GivesPostfixWith, GivesInfixWith};
 
 use crate::fixity::{Associativity, Fixity};
 use crate::folder_with::InfixFolderWith;
@@ -11,8 +13,9 @@ use chumsky_folds::folder_with::{FolderWith, RightFolderWith};
 use chumsky_input::extra::ParserExtra;
 use chumsky_input::input::Input;
 use chumsky_input::input_ref::InputRef;
+use chumsky_input::map_extra::MapExtra;
 use chumsky_input::stop::PResult;
-use chumsky_parser::parser::Parser;
+use chumsky_parser::parser::{IsParser, Parser};
 use std::marker::PhantomData;
 
 /// An operator before its operand, whose folder is shown the run. See `prefix_with`.
@@ -43,6 +46,81 @@ pub struct InfixWith<P, F, O, W> {
     pub parser: P,
     pub folder: F,
     pub of: PhantomData<(O, W)>,
+}
+
+/// As `prefix`, by a closure that is shown the run too: the span and the slice of the operator and its operand, the state and
+/// the context. `prefix_with(3, just('-'), |_, n, extra| Negative(n, extra.span()))`. What it writes to the state stands,
+/// unless the run goes back past it; where no output is wanted it is not called.
+#[inline]
+pub fn prefix_with<'src, I, P, F, O, W, E>(
+    power: u16,
+    parser: P,
+    folder: F,
+) -> PrefixWith<P, F, O, W>
+where
+    I: Input<'src>,
+    E: ParserExtra<I>,
+    P: IsParser<I, W, E>,
+    F: Fn(W, O, &mut MapExtra<'src, '_, I, E>) -> O,
+    ensures power { result.power ≡ power }
+    ensures parser { result.parser ≡ parser }
+    ensures folder { result.folder ≡ folder }
+{
+    PrefixWith {
+        power,
+        parser,
+        folder,
+        of: PhantomData,
+    }
+}
+
+/// As `postfix`, by a closure that is shown the run too, as that of `prefix_with`, from where the operand began.
+#[inline]
+pub fn postfix_with<'src, I, P, F, O, W, E>(
+    power: u16,
+    parser: P,
+    folder: F,
+) -> PostfixWith<P, F, O, W>
+where
+    I: Input<'src>,
+    E: ParserExtra<I>,
+    P: IsParser<I, W, E>,
+    F: Fn(O, W, &mut MapExtra<'src, '_, I, E>) -> O,
+    ensures power { result.power ≡ power }
+    ensures parser { result.parser ≡ parser }
+    ensures folder { result.folder ≡ folder }
+{
+    PostfixWith {
+        power,
+        parser,
+        folder,
+        of: PhantomData,
+    }
+}
+
+/// As `infix`, by a closure that is shown the run too, as that of `prefix_with`, from where the first operand began to where the
+/// second ended: `infix_with(left(1), just('+'), |a, _, b, extra| Sum(a, b, extra.span()))`.
+#[inline]
+pub fn infix_with<'src, I, P, F, O, W, E>(
+    associativity: Associativity,
+    parser: P,
+    folder: F,
+) -> InfixWith<P, F, O, W>
+where
+    I: Input<'src>,
+    E: ParserExtra<I>,
+    P: IsParser<I, W, E>,
+    F: Fn(O, W, O, &mut MapExtra<'src, '_, I, E>) -> O,
+    ensures associativity { result.associativity ≡ associativity }
+    ensures parser { result.parser ≡ parser }
+    ensures folder { result.folder ≡ folder }
+{
+    InfixWith {
+        associativity,
+        parser,
+        folder,
+        of: PhantomData,
+    }
 }
 
 impl<P, F, O, W: Drop> HasOutput for PrefixWith<P, F, O, W> {
@@ -265,3 +343,48 @@ impl<
         }
     }
 }
+
+/// `prefix_with(..)`, where `f` gives one output for each operator and operand and each run that it is shown, and keeps the state.
+pub fn prefix_with_is_steady<
+    'src,
+    I: Input<'src>,
+    O: Drop,
+    W: Drop,
+    E: ParserExtra<I>,
+    P: Parser<'src, I, W, E>,
+    F: RightFolderWith<'src, I, W, O, E>,
+>(prefix: &PrefixWith<P, F, O, W>)
+    ensures ready { P.ready prefix.now.parser → F.callable prefix.now.folder → ⟦<PrefixWith<P, F, O, W> as Operator<'src, I, O, E>>⟧.ready prefix.now }
+    ensures steady { P.steady prefix.now.parser → OnlyAnswers (GivesPrefixWith (F.gives prefix.now.folder E.State.Inspector)) → ⟦<PrefixWith<P, F, O, W> as Operator<'src, I, O, E>>⟧.steady prefix.now }
+    ensures same { (x y : W) → ⟦<PrefixWith<P, F, O, W> as Operator<'src, I, O, E>>⟧.same prefix.now x y → P.same prefix.now.parser x y }
+{}
+
+/// `postfix_with(..)`, likewise.
+pub fn postfix_with_is_steady<
+    'src,
+    I: Input<'src>,
+    O: Drop,
+    W: Drop,
+    E: ParserExtra<I>,
+    P: Parser<'src, I, W, E>,
+    F: FolderWith<'src, I, O, W, E>,
+>(postfix: &PostfixWith<P, F, O, W>)
+    ensures ready { P.ready postfix.now.parser → F.callable postfix.now.folder → ⟦<PostfixWith<P, F, O, W> as Operator<'src, I, O, E>>⟧.ready postfix.now }
+    ensures steady { P.steady postfix.now.parser → OnlyAnswers (GivesPostfixWith (F.gives postfix.now.folder E.State.Inspector)) → ⟦<PostfixWith<P, F, O, W> as Operator<'src, I, O, E>>⟧.steady postfix.now }
+    ensures same { (x y : W) → ⟦<PostfixWith<P, F, O, W> as Operator<'src, I, O, E>>⟧.same postfix.now x y → P.same postfix.now.parser x y }
+{}
+
+/// `infix_with(..)`, likewise.
+pub fn infix_with_is_steady<
+    'src,
+    I: Input<'src>,
+    O: Drop,
+    W: Drop,
+    E: ParserExtra<I>,
+    P: Parser<'src, I, W, E>,
+    F: InfixFolderWith<'src, I, O, W, E>,
+>(operator: &InfixWith<P, F, O, W>)
+    ensures ready { P.ready operator.now.parser → F.callable operator.now.folder → ⟦<InfixWith<P, F, O, W> as Operator<'src, I, O, E>>⟧.ready operator.now }
+    ensures steady { P.steady operator.now.parser → OnlyAnswers (GivesInfixWith (F.gives operator.now.folder E.State.Inspector)) → ⟦<InfixWith<P, F, O, W> as Operator<'src, I, O, E>>⟧.steady operator.now }
+    ensures same { (x y : W) → ⟦<InfixWith<P, F, O, W> as Operator<'src, I, O, E>>⟧.same operator.now x y → P.same operator.now.parser x y }
+{}

@@ -1,4 +1,7 @@
 //! A parser of expressions.
+ghost use Rattle.std.specs.Prelude.{◌<◌};
+ghost use Rattle.chumsky_pratt.specs.ExpressionLaws.{SameExpression};
+
 use crate::machine::climb;
 use crate::row::Operators;
 use crate::way::{ForValue, WithoutValue};
@@ -6,6 +9,7 @@ use chumsky_input::extra::ParserExtra;
 use chumsky_input::input::Input;
 use chumsky_input::input_ref::InputRef;
 use chumsky_input::stop::PResult;
+use chumsky_parser::moving::Moving;
 use chumsky_parser::parser::{IsParser, Parser};
 
 /// A parser of expressions: atoms with operators between, before and after them. See `pratt`.
@@ -53,3 +57,37 @@ impl<
         climb(&WithoutValue, &self.atom, &self.operators, inp)
     }
 }
+
+/// An expression moves where its atom does: a prefix operator that takes nothing is refused.
+impl<
+    'src,
+    I: Input<'src>,
+    O: Drop,
+    E: ParserExtra<I>,
+    P: Moving<'src, I, O, E>,
+    R: Operators<'src, I, O, E>,
+> Moving<'src, I, O, E> for Pratt<P, R> {
+    ghost use Rattle.chumsky_pratt.specs.ExpressionMoves.{expression-move};
+
+    ghost moves = { λ p. P.moves p.atom };
+
+    ghost moved = { λ p e. expression-move _ (P.ends_after_start p.atom) (R.ends_after_start p.operators) (P.moved p.atom e) 0 };
+
+    fn always_moves(&self) -> bool {
+        self.atom.always_moves()
+    }
+}
+
+/// `a.pratt(..)`. Two outputs are the same where they are built alike, from atoms that are the same, by operators that are.
+pub fn pratt_is_steady<
+    'src,
+    I: Input<'src>,
+    O: Drop,
+    E: ParserExtra<I>,
+    P: Parser<'src, I, O, E>,
+    R: Operators<'src, I, O, E>,
+>(pratt: &Pratt<P, R>)
+    ensures ready { P.ready pratt.now.atom → R.ready pratt.now.operators → ⟦<Pratt<P, R> as Parser<'src, I, O, E>>⟧.ready pratt.now }
+    ensures steady { P.steady pratt.now.atom → R.steady pratt.now.operators → ⟦<Pratt<P, R> as Parser<'src, I, O, E>>⟧.steady pratt.now }
+    ensures same { (x y : O) → ⟦<Pratt<P, R> as Parser<'src, I, O, E>>⟧.same pratt.now x y → SameExpression (P.same pratt.now.atom) (R.same pratt.now.operators) (R.gives pratt.now.operators E.State.Inspector) x y }
+{}

@@ -2,6 +2,7 @@
 ghost use Rattle.std.specs.Prelude.{◌≡◌, ◌<◌, ◌^◌, ℕ, true, false, zero, suc};
 ghost use Rattle.chumsky_input.specs.Run.{Runs, with_value, without_value};
 ghost use Rattle.chumsky_folds.specs.Running.{InTokens, NotPast, OnlyState, AnswersSince};
+ghost use Rattle.chumsky_pratt.specs.Operators.{SameAnd};
 
 use crate::fixity::Fixity;
 use crate::operands::Operands;
@@ -272,3 +273,21 @@ impl<
         }
     }
 }
+
+/// Operators in a row, as a tuple of them makes it. What is read of two is the same where both are one operator, which calls it
+/// so.
+pub fn operators_are_steady<
+    'src,
+    I: Input<'src>,
+    O: Drop,
+    E: ParserExtra<I>,
+    T: Operator<'src, I, O, E>,
+    R: Operators<'src, I, O, E>,
+>(row: &OperatorAnd<T, R>, last: &LastOperator<T>)
+    ensures ready { T.ready row.now.operator → R.ready row.now.others → suc (R.number row.now.others) < 2 ^ 64 → ⟦<OperatorAnd<T, R> as Operators<'src, I, O, E>>⟧.ready row.now }
+    ensures ready_last { T.ready last.now.operator → ⟦<LastOperator<T> as Operators<'src, I, O, E>>⟧.ready last.now }
+    ensures steady { T.steady row.now.operator → R.steady row.now.others → ⟦<OperatorAnd<T, R> as Operators<'src, I, O, E>>⟧.steady row.now }
+    ensures steady_last { T.steady last.now.operator → ⟦<LastOperator<T> as Operators<'src, I, O, E>>⟧.steady last.now }
+    ensures same { (x y : _) → ⟦<OperatorAnd<T, R> as Operators<'src, I, O, E>>⟧.same row.now x y → SameAnd (T.same row.now.operator) (R.same row.now.others) x y }
+    ensures same_last { (x y : _) → ⟦<LastOperator<T> as Operators<'src, I, O, E>>⟧.same last.now x y → T.same last.now.operator x y }
+{}

@@ -1,9 +1,13 @@
 //! Any token.
+ghost use Rattle.std.specs.Prelude.{true, ◌≡◌};
+ghost use Rattle.chumsky_parser.specs.ByParts.{NeverOut};
+
 use chumsky_input::extra::ParserExtra;
 use chumsky_input::input::{Tokens, ValueInput};
 use chumsky_input::input_ref::InputRef;
 use chumsky_input::stop::{Fault, PResult, Stop};
 use chumsky_input::util::Plain;
+use chumsky_parser::moving::Moving;
 use chumsky_parser::parser::{IsParser, Parser};
 use std::marker::PhantomData;
 
@@ -12,6 +16,12 @@ use std::marker::PhantomData;
 #[derive_where(Clone, Copy)]
 pub struct Any<I, E> {
     pub of: PhantomData<(I, E)>,
+}
+
+/// Takes one token, whichever it is; fails at the end of input.
+#[inline]
+pub fn any<I, E>() -> Any<I, E> {
+    Any { of: PhantomData }
 }
 
 impl<I: Tokens, E> IsParser<I, I::Token, E> for Any<I, E> {}
@@ -61,3 +71,28 @@ impl<'src, I: ValueInput<'src>, E: ParserExtra<I>> Parser<'src, I, I::Token, E> 
         Err(inp.expected(&here, &here, Plain::Any, None))
     }
 }
+
+impl<'src, I: ValueInput<'src>, E: ParserExtra<I>> Moving<'src, I, I::Token, E> for Any<I, E> {
+    ghost use Rattle.chumsky_primitive.specs.PrimitivesMove.{any-moves};
+
+    ghost moves = { λ _. true };
+
+    ghost moved = { λ _ _. any-moves _ _ _ _ _ };
+
+    fn always_moves(&self) -> bool {
+        true
+    }
+}
+
+/// `any()`, over tokens that are handed out without memory.
+pub fn any_is_never_out_of_memory<'src, I: ValueInput<'src>, E: ParserExtra<I>>(any: &Any<I, E>)
+    ensures { ((t : I.Token) → I.takes_no_memory t) → E.Error.takes_no_memory → NeverOut E.Error.Error E.State.Inspector
+        (⟦<Any<I, E> as Parser<'src, I, I::Token, E>>⟧.meaning any.now) }
+{}
+
+/// `any()` is steady.
+pub fn any_is_steady<'src, I: ValueInput<'src>, E: ParserExtra<I>>(parser: &Any<I, E>)
+    ensures ready { ⟦<Any<I, E> as Parser<'src, I, I::Token, E>>⟧.ready parser.now }
+    ensures steady { ⟦<Any<I, E> as Parser<'src, I, I::Token, E>>⟧.steady parser.now }
+    ensures same { (x y : I.Token) → ⟦<Any<I, E> as Parser<'src, I, I::Token, E>>⟧.same parser.now x y → I.seen x ≡ I.seen y }
+{}

@@ -1,9 +1,13 @@
 //! Any token, where it lies.
+ghost use Rattle.std.specs.Prelude.{true, ◌≡◌};
+ghost use Rattle.std.specs.Borrow.{Bor};
+
 use chumsky_input::extra::ParserExtra;
 use chumsky_input::input::BorrowInput;
 use chumsky_input::input_ref::InputRef;
 use chumsky_input::stop::PResult;
 use chumsky_input::util::Plain;
+use chumsky_parser::moving::Moving;
 use chumsky_parser::parser::{IsParser, Parser};
 use std::marker::PhantomData;
 
@@ -12,6 +16,12 @@ use std::marker::PhantomData;
 #[derive_where(Clone, Copy)]
 pub struct AnyRef<I, E> {
     pub of: PhantomData<(I, E)>,
+}
+
+/// Takes one token, whichever it is, and gives a reference to it where it lies in the input; fails at the end of input.
+#[inline]
+pub fn any_ref<I, E>() -> AnyRef<I, E> {
+    AnyRef { of: PhantomData }
 }
 
 impl<'src, I: BorrowInput<'src>, E> IsParser<I, &'src I::Token, E> for AnyRef<I, E> {}
@@ -61,3 +71,25 @@ impl<'src, I: BorrowInput<'src>, E: ParserExtra<I>> Parser<'src, I, &'src I::Tok
         Err(inp.expected(&here, &here, Plain::Any, None))
     }
 }
+
+impl<'src, I: BorrowInput<'src>, E: ParserExtra<I>> Moving<'src, I, &'src I::Token, E>
+    for AnyRef<I, E> {
+    ghost use Rattle.chumsky_primitive.specs.PrimitivesMove.{any-moves};
+
+    ghost moves = { λ _. true };
+
+    ghost moved = { λ _ _. any-moves _ _ _ _ _ };
+
+    fn always_moves(&self) -> bool {
+        true
+    }
+}
+
+/// `any_ref()` is steady.
+pub fn any_ref_is_steady<'src, I: BorrowInput<'src>, E: ParserExtra<I>>(parser: &AnyRef<I, E>)
+where
+    I::Token: 'src,
+    ensures ready { ⟦<AnyRef<I, E> as Parser<'src, I, &'src I::Token, E>>⟧.ready parser.now }
+    ensures steady { ⟦<AnyRef<I, E> as Parser<'src, I, &'src I::Token, E>>⟧.steady parser.now }
+    ensures same { (x y : Bor I.Token) → ⟦<AnyRef<I, E> as Parser<'src, I, &'src I::Token, E>>⟧.same parser.now x y → x.now ≡ y.now }
+{}

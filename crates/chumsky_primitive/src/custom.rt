@@ -4,7 +4,7 @@ ghost use Rattle.chumsky_input.specs.Aside.{GoesForward};
 ghost use Rattle.chumsky_input.specs.Held.{held};
 ghost use Rattle.chumsky_input.specs.Run.{Runs};
 ghost use Rattle.chumsky_parser.specs.Failure.{asked};
-ghost use Rattle.chumsky_primitive.specs.Custom.{MayRun, Calls, MeansCustom};
+ghost use Rattle.chumsky_primitive.specs.Custom.{MayRun, Calls, MeansCustom, IsSteady, SameCalled};
 
 use chumsky_input::error::Error;
 use chumsky_input::extra::ParserExtra;
@@ -12,6 +12,7 @@ use chumsky_input::input::Input;
 use chumsky_input::input_ref::InputRef;
 use chumsky_input::inspector::Inspector;
 use chumsky_input::stop::{Failure, Fault, PResult};
+use chumsky_parser::moving::MayStay;
 use chumsky_parser::parser::{IsParser, Parser};
 use std::marker::PhantomData;
 
@@ -51,6 +52,52 @@ pub trait Reader<'src, I: Input<'src>, O, E: ParserExtra<I>> {
         ensures gives { gives self.now E.Error.Error E.State.Inspector (held I.Input E.Error.Error E.State.Inspector inp.old) result (held I.Input E.Error.Error E.State.Inspector inp.new) }
         ensures forward { GoesForward result (held I.Input E.Error.Error E.State.Inspector inp.old) (held I.Input E.Error.Error E.State.Inspector inp.new) }
         ensures lent { inp.new.state.ghost_name ≡ inp.old.state.ghost_name };
+}
+
+/// A parser given by a closure, which is called whether an output is wanted or not.
+///
+/// It succeeds where the closure gives a value, and ends where the closure left the cursor. An error of the closure
+/// stands at the place where the parser began, and a stop is passed on. The closure is lent an input on which nothing
+/// has failed yet: what it does counts after what was there before, and the failures of parsers that it runs count as
+/// one. In Rattle a closure may not capture a parser whose type names the input's lifetime: make it inside, as
+/// `inp.parse(any())`.
+///
+/// ```
+/// custom(|inp| match inp.next()? {
+///     Some(c) => Ok(c),
+///     None => Err(Failure::Error(EmptyErr)),
+/// })
+/// ```
+#[inline]
+pub fn custom<'src, F, I, O, E>(closure: F) -> Custom<F, I, O, E>
+where
+    I: Input<'src>,
+    I::Token: 'src,
+    E: ParserExtra<I>,
+    F: Fn(&mut InputRef<'src, '_, I, E>) -> Result<O, Failure<E::Error>>,
+    ensures { result.reader ≡ closure }
+{
+    Custom {
+        reader: closure,
+        of: PhantomData,
+    }
+}
+
+/// The same with a value of a type with an impl of `Reader`. The parser's type can then be written down, its output may name
+/// a lifetime, and what is read is known where the parser is run.
+#[inline]
+pub fn custom_by<'src, F, I, O, E>(reader: F) -> Custom<F, I, O, E>
+where
+    I: Input<'src>,
+    I::Token: 'src,
+    E: ParserExtra<I>,
+    F: Reader<'src, I, O, E>,
+    ensures { result.reader ≡ reader }
+{
+    Custom {
+        reader,
+        of: PhantomData,
+    }
 }
 
 impl<'src, I, O, E, F> Reader<'src, I, O, E> for F
@@ -154,3 +201,29 @@ where
         }
     }
 }
+
+impl<F, I, O, E> MayStay for Custom<F, I, O, E> {}
+
+/// `custom` and `custom_by` are steady where any two calls of the reader from one beginning end alike.
+pub fn custom_is_steady<'src, F, I, O, E>(parser: &Custom<F, I, O, E>)
+where
+    I: Input<'src>,
+    I::Token: 'src,
+    O: Drop,
+    E: ParserExtra<I>,
+    F: Reader<'src, I, O, E>,
+    ensures ready { F.callable parser.now.reader → ⟦<Custom<F, I, O, E> as Parser<'src, I, O, E>>⟧.ready parser.now }
+    ensures steady { IsSteady E.Error.seen (F.gives parser.now.reader E.Error.Error E.State.Inspector) → ⟦<Custom<F, I, O, E> as Parser<'src, I, O, E>>⟧.steady parser.now }
+    ensures same { (x y : O) → ⟦<Custom<F, I, O, E> as Parser<'src, I, O, E>>⟧.same parser.now x y → SameCalled (F.gives parser.now.reader E.Error.Error E.State.Inspector) x y }
+{}
+
+/// A closure reads where it may be called on every `InputRef`, keeps the reference to the state, goes forward, and passes on the
+/// stop of a parser that it ran.
+pub fn closures_may_read<'src, F, I, O, E>(reader: &F)
+where
+    I: Input<'src>,
+    I::Token: 'src,
+    E: ParserExtra<I>,
+    F: Fn(&mut InputRef<'src, '_, I, E>) -> Result<O, Failure<E::Error>>,
+    ensures { MayRun I.Input E.Error.Error E.State.Inspector F.Fn reader.now → ⟦<F as Reader<'src, I, O, E>>⟧.callable reader.now }
+{}

@@ -3,6 +3,7 @@ use chumsky_input::extra::ParserExtra;
 use chumsky_input::input::Input;
 use chumsky_input::input_ref::InputRef;
 use chumsky_input::stop::PResult;
+use chumsky_parser::moving::MayStay;
 use chumsky_parser::parser::{IsParser, Parser};
 use std::marker::PhantomData;
 
@@ -11,6 +12,12 @@ use std::marker::PhantomData;
 #[derive_where(Clone, Copy)]
 pub struct Empty<I, E> {
     pub of: PhantomData<(I, E)>,
+}
+
+/// Says yes everywhere, and takes nothing.
+#[inline]
+pub fn empty<I, E>() -> Empty<I, E> {
+    Empty { of: PhantomData }
 }
 
 impl<I, E> IsParser<I, (), E> for Empty<I, E> {}
@@ -49,3 +56,5 @@ impl<'src, I: Input<'src>, E: ParserExtra<I>> Parser<'src, I, (), E> for Empty<I
         Ok(())
     }
 }
+
+impl<I, E> MayStay for Empty<I, E> {}

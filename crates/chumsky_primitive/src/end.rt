@@ -1,9 +1,13 @@
 //! The end of input.
+ghost use Rattle.chumsky_parser.specs.ByParts.{NeverOut};
+
+use crate::empty::Empty;
 use chumsky_input::extra::ParserExtra;
 use chumsky_input::input::Input;
 use chumsky_input::input_ref::InputRef;
 use chumsky_input::stop::PResult;
 use chumsky_input::util::Plain;
+use chumsky_parser::moving::MayStay;
 use chumsky_parser::parser::{IsParser, Parser};
 use std::marker::PhantomData;
 
@@ -12,6 +16,12 @@ use std::marker::PhantomData;
 #[derive_where(Clone, Copy)]
 pub struct End<I, E> {
     pub of: PhantomData<(I, E)>,
+}
+
+/// Says yes at the end of input, and fails at any token. `parse` and `check` run it after the parser.
+#[inline]
+pub fn end<I, E>() -> End<I, E> {
+    End { of: PhantomData }
 }
 
 impl<I, E> IsParser<I, (), E> for End<I, E> {}
@@ -65,3 +75,24 @@ impl<'src, I: Input<'src>, E: ParserExtra<I>> Parser<'src, I, (), E> for End<I, 
         }
     }
 }
+
+impl<I, E> MayStay for End<I, E> {}
+
+/// `end()` and `empty()`.
+pub fn end_is_never_out_of_memory<'src, I: Input<'src>, E: ParserExtra<I>>(
+    end: &End<I, E>,
+    empty: &Empty<I, E>,
+)
+    ensures end { E.Error.takes_no_memory → E.State.takes_no_memory → NeverOut E.Error.Error E.State.Inspector
+        (⟦<End<I, E> as Parser<'src, I, (), E>>⟧.meaning end.now) }
+    ensures empty { NeverOut E.Error.Error E.State.Inspector
+        (⟦<Empty<I, E> as Parser<'src, I, (), E>>⟧.meaning empty.now) }
+{}
+
+/// `end()` and `empty()` are steady.
+pub fn end_is_steady<'src, I: Input<'src>, E: ParserExtra<I>>(end: &End<I, E>, empty: &Empty<I, E>)
+    ensures ready_end { ⟦<End<I, E> as Parser<'src, I, (), E>>⟧.ready end.now }
+    ensures ready_empty { ⟦<Empty<I, E> as Parser<'src, I, (), E>>⟧.ready empty.now }
+    ensures end { ⟦<End<I, E> as Parser<'src, I, (), E>>⟧.steady end.now }
+    ensures empty { ⟦<Empty<I, E> as Parser<'src, I, (), E>>⟧.steady empty.now }
+{}

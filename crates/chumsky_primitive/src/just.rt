@@ -3,6 +3,7 @@ ghost use Rattle.std.specs.Prelude.{◌≡◌, Bool, option_map};
 ghost use Rattle.chumsky_input.specs.Maybe.{maybe_value};
 ghost use Rattle.chumsky_input.specs.Run.{Runs, without_value};
 ghost use Rattle.chumsky_primitive.specs.Just.{is_member, MeansMember, MeansMembers};
+ghost use Rattle.chumsky_parser.specs.ByParts.{NeverOut};
 
 use chumsky_input::extra::ParserExtra;
 use chumsky_input::input::Input;
@@ -10,6 +11,7 @@ use chumsky_input::input_ref::InputRef;
 use chumsky_input::stop::PResult;
 use chumsky_input::util::MaybeRef;
 use chumsky_parser::container::{OrderedSeq, Seq};
+use chumsky_parser::moving::Moving;
 use chumsky_parser::parser::{IsParser, Parser};
 use std::marker::PhantomData;
 
@@ -19,6 +21,18 @@ use std::marker::PhantomData;
 pub struct Just<T, I, E> {
     pub seq: T,
     pub of: PhantomData<(I, E)>,
+}
+
+/// Takes the members of a sequence, one after another, and gives the sequence. Where a member isn't there the error is
+/// at that place, and the cursor goes back to it.
+#[inline]
+pub fn just<T, I, E>(seq: T) -> Just<T, I, E>
+    ensures { result.seq ≡ seq }
+{
+    Just {
+        seq,
+        of: PhantomData,
+    }
 }
 
 impl<T, I, E> IsParser<I, T, E> for Just<T, I, E> {}
@@ -114,3 +128,44 @@ fn is_there<'a, T: PartialEq>(member: &T, found: &Option<MaybeRef<'a, T>>) -> bo
         None => false,
     }
 }
+
+impl<'src, T: OrderedSeq<I::Token> + Clone, I: Input<'src>, E: ParserExtra<I>> Moving<'src, I, T, E>
+    for Just<T, I, E>
+where
+    I::Token: PartialEq,
+{
+    ghost use Rattle.chumsky_primitive.specs.Just.{has_members};
+    ghost use Rattle.chumsky_primitive.specs.PrimitivesMove.{just-moves};
+
+    ghost moves = { λ p. has_members (T.members p.seq) };
+
+    ghost moved = { λ p. just-moves _ _ _ _ _ _ (T.members p.seq) };
+
+    fn always_moves(&self) -> bool {
+        self.seq.seq_at(0).is_some()
+    }
+}
+
+/// `just(seq)`, of a sequence whose clone takes no memory.
+pub fn just_is_never_out_of_memory<
+    'src,
+    T: OrderedSeq<I::Token> + Clone,
+    I: Input<'src>,
+    E: ParserExtra<I>,
+>(just: &Just<T, I, E>)
+where
+    I::Token: PartialEq,
+    ensures { T.is_infallible just.now.seq → E.Error.takes_no_memory → E.State.takes_no_memory → NeverOut E.Error.Error E.State.Inspector
+        (⟦<Just<T, I, E> as Parser<'src, I, T, E>>⟧.meaning just.now) }
+{}
+
+/// `just(seq)` is steady, whatever the sequence.
+pub fn just_is_steady<'src, T: OrderedSeq<I::Token> + Clone, I: Input<'src>, E: ParserExtra<I>>(
+    parser: &Just<T, I, E>,
+)
+where
+    I::Token: PartialEq,
+    ensures ready { ⟦<Just<T, I, E> as Parser<'src, I, T, E>>⟧.ready parser.now }
+    ensures steady { ⟦<Just<T, I, E> as Parser<'src, I, T, E>>⟧.steady parser.now }
+    ensures same { (x y : T) → ⟦<Just<T, I, E> as Parser<'src, I, T, E>>⟧.same parser.now x y → T.is_clone parser.now.seq x × T.is_clone parser.now.seq y }
+{}

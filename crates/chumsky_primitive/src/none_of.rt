@@ -1,5 +1,5 @@
 //! A token that is not in a sequence.
-ghost use Rattle.std.specs.Prelude.{◌≡◌, [], ◌∷◌, option_map};
+ghost use Rattle.std.specs.Prelude.{◌≡◌, [], ◌∷◌, option_map, true};
 ghost use Rattle.std.specs.Option.{option_copied};
 ghost use Rattle.chumsky_input.specs.Held.{held};
 ghost use Rattle.chumsky_input.specs.Maybe.{maybe_value};
@@ -14,6 +14,7 @@ use chumsky_input::input_ref::InputRef;
 use chumsky_input::stop::{Fault, PResult};
 use chumsky_input::util::{MaybeRef, Plain};
 use chumsky_parser::container::Seq;
+use chumsky_parser::moving::Moving;
 use chumsky_parser::parser::{IsParser, Parser};
 use std::marker::PhantomData;
 
@@ -23,6 +24,18 @@ use std::marker::PhantomData;
 pub struct NoneOf<S, I, E> {
     pub seq: S,
     pub of: PhantomData<(I, E)>,
+}
+
+/// Takes one token that is no member of a sequence, and gives it: `none_of("\"\n")` takes what may stand in a string.
+/// Where the next token is a member, or there is none, it takes nothing, and fails with something else expected.
+#[inline]
+pub fn none_of<S, I, E>(seq: S) -> NoneOf<S, I, E>
+    ensures { result.seq ≡ seq }
+{
+    NoneOf {
+        seq,
+        of: PhantomData,
+    }
 }
 
 impl<S, I: Tokens, E> IsParser<I, I::Token, E> for NoneOf<S, I, E> {}
@@ -110,4 +123,20 @@ fn expect_another<'src, I: Input<'src>, E: ParserExtra<I>>(
 {
     let here = inp.cursor;
     inp.expected(&here, past, Plain::SomethingElse, found)
+}
+
+impl<'src, S: Seq<I::Token>, I: ValueInput<'src>, E: ParserExtra<I>> Moving<'src, I, I::Token, E>
+    for NoneOf<S, I, E>
+where
+    I::Token: PartialEq,
+{
+    ghost use Rattle.chumsky_primitive.specs.PrimitivesMove.{tested-moves};
+
+    ghost moves = { λ _. true };
+
+    ghost moved = { λ _ _. tested-moves _ _ _ _ _ _ _ };
+
+    fn always_moves(&self) -> bool {
+        true
+    }
 }

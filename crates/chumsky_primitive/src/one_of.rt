@@ -1,12 +1,14 @@
 //! A token that is in a sequence.
-ghost use Rattle.std.specs.Prelude.{◌≡◌, map, option_map};
+ghost use Rattle.std.specs.Prelude.{◌≡◌, map, option_map, true};
 ghost use Rattle.std.specs.Option.{option_copied};
 ghost use Rattle.chumsky_input.specs.Held.{held};
 ghost use Rattle.chumsky_input.specs.Maybe.{maybe_value};
 ghost use Rattle.chumsky_input.specs.OneCall.{FailsExpecting};
 ghost use Rattle.chumsky_input.specs.Wanted as wanted;
 ghost use Rattle.chumsky_primitive.specs.OneOf.{among, FoundPasses};
+ghost use Rattle.chumsky_parser.specs.ByParts.{NeverOut};
 
+use crate::none_of::NoneOf;
 use crate::tested::{go_back_from, take};
 use chumsky_input::extra::ParserExtra;
 use chumsky_input::input::{Input, Tokens, ValueInput};
@@ -15,6 +17,7 @@ use chumsky_input::stop::{Fault, PResult};
 use chumsky_input::util::MaybeRef;
 use chumsky_parser::container::Seq;
 use chumsky_parser::members::Members;
+use chumsky_parser::moving::Moving;
 use chumsky_parser::parser::{IsParser, Parser};
 use std::marker::PhantomData;
 
@@ -24,6 +27,18 @@ use std::marker::PhantomData;
 pub struct OneOf<S, I, E> {
     pub seq: S,
     pub of: PhantomData<(I, E)>,
+}
+
+/// Takes one token that is a member of a sequence, and gives it: `one_of("+-")` takes a sign. Where the next token is
+/// none of them, or there is none, it takes nothing, and fails with each member expected, in order.
+#[inline]
+pub fn one_of<S, I, E>(seq: S) -> OneOf<S, I, E>
+    ensures { result.seq ≡ seq }
+{
+    OneOf {
+        seq,
+        of: PhantomData,
+    }
 }
 
 impl<S, I: Tokens, E> IsParser<I, I::Token, E> for OneOf<S, I, E> {}
@@ -115,3 +130,49 @@ where
     let here = inp.cursor;
     inp.expected_each(&here, past, Members::of(seq), found)
 }
+
+impl<'src, S: Seq<I::Token>, I: ValueInput<'src>, E: ParserExtra<I>> Moving<'src, I, I::Token, E>
+    for OneOf<S, I, E>
+where
+    I::Token: PartialEq,
+{
+    ghost use Rattle.chumsky_primitive.specs.PrimitivesMove.{tested-moves};
+
+    ghost moves = { λ _. true };
+
+    ghost moved = { λ _ _. tested-moves _ _ _ _ _ _ _ };
+
+    fn always_moves(&self) -> bool {
+        true
+    }
+}
+
+/// `one_of(seq)` and `none_of(seq)`, over tokens that are handed out without memory.
+pub fn one_of_is_never_out_of_memory<
+    'src,
+    S: Seq<I::Token>,
+    I: ValueInput<'src>,
+    E: ParserExtra<I>,
+>(one_of: &OneOf<S, I, E>, none_of: &NoneOf<S, I, E>)
+where
+    I::Token: PartialEq,
+    ensures one_of { ((t : I.Token) → I.takes_no_memory t) → E.Error.takes_no_memory → E.State.takes_no_memory → NeverOut E.Error.Error E.State.Inspector
+        (⟦<OneOf<S, I, E> as Parser<'src, I, I::Token, E>>⟧.meaning one_of.now) }
+    ensures none_of { ((t : I.Token) → I.takes_no_memory t) → E.Error.takes_no_memory → E.State.takes_no_memory → NeverOut E.Error.Error E.State.Inspector
+        (⟦<NoneOf<S, I, E> as Parser<'src, I, I::Token, E>>⟧.meaning none_of.now) }
+{}
+
+/// `one_of(seq)` and `none_of(seq)` are steady, whatever the sequence.
+pub fn one_of_is_steady<'src, S: Seq<I::Token>, I: ValueInput<'src>, E: ParserExtra<I>>(
+    one_of: &OneOf<S, I, E>,
+    none_of: &NoneOf<S, I, E>,
+)
+where
+    I::Token: PartialEq,
+    ensures ready_one_of { ⟦<OneOf<S, I, E> as Parser<'src, I, I::Token, E>>⟧.ready one_of.now }
+    ensures ready_none_of { ⟦<NoneOf<S, I, E> as Parser<'src, I, I::Token, E>>⟧.ready none_of.now }
+    ensures one_of { ⟦<OneOf<S, I, E> as Parser<'src, I, I::Token, E>>⟧.steady one_of.now }
+    ensures none_of { ⟦<NoneOf<S, I, E> as Parser<'src, I, I::Token, E>>⟧.steady none_of.now }
+    ensures same_one { (x y : I.Token) → ⟦<OneOf<S, I, E> as Parser<'src, I, I::Token, E>>⟧.same one_of.now x y → I.seen x ≡ I.seen y }
+    ensures same_other { (x y : I.Token) → ⟦<NoneOf<S, I, E> as Parser<'src, I, I::Token, E>>⟧.same none_of.now x y → I.seen x ≡ I.seen y }
+{}

@@ -1,10 +1,10 @@
 //! A token that a closure picks.
-ghost use Rattle.std.specs.Prelude.{◌≡◌, Bool};
+ghost use Rattle.std.specs.Prelude.{◌≡◌, Bool, true};
 ghost use Rattle.chumsky_input.specs.Held.{held, marks};
 ghost use Rattle.chumsky_input.specs.Run.{Runs};
 ghost use Rattle.chumsky_input.specs.Extra.{KeepsState};
 ghost use Rattle.chumsky_parser.specs.Failure.{asked};
-ghost use Rattle.chumsky_primitive.specs.Select.{PicksValue, MeansSelect, MissesToken};
+ghost use Rattle.chumsky_primitive.specs.Select.{PicksValue, MeansSelect, MissesToken, PicksAlike, SamePicked};
 
 use chumsky_input::extra::ParserExtra;
 use chumsky_input::input::{Input, Tokens, ValueInput};
@@ -13,6 +13,7 @@ use chumsky_input::inspector::Inspector;
 use chumsky_input::map_extra::{MapExtra, call_with_extra};
 use chumsky_input::stop::{Fault, PResult, Stop};
 use chumsky_input::util::{MaybeRef, Plain};
+use chumsky_parser::moving::Moving;
 use chumsky_parser::parser::{IsParser, Parser};
 use std::marker::PhantomData;
 
@@ -22,6 +23,23 @@ use std::marker::PhantomData;
 pub struct Select<F, I, O, E> {
     pub filter: F,
     pub of: PhantomData<(I, O, E)>,
+}
+
+/// Takes one token that the closure answers `Some` to, and gives what is in the `Some`; fails at any other token, and at
+/// the end of input. The closure is given the token by value and an extra over it, and is called with and without an
+/// output wanted; what it writes to the state stands where it answers `Some`. See the macro `select!`.
+#[inline]
+pub fn select<'src, F, I, O, E>(filter: F) -> Select<F, I, O, E>
+where
+    I: ValueInput<'src>,
+    E: ParserExtra<I>,
+    F: Fn(I::Token, &mut MapExtra<'src, '_, I, E>) -> Option<O>,
+    ensures { result.filter ≡ filter }
+{
+    Select {
+        filter,
+        of: PhantomData,
+    }
 }
 
 impl<I: Tokens, F, O, E> IsParser<I, O, E> for Select<F, I, O, E> {}
@@ -111,3 +129,33 @@ pub(crate) fn miss<'src, I: Input<'src>, E: ParserExtra<I>>(
         Err(_) => Fault::Stop(Stop::Memory),
     }
 }
+
+impl<'src, I, O, E, F> Moving<'src, I, O, E> for Select<F, I, O, E>
+where
+    I: ValueInput<'src>,
+    O: Drop,
+    E: ParserExtra<I>,
+    F: Fn(I::Token, &mut MapExtra<'src, '_, I, E>) -> Option<O>,
+{
+    ghost use Rattle.chumsky_primitive.specs.PrimitivesMove.{select-moves};
+
+    ghost moves = { λ _. true };
+
+    ghost moved = { λ _ _. select-moves _ _ _ _ _ };
+
+    fn always_moves(&self) -> bool {
+        true
+    }
+}
+
+/// `select` is steady where its closure gives each token and extra one verdict, and leaves one state.
+pub fn select_is_steady<'src, I, O, E, F>(parser: &Select<F, I, O, E>)
+where
+    I: ValueInput<'src>,
+    O: Drop,
+    E: ParserExtra<I>,
+    F: Fn(I::Token, &mut MapExtra<'src, '_, I, E>) -> Option<O>,
+    ensures ready { KeepsState I.Input E.State.Inspector F.Fn parser.now.filter → ⟦<Select<F, I, O, E> as Parser<'src, I, O, E>>⟧.ready parser.now }
+    ensures steady { PicksAlike (PicksValue I.Input E.State.Inspector I.seen F.Fn parser.now.filter) → ⟦<Select<F, I, O, E> as Parser<'src, I, O, E>>⟧.steady parser.now }
+    ensures same { (x y : O) → ⟦<Select<F, I, O, E> as Parser<'src, I, O, E>>⟧.same parser.now x y → SamePicked (PicksValue I.Input E.State.Inspector I.seen F.Fn parser.now.filter) x y }
+{}

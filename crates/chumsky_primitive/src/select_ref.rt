@@ -1,9 +1,9 @@
 //! A token that a closure picks, where it lies.
-ghost use Rattle.std.specs.Prelude.{◌≡◌, Bool, ⊤};
+ghost use Rattle.std.specs.Prelude.{◌≡◌, Bool, ⊤, true};
 ghost use Rattle.chumsky_input.specs.Run.{Runs};
 ghost use Rattle.chumsky_input.specs.Extra.{KeepsState};
 ghost use Rattle.chumsky_parser.specs.Failure.{asked};
-ghost use Rattle.chumsky_primitive.specs.Select.{PicksRef, MeansSelect};
+ghost use Rattle.chumsky_primitive.specs.Select.{PicksRef, MeansSelect, PicksAlike, SamePicked};
 
 use crate::select::miss;
 use chumsky_input::extra::ParserExtra;
@@ -12,6 +12,7 @@ use chumsky_input::input_ref::InputRef;
 use chumsky_input::map_extra::{MapExtra, call_with_extra};
 use chumsky_input::stop::PResult;
 use chumsky_input::util::{MaybeRef, Plain};
+use chumsky_parser::moving::Moving;
 use chumsky_parser::parser::{IsParser, Parser};
 use std::marker::PhantomData;
 
@@ -21,6 +22,23 @@ use std::marker::PhantomData;
 pub struct SelectRef<F, I, O, E> {
     pub filter: F,
     pub of: PhantomData<(I, O, E)>,
+}
+
+/// `select` over references: the closure is given a reference to the token where it lies in the input, and nothing is
+/// cloned. See the macro `select_ref!`.
+#[inline]
+pub fn select_ref<'src, F, I, O, E>(filter: F) -> SelectRef<F, I, O, E>
+where
+    I: BorrowInput<'src>,
+    I::Token: 'src,
+    E: ParserExtra<I>,
+    F: Fn(&'src I::Token, &mut MapExtra<'src, '_, I, E>) -> Option<O>,
+    ensures { result.filter ≡ filter }
+{
+    SelectRef {
+        filter,
+        of: PhantomData,
+    }
 }
 
 impl<I: Tokens, F, O, E> IsParser<I, O, E> for SelectRef<F, I, O, E> {}
@@ -91,3 +109,35 @@ where
         },
     }
 }
+
+impl<'src, I, O, E, F> Moving<'src, I, O, E> for SelectRef<F, I, O, E>
+where
+    I: BorrowInput<'src>,
+    I::Token: 'src,
+    O: Drop,
+    E: ParserExtra<I>,
+    F: Fn(&'src I::Token, &mut MapExtra<'src, '_, I, E>) -> Option<O>,
+{
+    ghost use Rattle.chumsky_primitive.specs.PrimitivesMove.{select-moves};
+
+    ghost moves = { λ _. true };
+
+    ghost moved = { λ _ _. select-moves _ _ _ _ _ };
+
+    fn always_moves(&self) -> bool {
+        true
+    }
+}
+
+/// `select_ref` is steady where its closure gives each token and extra one verdict, and leaves one state.
+pub fn select_ref_is_steady<'src, I, O, E, F>(parser: &SelectRef<F, I, O, E>)
+where
+    I: BorrowInput<'src>,
+    I::Token: 'src,
+    O: Drop,
+    E: ParserExtra<I>,
+    F: Fn(&'src I::Token, &mut MapExtra<'src, '_, I, E>) -> Option<O>,
+    ensures ready { KeepsState I.Input E.State.Inspector F.Fn parser.now.filter → ⟦<SelectRef<F, I, O, E> as Parser<'src, I, O, E>>⟧.ready parser.now }
+    ensures steady { PicksAlike (PicksRef I.Input E.State.Inspector F.Fn parser.now.filter) → ⟦<SelectRef<F, I, O, E> as Parser<'src, I, O, E>>⟧.steady parser.now }
+    ensures same { (x y : O) → ⟦<SelectRef<F, I, O, E> as Parser<'src, I, O, E>>⟧.same parser.now x y → SamePicked (PicksRef I.Input E.State.Inspector F.Fn parser.now.filter) x y }
+{}

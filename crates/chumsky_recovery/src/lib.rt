@@ -7,7 +7,6 @@ pub mod nested_delimiters;
 pub mod recover_with;
 pub mod skip_then_retry_until;
 pub mod skip_until;
-pub mod steady;
 pub mod strategy;
 mod turn;
 pub mod via_parser;

@@ -9,8 +9,8 @@ use crate::strategy::Strategy;
 use crate::via_parser::ViaParser;
 use chumsky_input::extra::ParserExtra;
 use chumsky_input::input::Input;
-use chumsky_moves::moving::Moving;
 use chumsky_parser::container::Seq;
+use chumsky_parser::moving::Moving;
 use chumsky_parser::parser::Parser;
 
 /// Whether a strategy moves wherever it succeeds: `via_parser(any())` does, and `via_parser(empty())` does not. See `Moving`.

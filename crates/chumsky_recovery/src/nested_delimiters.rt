@@ -280,3 +280,14 @@ fn role_in_others<T: Seq<X> + Copy, X: PartialEq>(others: &[(T, T)], token: &X) 
     }
     Some(Role::Other)
 }
+
+/// What `nested_delimiters` takes after its first token is always ready and steady.
+pub fn closes_is_steady<'src, T, const N: usize, I: Input<'src>, E: ParserExtra<I>>(
+    closes: &Closes<T, N, I, E>,
+)
+where
+    T: Seq<I::Token> + Copy,
+    I::Token: PartialEq,
+    ensures ready { ⟦<Closes<T, N, I, E> as Parser<'src, I, (), E>>⟧.ready closes.now }
+    ensures steady { ⟦<Closes<T, N, I, E> as Parser<'src, I, (), E>>⟧.steady closes.now }
+{}

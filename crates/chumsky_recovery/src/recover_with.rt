@@ -236,3 +236,20 @@ fn count_as_one<'src, V: Drop, I: Input<'src>, E: ParserExtra<I>>(
         }
     }
 }
+
+/// `a.recover_with(s)` is ready and steady where `a` and `s` are; two outputs are the same where `a` or `s` calls them so.
+pub fn recover_with_is_steady<
+    'src,
+    I: Input<'src>,
+    O: Drop,
+    E: ParserExtra<I>,
+    A: Parser<'src, I, O, E>,
+    S: Strategy<'src, I, O, E, A>,
+>(whole: &RecoverWith<A, S>)
+    ensures ready { A.ready whole.now.parser → S.ready whole.now.strategy whole.now.parser →
+        ⟦<RecoverWith<A, S> as Parser<'src, I, O, E>>⟧.ready whole.now }
+    ensures steady { A.steady whole.now.parser → S.steady whole.now.strategy whole.now.parser →
+        ⟦<RecoverWith<A, S> as Parser<'src, I, O, E>>⟧.steady whole.now }
+    ensures same { (x y : O) → ⟦<RecoverWith<A, S> as Parser<'src, I, O, E>>⟧.same whole.now x y →
+        A.same whole.now.parser x y ⊎ S.same whole.now.strategy whole.now.parser x y }
+{}

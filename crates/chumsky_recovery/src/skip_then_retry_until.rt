@@ -216,3 +216,22 @@ fn forget<'src, I: Input<'src>, E: ParserExtra<I>>(
     inp.kept = None;
     inp.rewind(before)
 }
+
+/// `skip_then_retry_until(s, u)` is ready and steady where both parsers and the failed one are.
+pub fn skip_then_retry_until_is_steady<
+    'src,
+    I: Input<'src>,
+    O: Drop,
+    E: ParserExtra<I>,
+    A: Parser<'src, I, O, E>,
+    S: Parser<'src, I, (), E>,
+    U: Parser<'src, I, (), E>,
+>(strategy: &SkipThenRetryUntil<S, U>, parser: &A)
+    ensures ready { S.ready strategy.now.skip → U.ready strategy.now.until → A.ready parser.now →
+        ⟦<SkipThenRetryUntil<S, U> as Strategy<'src, I, O, E, A>>⟧.ready strategy.now parser.now }
+    ensures steady { S.steady strategy.now.skip → U.steady strategy.now.until → A.steady parser.now →
+        ⟦<SkipThenRetryUntil<S, U> as Strategy<'src, I, O, E, A>>⟧.steady strategy.now parser.now }
+    ensures same { (x y : O) → ⟦<SkipThenRetryUntil<S, U> as Strategy<'src, I, O, E, A>>⟧.same strategy.now parser.now x
+        y →
+        A.same parser.now x y }
+{}

@@ -128,3 +128,23 @@ where
         }
     }
 }
+
+/// `skip_until(s, u, f)` is ready where both parsers are and `f` may be called, and steady where both parsers are; two
+/// outputs are the same where `f` may give both.
+pub fn skip_until_is_steady<
+    'src,
+    I: Input<'src>,
+    O,
+    E: ParserExtra<I>,
+    A,
+    S: Parser<'src, I, (), E>,
+    U: Parser<'src, I, (), E>,
+    F: Fallback<O>,
+>(strategy: &SkipUntil<S, U, F>, parser: &A)
+    ensures ready { S.ready strategy.now.skip → U.ready strategy.now.until → F.callable strategy.now.fallback →
+        ⟦<SkipUntil<S, U, F> as Strategy<'src, I, O, E, A>>⟧.ready strategy.now parser.now }
+    ensures steady { S.steady strategy.now.skip → U.steady strategy.now.until →
+        ⟦<SkipUntil<S, U, F> as Strategy<'src, I, O, E, A>>⟧.steady strategy.now parser.now }
+    ensures same { (x y : O) → ⟦<SkipUntil<S, U, F> as Strategy<'src, I, O, E, A>>⟧.same strategy.now parser.now x y →
+        F.gives strategy.now.fallback x × F.gives strategy.now.fallback y }
+{}

@@ -58,3 +58,20 @@ impl<'src, I: Input<'src>, O, E: ParserExtra<I>, A, P: Parser<'src, I, O, E>> St
         self.parser.go_check(inp)
     }
 }
+
+/// `via_parser(p)` is ready and steady where `p` is.
+pub fn via_parser_is_steady<
+    'src,
+    I: Input<'src>,
+    O,
+    E: ParserExtra<I>,
+    A,
+    P: Parser<'src, I, O, E>,
+>(strategy: &ViaParser<P>, parser: &A)
+    ensures ready { P.ready strategy.now.parser →
+        ⟦<ViaParser<P> as Strategy<'src, I, O, E, A>>⟧.ready strategy.now parser.now }
+    ensures steady { P.steady strategy.now.parser →
+        ⟦<ViaParser<P> as Strategy<'src, I, O, E, A>>⟧.steady strategy.now parser.now }
+    ensures same { (x y : O) → ⟦<ViaParser<P> as Strategy<'src, I, O, E, A>>⟧.same strategy.now parser.now x y →
+        P.same strategy.now.parser x y }
+{}

@@ -1,4 +1,6 @@
 //! Parsers in any order.
+ghost use Rattle.std.specs.Prelude.{◌≡◌};
+
 use crate::mode::{ForValue, WithoutValue};
 use crate::rounds::in_any_order;
 use crate::row::{NoPart, PartAnd};
@@ -6,12 +8,39 @@ use chumsky_input::extra::ParserExtra;
 use chumsky_input::input::Input;
 use chumsky_input::input_ref::InputRef;
 use chumsky_input::stop::PResult;
+use chumsky_parser::moving::MayStay;
 use chumsky_parser::parser::{IsParser, Parser};
 
 /// Some parsers, each of which succeeds once, in whatever order the input has them. See `set`.
 #[derive(Clone, Copy, Drop)]
 pub struct Set<T> {
     pub parsers: T,
+}
+
+/// Each of some parsers once, in any order; the outputs are in the order of the parsers. They are a tuple of one to
+/// four, whose outputs are a tuple; a `Vec`, whose outputs are a `Vec`; or an array `[P; N]`, whose outputs are an
+/// `ArrayVec<O, N>`, full where the set succeeds.
+///
+/// In rounds, each parser that is not taken yet has its turn. One that succeeds and moves is taken for good; one that
+/// fails, or succeeds where it began, is gone back from. After a round that takes none, what is left runs in order, and
+/// its first failure is the whole's. So a parser that may be absent succeeds at last, where it is.
+///
+/// Over `cab`, `set((just('a'), just('b'), just('c')))` gives `('a', 'b', 'c')`; over `ba`,
+/// `set([just('a'), just('b')])` gives an `ArrayVec` of `'a'` and `'b'`. What moved stays taken:
+/// `set((just('a').or(just('b')), just('a')))` fails on `ab`, since its first parser takes the `a`.
+///
+/// Of many parsers each round tries all that are left, so their number counts squared.
+///
+/// What is taken stands in slots. A `Vec` asks for memory for them; an array doesn't, since its slots are an
+/// `[Option<O>; N]` of the call's own. Its parsers run for their outputs in `check` too, which drops them. A set of an
+/// array has the bound `[Option<O>; N]: Slots`: such an array fits in memory, as it does in each program that compiles.
+/// Where `O` and `N` are known the check finds it by itself; a function that runs the set and is generic in one of them
+/// names it as a bound.
+#[inline]
+pub fn set<T>(parsers: T) -> Set<T>
+    ensures { result.parsers ≡ parsers }
+{
+    Set { parsers }
 }
 
 impl<I, O0, E, P0: IsParser<I, O0, E>> IsParser<I, (O0,), E> for Set<(P0,)> {}
@@ -349,3 +378,57 @@ impl<
         Ok(())
     }
 }
+
+impl<T> MayStay for Set<T> {}
+
+/// `set` of one to four parsers.
+pub fn set_is_steady<
+    'src,
+    I: Input<'src>,
+    O0: Drop,
+    O1: Drop,
+    O2: Drop,
+    O3: Drop,
+    E: ParserExtra<I>,
+    P0: Parser<'src, I, O0, E>,
+    P1: Parser<'src, I, O1, E>,
+    P2: Parser<'src, I, O2, E>,
+    P3: Parser<'src, I, O3, E>,
+>(one: &Set<(P0,)>, two: &Set<(P0, P1)>, three: &Set<(P0, P1, P2)>, four: &Set<(P0, P1, P2, P3)>)
+    ensures ready_one { let t = one.now.parsers in
+        P0.ready t.0 → ⟦<Set<(P0,)> as Parser<'src, I, (O0,), E>>⟧.ready one.now }
+    ensures ready_two { let t = two.now.parsers in
+        P0.ready t.0 → P1.ready t.1 →
+        ⟦<Set<(P0, P1)> as Parser<'src, I, (O0, O1), E>>⟧.ready two.now }
+    ensures ready_three { let t = three.now.parsers in
+        P0.ready t.0 → P1.ready t.1 → P2.ready t.2 →
+        ⟦<Set<(P0, P1, P2)> as Parser<'src, I, (O0, O1, O2), E>>⟧.ready three.now }
+    ensures ready_four { let t = four.now.parsers in
+        P0.ready t.0 → P1.ready t.1 → P2.ready t.2 → P3.ready t.3 →
+        ⟦<Set<(P0, P1, P2, P3)> as Parser<'src, I, (O0, O1, O2, O3), E>>⟧.ready four.now }
+    ensures one { let t = one.now.parsers in
+        P0.steady t.0 → ⟦<Set<(P0,)> as Parser<'src, I, (O0,), E>>⟧.steady one.now }
+    ensures two { let t = two.now.parsers in
+        P0.steady t.0 → P1.steady t.1 →
+        ⟦<Set<(P0, P1)> as Parser<'src, I, (O0, O1), E>>⟧.steady two.now }
+    ensures three { let t = three.now.parsers in
+        P0.steady t.0 → P1.steady t.1 → P2.steady t.2 →
+        ⟦<Set<(P0, P1, P2)> as Parser<'src, I, (O0, O1, O2), E>>⟧.steady three.now }
+    ensures four { let t = four.now.parsers in
+        P0.steady t.0 → P1.steady t.1 → P2.steady t.2 → P3.steady t.3 →
+        ⟦<Set<(P0, P1, P2, P3)> as Parser<'src, I, (O0, O1, O2, O3), E>>⟧.steady four.now }
+    ensures same_one { let t = one.now.parsers in
+        (x y : record { 0 : O0 }) →
+        ⟦<Set<(P0,)> as Parser<'src, I, (O0,), E>>⟧.same one.now x y → P0.same t.0 x.0 y.0 }
+    ensures same_two { let t = two.now.parsers in
+        (x y : O0 × O1) → ⟦<Set<(P0, P1)> as Parser<'src, I, (O0, O1), E>>⟧.same two.now x y →
+        P0.same t.0 x.0 y.0 × P1.same t.1 x.1 y.1 }
+    ensures same_three { let t = three.now.parsers in
+        (x y : O0 × O1 × O2) →
+        ⟦<Set<(P0, P1, P2)> as Parser<'src, I, (O0, O1, O2), E>>⟧.same three.now x y →
+        P0.same t.0 x.0 y.0 × P1.same t.1 x.1 y.1 × P2.same t.2 x.2 y.2 }
+    ensures same_four { let t = four.now.parsers in
+        (x y : O0 × O1 × O2 × O3) →
+        ⟦<Set<(P0, P1, P2, P3)> as Parser<'src, I, (O0, O1, O2, O3), E>>⟧.same four.now x y →
+        P0.same t.0 x.0 y.0 × P1.same t.1 x.1 y.1 × P2.same t.2 x.2 y.2 × P3.same t.3 x.3 y.3 }
+{}

@@ -14,6 +14,8 @@ use Rattle.chumsky_parser.specs.Laws.{chained-ends, chained-agrees, given-ends, 
 use Rattle.chumsky_judge.specs.JudgedLaws.{or_lacks-whole}
 use Rattle.chumsky_text.specs.Leading.{run_end, run_state, one_end, one_state, expected_at}
 use Rattle.chumsky_text.specs.TextRun.{EndsBy, Cut, RunsOn, TakesOne, SpelledBy, Spells, MeansRun, AfterToken, AfterFirst, MeansBegun, MeansWord, MeansNewline, MeansKeyword, SkipsRun, MeansPadded}
+use Rattle.chumsky_parser.specs.Progress.{Moves}
+use Rattle.chumsky_parser.specs.ProgressLaws.{chained-first, chained-second}
 
 -- each answer is no, or ends past its start
 abbrev pub NoOrMoves : {Tok Cx St Er V : Type 0} → Meaning Tok Cx St Er V → Type 0
@@ -232,3 +234,12 @@ module _ {I Tok Sp Er St Mk Cx V : Type 0} (errors : error_trait.Ghosts Er I Tok
       (λ v w s. chained-agrees (SkipsRun errors states test) (SkipsRun errors states test) (λ _. Given v)
       (λ _. Given w) SameUnit same skips-agree (λ _ _ _. given-agrees same v w s)))
       b c o q alike m.run n.run a z
+
+module _ {I Tok Sp Er St Mk Cx : Type 0} (errors : error_trait.Ghosts Er I Tok Sp) (states : inspector_trait.Ghosts St I Mk Tok Sp) (test : Tok → Bool) where
+  skips-end : EndsAfterStart (SkipsRun {Cx = Cx} errors states test)
+  skips-end b o m a = omega (arith, ap (λ (x : Outcome (Unit {0}) errors.Seen states.Seen). x.end) m.outcome)
+
+  -- a part between two runs of tokens
+  pub padded-moves : {V : Type 0} (part : Meaning Tok Cx states.Seen errors.Seen V) → Moves part → Moves (MeansPadded errors states test part)
+  padded-moves part h b o m y =
+      chained-second (SkipsRun errors states test) _ skips-end (λ _. chained-first part _ h (λ v. chained-ends (SkipsRun errors states test) (λ _. Given v) skips-end (λ _. given-ends v))) b o m.run y

@@ -1,5 +1,5 @@
 //! A word that is spelled out.
-ghost use Rattle.std.specs.Prelude.{◌≡◌};
+ghost use Rattle.std.specs.Prelude.{◌≡◌, true};
 ghost use Rattle.chumsky_input.specs.Wanted.{Label};
 
 use crate::chars::TextInput;
@@ -9,6 +9,7 @@ use chumsky_input::extra::ParserExtra;
 use chumsky_input::input_ref::InputRef;
 use chumsky_input::stop::PResult;
 use chumsky_input::util::Plain;
+use chumsky_parser::moving::Moving;
 use chumsky_parser::parser::{IsParser, Parser};
 use std::marker::PhantomData;
 
@@ -85,3 +86,30 @@ impl<'src, 'k, K: Lexeme<I::Token>, I: TextInput<'src>, E: ParserExtra<I>> Parse
         }
     }
 }
+
+impl<'src, 'k, I, E, K> Moving<'src, I, I::Slice, E> for Keyword<'k, K, I, E>
+where
+    I: TextInput<'src>,
+    E: ParserExtra<I>,
+    K: Lexeme<I::Token>,
+{
+    ghost use Rattle.chumsky_text.specs.TextRunLaws.{keyword-moves};
+    ghost use Rattle.chumsky_text.specs.TextLanguageLaws.{no_or-moves};
+
+    ghost moves = { λ _. true };
+
+    ghost moved = { λ p _. no_or-moves _ (keyword-moves _ _ _ _ (I.spells p.word.now) (K.holds p.kind) (λ t. K.Rest.holds (K.rest_after p.kind t)) _) };
+
+    fn always_moves(&self) -> bool {
+        true
+    }
+}
+
+/// `keyword(word)` is ready, and steady.
+pub fn keyword_is_steady<'src, 'k, K: Lexeme<I::Token>, I: TextInput<'src>, E: ParserExtra<I>>(
+    parser: &Keyword<'k, K, I, E>,
+)
+    ensures ready { K.fits parser.now.kind → ⟦<Keyword<'k, K, I, E> as Parser<'src, I, I::Slice, E>>⟧.ready parser.now }
+    ensures steady { ⟦<Keyword<'k, K, I, E> as Parser<'src, I, I::Slice, E>>⟧.steady parser.now }
+    ensures same { (x y : I.Slice) → ⟦<Keyword<'k, K, I, E> as Parser<'src, I, I::Slice, E>>⟧.same parser.now x y → I.slice_seen x ≡ I.slice_seen y }
+{}

@@ -1,7 +1,11 @@
 //! Kinds of tokens, which runs and words are made of.
-ghost use Rattle.std.specs.Prelude.{◌≡◌, Bool, List};
+ghost use Rattle.std.specs.Prelude.{◌≡◌, Bool, List, ◌≤◌};
 ghost use Rattle.chumsky_input.specs.Wanted.{Wanted, plain_wanted};
 
+use crate::chars::Char;
+use crate::ident::{AsciiIdent, UnicodeIdent};
+use crate::number::{Digits, Int};
+use crate::space::{InlineWhitespace, LineEnd, Whitespace};
 use chumsky_input::util::Plain;
 
 /// A kind of tokens, and what is expected where one of it is wanted.
@@ -36,3 +40,23 @@ pub trait Lexeme<T>: Kind<T> {
         ensures is { result ≡ rest_after self.now first.now }
         ensures fit { Self.Rest.fits result };
 }
+
+/// Each token may be tested for white space, the end of a line and what an identifier is made of, and for digits where their
+/// radix is from 2 to 36.
+pub fn tokens_may_be_tested<T: Char>(
+    digits: &Digits,
+    int: &Int,
+    whitespace: &Whitespace,
+    inline_whitespace: &InlineWhitespace,
+    line_end: &LineEnd,
+    ascii_ident: &AsciiIdent,
+    unicode_ident: &UnicodeIdent,
+)
+    ensures digits { 2 ≤ digits.now.radix → digits.now.radix ≤ 36 → ⟦<Digits as Kind<T>>⟧.fits digits.now }
+    ensures int { 2 ≤ int.now.radix → int.now.radix ≤ 36 → ⟦<Int as Kind<T>>⟧.fits int.now }
+    ensures whitespace { ⟦<Whitespace as Kind<T>>⟧.fits whitespace.now }
+    ensures inline_whitespace { ⟦<InlineWhitespace as Kind<T>>⟧.fits inline_whitespace.now }
+    ensures line_end { ⟦<LineEnd as Kind<T>>⟧.fits line_end.now }
+    ensures ascii_ident { ⟦<AsciiIdent as Kind<T>>⟧.fits ascii_ident.now }
+    ensures unicode_ident { ⟦<UnicodeIdent as Kind<char>>⟧.fits unicode_ident.now }
+{}

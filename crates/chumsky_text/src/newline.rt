@@ -1,12 +1,14 @@
 //! The end of a line.
-ghost use Rattle.std.specs.Prelude.{◌≡◌};
+ghost use Rattle.std.specs.Prelude.{◌≡◌, true};
 
 use crate::kind::Lexeme;
 use crate::skip::{expect_here, take_first, take_one};
+use crate::space::LineEnd;
 use chumsky_input::extra::ParserExtra;
 use chumsky_input::input::SliceInput;
 use chumsky_input::input_ref::InputRef;
 use chumsky_input::stop::PResult;
+use chumsky_parser::moving::Moving;
 use chumsky_parser::parser::{IsParser, Parser};
 use std::marker::PhantomData;
 
@@ -16,6 +18,16 @@ use std::marker::PhantomData;
 pub struct Newline<K, I, E> {
     pub kind: K,
     pub of: PhantomData<(I, E)>,
+}
+
+/// One end of a line; gives its slice, `"\n"` or `"\r\n"` mostly. A carriage return by itself, a vertical tab and a form
+/// feed end a line too, and of characters next line (U+0085), line separator (U+2028) and paragraph separator (U+2029).
+#[inline]
+pub fn newline<I, E>() -> Newline<LineEnd, I, E> {
+    Newline {
+        kind: LineEnd,
+        of: PhantomData,
+    }
 }
 
 impl<'src, K, I: SliceInput<'src>, E> IsParser<I, I::Slice, E> for Newline<K, I, E> {}
@@ -67,3 +79,30 @@ impl<'src, K: Lexeme<I::Token>, I: SliceInput<'src>, E: ParserExtra<I>> Parser<'
         }
     }
 }
+
+impl<'src, I, E, K> Moving<'src, I, I::Slice, E> for Newline<K, I, E>
+where
+    I: SliceInput<'src>,
+    E: ParserExtra<I>,
+    K: Lexeme<I::Token>,
+{
+    ghost use Rattle.chumsky_text.specs.TextRunLaws.{newline-moves};
+    ghost use Rattle.chumsky_text.specs.TextLanguageLaws.{no_or-moves};
+
+    ghost moves = { λ _. true };
+
+    ghost moved = { λ p _. no_or-moves _ (newline-moves _ _ _ _ (K.holds p.kind) (λ t. K.Rest.holds (K.rest_after p.kind t)) (K.wants p.kind)) };
+
+    fn always_moves(&self) -> bool {
+        true
+    }
+}
+
+/// `newline()` is ready, and steady.
+pub fn newline_is_steady<'src, K: Lexeme<I::Token>, I: SliceInput<'src>, E: ParserExtra<I>>(
+    parser: &Newline<K, I, E>,
+)
+    ensures ready { K.fits parser.now.kind → ⟦<Newline<K, I, E> as Parser<'src, I, I::Slice, E>>⟧.ready parser.now }
+    ensures steady { ⟦<Newline<K, I, E> as Parser<'src, I, I::Slice, E>>⟧.steady parser.now }
+    ensures same { (x y : I.Slice) → ⟦<Newline<K, I, E> as Parser<'src, I, I::Slice, E>>⟧.same parser.now x y → I.slice_seen x ≡ I.slice_seen y }
+{}

@@ -1,10 +1,13 @@
 //! The longest run of tokens of a kind.
+ghost use Rattle.std.specs.Prelude.{◌≡◌};
+
 use crate::kind::Kind;
 use crate::skip::{end_run, skip_run};
 use chumsky_input::extra::ParserExtra;
 use chumsky_input::input::SliceInput;
 use chumsky_input::input_ref::InputRef;
 use chumsky_input::stop::PResult;
+use chumsky_parser::moving::MayStay;
 use chumsky_parser::parser::{IsParser, Parser};
 use std::marker::PhantomData;
 
@@ -14,6 +17,17 @@ use std::marker::PhantomData;
 pub struct Run<K, I, E> {
     pub kind: K,
     pub of: PhantomData<(I, E)>,
+}
+
+/// The longest run of tokens of a kind, be it empty; gives its slice: `run_of(Whitespace)` is `whitespace()`.
+#[inline]
+pub fn run_of<K, I, E>(kind: K) -> Run<K, I, E>
+    ensures { result.kind ≡ kind }
+{
+    Run {
+        kind,
+        of: PhantomData,
+    }
 }
 
 impl<'src, K, I: SliceInput<'src>, E> IsParser<I, I::Slice, E> for Run<K, I, E> {}
@@ -58,3 +72,14 @@ impl<'src, K: Kind<I::Token>, I: SliceInput<'src>, E: ParserExtra<I>> Parser<'sr
         Ok(())
     }
 }
+
+impl<K, I, E> MayStay for Run<K, I, E> {}
+
+/// `whitespace()` and its like are ready where tokens may be tested, and steady.
+pub fn run_is_steady<'src, K: Kind<I::Token>, I: SliceInput<'src>, E: ParserExtra<I>>(
+    parser: &Run<K, I, E>,
+)
+    ensures ready { K.fits parser.now.kind → ⟦<Run<K, I, E> as Parser<'src, I, I::Slice, E>>⟧.ready parser.now }
+    ensures steady { ⟦<Run<K, I, E> as Parser<'src, I, I::Slice, E>>⟧.steady parser.now }
+    ensures same { (x y : I.Slice) → ⟦<Run<K, I, E> as Parser<'src, I, I::Slice, E>>⟧.same parser.now x y → I.slice_seen x ≡ I.slice_seen y }
+{}

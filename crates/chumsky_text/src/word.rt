@@ -1,5 +1,5 @@
 //! A first token of one kind, and the longest run after it.
-ghost use Rattle.std.specs.Prelude.{◌≡◌};
+ghost use Rattle.std.specs.Prelude.{◌≡◌, true};
 
 use crate::kind::Lexeme;
 use crate::skip::{end_run, expect_here, skip_run, take_first};
@@ -7,6 +7,7 @@ use chumsky_input::extra::ParserExtra;
 use chumsky_input::input::SliceInput;
 use chumsky_input::input_ref::InputRef;
 use chumsky_input::stop::PResult;
+use chumsky_parser::moving::Moving;
 use chumsky_parser::parser::{IsParser, Parser};
 use std::marker::PhantomData;
 
@@ -16,6 +17,17 @@ use std::marker::PhantomData;
 pub struct Word<K, I, E> {
     pub kind: K,
     pub of: PhantomData<(I, E)>,
+}
+
+/// A token of a kind and the longest run of what may follow it; gives its slice: `word_of(AsciiIdent)` is `ascii::ident()`.
+#[inline]
+pub fn word_of<K, I, E>(kind: K) -> Word<K, I, E>
+    ensures { result.kind ≡ kind }
+{
+    Word {
+        kind,
+        of: PhantomData,
+    }
 }
 
 impl<'src, K, I: SliceInput<'src>, E> IsParser<I, I::Slice, E> for Word<K, I, E> {}
@@ -70,3 +82,30 @@ impl<'src, K: Lexeme<I::Token>, I: SliceInput<'src>, E: ParserExtra<I>> Parser<'
         }
     }
 }
+
+impl<'src, I, E, K> Moving<'src, I, I::Slice, E> for Word<K, I, E>
+where
+    I: SliceInput<'src>,
+    E: ParserExtra<I>,
+    K: Lexeme<I::Token>,
+{
+    ghost use Rattle.chumsky_text.specs.TextRunLaws.{word-moves};
+    ghost use Rattle.chumsky_text.specs.TextLanguageLaws.{no_or-moves};
+
+    ghost moves = { λ _. true };
+
+    ghost moved = { λ p _. no_or-moves _ (word-moves _ _ _ _ (K.holds p.kind) (λ t. K.Rest.holds (K.rest_after p.kind t)) (K.wants p.kind) (λ t. K.Rest.wants (K.rest_after p.kind t))) };
+
+    fn always_moves(&self) -> bool {
+        true
+    }
+}
+
+/// `int(radix)` and `digits(radix)` are ready where the radix is from 2 to 36, and identifiers always; they are steady.
+pub fn word_is_steady<'src, K: Lexeme<I::Token>, I: SliceInput<'src>, E: ParserExtra<I>>(
+    parser: &Word<K, I, E>,
+)
+    ensures ready { K.fits parser.now.kind → ⟦<Word<K, I, E> as Parser<'src, I, I::Slice, E>>⟧.ready parser.now }
+    ensures steady { ⟦<Word<K, I, E> as Parser<'src, I, I::Slice, E>>⟧.steady parser.now }
+    ensures same { (x y : I.Slice) → ⟦<Word<K, I, E> as Parser<'src, I, I::Slice, E>>⟧.same parser.now x y → I.slice_seen x ≡ I.slice_seen y }
+{}

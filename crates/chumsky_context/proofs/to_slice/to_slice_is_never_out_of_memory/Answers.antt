@@ -1,0 +1,5 @@
+use Rattle.chumsky_context.specs.CoveredLanguage.{covers-spares}
+use Rattle.chumsky_context.proofs.to_slice.to_slice_is_never_out_of_memory.Goals as goal
+
+pub returns : goal.returns
+returns g c h = covers-spares _ _ h.0

@@ -1,5 +1,0 @@
-use Rattle.chumsky_judge.specs.JudgedSpares.{vetted-spares}
-use Rattle.chumsky_memory.proofs.laws.filter_map_is_never_out_of_memory.Goals as goal
-
-pub returns : goal.returns
-returns g c q h = vetted-spares _ _ _ _ q h.0

@@ -1,5 +1,0 @@
-use Rattle.chumsky_parser.specs.MemoryLaws.{ignoring_first-spares}
-use Rattle.chumsky_memory.proofs.laws.ignore_then_is_never_out_of_memory.Goals as goal
-
-pub returns : goal.returns
-returns g c h = ignoring_first-spares _ _ h.0 h.1.0

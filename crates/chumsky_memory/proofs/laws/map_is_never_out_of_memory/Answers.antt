@@ -1,5 +1,0 @@
-use Rattle.chumsky_combinator.specs.MappedLaws.{mapped-spares}
-use Rattle.chumsky_memory.proofs.laws.map_is_never_out_of_memory.Goals as goal
-
-pub returns : goal.returns
-returns g c h = mapped-spares _ _ h.0

@@ -1,5 +1,0 @@
-use Rattle.chumsky_context.specs.CoveredLanguage.{covers-spares}
-use Rattle.chumsky_memory.proofs.laws.to_span_is_never_out_of_memory.Goals as goal
-
-pub returns : goal.returns
-returns g c h = covers-spares _ _ h.0

@@ -1,2 +1,0 @@
-pub mod PartsSpare
-pub mod ByParts

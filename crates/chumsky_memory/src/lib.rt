@@ -1,4 +1,0 @@
-//! Which parsers are never refused for memory.
-#![tactic(auto)]
-
-pub mod laws;
