@@ -95,37 +95,24 @@ pub mod inspector {
 
 /// Parsers of single tokens and of fixed sequences, parsers given by closures, and choices, groups and sets of parsers.
 pub mod primitive {
-    pub use chumsky_choice::choice::Choice;
-    pub use chumsky_choice::choice::choice;
+    pub use chumsky_choice::choice::{Choice, choice};
     pub use chumsky_context::just_cfg::JustCfg;
     pub use chumsky_context::map_ctx::{ContextMapper, MapCtx, map_ctx, map_ctx_by};
     pub use chumsky_context::one_of_cfg::OneOfCfg;
-    pub use chumsky_group::group::Group;
-    pub use chumsky_group::group::group;
+    pub use chumsky_group::group::{Group, group};
     pub use chumsky_group::parts::Parts;
-    pub use chumsky_primitive::any::Any;
-    pub use chumsky_primitive::any_ref::AnyRef;
-    pub use chumsky_primitive::custom::{Custom, Reader};
-    pub use chumsky_primitive::empty::Empty;
-    pub use chumsky_primitive::end::End;
-    pub use chumsky_primitive::just::Just;
-    pub use chumsky_primitive::any::any;
-    pub use chumsky_primitive::any_ref::any_ref;
-    pub use chumsky_primitive::custom::{custom, custom_by};
-    pub use chumsky_primitive::empty::empty;
-    pub use chumsky_primitive::end::end;
-    pub use chumsky_primitive::just::just;
-    pub use chumsky_primitive::none_of::none_of;
-    pub use chumsky_primitive::one_of::one_of;
-    pub use chumsky_primitive::select::select;
-    pub use chumsky_primitive::select_ref::select_ref;
-    pub use chumsky_primitive::none_of::NoneOf;
-    pub use chumsky_primitive::one_of::OneOf;
-    pub use chumsky_primitive::select::Select;
-    pub use chumsky_primitive::select_ref::SelectRef;
+    pub use chumsky_primitive::any::{Any, any};
+    pub use chumsky_primitive::any_ref::{AnyRef, any_ref};
+    pub use chumsky_primitive::custom::{Custom, Reader, custom, custom_by};
+    pub use chumsky_primitive::empty::{Empty, empty};
+    pub use chumsky_primitive::end::{End, end};
+    pub use chumsky_primitive::just::{Just, just};
+    pub use chumsky_primitive::none_of::{NoneOf, none_of};
+    pub use chumsky_primitive::one_of::{OneOf, one_of};
+    pub use chumsky_primitive::select::{Select, select};
+    pub use chumsky_primitive::select_ref::{SelectRef, select_ref};
     pub use chumsky_set::array::Slots;
-    pub use chumsky_set::set::set;
-    pub use chumsky_set::set::Set;
+    pub use chumsky_set::set::{Set, set};
 }
 
 /// Operators by precedence: see `ParserExt::pratt`.
@@ -134,11 +121,14 @@ pub mod pratt {
     pub use chumsky_pratt::folder_with::InfixFolderWith;
     pub use chumsky_pratt::folders::{InfixFolder, PostfixFolder, PrefixFolder};
     pub use chumsky_pratt::list::{FoundAt, OperatorList};
-    pub use chumsky_pratt::operator::{infix, infix_by, postfix, postfix_by, prefix, prefix_by};
-    pub use chumsky_pratt::operator_with::{infix_with, postfix_with, prefix_with};
     pub use chumsky_pratt::operands::Operands;
-    pub use chumsky_pratt::operator::{HasOutput, Infix, Operator, Postfix, Prefix};
-    pub use chumsky_pratt::operator_with::{InfixWith, PostfixWith, PrefixWith};
+    pub use chumsky_pratt::operator::{
+        HasOutput, Infix, Operator, Postfix, Prefix, infix, infix_by, postfix, postfix_by, prefix,
+        prefix_by,
+    };
+    pub use chumsky_pratt::operator_with::{
+        InfixWith, PostfixWith, PrefixWith, infix_with, postfix_with, prefix_with,
+    };
     pub use chumsky_pratt::pratt::Pratt;
     pub use chumsky_pratt::row::{Found, HasFound, LastOperator, OperatorAnd, Operators};
     pub use chumsky_pratt::rows::IntoRow;
@@ -150,11 +140,13 @@ pub mod pratt {
             an_operator_past_the_bound_is_passed_over, associativity_decides, none_does_not_chain,
             the_stronger_binds_first, without_operators_an_expression_is_its_atom,
         };
-        pub use chumsky_pratt::operator::{infix_is_steady, postfix_is_steady, prefix_is_steady};
-        pub use chumsky_pratt::operator_with::{infix_with_is_steady, postfix_with_is_steady, prefix_with_is_steady};
-        pub use chumsky_pratt::row::operators_are_steady;
         pub use chumsky_pratt::list::operators_of_a_list_are_steady;
+        pub use chumsky_pratt::operator::{infix_is_steady, postfix_is_steady, prefix_is_steady};
+        pub use chumsky_pratt::operator_with::{
+            infix_with_is_steady, postfix_with_is_steady, prefix_with_is_steady,
+        };
         pub use chumsky_pratt::pratt::pratt_is_steady;
+        pub use chumsky_pratt::row::operators_are_steady;
     }
 }
 
@@ -227,9 +219,9 @@ pub mod label {
 
     /// What holds of labelled parsers, as those of `chumsky::laws`.
     pub mod laws {
-        pub use chumsky_label::laws::labelled_answers_as_its_part;
-        pub use chumsky_label::labelled::labelled_is_steady;
         pub use chumsky_label::label_error::rich_takes_one_label;
+        pub use chumsky_label::labelled::labelled_is_steady;
+        pub use chumsky_label::laws::labelled_answers_as_its_part;
     }
 }
 
@@ -241,28 +233,25 @@ pub mod text {
     pub use chumsky_text::ident::{AsciiIdent, AsciiIdentRest, UnicodeIdent, UnicodeIdentRest};
     pub use chumsky_text::keyword::Keyword;
     pub use chumsky_text::kind::{Kind, Lexeme};
-    pub use chumsky_text::number::{digits, int};
-    pub use chumsky_text::space::{inline_whitespace, whitespace};
-    pub use chumsky_text::newline::newline;
-    pub use chumsky_text::run::run_of;
-    pub use chumsky_text::word::word_of;
-    pub use chumsky_text::newline::Newline;
-    pub use chumsky_text::number::{Digits, Int, IntRest};
+    pub use chumsky_text::newline::{Newline, newline};
+    pub use chumsky_text::number::{Digits, Int, IntRest, digits, int};
     pub use chumsky_text::padded::Padded;
-    pub use chumsky_text::run::Run;
+    pub use chumsky_text::run::{Run, run_of};
     pub use chumsky_text::sliced::Sliced;
-    pub use chumsky_text::space::{InlineWhitespace, LineEnd, LineEndRest, Whitespace};
+    pub use chumsky_text::space::{
+        InlineWhitespace, LineEnd, LineEndRest, Whitespace, inline_whitespace, whitespace,
+    };
     pub use chumsky_text::unicode::{ident, keyword};
-    pub use chumsky_text::word::Word;
+    pub use chumsky_text::word::{Word, word_of};
     pub use chumsky_text::{ascii, unicode};
 
     /// What holds of parsers of text, as those of `chumsky::laws`.
     pub mod laws {
         pub use chumsky_text::keyword::keyword_is_steady;
+        pub use chumsky_text::kind::tokens_may_be_tested;
         pub use chumsky_text::newline::newline_is_steady;
         pub use chumsky_text::padded::padded_is_steady;
         pub use chumsky_text::run::run_is_steady;
-        pub use chumsky_text::kind::tokens_may_be_tested;
         pub use chumsky_text::word::word_is_steady;
     }
 }
@@ -272,13 +261,13 @@ pub mod text {
 pub mod recursive {
     pub use crate::moving_part::run_moving;
     pub use crate::simple_values::{SimpleValues, Simply};
+    pub use chumsky_combinator::part::MovingPart;
     pub use chumsky_descent::hole::Body;
     pub use chumsky_descent::moving::MovingRecursion;
     pub use chumsky_descent::recursive::{
         Called, Recursion, RunsUnder, Unsaid, recursive, recursive_as,
     };
     pub use chumsky_parser::moving::{MayStay, Moving, MovingItems};
-    pub use chumsky_combinator::part::MovingPart;
     pub use chumsky_recursive::actions::Actions;
     pub use chumsky_recursive::closing::CloseRules;
     pub use chumsky_recursive::evaluator::step;
@@ -310,13 +299,13 @@ pub mod recursion_laws {
 /// agree, and for what well-founded rules are refused.
 pub mod grammar_laws {
     pub use crate::refusals::founded_runs_are_refused_as_leaves;
+    pub use chumsky_recursive::grammar::grammar_is_steady;
     pub use chumsky_recursive::laws::{
         a_run_begins_with_room, an_answer_is_derived, answers_agree_under_any_limit,
         answers_stand_under_a_greater_limit, founded_grammars_are_refused_as_leaves,
         founded_rules_make_progress, founded_rules_stay_within_depth, lists_count_their_items,
         open_calls_never_go_back, rules_that_never_wait_ask_for_no_memory, two_derivations_agree,
     };
-    pub use chumsky_recursive::grammar::grammar_is_steady;
     pub use chumsky_recursive::leaves::leaves_are_steady;
     pub use chumsky_rules::caps::caps_fit;
 }
@@ -325,32 +314,31 @@ pub mod grammar_laws {
 /// is made of parts that never are. A run of one wants memory for nothing but the errors of a failure. And when one whose mapper
 /// asks for memory is ready and steady.
 pub mod memory_laws {
-    pub use crate::memory::memory_is_wanted_only_for_errors;
+    pub use crate::memory::{memory_is_wanted_only_for_errors, these_take_no_memory};
     pub use crate::steady::map_in_is_steady;
-    pub use chumsky_parser::parser::a_run_is_never_out_of_memory;
-    pub use chumsky_primitive::any::any_is_never_out_of_memory;
     pub use chumsky_choice::alternatives::choice_is_never_out_of_memory;
     pub use chumsky_choice::lists::choice_of_a_list_is_never_out_of_memory;
-    pub use chumsky_items::count::count_is_never_out_of_memory;
     pub use chumsky_combinator::delimited_by::delimited_by_is_never_out_of_memory;
-    pub use chumsky_primitive::end::end_is_never_out_of_memory;
-    pub use chumsky_judge::filter::filter_is_never_out_of_memory;
-    pub use chumsky_judge::filter_map::filter_map_is_never_out_of_memory;
-    pub use chumsky_group::parts::group_is_never_out_of_memory;
-    pub use chumsky_group::arrays::group_of_an_array_is_never_out_of_memory;
     pub use chumsky_combinator::ignore_then::ignore_then_is_never_out_of_memory;
-    pub use chumsky_primitive::just::just_is_never_out_of_memory;
     pub use chumsky_combinator::map::map_is_never_out_of_memory;
-    pub use chumsky_primitive::one_of::one_of_is_never_out_of_memory;
     pub use chumsky_combinator::or::or_is_never_out_of_memory;
-    pub use chumsky_items::repeated::repeated_is_never_out_of_memory;
-    pub use chumsky_items::separated_by::separated_by_is_never_out_of_memory;
     pub use chumsky_combinator::then::then_is_never_out_of_memory;
-    pub use crate::memory::these_take_no_memory;
     pub use chumsky_combinator::to::to_is_never_out_of_memory;
     pub use chumsky_context::to_slice::to_slice_is_never_out_of_memory;
     pub use chumsky_context::to_span::to_span_is_never_out_of_memory;
+    pub use chumsky_group::arrays::group_of_an_array_is_never_out_of_memory;
+    pub use chumsky_group::parts::group_is_never_out_of_memory;
+    pub use chumsky_items::count::count_is_never_out_of_memory;
+    pub use chumsky_items::repeated::repeated_is_never_out_of_memory;
+    pub use chumsky_items::separated_by::separated_by_is_never_out_of_memory;
+    pub use chumsky_judge::filter::filter_is_never_out_of_memory;
+    pub use chumsky_judge::filter_map::filter_map_is_never_out_of_memory;
     pub use chumsky_judge::try_map::try_map_is_never_out_of_memory;
+    pub use chumsky_parser::parser::a_run_is_never_out_of_memory;
+    pub use chumsky_primitive::any::any_is_never_out_of_memory;
+    pub use chumsky_primitive::end::end_is_never_out_of_memory;
+    pub use chumsky_primitive::just::just_is_never_out_of_memory;
+    pub use chumsky_primitive::one_of::one_of_is_never_out_of_memory;
     pub use chumsky_recovery::laws::{
         closes_is_out_of_memory_only_to_nest, recover_with_is_out_of_memory_only_to_tell,
         skip_then_retry_until_is_never_out_of_memory, skip_until_is_never_out_of_memory,
@@ -360,18 +348,22 @@ pub mod memory_laws {
 
 /// When parsers under contexts, states, configurations and nested inputs are ready and steady, as in `laws`.
 pub mod context_laws {
-    pub use chumsky_context::nested_in::{any_nested_in_any_is_steady, nested_in_is_steady};
-    pub use chumsky_context::ignore_with_ctx::{any_under_any_is_steady, ignore_with_ctx_is_steady};
     pub use chumsky_context::configure::configure_is_steady;
-    pub use chumsky_context::iter_configure::{configured_items_are_steady, configured_list_is_steady};
-    pub use chumsky_context::just_cfg::configured_just_is_steady;
-    pub use chumsky_context::one_of_cfg::configured_one_of_is_steady;
     pub use chumsky_context::contextual::contextual_is_steady;
+    pub use chumsky_context::ignore_with_ctx::{
+        any_under_any_is_steady, ignore_with_ctx_is_steady,
+    };
     pub use chumsky_context::ignore_with_ctx_items::ignored_items_with_ctx_are_steady;
-    pub use chumsky_context::then_with_ctx_items::items_with_ctx_are_steady;
+    pub use chumsky_context::iter_configure::{
+        configured_items_are_steady, configured_list_is_steady,
+    };
+    pub use chumsky_context::just_cfg::configured_just_is_steady;
     pub use chumsky_context::map_ctx::map_ctx_is_steady;
+    pub use chumsky_context::nested_in::{any_nested_in_any_is_steady, nested_in_is_steady};
+    pub use chumsky_context::one_of_cfg::configured_one_of_is_steady;
     pub use chumsky_context::spanned::spanned_is_steady;
     pub use chumsky_context::then_with_ctx::then_with_ctx_is_steady;
+    pub use chumsky_context::then_with_ctx_items::items_with_ctx_are_steady;
     pub use chumsky_context::to_slice::to_slice_is_steady;
     pub use chumsky_context::to_span::to_span_is_steady;
     pub use chumsky_context::try_iter_configure::{tried_list_is_steady, try_configure_is_steady};
@@ -402,20 +394,19 @@ pub mod recovery_laws {
 /// steady.
 pub mod laws {
     pub use crate::steady::{from_str_is_steady, lazy_is_steady};
-    pub use chumsky_choice::alternatives::Alternatives;
+    pub use chumsky_choice::alternatives::{Alternatives, choice_is_steady};
     pub use chumsky_choice::laws::{
         choice_agrees_by_one_alternative, choice_is_repeated_or,
         choice_of_a_list_agrees_by_one_alternative, one_alternative_of_a_list_stands,
         one_alternative_stands,
     };
-    pub use chumsky_choice::alternatives::choice_is_steady;
     pub use chumsky_choice::lists::choice_of_a_list_is_steady;
+    pub use chumsky_combinator::delimited_by::delimited_by_is_steady;
+    pub use chumsky_combinator::ignore_then::ignore_then_is_steady;
     pub use chumsky_combinator::laws::{
         ignore_then_agrees_with_then, map_with_by_a_blind_mapper_is_map,
         or_agrees_by_one_alternative, or_not_never_says_no, then_is_associative,
     };
-    pub use chumsky_combinator::delimited_by::delimited_by_is_steady;
-    pub use chumsky_combinator::ignore_then::ignore_then_is_steady;
     pub use chumsky_combinator::map::map_is_steady;
     pub use chumsky_combinator::map_items::map_items_is_steady;
     pub use chumsky_combinator::map_items_with::map_items_with_is_steady;
@@ -425,16 +416,10 @@ pub mod laws {
     pub use chumsky_combinator::then::then_is_steady;
     pub use chumsky_combinator::then_items::then_items_is_steady;
     pub use chumsky_combinator::to::to_is_steady;
-    pub use chumsky_flatten::laws::{
-        flatten_gives_the_items_of_each_collection, into_iter_gives_the_items_of_the_output,
-    };
     pub use chumsky_flatten::flatten::flatten_is_steady;
     pub use chumsky_flatten::into_iter::into_iter_is_steady;
-    pub use chumsky_folds::laws::{
-        enumerate_numbers_from_zero, fold_is_the_fold_of_what_collect_gives,
-        foldl_is_the_fold_of_what_collect_gives, foldl_with_by_a_blind_folder_is_foldl,
-        foldr_is_the_fold_of_the_reverse, foldr_with_by_a_blind_folder_is_foldr,
-        try_foldl_that_never_refuses_is_foldl_with,
+    pub use chumsky_flatten::laws::{
+        flatten_gives_the_items_of_each_collection, into_iter_gives_the_items_of_the_output,
     };
     pub use chumsky_folds::enumerate::enumerate_is_steady;
     pub use chumsky_folds::fold::fold_is_steady;
@@ -442,19 +427,28 @@ pub mod laws {
     pub use chumsky_folds::foldl_with::foldl_with_is_steady;
     pub use chumsky_folds::foldr::foldr_is_steady;
     pub use chumsky_folds::foldr_with::foldr_with_is_steady;
+    pub use chumsky_folds::laws::{
+        enumerate_numbers_from_zero, fold_is_the_fold_of_what_collect_gives,
+        foldl_is_the_fold_of_what_collect_gives, foldl_with_by_a_blind_folder_is_foldl,
+        foldr_is_the_fold_of_the_reverse, foldr_with_by_a_blind_folder_is_foldr,
+        try_foldl_that_never_refuses_is_foldl_with,
+    };
     pub use chumsky_folds::try_foldl::try_foldl_is_steady;
+    pub use chumsky_group::arrays::group_of_an_array_is_steady;
     pub use chumsky_group::laws::{group_of_three_is_then_twice, group_of_two_is_then};
     pub use chumsky_group::parts::group_is_steady;
-    pub use chumsky_group::arrays::group_of_an_array_is_steady;
+    pub use chumsky_items::collect::collect_is_steady;
+    pub use chumsky_items::collect_exactly::collect_exactly_is_steady;
     pub use chumsky_items::laws::{
         collect_exactly_adds_no_event, count_is_the_length_of_collect,
         repeated_is_one_more_or_no_more, repeated_never_gives_more_than_its_cap,
         separated_by_never_ends_with_a_separator,
     };
-    pub use chumsky_items::collect_exactly::collect_exactly_is_steady;
-    pub use chumsky_items::collect::collect_is_steady;
     pub use chumsky_items::repeated::repeated_is_steady;
     pub use chumsky_items::separated_by::separated_by_is_steady;
+    pub use chumsky_judge::and_is::and_is_is_steady;
+    pub use chumsky_judge::filter::filter_is_steady;
+    pub use chumsky_judge::filter_map::filter_map_is_steady;
     pub use chumsky_judge::laws::{
         and_is_ends_where_its_first_part_ends, filter_gives_what_passed,
         filter_map_gives_what_was_picked, filter_map_of_all_answers_as_its_part,
@@ -464,9 +458,6 @@ pub mod laws {
         try_map_with_by_a_blind_closure_is_try_map,
         validate_that_emits_nothing_answers_as_its_part,
     };
-    pub use chumsky_judge::and_is::and_is_is_steady;
-    pub use chumsky_judge::filter::filter_is_steady;
-    pub use chumsky_judge::filter_map::filter_map_is_steady;
     pub use chumsky_judge::map_err::map_err_is_steady;
     pub use chumsky_judge::map_err_with::map_err_with_is_steady;
     pub use chumsky_judge::map_err_with_state::map_err_with_state_is_steady;
@@ -492,8 +483,8 @@ pub mod laws {
     pub use chumsky_set::laws::{
         a_list_takes_at_most_one_round_more, a_set_takes_at_most_one_round_more,
     };
-    pub use chumsky_set::set::set_is_steady;
     pub use chumsky_set::list::set_of_a_list_is_steady;
+    pub use chumsky_set::set::set_is_steady;
 }
 
 pub use chumsky_context::config::{ConfigParser, Configurable, IsConfigParser};

@@ -257,8 +257,8 @@ impl<
         (and-agrees (J.agrees t.7 s.7) none-agree)))))))) };
 }
 
-/// `choice` of one parser; and of one, of two, and so on to eight, under a state whose mark and whose going back take no
-/// memory.
+/// Never refused for memory where no part is: `choice` of one parser; and of one, of two, and so on to eight, under a state
+/// whose mark and whose going back take no memory.
 pub fn choice_is_never_out_of_memory<
     'src,
     I: Input<'src>,
@@ -273,7 +273,7 @@ pub fn choice_is_never_out_of_memory<
         (map part (T.each_does several.now)) (T.meaning several.now) }
 {}
 
-/// A choice of one alternative, of two, and so on to eight.
+/// When it is ready and steady, and which outputs are the same: a choice of one alternative, of two, and so on to eight.
 pub fn choice_is_steady<
     'src,
     I: Input<'src>,

@@ -127,8 +127,8 @@ impl<'src, I: Input<'src>, O, E: ParserExtra<I>, A: Parser<'src, I, O, E>, const
     }
 }
 
-/// `choice` of the parsers of a slice, a `Vec` and an array, under a state whose mark and whose going back take no memory, and
-/// errors that take none: a choice of no parsers builds one.
+/// Never refused for memory where no part is: `choice` of the parsers of a slice, a `Vec` and an array, under a state whose
+/// mark and whose going back take no memory, and errors that take none: a choice of no parsers builds one.
 pub fn choice_of_a_list_is_never_out_of_memory<
     'src,
     'p,
@@ -149,7 +149,7 @@ pub fn choice_of_a_list_is_never_out_of_memory<
         (⟦<Choice<[A; N]> as Parser<'src, I, O, E>>⟧.meaning array.now) }
 {}
 
-/// A choice among the parsers of a slice, a `Vec` or an array.
+/// When it is ready and steady, and which outputs are the same: a choice among the parsers of a slice, a `Vec` or an array.
 pub fn choice_of_a_list_is_steady<
     'src,
     'p,

@@ -96,7 +96,7 @@ impl<
     }
 }
 
-/// `a.delimited_by(b, c)` and `a.padded_by(b)`.
+/// Never refused for memory where no part is: `a.delimited_by(b, c)` and `a.padded_by(b)`.
 pub fn delimited_by_is_never_out_of_memory<
     'src,
     I: Input<'src>,
@@ -116,7 +116,7 @@ pub fn delimited_by_is_never_out_of_memory<
         (⟦<PaddedBy<A, B, U> as Parser<'src, I, O, E>>⟧.meaning p) }
 {}
 
-/// `a.delimited_by(b, c)` and `a.padded_by(b)`.
+/// When it is ready and steady, and which outputs are the same: `a.delimited_by(b, c)` and `a.padded_by(b)`.
 pub fn delimited_by_is_steady<
     'src,
     I: Input<'src>,

@@ -84,7 +84,7 @@ impl<
     }
 }
 
-/// `a.ignore_then(b)`.
+/// Never refused for memory where no part is: `a.ignore_then(b)`.
 pub fn ignore_then_is_never_out_of_memory<
     'src,
     I: Input<'src>,
@@ -99,7 +99,7 @@ pub fn ignore_then_is_never_out_of_memory<
         (⟦<IgnoreThen<A, B, O> as Parser<'src, I, U, E>>⟧.meaning i) }
 {}
 
-/// `a.ignore_then(b)`.
+/// When it is ready and steady, and which outputs are the same: `a.ignore_then(b)`.
 pub fn ignore_then_is_steady<
     'src,
     I: Input<'src>,

@@ -121,7 +121,7 @@ impl<
     }
 }
 
-/// `a.map(f)` and `a.map_by(f)`.
+/// Never refused for memory where no part is: `a.map(f)` and `a.map_by(f)`.
 pub fn map_is_never_out_of_memory<
     'src,
     I: Input<'src>,
@@ -136,7 +136,8 @@ pub fn map_is_never_out_of_memory<
         (⟦<Map<A, O, F, U> as Parser<'src, I, U, E>>⟧.meaning m) }
 {}
 
-/// `a.map(f)` and `a.map_by(f)`, where `f` gives one answer to each argument.
+/// When it is ready and steady, and which outputs are the same: `a.map(f)` and `a.map_by(f)`, where `f` gives one answer to
+/// each argument.
 pub fn map_is_steady<
     'src,
     I: Input<'src>,

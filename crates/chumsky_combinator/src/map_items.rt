@@ -101,7 +101,8 @@ impl<
     }
 }
 
-/// `a.map_items(f)` and `a.map_items_by(f)`, where `f` gives one answer to each item.
+/// When it is ready and steady, and which outputs are the same: `a.map_items(f)` and `a.map_items_by(f)`, where `f` gives one
+/// answer to each item.
 pub fn map_items_is_steady<
     'src,
     I: Input<'src>,

@@ -103,7 +103,8 @@ impl<
     }
 }
 
-/// `a.map_items_with(f)`, where `f` gives one answer to each item and what it is shown, and leaves the state as it is.
+/// When it is ready and steady, and which outputs are the same: `a.map_items_with(f)`, where `f` gives one answer to each
+/// item and what it is shown, and leaves the state as it is.
 pub fn map_items_with_is_steady<
     'src,
     I: Input<'src>,

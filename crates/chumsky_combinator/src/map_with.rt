@@ -123,7 +123,8 @@ where
     }
 }
 
-/// `a.map_with(f)`, where `f` gives one answer to each value and each run that it is shown, and leaves the state as it is.
+/// When it is ready and steady, and which outputs are the same: `a.map_with(f)`, where `f` gives one answer to each value and
+/// each run that it is shown, and leaves the state as it is.
 pub fn map_with_is_steady<
     'src,
     I: Input<'src>,

@@ -95,7 +95,8 @@ impl<
     }
 }
 
-/// `a.or(b)` and `a.or_not()`, under a state whose mark and whose going back take no memory.
+/// Never refused for memory where no part is: `a.or(b)` and `a.or_not()`, under a state whose mark and whose going back take
+/// no memory.
 pub fn or_is_never_out_of_memory<
     'src,
     I: Input<'src>,
@@ -112,7 +113,8 @@ pub fn or_is_never_out_of_memory<
         (⟦<OrNot<A> as Parser<'src, I, Option<O>, E>>⟧.meaning o) }
 {}
 
-/// `a.or(b)`, and `a.or_not()` as a plain parser and as a parser of items.
+/// When it is ready and steady, and which outputs are the same: `a.or(b)`, and `a.or_not()` as a plain parser and as a parser
+/// of items.
 pub fn or_is_steady<
     'src,
     I: Input<'src>,

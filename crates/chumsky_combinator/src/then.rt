@@ -86,7 +86,7 @@ impl<
     }
 }
 
-/// `a.then(b)` and `a.then_ignore(b)`.
+/// Never refused for memory where no part is: `a.then(b)` and `a.then_ignore(b)`.
 pub fn then_is_never_out_of_memory<
     'src,
     I: Input<'src>,
@@ -104,7 +104,7 @@ pub fn then_is_never_out_of_memory<
         (⟦<ThenIgnore<A, B, U> as Parser<'src, I, O, E>>⟧.meaning i) }
 {}
 
-/// `a.then(b)` and `a.then_ignore(b)`.
+/// When it is ready and steady, and which outputs are the same: `a.then(b)` and `a.then_ignore(b)`.
 pub fn then_is_steady<
     'src,
     I: Input<'src>,

@@ -133,8 +133,8 @@ impl<
     }
 }
 
-/// `a.then_items(b)`, and `a.then(b)` of two lists, as parsers of items. Two items are the same where one of the two calls
-/// them so.
+/// When it is ready and steady, and which outputs are the same: `a.then_items(b)`, and `a.then(b)` of two lists, as parsers
+/// of items. Two items are the same where one of the two calls them so.
 pub fn then_items_is_steady<
     'src,
     I: Input<'src>,

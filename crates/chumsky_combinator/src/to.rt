@@ -80,7 +80,7 @@ impl<'src, I: Input<'src>, O, U: Clone, E: ParserExtra<I>, A: Moving<'src, I, O,
     }
 }
 
-/// `a.to(v)`, of a value whose clone takes no memory, and `a.ignored()`.
+/// Never refused for memory where no part is: `a.to(v)`, of a value whose clone takes no memory, and `a.ignored()`.
 pub fn to_is_never_out_of_memory<
     'src,
     I: Input<'src>,
@@ -97,7 +97,7 @@ pub fn to_is_never_out_of_memory<
         (⟦<Ignored<A, O> as Parser<'src, I, (), E>>⟧.meaning i) }
 {}
 
-/// `a.to(v)` and `a.ignored()`.
+/// When it is ready and steady, and which outputs are the same: `a.to(v)` and `a.ignored()`.
 pub fn to_is_steady<'src, I: Input<'src>, O, U: Clone, E: ParserExtra<I>, A: Parser<'src, I, O, E>>(
     to: &To<A, O, U>,
     ignored: &Ignored<A, O>,

@@ -78,7 +78,7 @@ where
     }
 }
 
-/// `a.to_slice()`.
+/// Never refused for memory where no part is: `a.to_slice()`.
 pub fn to_slice_is_never_out_of_memory<'src, I, O, E, A>(to_slice: &ToSlice<A, O>)
 where
     I: SliceInput<'src>,

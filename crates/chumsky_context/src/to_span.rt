@@ -77,7 +77,7 @@ where
     }
 }
 
-/// `a.to_span()`.
+/// Never refused for memory where no part is: `a.to_span()`.
 pub fn to_span_is_never_out_of_memory<'src, I, O, E, A>(to_span: &ToSpan<A, O>)
 where
     I: Input<'src>,

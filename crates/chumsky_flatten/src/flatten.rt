@@ -216,8 +216,8 @@ where
 
 impl<A, O> MayStay for Flatten<A, O> {}
 
-/// `a.flatten()`. Two of its items are the same where iterators give them that have given as many items of items of `a` that
-/// are the same.
+/// When it is ready and steady, and which outputs are the same: `a.flatten()`. Two of its items are the same where iterators
+/// give them that have given as many items of items of `a` that are the same.
 pub fn flatten_is_steady<'src, I, O, E, A>(flatten: &Flatten<A, O>)
 where
     I: Input<'src>,

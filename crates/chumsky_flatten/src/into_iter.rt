@@ -170,8 +170,8 @@ impl<'src, I: Input<'src>, O: IntoIterator, E: ParserExtra<I>, A: Moving<'src, I
     }
 }
 
-/// `a.into_iter()`, as a parser of items and as a plain parser. Two of its items are the same where iterators give them that have given as many items of outputs of `a`
-/// that are the same.
+/// When it is ready and steady, and which outputs are the same: `a.into_iter()`, as a parser of items and as a plain parser.
+/// Two of its items are the same where iterators give them that have given as many items of outputs of `a` that are the same.
 pub fn into_iter_is_steady<'src, I, O, E, A>(into_iter: &IntoIter<A, O>)
 where
     I: Input<'src>,

@@ -121,7 +121,8 @@ impl<'src, I: Input<'src>, O: Drop, E: ParserExtra<I>, A: MovingItems<'src, I, O
     }
 }
 
-/// `a.enumerate()`. Two of its items are the same where their numbers are equal, and the items of `a` in them are the same.
+/// When it is ready and steady, and which outputs are the same: `a.enumerate()`. Two of its items are the same where their
+/// numbers are equal, and the items of `a` in them are the same.
 pub fn enumerate_is_steady<
     'src,
     I: Input<'src>,

@@ -89,8 +89,8 @@ impl<
     }
 }
 
-/// `a.fold(init, f)` and `a.fold_by(init, f)`. Two outputs are the same where they are left folds, from clones of `init`, of
-/// as many items that are the same.
+/// When it is ready and steady, and which outputs are the same: `a.fold(init, f)` and `a.fold_by(init, f)`. Two outputs are
+/// the same where they are left folds, from clones of `init`, of as many items that are the same.
 pub fn fold_is_steady<
     'src,
     I: Input<'src>,

@@ -91,8 +91,8 @@ impl<
     }
 }
 
-/// `a.foldl(b, f)` and `a.foldl_by(b, f)`. Two outputs are the same where they are left folds, from outputs of `a` that are
-/// the same, of as many items that are.
+/// When it is ready and steady, and which outputs are the same: `a.foldl(b, f)` and `a.foldl_by(b, f)`. Two outputs are the
+/// same where they are left folds, from outputs of `a` that are the same, of as many items that are.
 pub fn foldl_is_steady<
     'src,
     I: Input<'src>,

@@ -142,9 +142,9 @@ impl<
     }
 }
 
-/// `a.foldl_with(b, f)`, where `f` gives one answer to each accumulator, item and what it is shown, and leaves the state as it
-/// is. Two outputs are the same where they are left folds, from outputs of `a` that are the same, of as many items that are,
-/// each shown one run.
+/// When it is ready and steady, and which outputs are the same: `a.foldl_with(b, f)`, where `f` gives one answer to each
+/// accumulator, item and what it is shown, and leaves the state as it is. Two outputs are the same where they are left folds,
+/// from outputs of `a` that are the same, of as many items that are, each shown one run.
 pub fn foldl_with_is_steady<
     'src,
     I: Input<'src>,

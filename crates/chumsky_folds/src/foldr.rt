@@ -108,8 +108,8 @@ impl<
     }
 }
 
-/// `a.foldr(b, f)` and `a.foldr_by(b, f)`. Two outputs are the same where they are right folds, from outputs of `b` that are
-/// the same, of as many items that are.
+/// When it is ready and steady, and which outputs are the same: `a.foldr(b, f)` and `a.foldr_by(b, f)`. Two outputs are the
+/// same where they are right folds, from outputs of `b` that are the same, of as many items that are.
 pub fn foldr_is_steady<
     'src,
     I: Input<'src>,

@@ -161,9 +161,9 @@ impl<
     }
 }
 
-/// `a.foldr_with(b, f)`, where `f` gives one answer to each item, accumulator and what it is shown, and leaves the state as it
-/// is. Two outputs are the same where they are right folds, from outputs of `b` that are the same, of as many items that are,
-/// each shown one run.
+/// When it is ready and steady, and which outputs are the same: `a.foldr_with(b, f)`, where `f` gives one answer to each
+/// item, accumulator and what it is shown, and leaves the state as it is. Two outputs are the same where they are right
+/// folds, from outputs of `b` that are the same, of as many items that are, each shown one run.
 pub fn foldr_with_is_steady<
     'src,
     I: Input<'src>,

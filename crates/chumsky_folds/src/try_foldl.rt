@@ -170,8 +170,9 @@ impl<
     }
 }
 
-/// `a.try_foldl(b, f)`, where `f` takes both of two items that are the same, into accumulators that were folded alike, or
-/// refuses both with errors that count as one, and leaves one state; it may change the state, since both paths call it.
+/// When it is ready and steady, and which outputs are the same: `a.try_foldl(b, f)`, where `f` takes both of two items that
+/// are the same, into accumulators that were folded alike, or refuses both with errors that count as one, and leaves one
+/// state; it may change the state, since both paths call it.
 pub fn try_foldl_is_steady<
     'src,
     I: Input<'src>,

@@ -75,7 +75,7 @@ fn slice_of<P, const N: usize>(parsers: &[P; N]) -> &[P]
     parsers
 }
 
-/// `group` of the parsers of an array.
+/// Never refused for memory where no part is: `group` of the parsers of an array.
 pub fn group_of_an_array_is_never_out_of_memory<
     'src,
     I: Input<'src>,
@@ -89,7 +89,7 @@ pub fn group_of_an_array_is_never_out_of_memory<
         (⟦<Group<[P; N]> as Parser<'src, I, ArrayVec<O, N>, E>>⟧.meaning group.now) }
 {}
 
-/// A group of the parsers of an array.
+/// When it is ready and steady, and which outputs are the same: a group of the parsers of an array.
 pub fn group_of_an_array_is_steady<
     'src,
     I: Input<'src>,

@@ -244,7 +244,7 @@ impl<
         (inr (inr (inr (inr (inl x)))))))) (grouped-stops s _ _ h) };
 }
 
-/// `group` of one to eight parsers.
+/// Never refused for memory where no part is: `group` of one to eight parsers.
 pub fn group_is_never_out_of_memory<
     'src,
     I: Input<'src>,
@@ -255,7 +255,7 @@ pub fn group_is_never_out_of_memory<
     ensures { OutOnlyBy E.Error.Error E.State.Inspector (T.parts group.now) (T.meaning group.now) }
 {}
 
-/// `group` of one parser, of two, and so on to eight.
+/// When it is ready and steady, and which outputs are the same: `group` of one parser, of two, and so on to eight.
 pub fn group_is_steady<
     'src,
     I: Input<'src>,

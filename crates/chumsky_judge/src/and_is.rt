@@ -106,7 +106,7 @@ where
     }
 }
 
-/// `a.and_is(b)` and `a.rewind()`.
+/// When it is ready and steady, and which outputs are the same: `a.and_is(b)` and `a.rewind()`.
 pub fn and_is_is_steady<
     'src,
     I: Input<'src>,

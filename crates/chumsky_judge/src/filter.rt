@@ -157,7 +157,8 @@ impl<
     }
 }
 
-/// `a.filter(f)` and `a.filter_by(f)`, under errors that take no memory: one is built for a value that doesn't pass.
+/// Never refused for memory where no part is: `a.filter(f)` and `a.filter_by(f)`, under errors that take no memory: one is
+/// built for a value that doesn't pass.
 pub fn filter_is_never_out_of_memory<
     'src,
     I: Input<'src>,
@@ -171,7 +172,7 @@ pub fn filter_is_never_out_of_memory<
         (⟦<Filter<A, F> as Parser<'src, I, O, E>>⟧.meaning f) }
 {}
 
-/// `a.filter(f)` and `a.filter_by(f)`.
+/// When it is ready and steady, and which outputs are the same: `a.filter(f)` and `a.filter_by(f)`.
 pub fn filter_is_steady<
     'src,
     I: Input<'src>,

@@ -164,7 +164,8 @@ where
     }
 }
 
-/// `a.filter_map(f)` and `a.filter_map_by(f)`, under errors that take no memory: one is built for a value that isn't picked.
+/// Never refused for memory where no part is: `a.filter_map(f)` and `a.filter_map_by(f)`, under errors that take no memory:
+/// one is built for a value that isn't picked.
 pub fn filter_map_is_never_out_of_memory<
     'src,
     I: Input<'src>,
@@ -179,7 +180,7 @@ pub fn filter_map_is_never_out_of_memory<
         (⟦<FilterMap<A, O, F, U> as Parser<'src, I, U, E>>⟧.meaning f) }
 {}
 
-/// `a.filter_map(f)` and `a.filter_map_by(f)`.
+/// When it is ready and steady, and which outputs are the same: `a.filter_map(f)` and `a.filter_map_by(f)`.
 pub fn filter_map_is_steady<
     'src,
     I: Input<'src>,

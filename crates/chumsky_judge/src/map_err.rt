@@ -119,7 +119,8 @@ where
     }
 }
 
-/// `a.map_err(f)`, where `f` gives one error to each, by what counts of them.
+/// When it is ready and steady, and which outputs are the same: `a.map_err(f)`, where `f` gives one error to each, by what
+/// counts of them.
 pub fn map_err_is_steady<
     'src,
     I: Input<'src>,

@@ -131,7 +131,8 @@ where
     }
 }
 
-/// `a.map_err_with(f)`, where `f` gives one error and leaves one state, to each error and each run that it is shown.
+/// When it is ready and steady, and which outputs are the same: `a.map_err_with(f)`, where `f` gives one error and leaves one
+/// state, to each error and each run that it is shown.
 pub fn map_err_with_is_steady<
     'src,
     I: Input<'src>,

@@ -154,7 +154,8 @@ where
     }
 }
 
-/// `a.map_err_with_state(f)`, where `f` gives one error and leaves one state, to each error, span and state.
+/// When it is ready and steady, and which outputs are the same: `a.map_err_with_state(f)`, where `f` gives one error and
+/// leaves one state, to each error, span and state.
 pub fn map_err_with_state_is_steady<
     'src,
     I: Input<'src>,

@@ -88,7 +88,7 @@ fn deny<'src, I: Input<'src>, O, E: ParserExtra<I>, A: Parser<'src, I, O, E>>(
 
 impl<A, O> MayStay for Not<A, O> {}
 
-/// `a.not()`.
+/// When it is ready and steady, and which outputs are the same: `a.not()`.
 pub fn not_is_steady<'src, I: Input<'src>, O, E: ParserExtra<I>, A: Parser<'src, I, O, E>>(
     not: &Not<A, O>,
 )

@@ -79,7 +79,7 @@ where
     }
 }
 
-/// `a.pick_by(f)`.
+/// When it is ready and steady, and which outputs are the same: `a.pick_by(f)`.
 pub fn pick_by_is_steady<
     'src,
     I: Input<'src>,

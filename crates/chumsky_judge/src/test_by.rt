@@ -68,7 +68,7 @@ where
     }
 }
 
-/// `a.test_by(f)`.
+/// When it is ready and steady, and which outputs are the same: `a.test_by(f)`.
 pub fn test_by_is_steady<
     'src,
     I: Input<'src>,

@@ -155,7 +155,8 @@ where
     }
 }
 
-/// `a.try_map(f)` and `a.try_map_by(f)`, under any errors: the mapper brings its own.
+/// Never refused for memory where no part is: `a.try_map(f)` and `a.try_map_by(f)`, under any errors: the mapper brings its
+/// own.
 pub fn try_map_is_never_out_of_memory<
     'src,
     I: Input<'src>,
@@ -170,7 +171,7 @@ pub fn try_map_is_never_out_of_memory<
         (⟦<TryMap<A, O, F, U> as Parser<'src, I, U, E>>⟧.meaning t) }
 {}
 
-/// `a.try_map(f)` and `a.try_map_by(f)`.
+/// When it is ready and steady, and which outputs are the same: `a.try_map(f)` and `a.try_map_by(f)`.
 pub fn try_map_is_steady<
     'src,
     I: Input<'src>,

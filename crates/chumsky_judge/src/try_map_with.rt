@@ -125,7 +125,7 @@ where
     }
 }
 
-/// `a.try_map_with(f)`.
+/// When it is ready and steady, and which outputs are the same: `a.try_map_with(f)`.
 pub fn try_map_with_is_steady<
     'src,
     I: Input<'src>,

@@ -140,7 +140,7 @@ where
     }
 }
 
-/// `a.unwrapped()`.
+/// When it is ready and steady, and which outputs are the same: `a.unwrapped()`.
 pub fn unwrapped_is_steady<
     'src,
     I: Input<'src>,

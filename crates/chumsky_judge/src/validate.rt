@@ -182,7 +182,7 @@ where
     }
 }
 
-/// `a.validate(f)`.
+/// When it is ready and steady, and which outputs are the same: `a.validate(f)`.
 pub fn validate_is_steady<
     'src,
     I: Input<'src>,

@@ -128,7 +128,7 @@ impl<'src, I: Input<'src>, O, E: ParserExtra<I>, P: Moving<'src, I, O, E>> Movin
     }
 }
 
-/// A parser by reference, in a `Box` and in an `Rc`.
+/// When it is ready and steady, and which outputs are the same: a parser by reference, in a `Box` and in an `Rc`.
 pub fn by_reference_is_steady<
     'src,
     'a,

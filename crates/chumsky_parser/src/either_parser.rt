@@ -78,7 +78,7 @@ impl<
     }
 }
 
-/// A parser of one of two types.
+/// When it is ready and steady, and which outputs are the same: a parser of one of two types.
 pub fn either_is_steady<
     'src,
     I: Input<'src>,

@@ -57,8 +57,8 @@ pub trait Parser<'src, I: Input<'src>, O, E: ParserExtra<I>> {
     ghost accepts: { (p : Self) → Accepts (meaning p E.Error.Error E.State.Inspector) (language p) (E.Error.takes_no_memory × E.State.takes_no_memory) };
 }
 
-/// A run of such a parser is not refused for memory, for its value or without it, where errors take none: each call of
-/// `go_emit` and `go_check` shows that it runs so.
+/// A run of a parser that is never refused for memory isn't either, for its value or without it, where errors take none: each
+/// call of `go_emit` and `go_check` shows that it runs so.
 pub fn a_run_is_never_out_of_memory<
     'src,
     I: Input<'src>,

@@ -181,8 +181,8 @@ impl<
     }
 }
 
-/// Operators of one type in a slice, a `Vec` or an array. What is read of two is the same where both are one operator, which calls
-/// it so.
+/// When it is ready and steady, and which outputs are the same: operators of one type in a slice, a `Vec` or an array. What
+/// is read of two is the same where both are one operator, which calls it so.
 pub fn operators_of_a_list_are_steady<
     'src,
     I: Input<'src>,

@@ -344,7 +344,8 @@ impl<
     }
 }
 
-/// `prefix_with(..)`, where `f` gives one output for each operator and operand and each run that it is shown, and keeps the state.
+/// When it is ready and steady, and which outputs are the same: `prefix_with(..)`, where `f` gives one output for each
+/// operator and operand and each run that it is shown, and keeps the state.
 pub fn prefix_with_is_steady<
     'src,
     I: Input<'src>,

@@ -78,7 +78,8 @@ impl<
     }
 }
 
-/// `a.pratt(..)`. Two outputs are the same where they are built alike, from atoms that are the same, by operators that are.
+/// When it is ready and steady, and which outputs are the same: `a.pratt(..)`. Two outputs are the same where they are built
+/// alike, from atoms that are the same, by operators that are.
 pub fn pratt_is_steady<
     'src,
     I: Input<'src>,

@@ -274,8 +274,8 @@ impl<
     }
 }
 
-/// Operators in a row, as a tuple of them makes it. What is read of two is the same where both are one operator, which calls it
-/// so.
+/// When it is ready and steady, and which outputs are the same: operators in a row, as a tuple of them makes it. What is read
+/// of two is the same where both are one operator, which calls it so.
 pub fn operators_are_steady<
     'src,
     I: Input<'src>,

@@ -84,7 +84,7 @@ impl<'src, I: ValueInput<'src>, E: ParserExtra<I>> Moving<'src, I, I::Token, E> 
     }
 }
 
-/// `any()`, over tokens that are handed out without memory.
+/// Never refused for memory, where errors and states take none: `any()`, over tokens that are handed out without memory.
 pub fn any_is_never_out_of_memory<'src, I: ValueInput<'src>, E: ParserExtra<I>>(any: &Any<I, E>)
     ensures { ((t : I.Token) → I.takes_no_memory t) → E.Error.takes_no_memory → NeverOut E.Error.Error E.State.Inspector
         (⟦<Any<I, E> as Parser<'src, I, I::Token, E>>⟧.meaning any.now) }

@@ -78,7 +78,7 @@ impl<'src, I: Input<'src>, E: ParserExtra<I>> Parser<'src, I, (), E> for End<I, 
 
 impl<I, E> MayStay for End<I, E> {}
 
-/// `end()` and `empty()`.
+/// Never refused for memory, where errors and states take none: `end()` and `empty()`.
 pub fn end_is_never_out_of_memory<'src, I: Input<'src>, E: ParserExtra<I>>(
     end: &End<I, E>,
     empty: &Empty<I, E>,

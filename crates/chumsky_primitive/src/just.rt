@@ -146,7 +146,7 @@ where
     }
 }
 
-/// `just(seq)`, of a sequence whose clone takes no memory.
+/// Never refused for memory, where errors and states take none: `just(seq)`, of a sequence whose clone takes no memory.
 pub fn just_is_never_out_of_memory<
     'src,
     T: OrderedSeq<I::Token> + Clone,

@@ -147,7 +147,8 @@ where
     }
 }
 
-/// `one_of(seq)` and `none_of(seq)`, over tokens that are handed out without memory.
+/// Never refused for memory, where errors and states take none: `one_of(seq)` and `none_of(seq)`, over tokens that are handed
+/// out without memory.
 pub fn one_of_is_never_out_of_memory<
     'src,
     S: Seq<I::Token>,

@@ -67,7 +67,7 @@ impl<'src, I: Input<'src>, O: Drop, E: ParserExtra<I>, P: Parser<'src, I, O, E>>
     }
 }
 
-/// A set of the parsers of a `Vec` or an array.
+/// When it is ready and steady, and which outputs are the same: a set of the parsers of a `Vec` or an array.
 pub fn set_of_a_list_is_steady<
     'src,
     I: Input<'src>,

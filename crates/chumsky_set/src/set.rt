@@ -381,7 +381,7 @@ impl<
 
 impl<T> MayStay for Set<T> {}
 
-/// `set` of one to four parsers.
+/// When it is ready and steady, and which outputs are the same: `set` of one to four parsers.
 pub fn set_is_steady<
     'src,
     I: Input<'src>,
