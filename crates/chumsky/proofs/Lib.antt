@@ -2,4 +2,3 @@ pub mod AnswerLemmas
 mod Refusing
 mod Taking
 mod AcceptedLemmas
-mod MappedInLemmas

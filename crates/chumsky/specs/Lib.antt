@@ -4,5 +4,3 @@ pub mod Answer
 pub use Rattle.chumsky_recursive.specs.Calls
 pub mod Values
 pub mod WantedMemory
-pub mod MappedIn
-pub mod MappedInLaws

@@ -7,7 +7,6 @@ mod config_parser_ext;
 mod iter_parser_ext;
 mod macros;
 mod made;
-mod map_in;
 mod map_parser_ext;
 mod memory;
 mod moving_part;
@@ -153,11 +152,11 @@ pub mod pratt {
 /// Parsers made of parsers.
 pub mod combinator {
     pub use crate::made::{FromStr, Lazy, ReadStr};
-    pub use crate::map_in::{MapIn, MapperIn};
     pub use chumsky_combinator::delimited_by::DelimitedBy;
     pub use chumsky_combinator::ignore_then::IgnoreThen;
     pub use chumsky_combinator::ignored::Ignored;
     pub use chumsky_combinator::map::{Map, Mapper};
+    pub use chumsky_combinator::map_in::{MapIn, MapperIn};
     pub use chumsky_combinator::map_with::{MapWith, MapperWith};
     pub use chumsky_combinator::or::Or;
     pub use chumsky_combinator::or_not::OrNot;
@@ -315,12 +314,12 @@ pub mod grammar_laws {
 /// asks for memory is ready and steady.
 pub mod memory_laws {
     pub use crate::memory::{memory_is_wanted_only_for_errors, these_take_no_memory};
-    pub use crate::steady::map_in_is_steady;
     pub use chumsky_choice::alternatives::choice_is_never_out_of_memory;
     pub use chumsky_choice::lists::choice_of_a_list_is_never_out_of_memory;
     pub use chumsky_combinator::delimited_by::delimited_by_is_never_out_of_memory;
     pub use chumsky_combinator::ignore_then::ignore_then_is_never_out_of_memory;
     pub use chumsky_combinator::map::map_is_never_out_of_memory;
+    pub use chumsky_combinator::map_in::map_in_is_steady;
     pub use chumsky_combinator::or::or_is_never_out_of_memory;
     pub use chumsky_combinator::then::then_is_never_out_of_memory;
     pub use chumsky_combinator::to::to_is_never_out_of_memory;

@@ -2,14 +2,11 @@
 //! is known of two outputs that count as the same.
 ghost use Rattle.std.specs.Prelude.{Result};
 ghost use Rattle.chumsky_combinator.specs.Mapped.{IsFunction, SameMapped};
-ghost use Rattle.chumsky.specs.MappedIn.{GivesOk};
 
 use crate::made::{FromStr, Lazy};
-use crate::map_in::{MapIn, MapperIn};
 use chumsky_input::extra::ParserExtra;
 use chumsky_input::input::{Input, ValueInput};
 use chumsky_parser::parser::Parser;
-use std::alloc::{AllocError, Global};
 use std::convert::AsStr;
 use std::str;
 
@@ -38,27 +35,4 @@ pub fn from_str_is_steady<
     ensures ready { A.ready from_str.now.parser → ⟦<FromStr<A, O, U> as Parser<'src, I, Result<U, U::Err>, E>>⟧.ready from_str.now }
     ensures steady { A.steady from_str.now.parser → IsFunction (λ value read. U.from_str_gives (O.text value) read) → ⟦<FromStr<A, O, U> as Parser<'src, I, Result<U, U::Err>, E>>⟧.steady from_str.now }
     ensures same { (x y : Result U U.Err) → ⟦<FromStr<A, O, U> as Parser<'src, I, Result<U, U::Err>, E>>⟧.same from_str.now x y → SameMapped (A.same from_str.now.parser) (λ value read. U.from_str_gives (O.text value) read) x y }
-{}
-
-/// `a.map_in(f)` and `a.map_in_by(f)`, where `f` gives one output to each value.
-pub fn map_in_is_steady<
-    'src,
-    I: Input<'src>,
-    O,
-    U,
-    E: ParserExtra<I>,
-    A: Parser<'src, I, O, E>,
-    F: MapperIn<O, U>,
->(map_in: &MapIn<A, O, F, U>)
-    ensures ready { A.ready map_in.now.parser → F.callable map_in.now.mapper →
-        ⟦<MapIn<A, O, F, U> as Parser<'src, I, U, E>>⟧.ready map_in.now }
-    ensures steady { A.steady map_in.now.parser → IsFunction (GivesOk (F.gives map_in.now.mapper)) →
-        ⟦<MapIn<A, O, F, U> as Parser<'src, I, U, E>>⟧.steady map_in.now }
-    ensures same { (x y : U) → ⟦<MapIn<A, O, F, U> as Parser<'src, I, U, E>>⟧.same map_in.now x y →
-        SameMapped (A.same map_in.now.parser) (GivesOk (F.gives map_in.now.mapper)) x y }
-{}
-
-/// A closure that asks for memory maps where it may be called.
-pub fn closures_may_map_in<O, U, F: Fn(O, Global) -> Result<U, AllocError>>(mapper: &F)
-    ensures { F.IsAlwaysCallable mapper.now → ⟦<F as MapperIn<O, U>>⟧.callable mapper.now }
 {}

@@ -1,5 +1,5 @@
 //! Parts of a grammar, each known to its users by a type of its own.
-ghost use Rattle.std.specs.Prelude.{◌≡◌, IfOk, is_some, ⊤, Bool, true};
+ghost use Rattle.std.specs.Prelude.{◌≡◌, IfOk, is_some, ⊤, Bool, true, false};
 ghost use Rattle.chumsky_input.specs.Run.{Runs};
 ghost use Rattle.chumsky_combinator.specs.Part.{Onward};
 ghost use Rattle.chumsky_combinator.specs.Compared.{DoesNoMore};

@@ -1,5 +1,5 @@
 //! What says of a parser that its successes move.
-ghost use Rattle.std.specs.Prelude.{◌≡◌, Bool, true};
+ghost use Rattle.std.specs.Prelude.{◌≡◌, Bool, true, false};
 
 use crate::iter::IterParser;
 use crate::parser::Parser;

@@ -1,6 +1,8 @@
 //! Output mappers that ask for memory.
 ghost use Rattle.std.specs.Prelude.{⊤, Result};
 ghost use Rattle.std.specs.declared.alloc.AllocError.{AllocError};
+ghost use Rattle.chumsky_combinator.specs.Mapped.{IsFunction, SameMapped};
+ghost use Rattle.chumsky_combinator.specs.MappedIn.{GivesOk};
 
 use chumsky_input::extra::ParserExtra;
 use chumsky_input::input::Input;
@@ -59,8 +61,8 @@ impl<
     F: MapperIn<O, U>,
 > Parser<'src, I, U, E> for MapIn<A, O, F, U> {
     ghost use Rattle.chumsky_combinator.specs.Mapped.{IsFunction, SameMapped};
-    ghost use Rattle.chumsky.specs.MappedIn.{GivesOk, MappedIn, map_in_language};
-    ghost use Rattle.chumsky.specs.MappedInLaws.{mapped_in-ends, mapped_in-agrees, map_in-accepts};
+    ghost use Rattle.chumsky_combinator.specs.MappedIn.{GivesOk, MappedIn, map_in_language};
+    ghost use Rattle.chumsky_combinator.specs.MappedInLaws.{mapped_in-ends, mapped_in-agrees, map_in-accepts};
 
     ghost ready = { λ p. A.ready p.parser × F.callable p.mapper };
 
@@ -100,7 +102,7 @@ impl<
     A: Moving<'src, I, O, E>,
     F: MapperIn<O, U>,
 > Moving<'src, I, U, E> for MapIn<A, O, F, U> {
-    ghost use Rattle.chumsky.specs.MappedInLaws.{mapped_in-moves};
+    ghost use Rattle.chumsky_combinator.specs.MappedInLaws.{mapped_in-moves};
 
     ghost moves = { λ p. A.moves p.parser };
 
@@ -110,3 +112,27 @@ impl<
         self.parser.always_moves()
     }
 }
+
+/// When it is ready and steady, and which outputs are the same: `a.map_in(f)` and `a.map_in_by(f)`, where `f` gives one output
+/// to each value.
+pub fn map_in_is_steady<
+    'src,
+    I: Input<'src>,
+    O,
+    U,
+    E: ParserExtra<I>,
+    A: Parser<'src, I, O, E>,
+    F: MapperIn<O, U>,
+>(map_in: &MapIn<A, O, F, U>)
+    ensures ready { A.ready map_in.now.parser → F.callable map_in.now.mapper →
+        ⟦<MapIn<A, O, F, U> as Parser<'src, I, U, E>>⟧.ready map_in.now }
+    ensures steady { A.steady map_in.now.parser → IsFunction (GivesOk (F.gives map_in.now.mapper)) →
+        ⟦<MapIn<A, O, F, U> as Parser<'src, I, U, E>>⟧.steady map_in.now }
+    ensures same { (x y : U) → ⟦<MapIn<A, O, F, U> as Parser<'src, I, U, E>>⟧.same map_in.now x y →
+        SameMapped (A.same map_in.now.parser) (GivesOk (F.gives map_in.now.mapper)) x y }
+{}
+
+/// A closure that asks for memory maps where it may be called.
+pub fn closures_may_map_in<O, U, F: Fn(O, Global) -> Result<U, AllocError>>(mapper: &F)
+    ensures { F.IsAlwaysCallable mapper.now → ⟦<F as MapperIn<O, U>>⟧.callable mapper.now }
+{}

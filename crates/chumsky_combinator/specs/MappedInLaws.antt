@@ -13,7 +13,7 @@ use Rattle.chumsky_parser.specs.WordsLaws.{map-gives_only}
 use Rattle.chumsky_combinator.specs.Mapped.{SameMapped}
 use Rattle.chumsky_combinator.specs.MappedLanguage.{MapsSome, given_by-here}
 use Rattle.chumsky_combinator.specs.MappedLaws.{given_by-ends, given_by-agrees}
-use Rattle.chumsky.specs.MappedIn.{GivesOk, GivenIn, MappedIn, map_in_language}
+use Rattle.chumsky_combinator.specs.MappedIn.{GivesOk, GivenIn, MappedIn, map_in_language}
 
 module _ {Tok Cx St Er V W : Type 0} (answers : V → Result W AllocError → Type 0) where
   given_in-ends : (v : Option V) → EndsAfterStart (GivenIn {Tok = Tok} {Cx = Cx} {St = St} {Er = Er} answers v)

@@ -1,5 +1,5 @@
 -- What a mapper that asks for memory makes of a value.
--- Main words: GivesOk, MappedIn, map_in_language. Laws: MappedInLaws.antt. Read first: Mapped.antt and MappedLanguage.antt of chumsky_combinator.
+-- Main words: GivesOk, MappedIn, map_in_language. Laws: MappedInLaws.antt. Read first: Mapped.antt and MappedLanguage.antt.
 use Rattle.std.specs.Prelude.{Option, Some, None, Result, Ok, Err, ◌⊎◌}
 use Rattle.std.specs.declared.alloc.AllocError.{AllocError}
 use Rattle.chumsky_input.specs.Outcome.{Meaning, Beginning, Outcome}

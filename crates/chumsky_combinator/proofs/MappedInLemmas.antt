@@ -10,7 +10,7 @@ use Rattle.chumsky_parser.proofs.ChainedLemmas.{ran-weaker}
 use Rattle.chumsky_parser.proofs.FailureLemmas.{ran-halts}
 use Rattle.chumsky_combinator.proofs.MappedLemmas.{ran-given_by}
 use Rattle.chumsky_combinator.specs.Mapped.{GivenBy}
-use Rattle.chumsky.specs.MappedIn.{GivesOk, GivenIn}
+use Rattle.chumsky_combinator.specs.MappedIn.{GivesOk, GivenIn}
 
 module _ {Tok Cx St Er V W : Type 0} {merged : Er → Er → Er} {safe : Type 0} {answers : V → Result W AllocError → Type 0} {wanted : Bool} {old : Held Tok Cx St Er}
     {v : V} {r : Result W AllocError} (h : answers v r) where
