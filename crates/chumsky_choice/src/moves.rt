@@ -13,7 +13,9 @@ impl<'src, I: Input<'src>, O, E: ParserExtra<I>, A: Moving<'src, I, O, E>> Movin
 
     ghost moved = { λ p. A.moved p.parsers.0 };
 
-    fn always_moves(&self) -> bool {
+    fn always_moves(&self) -> bool
+        ensures { result ≡ A.moves self.now.parsers.0 }
+    {
         self.parsers.0.always_moves()
     }
 }
@@ -32,7 +34,9 @@ impl<
 
     ghost moved = { λ p. all-move _ _ _ (and-moves (A.moved p.parsers.0) (last-moves (B.moved p.parsers.1))) };
 
-    fn always_moves(&self) -> bool {
+    fn always_moves(&self) -> bool
+        ensures { result ≡ (A.moves self.now.parsers.0 && B.moves self.now.parsers.1) }
+    {
         self.parsers.0.always_moves() && self.parsers.1.always_moves()
     }
 }
@@ -52,7 +56,9 @@ impl<
 
     ghost moved = { λ p. all-move _ _ _ (and-moves (A.moved p.parsers.0) (and-moves (B.moved p.parsers.1) (last-moves (C.moved p.parsers.2)))) };
 
-    fn always_moves(&self) -> bool {
+    fn always_moves(&self) -> bool
+        ensures { result ≡ (A.moves self.now.parsers.0 && (B.moves self.now.parsers.1 && C.moves self.now.parsers.2)) }
+    {
         self.parsers.0.always_moves()
             && self.parsers.1.always_moves()
             && self.parsers.2.always_moves()
@@ -75,7 +81,9 @@ impl<
 
     ghost moved = { λ p. all-move _ _ _ (and-moves (A.moved p.parsers.0) (and-moves (B.moved p.parsers.1) (and-moves (C.moved p.parsers.2) (last-moves (D.moved p.parsers.3))))) };
 
-    fn always_moves(&self) -> bool {
+    fn always_moves(&self) -> bool
+        ensures { result ≡ (A.moves self.now.parsers.0 && (B.moves self.now.parsers.1 && (C.moves self.now.parsers.2 && D.moves self.now.parsers.3))) }
+    {
         self.parsers.0.always_moves()
             && self.parsers.1.always_moves()
             && self.parsers.2.always_moves()
@@ -100,7 +108,9 @@ impl<
 
     ghost moved = { λ p. all-move _ _ _ (and-moves (A.moved p.parsers.0) (and-moves (B.moved p.parsers.1) (and-moves (C.moved p.parsers.2) (and-moves (D.moved p.parsers.3) (last-moves (F.moved p.parsers.4)))))) };
 
-    fn always_moves(&self) -> bool {
+    fn always_moves(&self) -> bool
+        ensures { result ≡ (A.moves self.now.parsers.0 && (B.moves self.now.parsers.1 && (C.moves self.now.parsers.2 && (D.moves self.now.parsers.3 && F.moves self.now.parsers.4)))) }
+    {
         self.parsers.0.always_moves()
             && self.parsers.1.always_moves()
             && self.parsers.2.always_moves()
@@ -127,7 +137,9 @@ impl<
 
     ghost moved = { λ p. all-move _ _ _ (and-moves (A.moved p.parsers.0) (and-moves (B.moved p.parsers.1) (and-moves (C.moved p.parsers.2) (and-moves (D.moved p.parsers.3) (and-moves (F.moved p.parsers.4) (last-moves (G.moved p.parsers.5))))))) };
 
-    fn always_moves(&self) -> bool {
+    fn always_moves(&self) -> bool
+        ensures { result ≡ (A.moves self.now.parsers.0 && (B.moves self.now.parsers.1 && (C.moves self.now.parsers.2 && (D.moves self.now.parsers.3 && (F.moves self.now.parsers.4 && G.moves self.now.parsers.5))))) }
+    {
         self.parsers.0.always_moves()
             && self.parsers.1.always_moves()
             && self.parsers.2.always_moves()
@@ -156,7 +168,9 @@ impl<
 
     ghost moved = { λ p. all-move _ _ _ (and-moves (A.moved p.parsers.0) (and-moves (B.moved p.parsers.1) (and-moves (C.moved p.parsers.2) (and-moves (D.moved p.parsers.3) (and-moves (F.moved p.parsers.4) (and-moves (G.moved p.parsers.5) (last-moves (H.moved p.parsers.6)))))))) };
 
-    fn always_moves(&self) -> bool {
+    fn always_moves(&self) -> bool
+        ensures { result ≡ (A.moves self.now.parsers.0 && (B.moves self.now.parsers.1 && (C.moves self.now.parsers.2 && (D.moves self.now.parsers.3 && (F.moves self.now.parsers.4 && (G.moves self.now.parsers.5 && H.moves self.now.parsers.6)))))) }
+    {
         self.parsers.0.always_moves()
             && self.parsers.1.always_moves()
             && self.parsers.2.always_moves()
@@ -187,7 +201,9 @@ impl<
 
     ghost moved = { λ p. all-move _ _ _ (and-moves (A.moved p.parsers.0) (and-moves (B.moved p.parsers.1) (and-moves (C.moved p.parsers.2) (and-moves (D.moved p.parsers.3) (and-moves (F.moved p.parsers.4) (and-moves (G.moved p.parsers.5) (and-moves (H.moved p.parsers.6) (last-moves (J.moved p.parsers.7))))))))) };
 
-    fn always_moves(&self) -> bool {
+    fn always_moves(&self) -> bool
+        ensures { result ≡ (A.moves self.now.parsers.0 && (B.moves self.now.parsers.1 && (C.moves self.now.parsers.2 && (D.moves self.now.parsers.3 && (F.moves self.now.parsers.4 && (G.moves self.now.parsers.5 && (H.moves self.now.parsers.6 && J.moves self.now.parsers.7))))))) }
+    {
         self.parsers.0.always_moves()
             && self.parsers.1.always_moves()
             && self.parsers.2.always_moves()
@@ -207,7 +223,9 @@ impl<'src, I: Input<'src>, O, E: ParserExtra<I>, A: Moving<'src, I, O, E>> Movin
 
     ghost moved = { λ p e. among-moves _ _ _ _ A.moves A.moved p.parsers.now e };
 
-    fn always_moves(&self) -> bool {
+    fn always_moves(&self) -> bool
+        ensures { result ≡ list_all A.moves self.now.parsers.now }
+    {
         all_move::<I, O, E, A>(self.parsers)
     }
 }
@@ -220,7 +238,9 @@ impl<'src, I: Input<'src>, O, E: ParserExtra<I>, A: Moving<'src, I, O, E>> Movin
 
     ghost moved = { λ p e. among-moves _ _ _ _ A.moves A.moved p.parsers.items e };
 
-    fn always_moves(&self) -> bool {
+    fn always_moves(&self) -> bool
+        ensures { result ≡ list_all A.moves self.now.parsers.items }
+    {
         all_move::<I, O, E, A>(self.parsers.as_slice())
     }
 }
@@ -237,7 +257,9 @@ impl<'src, I: Input<'src>, O, E: ParserExtra<I>, A: Moving<'src, I, O, E>, const
 
     ghost moved = { λ p e. among-moves _ _ _ _ A.moves A.moved p.parsers e };
 
-    fn always_moves(&self) -> bool {
+    fn always_moves(&self) -> bool
+        ensures { result ≡ list_all A.moves self.now.parsers }
+    {
         all_move::<I, O, E, A>(&self.parsers)
     }
 }

@@ -1,5 +1,5 @@
 //! A parser between an opening and a closing one.
-ghost use Rattle.std.specs.Prelude.{◌||◌, [], ◌∷◌};
+ghost use Rattle.std.specs.Prelude.{◌≡◌, ◌||◌, [], ◌∷◌};
 ghost use Rattle.chumsky_parser.specs.ByParts.{part, OutOnlyBy};
 
 use crate::padded_by::PaddedBy;
@@ -91,7 +91,9 @@ impl<
 
     ghost moved = { λ p. between-moves _ _ _ (B.moves p.opening) (A.moves p.parser) (C.moves p.closing) (B.ends_after_start p.opening) (A.ends_after_start p.parser) (C.ends_after_start p.closing) (B.moved p.opening) (A.moved p.parser) (C.moved p.closing) };
 
-    fn always_moves(&self) -> bool {
+    fn always_moves(&self) -> bool
+        ensures { result ≡ (B.moves self.now.opening || (A.moves self.now.parser || C.moves self.now.closing)) }
+    {
         self.opening.always_moves() || (self.parser.always_moves() || self.closing.always_moves())
     }
 }

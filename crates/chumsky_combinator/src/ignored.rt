@@ -1,5 +1,5 @@
 //! A parser without its output.
-ghost use Rattle.std.specs.Prelude.{false};
+ghost use Rattle.std.specs.Prelude.{◌≡◌, false};
 
 use chumsky_input::extra::ParserExtra;
 use chumsky_input::input::Input;
@@ -62,7 +62,9 @@ impl<'src, I: Input<'src>, O, E: ParserExtra<I>, A: Moving<'src, I, O, E>> Movin
 
     ghost moved = { λ p e. chained-first _ _ (asked-moves false _ (A.moved p.parser e)) (λ _. gives-ends tt) };
 
-    fn always_moves(&self) -> bool {
+    fn always_moves(&self) -> bool
+        ensures { result ≡ A.moves self.now.parser }
+    {
         self.parser.always_moves()
     }
 }

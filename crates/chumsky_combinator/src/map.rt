@@ -1,5 +1,5 @@
 //! Output mappers.
-ghost use Rattle.std.specs.Prelude.{⊤, [], ◌∷◌, map};
+ghost use Rattle.std.specs.Prelude.{◌≡◌, ⊤, [], ◌∷◌, map};
 ghost use Rattle.chumsky_parser.specs.ByParts.{part, OutOnlyBy};
 ghost use Rattle.chumsky_combinator.specs.Mapped.{IsFunction, SameMapped};
 
@@ -116,7 +116,9 @@ impl<
 
     ghost moved = { λ p e. mapped-moves (F.gives p.mapper) _ (A.moved p.parser e) };
 
-    fn always_moves(&self) -> bool {
+    fn always_moves(&self) -> bool
+        ensures { result ≡ A.moves self.now.parser }
+    {
         self.parser.always_moves()
     }
 }

@@ -1,5 +1,5 @@
 //! Output mappers that ask for memory.
-ghost use Rattle.std.specs.Prelude.{⊤, Result};
+ghost use Rattle.std.specs.Prelude.{◌≡◌, ⊤, Result};
 ghost use Rattle.std.specs.declared.alloc.AllocError.{AllocError};
 ghost use Rattle.chumsky_combinator.specs.Mapped.{IsFunction, SameMapped};
 ghost use Rattle.chumsky_combinator.specs.MappedIn.{GivesOk};
@@ -108,7 +108,9 @@ impl<
 
     ghost moved = { λ p e. mapped_in-moves (F.gives p.mapper) _ (A.moved p.parser e) };
 
-    fn always_moves(&self) -> bool {
+    fn always_moves(&self) -> bool
+        ensures { result ≡ A.moves self.now.parser }
+    {
         self.parser.always_moves()
     }
 }

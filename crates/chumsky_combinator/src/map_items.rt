@@ -1,4 +1,5 @@
 //! Items whose outputs go through a mapper.
+ghost use Rattle.std.specs.Prelude.{◌≡◌};
 ghost use Rattle.chumsky_combinator.specs.Mapped.{IsFunction, SameMapped};
 
 use crate::map::{Map, Mapper};
@@ -96,7 +97,9 @@ impl<
 
     ghost first_moved = { λ p e d. maps_item-move (F.gives p.mapper) _ _ (A.first_moved p.parser e d) };
 
-    fn first_always_moves(&self) -> bool {
+    fn first_always_moves(&self) -> bool
+        ensures { result ≡ A.first_moves self.now.parser }
+    {
         self.parser.first_always_moves()
     }
 }

@@ -1,4 +1,5 @@
 //! Items whose outputs go through a mapper that is shown the run.
+ghost use Rattle.std.specs.Prelude.{◌≡◌};
 ghost use Rattle.chumsky_parser.specs.Showing.{OnlyAnswers, SameShown};
 
 use crate::map_with::{MapWith, MapperWith};
@@ -98,7 +99,9 @@ impl<
 
     ghost first_moved = { λ p e d. maps_item_with-move _ _ _ (A.first_moved p.parser e d) };
 
-    fn first_always_moves(&self) -> bool {
+    fn first_always_moves(&self) -> bool
+        ensures { result ≡ A.first_moves self.now.parser }
+    {
         self.parser.first_always_moves()
     }
 }

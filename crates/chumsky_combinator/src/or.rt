@@ -1,5 +1,5 @@
 //! Ordered choice.
-ghost use Rattle.std.specs.Prelude.{◌&&◌, [], ◌∷◌, Option, ◌⊎◌};
+ghost use Rattle.std.specs.Prelude.{◌≡◌, ◌&&◌, [], ◌∷◌, Option, ◌⊎◌};
 ghost use Rattle.chumsky_parser.specs.ByParts.{part, OutOnlyBy};
 ghost use Rattle.chumsky_combinator.specs.Optional.{SameOption};
 
@@ -90,7 +90,9 @@ impl<
 
     ghost moved = { λ p. or-moves _ _ _ _ _ (A.moves p.first) (B.moves p.second) (A.moved p.first) (B.moved p.second) };
 
-    fn always_moves(&self) -> bool {
+    fn always_moves(&self) -> bool
+        ensures { result ≡ (A.moves self.now.first && B.moves self.now.second) }
+    {
         self.first.always_moves() && self.second.always_moves()
     }
 }

@@ -1,5 +1,5 @@
 //! A parser with padding around it.
-ghost use Rattle.std.specs.Prelude.{◌||◌};
+ghost use Rattle.std.specs.Prelude.{◌≡◌, ◌||◌};
 
 use chumsky_input::extra::ParserExtra;
 use chumsky_input::input::Input;
@@ -81,7 +81,9 @@ impl<
 
     ghost moved = { λ p. between-moves _ _ _ (B.moves p.padding) (A.moves p.parser) (B.moves p.padding) (B.ends_after_start p.padding) (A.ends_after_start p.parser) (B.ends_after_start p.padding) (B.moved p.padding) (A.moved p.parser) (B.moved p.padding) };
 
-    fn always_moves(&self) -> bool {
+    fn always_moves(&self) -> bool
+        ensures { result ≡ (B.moves self.now.padding || (A.moves self.now.parser || B.moves self.now.padding)) }
+    {
         self.padding.always_moves() || (self.parser.always_moves() || self.padding.always_moves())
     }
 }

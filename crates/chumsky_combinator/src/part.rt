@@ -139,7 +139,9 @@ impl<'src, I: Input<'src>, O: Drop, E: ParserExtra<I>, P: MovingPart<'src, I, O,
 
     ghost moved = { λ p e. onward-moves _ (P.moved p.part e) };
 
-    fn always_moves(&self) -> bool {
+    fn always_moves(&self) -> bool
+        ensures { result ≡ P.moves self.now.part }
+    {
         self.part.always_moves()
     }
 }

@@ -1,5 +1,5 @@
 //! One parser after another.
-ghost use Rattle.std.specs.Prelude.{◌||◌, [], ◌∷◌};
+ghost use Rattle.std.specs.Prelude.{◌≡◌, ◌||◌, [], ◌∷◌};
 ghost use Rattle.chumsky_parser.specs.ByParts.{part, OutOnlyBy};
 
 use crate::then_ignore::ThenIgnore;
@@ -81,7 +81,9 @@ impl<
 
     ghost moved = { λ p. sequence-moves _ _ (A.moves p.first) (B.moves p.second) (A.ends_after_start p.first) (B.ends_after_start p.second) (A.moved p.first) (B.moved p.second) };
 
-    fn always_moves(&self) -> bool {
+    fn always_moves(&self) -> bool
+        ensures { result ≡ (A.moves self.now.first || B.moves self.now.second) }
+    {
         self.first.always_moves() || self.second.always_moves()
     }
 }

@@ -1,5 +1,5 @@
 //! The items of one parser, and then those of another.
-ghost use Rattle.std.specs.Prelude.{◌⊎◌};
+ghost use Rattle.std.specs.Prelude.{◌≡◌, ◌⊎◌};
 
 use crate::then::Then;
 use chumsky_input::extra::ParserExtra;
@@ -128,7 +128,9 @@ impl<
 
     ghost first_moved = { λ p e d. in_turn-move _ _ _ _ (B.ends_after_start p.second d) (A.first_moved p.first e d) };
 
-    fn first_always_moves(&self) -> bool {
+    fn first_always_moves(&self) -> bool
+        ensures { result ≡ A.first_moves self.now.first }
+    {
         self.first.first_always_moves()
     }
 }

@@ -1,5 +1,5 @@
 //! A parser with a value in place of its output.
-ghost use Rattle.std.specs.Prelude.{false, [], ◌∷◌};
+ghost use Rattle.std.specs.Prelude.{◌≡◌, false, [], ◌∷◌};
 ghost use Rattle.chumsky_parser.specs.ByParts.{part, OutOnlyBy};
 
 use crate::ignored::Ignored;
@@ -75,7 +75,9 @@ impl<'src, I: Input<'src>, O, U: Clone, E: ParserExtra<I>, A: Moving<'src, I, O,
 
     ghost moved = { λ p e. chained-first _ _ (asked-moves false _ (A.moved p.parser e)) (λ _. copy-ends (U.is_clone p.value) (U.is_infallible p.value)) };
 
-    fn always_moves(&self) -> bool {
+    fn always_moves(&self) -> bool
+        ensures { result ≡ A.moves self.now.parser }
+    {
         self.parser.always_moves()
     }
 }

@@ -73,7 +73,9 @@ where
 
     ghost moved = { λ p e. covers-move _ _ (A.moved p.parser e) };
 
-    fn always_moves(&self) -> bool {
+    fn always_moves(&self) -> bool
+        ensures { result ≡ A.moves self.now.parser }
+    {
         self.parser.always_moves()
     }
 }

@@ -57,7 +57,9 @@ where
 
     ghost moved = { λ p e. call-moves (R.says _ _) (R.moved e) p.depth };
 
-    fn always_moves(&self) -> bool {
+    fn always_moves(&self) -> bool
+        ensures { result ≡ R.moves }
+    {
         R::always_moves()
     }
 }

@@ -147,7 +147,9 @@ where
 
     ghost first_moved = { λ p e d. into_items-move O.into_iter_gives _ _ (A.moved p.parser e) };
 
-    fn first_always_moves(&self) -> bool {
+    fn first_always_moves(&self) -> bool
+        ensures { result ≡ A.moves self.now.parser }
+    {
         self.parser.always_moves()
     }
 }
@@ -165,7 +167,9 @@ impl<'src, I: Input<'src>, O: IntoIterator, E: ParserExtra<I>, A: Moving<'src, I
 
     ghost moved = { λ p e. chained-first _ _ (asked-moves false _ (A.moved p.parser e)) (λ _. gives-ends tt) };
 
-    fn always_moves(&self) -> bool {
+    fn always_moves(&self) -> bool
+        ensures { result ≡ A.moves self.now.parser }
+    {
         self.parser.always_moves()
     }
 }

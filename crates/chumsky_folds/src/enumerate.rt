@@ -1,5 +1,5 @@
 //! Items with their numbers.
-ghost use Rattle.std.specs.Prelude.{ℕ};
+ghost use Rattle.std.specs.Prelude.{◌≡◌, ℕ};
 ghost use Rattle.chumsky_folds.specs.Enumerating.{SameNumbered};
 
 use chumsky_input::extra::ParserExtra;
@@ -116,7 +116,9 @@ impl<'src, I: Input<'src>, O: Drop, E: ParserExtra<I>, A: MovingItems<'src, I, O
 
     ghost first_moved = { λ p e d. enumerates-move _ _ (A.first_moved p.parser e d) };
 
-    fn first_always_moves(&self) -> bool {
+    fn first_always_moves(&self) -> bool
+        ensures { result ≡ A.first_moves self.now.parser }
+    {
         self.parser.first_always_moves()
     }
 }

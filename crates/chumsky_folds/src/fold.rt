@@ -1,5 +1,5 @@
 //! All items, folded from a value.
-ghost use Rattle.std.specs.Prelude.{false};
+ghost use Rattle.std.specs.Prelude.{◌≡◌, false};
 ghost use Rattle.chumsky_parser.specs.Copied.{BothCopies};
 ghost use Rattle.chumsky_folds.specs.Folding.{IsFunctionOfTwo, SameFolded};
 
@@ -84,7 +84,9 @@ impl<
 
     ghost moved = { λ p e. fold-moves _ _ (A.ends_after_start p.parser (record { nonconsumption_is_ok = false })) (F.gives p.folder) (B.is_clone p.init) (B.is_infallible p.init) (A.first_moved p.parser e (record { nonconsumption_is_ok = false })) };
 
-    fn always_moves(&self) -> bool {
+    fn always_moves(&self) -> bool
+        ensures { result ≡ A.first_moves self.now.parser }
+    {
         self.parser.first_always_moves()
     }
 }

@@ -1,5 +1,5 @@
 //! A parser and then items, folded from its output.
-ghost use Rattle.std.specs.Prelude.{false, ◌||◌};
+ghost use Rattle.std.specs.Prelude.{◌≡◌, false, ◌||◌};
 ghost use Rattle.chumsky_folds.specs.Folding.{IsFunctionOfTwo, SameFolded};
 
 use crate::folder::Folder;
@@ -86,7 +86,9 @@ impl<
 
     ghost moved = { λ p. foldl-moves _ _ (B.ends_after_start p.items (record { nonconsumption_is_ok = false })) (F.gives p.folder) _ (A.moves p.parser) (B.first_moves p.items) (A.ends_after_start p.parser) (A.moved p.parser) (λ e. B.first_moved p.items e (record { nonconsumption_is_ok = false })) };
 
-    fn always_moves(&self) -> bool {
+    fn always_moves(&self) -> bool
+        ensures { result ≡ (A.moves self.now.parser || B.first_moves self.now.items) }
+    {
         self.parser.always_moves() || self.items.first_always_moves()
     }
 }

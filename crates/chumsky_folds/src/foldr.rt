@@ -1,5 +1,5 @@
 //! Items and then a parser, folded from its output back.
-ghost use Rattle.std.specs.Prelude.{false, ◌||◌};
+ghost use Rattle.std.specs.Prelude.{◌≡◌, false, ◌||◌};
 ghost use Rattle.std.proofs.Common.{sym, ◌∙◌};
 ghost use Rattle.chumsky_folds.specs.FoldingBack.{FoldsRight, SameFoldedBack};
 ghost use Rattle.chumsky_folds.specs.Folding.{IsFunctionOfTwo};
@@ -103,7 +103,9 @@ impl<
 
     ghost moved = { λ p. foldr-moves _ _ (A.ends_after_start p.items.parser (record { nonconsumption_is_ok = false })) ⟦<Vec<O> as Container<O>>⟧.holds ⟦<Vec<O> as Container<O>>⟧.takes_no_memory _ (F.gives p.folder) (A.first_moves p.items.parser) (B.moves p.parser) (B.ends_after_start p.parser) (λ e. A.first_moved p.items.parser e (record { nonconsumption_is_ok = false })) (B.moved p.parser) };
 
-    fn always_moves(&self) -> bool {
+    fn always_moves(&self) -> bool
+        ensures { result ≡ (A.first_moves self.now.items.parser || B.moves self.now.parser) }
+    {
         self.items.parser.first_always_moves() || self.parser.always_moves()
     }
 }

@@ -156,7 +156,9 @@ impl<
 
     ghost moved = { λ p. foldr_with-moves _ _ (A.ends_after_start p.items (record { nonconsumption_is_ok = false })) _ _ _ (A.first_moves p.items) (B.moves p.parser) (B.ends_after_start p.parser) (λ e. A.first_moved p.items e (record { nonconsumption_is_ok = false })) (B.moved p.parser) };
 
-    fn always_moves(&self) -> bool {
+    fn always_moves(&self) -> bool
+        ensures { result ≡ (A.first_moves self.now.items || B.moves self.now.parser) }
+    {
         self.items.first_always_moves() || self.parser.always_moves()
     }
 }

@@ -165,7 +165,9 @@ impl<
 
     ghost moved = { λ p. try_foldl-moves _ _ (B.ends_after_start p.items (record { nonconsumption_is_ok = false })) _ _ _ (A.moves p.parser) (B.first_moves p.items) (A.ends_after_start p.parser) (A.moved p.parser) (λ e. B.first_moved p.items e (record { nonconsumption_is_ok = false })) };
 
-    fn always_moves(&self) -> bool {
+    fn always_moves(&self) -> bool
+        ensures { result ≡ (A.moves self.now.parser || B.first_moves self.now.items) }
+    {
         self.parser.always_moves() || self.items.first_always_moves()
     }
 }

@@ -20,7 +20,9 @@ impl<'src, I: Input<'src>, OA, E: ParserExtra<I>, A: Moving<'src, I, OA, E>> Mov
 
     ghost moved = { λ p. group-moves (λ v. record { 0 = v }) (first-part (A.ends_after_start p.parsers.0) (A.moved p.parsers.0)) };
 
-    fn always_moves(&self) -> bool {
+    fn always_moves(&self) -> bool
+        ensures { result ≡ A.moves self.now.parsers.0 }
+    {
         self.parsers.0.always_moves()
     }
 }
@@ -40,7 +42,9 @@ impl<
 
     ghost moved = { λ p. sequence-moves _ _ (A.moves p.parsers.0) (B.moves p.parsers.1) (A.ends_after_start p.parsers.0) (B.ends_after_start p.parsers.1) (A.moved p.parsers.0) (B.moved p.parsers.1) };
 
-    fn always_moves(&self) -> bool {
+    fn always_moves(&self) -> bool
+        ensures { result ≡ (A.moves self.now.parsers.0 || B.moves self.now.parsers.1) }
+    {
         self.parsers.0.always_moves() || self.parsers.1.always_moves()
     }
 }
@@ -62,7 +66,9 @@ impl<
 
     ghost moved = { λ p. group-moves (λ v. (v.0.0, v.0.1, v.1)) (and-part (and-part (first-part (A.ends_after_start p.parsers.0) (A.moved p.parsers.0)) (B.ends_after_start p.parsers.1) (B.moved p.parsers.1)) (C.ends_after_start p.parsers.2) (C.moved p.parsers.2)) };
 
-    fn always_moves(&self) -> bool {
+    fn always_moves(&self) -> bool
+        ensures { result ≡ ((A.moves self.now.parsers.0 || B.moves self.now.parsers.1) || C.moves self.now.parsers.2) }
+    {
         self.parsers.0.always_moves()
             || self.parsers.1.always_moves()
             || self.parsers.2.always_moves()
@@ -88,7 +94,9 @@ impl<
 
     ghost moved = { λ p. group-moves (λ v. (v.0.0.0, v.0.0.1, v.0.1, v.1)) (and-part (and-part (and-part (first-part (A.ends_after_start p.parsers.0) (A.moved p.parsers.0)) (B.ends_after_start p.parsers.1) (B.moved p.parsers.1)) (C.ends_after_start p.parsers.2) (C.moved p.parsers.2)) (D.ends_after_start p.parsers.3) (D.moved p.parsers.3)) };
 
-    fn always_moves(&self) -> bool {
+    fn always_moves(&self) -> bool
+        ensures { result ≡ (((A.moves self.now.parsers.0 || B.moves self.now.parsers.1) || C.moves self.now.parsers.2) || D.moves self.now.parsers.3) }
+    {
         self.parsers.0.always_moves()
             || self.parsers.1.always_moves()
             || self.parsers.2.always_moves()
@@ -117,7 +125,9 @@ impl<
 
     ghost moved = { λ p. group-moves (λ v. (v.0.0.0.0, v.0.0.0.1, v.0.0.1, v.0.1, v.1)) (and-part (and-part (and-part (and-part (first-part (A.ends_after_start p.parsers.0) (A.moved p.parsers.0)) (B.ends_after_start p.parsers.1) (B.moved p.parsers.1)) (C.ends_after_start p.parsers.2) (C.moved p.parsers.2)) (D.ends_after_start p.parsers.3) (D.moved p.parsers.3)) (F.ends_after_start p.parsers.4) (F.moved p.parsers.4)) };
 
-    fn always_moves(&self) -> bool {
+    fn always_moves(&self) -> bool
+        ensures { result ≡ ((((A.moves self.now.parsers.0 || B.moves self.now.parsers.1) || C.moves self.now.parsers.2) || D.moves self.now.parsers.3) || F.moves self.now.parsers.4) }
+    {
         self.parsers.0.always_moves()
             || self.parsers.1.always_moves()
             || self.parsers.2.always_moves()
@@ -149,7 +159,9 @@ impl<
 
     ghost moved = { λ p. group-moves (λ v. (v.0.0.0.0.0, v.0.0.0.0.1, v.0.0.0.1, v.0.0.1, v.0.1, v.1)) (and-part (and-part (and-part (and-part (and-part (first-part (A.ends_after_start p.parsers.0) (A.moved p.parsers.0)) (B.ends_after_start p.parsers.1) (B.moved p.parsers.1)) (C.ends_after_start p.parsers.2) (C.moved p.parsers.2)) (D.ends_after_start p.parsers.3) (D.moved p.parsers.3)) (F.ends_after_start p.parsers.4) (F.moved p.parsers.4)) (G.ends_after_start p.parsers.5) (G.moved p.parsers.5)) };
 
-    fn always_moves(&self) -> bool {
+    fn always_moves(&self) -> bool
+        ensures { result ≡ (((((A.moves self.now.parsers.0 || B.moves self.now.parsers.1) || C.moves self.now.parsers.2) || D.moves self.now.parsers.3) || F.moves self.now.parsers.4) || G.moves self.now.parsers.5) }
+    {
         self.parsers.0.always_moves()
             || self.parsers.1.always_moves()
             || self.parsers.2.always_moves()
@@ -184,7 +196,9 @@ impl<
 
     ghost moved = { λ p. group-moves (λ v. (v.0.0.0.0.0.0, v.0.0.0.0.0.1, v.0.0.0.0.1, v.0.0.0.1, v.0.0.1, v.0.1, v.1)) (and-part (and-part (and-part (and-part (and-part (and-part (first-part (A.ends_after_start p.parsers.0) (A.moved p.parsers.0)) (B.ends_after_start p.parsers.1) (B.moved p.parsers.1)) (C.ends_after_start p.parsers.2) (C.moved p.parsers.2)) (D.ends_after_start p.parsers.3) (D.moved p.parsers.3)) (F.ends_after_start p.parsers.4) (F.moved p.parsers.4)) (G.ends_after_start p.parsers.5) (G.moved p.parsers.5)) (H.ends_after_start p.parsers.6) (H.moved p.parsers.6)) };
 
-    fn always_moves(&self) -> bool {
+    fn always_moves(&self) -> bool
+        ensures { result ≡ ((((((A.moves self.now.parsers.0 || B.moves self.now.parsers.1) || C.moves self.now.parsers.2) || D.moves self.now.parsers.3) || F.moves self.now.parsers.4) || G.moves self.now.parsers.5) || H.moves self.now.parsers.6) }
+    {
         self.parsers.0.always_moves()
             || self.parsers.1.always_moves()
             || self.parsers.2.always_moves()
@@ -222,7 +236,9 @@ impl<
 
     ghost moved = { λ p. group-moves (λ v. (v.0.0.0.0.0.0.0, v.0.0.0.0.0.0.1, v.0.0.0.0.0.1, v.0.0.0.0.1, v.0.0.0.1, v.0.0.1, v.0.1, v.1)) (and-part (and-part (and-part (and-part (and-part (and-part (and-part (first-part (A.ends_after_start p.parsers.0) (A.moved p.parsers.0)) (B.ends_after_start p.parsers.1) (B.moved p.parsers.1)) (C.ends_after_start p.parsers.2) (C.moved p.parsers.2)) (D.ends_after_start p.parsers.3) (D.moved p.parsers.3)) (F.ends_after_start p.parsers.4) (F.moved p.parsers.4)) (G.ends_after_start p.parsers.5) (G.moved p.parsers.5)) (H.ends_after_start p.parsers.6) (H.moved p.parsers.6)) (J.ends_after_start p.parsers.7) (J.moved p.parsers.7)) };
 
-    fn always_moves(&self) -> bool {
+    fn always_moves(&self) -> bool
+        ensures { result ≡ (((((((A.moves self.now.parsers.0 || B.moves self.now.parsers.1) || C.moves self.now.parsers.2) || D.moves self.now.parsers.3) || F.moves self.now.parsers.4) || G.moves self.now.parsers.5) || H.moves self.now.parsers.6) || J.moves self.now.parsers.7) }
+    {
         self.parsers.0.always_moves()
             || self.parsers.1.always_moves()
             || self.parsers.2.always_moves()
@@ -248,7 +264,9 @@ impl<
 
     ghost moved = { λ p e. in_turn-moves _ P.moves P.ends_after_start P.moved p.parsers e };
 
-    fn always_moves(&self) -> bool {
+    fn always_moves(&self) -> bool
+        ensures { result ≡ list_any P.moves self.now.parsers }
+    {
         one_moves::<I, O, E, P>(&self.parsers)
     }
 }

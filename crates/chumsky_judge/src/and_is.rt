@@ -1,4 +1,6 @@
 //! Two parsers that both have to succeed at one place.
+ghost use Rattle.std.specs.Prelude.{◌≡◌};
+
 use crate::rewind::Rewind;
 use chumsky_input::extra::ParserExtra;
 use chumsky_input::input::Input;
@@ -101,7 +103,9 @@ where
 
     ghost moved = { λ p e. and_is-moves _ _ _ _ _ (A.moved p.parser e) };
 
-    fn always_moves(&self) -> bool {
+    fn always_moves(&self) -> bool
+        ensures { result ≡ A.moves self.now.parser }
+    {
         self.parser.always_moves()
     }
 }

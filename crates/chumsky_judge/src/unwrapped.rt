@@ -1,6 +1,6 @@
 //! What is in an output that is always `Some`, or always `Ok`.
 ghost use Rattle.std.specs.Option.{IsSome};
-ghost use Rattle.std.specs.Prelude.{Some, Ok, IsOk};
+ghost use Rattle.std.specs.Prelude.{◌≡◌, Some, Ok, IsOk};
 ghost use Rattle.chumsky_judge.specs.Unwrapped.{AlwaysGives};
 
 use chumsky_input::extra::ParserExtra;
@@ -117,7 +117,9 @@ where
 
     ghost moved = { λ p e. mapped-moves _ _ (A.moved p.parser e) };
 
-    fn always_moves(&self) -> bool {
+    fn always_moves(&self) -> bool
+        ensures { result ≡ A.moves self.now.parser }
+    {
         self.parser.always_moves()
     }
 }
@@ -135,7 +137,9 @@ where
 
     ghost moved = { λ p e. mapped-moves _ _ (A.moved p.parser e) };
 
-    fn always_moves(&self) -> bool {
+    fn always_moves(&self) -> bool
+        ensures { result ≡ A.moves self.now.parser }
+    {
         self.parser.always_moves()
     }
 }

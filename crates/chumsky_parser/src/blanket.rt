@@ -1,4 +1,5 @@
 //! Parsers by reference and in boxes, which do as the parser within.
+ghost use Rattle.std.specs.Prelude.{◌≡◌};
 ghost use Rattle.std.specs.Rc.{rc_value};
 
 use crate::moving::Moving;
@@ -110,7 +111,9 @@ impl<'src, I: Input<'src>, O, E: ParserExtra<I>, P: Moving<'src, I, O, E>> Movin
 
     ghost moved = { λ p. P.moved p.value };
 
-    fn always_moves(&self) -> bool {
+    fn always_moves(&self) -> bool
+        ensures { result ≡ P.moves self.now.value }
+    {
         (**self).always_moves()
     }
 }
@@ -123,7 +126,9 @@ impl<'src, I: Input<'src>, O, E: ParserExtra<I>, P: Moving<'src, I, O, E>> Movin
 
     ghost moved = { λ p. P.moved (rc_value p) };
 
-    fn always_moves(&self) -> bool {
+    fn always_moves(&self) -> bool
+        ensures { result ≡ P.moves (rc_value self.now) }
+    {
         self.as_ref().always_moves()
     }
 }

@@ -1,4 +1,5 @@
 //! A parser of one of two types.
+ghost use Rattle.std.specs.Prelude.{◌≡◌};
 ghost use Rattle.either.specs.Either.{MatchEither};
 ghost use Rattle.chumsky_parser.specs.EitherLaws.{either-ends, either-agrees};
 
@@ -70,7 +71,9 @@ impl<
 
     ghost moved = { either-moves _ _ A.moves B.moves A.moved B.moved };
 
-    fn always_moves(&self) -> bool {
+    fn always_moves(&self) -> bool
+        ensures { result ≡ of_either A.moves B.moves self.now }
+    {
         match self {
             Either::Left(first) => first.always_moves(),
             Either::Right(second) => second.always_moves(),

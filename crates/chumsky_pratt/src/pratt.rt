@@ -1,5 +1,5 @@
 //! A parser of expressions.
-ghost use Rattle.std.specs.Prelude.{◌<◌};
+ghost use Rattle.std.specs.Prelude.{◌≡◌, ◌<◌};
 ghost use Rattle.chumsky_pratt.specs.ExpressionLaws.{SameExpression};
 
 use crate::machine::climb;
@@ -73,7 +73,9 @@ impl<
 
     ghost moved = { λ p e. expression-move _ (P.ends_after_start p.atom) (R.ends_after_start p.operators) (P.moved p.atom e) 0 };
 
-    fn always_moves(&self) -> bool {
+    fn always_moves(&self) -> bool
+        ensures { result ≡ P.moves self.now.atom }
+    {
         self.atom.always_moves()
     }
 }

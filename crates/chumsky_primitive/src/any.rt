@@ -79,7 +79,9 @@ impl<'src, I: ValueInput<'src>, E: ParserExtra<I>> Moving<'src, I, I::Token, E> 
 
     ghost moved = { λ _ _. any-moves _ _ _ _ _ };
 
-    fn always_moves(&self) -> bool {
+    fn always_moves(&self) -> bool
+        ensures { result ≡ true }
+    {
         true
     }
 }

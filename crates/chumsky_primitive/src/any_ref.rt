@@ -80,7 +80,9 @@ impl<'src, I: BorrowInput<'src>, E: ParserExtra<I>> Moving<'src, I, &'src I::Tok
 
     ghost moved = { λ _ _. any-moves _ _ _ _ _ };
 
-    fn always_moves(&self) -> bool {
+    fn always_moves(&self) -> bool
+        ensures { result ≡ true }
+    {
         true
     }
 }

@@ -141,7 +141,9 @@ where
 
     ghost moved = { λ p. just-moves _ _ _ _ _ _ (T.members p.seq) };
 
-    fn always_moves(&self) -> bool {
+    fn always_moves(&self) -> bool
+        ensures { result ≡ has_members (T.members self.now.seq) }
+    {
         self.seq.seq_at(0).is_some()
     }
 }

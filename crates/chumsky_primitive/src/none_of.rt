@@ -136,7 +136,9 @@ where
 
     ghost moved = { λ _ _. tested-moves _ _ _ _ _ _ _ };
 
-    fn always_moves(&self) -> bool {
+    fn always_moves(&self) -> bool
+        ensures { result ≡ true }
+    {
         true
     }
 }

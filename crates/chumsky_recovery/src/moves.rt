@@ -125,7 +125,9 @@ where
 
     ghost moved = { λ p _. nested-moves _ _ _ _ _ _ p.end };
 
-    fn always_moves(&self) -> bool {
+    fn always_moves(&self) -> bool
+        ensures { result ≡ true }
+    {
         true
     }
 }

@@ -100,7 +100,9 @@ where
 
     ghost moved = { λ p _. no_or-moves _ (keyword-moves _ _ _ _ (I.spells p.word.now) (K.holds p.kind) (λ t. K.Rest.holds (K.rest_after p.kind t)) _) };
 
-    fn always_moves(&self) -> bool {
+    fn always_moves(&self) -> bool
+        ensures { result ≡ true }
+    {
         true
     }
 }

@@ -96,7 +96,9 @@ where
 
     ghost moved = { λ p _. no_or-moves _ (word-moves _ _ _ _ (K.holds p.kind) (λ t. K.Rest.holds (K.rest_after p.kind t)) (K.wants p.kind) (λ t. K.Rest.wants (K.rest_after p.kind t))) };
 
-    fn always_moves(&self) -> bool {
+    fn always_moves(&self) -> bool
+        ensures { result ≡ true }
+    {
         true
     }
 }
