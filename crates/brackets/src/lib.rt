@@ -12,7 +12,7 @@ use chumsky_descent::recursive::{RunsUnder, Unsaid, recursive};
 use chumsky_input::extra::RichText;
 use chumsky_input::input_ref::InputRef;
 use chumsky_input::stop::PResult;
-use chumsky_primitive::just::just;
+use chumsky_primitive::make::just;
 use std::marker::PhantomData;
 
 /// How deep the brackets go.

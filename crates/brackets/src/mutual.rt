@@ -10,7 +10,7 @@ use chumsky_input::input_ref::InputRef;
 use chumsky_input::stop::PResult;
 use chumsky_parser::parser::Parser;
 use chumsky_primitive::just::Just;
-use chumsky_primitive::just::just;
+use chumsky_primitive::make::just;
 use std::marker::PhantomData;
 
 /// What the body of `round` means.

@@ -13,7 +13,7 @@ use chumsky_input::stop::PResult;
 use chumsky_parser::moving::Moving;
 use chumsky_parser::parser::Parser;
 use chumsky_primitive::just::Just;
-use chumsky_primitive::just::just;
+use chumsky_primitive::make::just;
 use std::marker::PhantomData;
 
 /// What the body of `pairs` means.

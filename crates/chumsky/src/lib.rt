@@ -94,24 +94,30 @@ pub mod inspector {
 
 /// Parsers of single tokens and of fixed sequences, parsers given by closures, and choices, groups and sets of parsers.
 pub mod primitive {
-    pub use chumsky_choice::choice::{Choice, choice};
+    pub use chumsky_choice::choice::Choice;
+    pub use chumsky_choice::make::choice;
     pub use chumsky_context::just_cfg::JustCfg;
     pub use chumsky_context::map_ctx::{ContextMapper, MapCtx, map_ctx, map_ctx_by};
     pub use chumsky_context::one_of_cfg::OneOfCfg;
-    pub use chumsky_group::group::{Group, group};
+    pub use chumsky_group::group::Group;
+    pub use chumsky_group::make::group;
     pub use chumsky_group::parts::Parts;
-    pub use chumsky_primitive::any::{Any, any};
-    pub use chumsky_primitive::any_ref::{AnyRef, any_ref};
-    pub use chumsky_primitive::custom::{Custom, Reader, custom, custom_by};
-    pub use chumsky_primitive::empty::{Empty, empty};
-    pub use chumsky_primitive::end::{End, end};
-    pub use chumsky_primitive::just::{Just, just};
-    pub use chumsky_primitive::none_of::{NoneOf, none_of};
-    pub use chumsky_primitive::one_of::{OneOf, one_of};
-    pub use chumsky_primitive::select::{Select, select};
-    pub use chumsky_primitive::select_ref::{SelectRef, select_ref};
+    pub use chumsky_primitive::any::Any;
+    pub use chumsky_primitive::any_ref::AnyRef;
+    pub use chumsky_primitive::custom::{Custom, Reader};
+    pub use chumsky_primitive::empty::Empty;
+    pub use chumsky_primitive::end::End;
+    pub use chumsky_primitive::just::Just;
+    pub use chumsky_primitive::make::{
+        any, any_ref, custom, custom_by, empty, end, just, none_of, one_of, select, select_ref,
+    };
+    pub use chumsky_primitive::none_of::NoneOf;
+    pub use chumsky_primitive::one_of::OneOf;
+    pub use chumsky_primitive::select::Select;
+    pub use chumsky_primitive::select_ref::SelectRef;
     pub use chumsky_set::array::Slots;
-    pub use chumsky_set::set::{Set, set};
+    pub use chumsky_set::make::set;
+    pub use chumsky_set::set::Set;
 }
 
 /// Operators by precedence: see `ParserExt::pratt`.
@@ -120,14 +126,13 @@ pub mod pratt {
     pub use chumsky_pratt::folder_with::InfixFolderWith;
     pub use chumsky_pratt::folders::{InfixFolder, PostfixFolder, PrefixFolder};
     pub use chumsky_pratt::list::{FoundAt, OperatorList};
+    pub use chumsky_pratt::make::{
+        infix, infix_by, infix_with, postfix, postfix_by, postfix_with, prefix, prefix_by,
+        prefix_with,
+    };
     pub use chumsky_pratt::operands::Operands;
-    pub use chumsky_pratt::operator::{
-        HasOutput, Infix, Operator, Postfix, Prefix, infix, infix_by, postfix, postfix_by, prefix,
-        prefix_by,
-    };
-    pub use chumsky_pratt::operator_with::{
-        InfixWith, PostfixWith, PrefixWith, infix_with, postfix_with, prefix_with,
-    };
+    pub use chumsky_pratt::operator::{HasOutput, Infix, Operator, Postfix, Prefix};
+    pub use chumsky_pratt::operator_with::{InfixWith, PostfixWith, PrefixWith};
     pub use chumsky_pratt::pratt::Pratt;
     pub use chumsky_pratt::row::{Found, HasFound, LastOperator, OperatorAnd, Operators};
     pub use chumsky_pratt::rows::IntoRow;
@@ -232,16 +237,17 @@ pub mod text {
     pub use chumsky_text::ident::{AsciiIdent, AsciiIdentRest, UnicodeIdent, UnicodeIdentRest};
     pub use chumsky_text::keyword::Keyword;
     pub use chumsky_text::kind::{Kind, Lexeme};
-    pub use chumsky_text::newline::{Newline, newline};
-    pub use chumsky_text::number::{Digits, Int, IntRest, digits, int};
-    pub use chumsky_text::padded::Padded;
-    pub use chumsky_text::run::{Run, run_of};
-    pub use chumsky_text::sliced::Sliced;
-    pub use chumsky_text::space::{
-        InlineWhitespace, LineEnd, LineEndRest, Whitespace, inline_whitespace, whitespace,
+    pub use chumsky_text::make::{
+        digits, inline_whitespace, int, newline, run_of, whitespace, word_of,
     };
+    pub use chumsky_text::newline::Newline;
+    pub use chumsky_text::number::{Digits, Int, IntRest};
+    pub use chumsky_text::padded::Padded;
+    pub use chumsky_text::run::Run;
+    pub use chumsky_text::sliced::Sliced;
+    pub use chumsky_text::space::{InlineWhitespace, LineEnd, LineEndRest, Whitespace};
     pub use chumsky_text::unicode::{ident, keyword};
-    pub use chumsky_text::word::{Word, word_of};
+    pub use chumsky_text::word::Word;
     pub use chumsky_text::{ascii, unicode};
 
     /// What holds of parsers of text, as those of `chumsky::laws`.

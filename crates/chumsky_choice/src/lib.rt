@@ -6,6 +6,7 @@ mod among;
 pub mod choice;
 pub mod laws;
 pub mod lists;
+pub mod make;
 mod moves;
 mod step;
 pub mod tuples;

@@ -4,6 +4,7 @@
 pub mod arrays;
 pub mod group;
 pub mod laws;
+pub mod make;
 mod moves;
 mod next;
 pub mod parts;

@@ -8,6 +8,7 @@ mod kinds;
 pub mod laws;
 pub mod list;
 mod machine;
+pub mod make;
 mod opening;
 pub mod operands;
 pub mod operator;

@@ -13,9 +13,8 @@ use chumsky_folds::folder_with::{FolderWith, RightFolderWith};
 use chumsky_input::extra::ParserExtra;
 use chumsky_input::input::Input;
 use chumsky_input::input_ref::InputRef;
-use chumsky_input::map_extra::MapExtra;
 use chumsky_input::stop::PResult;
-use chumsky_parser::parser::{IsParser, Parser};
+use chumsky_parser::parser::Parser;
 use std::marker::PhantomData;
 
 /// An operator before its operand, whose folder is shown the run. See `prefix_with`.
@@ -46,81 +45,6 @@ pub struct InfixWith<P, F, O, W> {
     pub parser: P,
     pub folder: F,
     pub of: PhantomData<(O, W)>,
-}
-
-/// As `prefix`, by a closure that is shown the run too: the span and the slice of the operator and its operand, the state and
-/// the context. `prefix_with(3, just('-'), |_, n, extra| Negative(n, extra.span()))`. What it writes to the state stands,
-/// unless the run goes back past it; where no output is wanted it is not called.
-#[inline]
-pub fn prefix_with<'src, I, P, F, O, W, E>(
-    power: u16,
-    parser: P,
-    folder: F,
-) -> PrefixWith<P, F, O, W>
-where
-    I: Input<'src>,
-    E: ParserExtra<I>,
-    P: IsParser<I, W, E>,
-    F: Fn(W, O, &mut MapExtra<'src, '_, I, E>) -> O,
-    ensures power { result.power ≡ power }
-    ensures parser { result.parser ≡ parser }
-    ensures folder { result.folder ≡ folder }
-{
-    PrefixWith {
-        power,
-        parser,
-        folder,
-        of: PhantomData,
-    }
-}
-
-/// As `postfix`, by a closure that is shown the run too, as that of `prefix_with`, from where the operand began.
-#[inline]
-pub fn postfix_with<'src, I, P, F, O, W, E>(
-    power: u16,
-    parser: P,
-    folder: F,
-) -> PostfixWith<P, F, O, W>
-where
-    I: Input<'src>,
-    E: ParserExtra<I>,
-    P: IsParser<I, W, E>,
-    F: Fn(O, W, &mut MapExtra<'src, '_, I, E>) -> O,
-    ensures power { result.power ≡ power }
-    ensures parser { result.parser ≡ parser }
-    ensures folder { result.folder ≡ folder }
-{
-    PostfixWith {
-        power,
-        parser,
-        folder,
-        of: PhantomData,
-    }
-}
-
-/// As `infix`, by a closure that is shown the run too, as that of `prefix_with`, from where the first operand began to where the
-/// second ended: `infix_with(left(1), just('+'), |a, _, b, extra| Sum(a, b, extra.span()))`.
-#[inline]
-pub fn infix_with<'src, I, P, F, O, W, E>(
-    associativity: Associativity,
-    parser: P,
-    folder: F,
-) -> InfixWith<P, F, O, W>
-where
-    I: Input<'src>,
-    E: ParserExtra<I>,
-    P: IsParser<I, W, E>,
-    F: Fn(O, W, O, &mut MapExtra<'src, '_, I, E>) -> O,
-    ensures associativity { result.associativity ≡ associativity }
-    ensures parser { result.parser ≡ parser }
-    ensures folder { result.folder ≡ folder }
-{
-    InfixWith {
-        associativity,
-        parser,
-        folder,
-        of: PhantomData,
-    }
 }
 
 impl<P, F, O, W: Drop> HasOutput for PrefixWith<P, F, O, W> {

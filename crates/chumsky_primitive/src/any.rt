@@ -18,12 +18,6 @@ pub struct Any<I, E> {
     pub of: PhantomData<(I, E)>,
 }
 
-/// Takes one token, whichever it is; fails at the end of input.
-#[inline]
-pub fn any<I, E>() -> Any<I, E> {
-    Any { of: PhantomData }
-}
-
 impl<I: Tokens, E> IsParser<I, I::Token, E> for Any<I, E> {}
 
 impl<'src, I: ValueInput<'src>, E: ParserExtra<I>> Parser<'src, I, I::Token, E> for Any<I, E> {

@@ -18,12 +18,6 @@ pub struct AnyRef<I, E> {
     pub of: PhantomData<(I, E)>,
 }
 
-/// Takes one token, whichever it is, and gives a reference to it where it lies in the input; fails at the end of input.
-#[inline]
-pub fn any_ref<I, E>() -> AnyRef<I, E> {
-    AnyRef { of: PhantomData }
-}
-
 impl<'src, I: BorrowInput<'src>, E> IsParser<I, &'src I::Token, E> for AnyRef<I, E> {}
 
 impl<'src, I: BorrowInput<'src>, E: ParserExtra<I>> Parser<'src, I, &'src I::Token, E>

@@ -54,52 +54,6 @@ pub trait Reader<'src, I: Input<'src>, O, E: ParserExtra<I>> {
         ensures lent { inp.new.state.ghost_name ≡ inp.old.state.ghost_name };
 }
 
-/// A parser given by a closure, which is called whether an output is wanted or not.
-///
-/// It succeeds where the closure gives a value, and ends where the closure left the cursor. An error of the closure
-/// stands at the place where the parser began, and a stop is passed on. The closure is lent an input on which nothing
-/// has failed yet: what it does counts after what was there before, and the failures of parsers that it runs count as
-/// one. In Rattle a closure may not capture a parser whose type names the input's lifetime: make it inside, as
-/// `inp.parse(any())`.
-///
-/// ```
-/// custom(|inp| match inp.next()? {
-///     Some(c) => Ok(c),
-///     None => Err(Failure::Error(EmptyErr)),
-/// })
-/// ```
-#[inline]
-pub fn custom<'src, F, I, O, E>(closure: F) -> Custom<F, I, O, E>
-where
-    I: Input<'src>,
-    I::Token: 'src,
-    E: ParserExtra<I>,
-    F: Fn(&mut InputRef<'src, '_, I, E>) -> Result<O, Failure<E::Error>>,
-    ensures { result.reader ≡ closure }
-{
-    Custom {
-        reader: closure,
-        of: PhantomData,
-    }
-}
-
-/// The same with a value of a type with an impl of `Reader`. The parser's type can then be written down, its output may name
-/// a lifetime, and what is read is known where the parser is run.
-#[inline]
-pub fn custom_by<'src, F, I, O, E>(reader: F) -> Custom<F, I, O, E>
-where
-    I: Input<'src>,
-    I::Token: 'src,
-    E: ParserExtra<I>,
-    F: Reader<'src, I, O, E>,
-    ensures { result.reader ≡ reader }
-{
-    Custom {
-        reader,
-        of: PhantomData,
-    }
-}
-
 impl<'src, I, O, E, F> Reader<'src, I, O, E> for F
 where
     I: Input<'src>,

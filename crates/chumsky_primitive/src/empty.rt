@@ -14,12 +14,6 @@ pub struct Empty<I, E> {
     pub of: PhantomData<(I, E)>,
 }
 
-/// Says yes everywhere, and takes nothing.
-#[inline]
-pub fn empty<I, E>() -> Empty<I, E> {
-    Empty { of: PhantomData }
-}
-
 impl<I, E> IsParser<I, (), E> for Empty<I, E> {}
 
 impl<'src, I: Input<'src>, E: ParserExtra<I>> Parser<'src, I, (), E> for Empty<I, E> {

@@ -18,12 +18,6 @@ pub struct End<I, E> {
     pub of: PhantomData<(I, E)>,
 }
 
-/// Says yes at the end of input, and fails at any token. `parse` and `check` run it after the parser.
-#[inline]
-pub fn end<I, E>() -> End<I, E> {
-    End { of: PhantomData }
-}
-
 impl<I, E> IsParser<I, (), E> for End<I, E> {}
 
 impl<'src, I: Input<'src>, E: ParserExtra<I>> Parser<'src, I, (), E> for End<I, E> {

@@ -23,18 +23,6 @@ pub struct Just<T, I, E> {
     pub of: PhantomData<(I, E)>,
 }
 
-/// Takes the members of a sequence, one after another, and gives the sequence. Where a member isn't there the error is
-/// at that place, and the cursor goes back to it.
-#[inline]
-pub fn just<T, I, E>(seq: T) -> Just<T, I, E>
-    ensures { result.seq ≡ seq }
-{
-    Just {
-        seq,
-        of: PhantomData,
-    }
-}
-
 impl<T, I, E> IsParser<I, T, E> for Just<T, I, E> {}
 
 impl<'src, T: OrderedSeq<I::Token> + Clone, I: Input<'src>, E: ParserExtra<I>> Parser<'src, I, T, E>

@@ -7,6 +7,7 @@ pub mod custom;
 pub mod empty;
 pub mod end;
 pub mod just;
+pub mod make;
 pub mod none_of;
 pub mod one_of;
 pub mod select;

@@ -26,18 +26,6 @@ pub struct NoneOf<S, I, E> {
     pub of: PhantomData<(I, E)>,
 }
 
-/// Takes one token that is no member of a sequence, and gives it: `none_of("\"\n")` takes what may stand in a string.
-/// Where the next token is a member, or there is none, it takes nothing, and fails with something else expected.
-#[inline]
-pub fn none_of<S, I, E>(seq: S) -> NoneOf<S, I, E>
-    ensures { result.seq ≡ seq }
-{
-    NoneOf {
-        seq,
-        of: PhantomData,
-    }
-}
-
 impl<S, I: Tokens, E> IsParser<I, I::Token, E> for NoneOf<S, I, E> {}
 
 impl<'src, S: Seq<I::Token>, I: ValueInput<'src>, E: ParserExtra<I>> Parser<'src, I, I::Token, E>

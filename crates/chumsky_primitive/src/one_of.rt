@@ -29,18 +29,6 @@ pub struct OneOf<S, I, E> {
     pub of: PhantomData<(I, E)>,
 }
 
-/// Takes one token that is a member of a sequence, and gives it: `one_of("+-")` takes a sign. Where the next token is
-/// none of them, or there is none, it takes nothing, and fails with each member expected, in order.
-#[inline]
-pub fn one_of<S, I, E>(seq: S) -> OneOf<S, I, E>
-    ensures { result.seq ≡ seq }
-{
-    OneOf {
-        seq,
-        of: PhantomData,
-    }
-}
-
 impl<S, I: Tokens, E> IsParser<I, I::Token, E> for OneOf<S, I, E> {}
 
 impl<'src, S: Seq<I::Token>, I: ValueInput<'src>, E: ParserExtra<I>> Parser<'src, I, I::Token, E>

@@ -25,23 +25,6 @@ pub struct Select<F, I, O, E> {
     pub of: PhantomData<(I, O, E)>,
 }
 
-/// Takes one token that the closure answers `Some` to, and gives what is in the `Some`; fails at any other token, and at
-/// the end of input. The closure is given the token by value and an extra over it, and is called with and without an
-/// output wanted; what it writes to the state stands where it answers `Some`. See the macro `select!`.
-#[inline]
-pub fn select<'src, F, I, O, E>(filter: F) -> Select<F, I, O, E>
-where
-    I: ValueInput<'src>,
-    E: ParserExtra<I>,
-    F: Fn(I::Token, &mut MapExtra<'src, '_, I, E>) -> Option<O>,
-    ensures { result.filter ≡ filter }
-{
-    Select {
-        filter,
-        of: PhantomData,
-    }
-}
-
 impl<I: Tokens, F, O, E> IsParser<I, O, E> for Select<F, I, O, E> {}
 
 impl<'src, I, O, E, F> Parser<'src, I, O, E> for Select<F, I, O, E>

@@ -24,23 +24,6 @@ pub struct SelectRef<F, I, O, E> {
     pub of: PhantomData<(I, O, E)>,
 }
 
-/// `select` over references: the closure is given a reference to the token where it lies in the input, and nothing is
-/// cloned. See the macro `select_ref!`.
-#[inline]
-pub fn select_ref<'src, F, I, O, E>(filter: F) -> SelectRef<F, I, O, E>
-where
-    I: BorrowInput<'src>,
-    I::Token: 'src,
-    E: ParserExtra<I>,
-    F: Fn(&'src I::Token, &mut MapExtra<'src, '_, I, E>) -> Option<O>,
-    ensures { result.filter ≡ filter }
-{
-    SelectRef {
-        filter,
-        of: PhantomData,
-    }
-}
-
 impl<I: Tokens, F, O, E> IsParser<I, O, E> for SelectRef<F, I, O, E> {}
 
 impl<'src, I, O, E, F> Parser<'src, I, O, E> for SelectRef<F, I, O, E>

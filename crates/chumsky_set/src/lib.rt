@@ -5,6 +5,7 @@ pub mod array;
 mod each;
 pub mod laws;
 mod list;
+pub mod make;
 mod mode;
 mod part;
 mod rounds;

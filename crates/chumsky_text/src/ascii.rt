@@ -3,7 +3,8 @@ ghost use Rattle.std.specs.Prelude.{◌≡◌};
 
 use crate::ident::AsciiIdent;
 use crate::keyword::Keyword;
-use crate::word::{Word, word_of};
+use crate::make::word_of;
+use crate::word::Word;
 use std::marker::PhantomData;
 
 /// An identifier of ASCII: a letter or `_`, and then the longest run of letters, digits and `_`; gives its slice. On

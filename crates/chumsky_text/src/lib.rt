@@ -7,6 +7,7 @@ pub mod decimal;
 pub mod ident;
 pub mod keyword;
 pub mod kind;
+pub mod make;
 pub mod newline;
 pub mod number;
 pub mod padded;

@@ -3,7 +3,6 @@ ghost use Rattle.std.specs.Prelude.{◌≡◌, true};
 
 use crate::kind::Lexeme;
 use crate::skip::{expect_here, take_first, take_one};
-use crate::space::LineEnd;
 use chumsky_input::extra::ParserExtra;
 use chumsky_input::input::SliceInput;
 use chumsky_input::input_ref::InputRef;
@@ -18,16 +17,6 @@ use std::marker::PhantomData;
 pub struct Newline<K, I, E> {
     pub kind: K,
     pub of: PhantomData<(I, E)>,
-}
-
-/// One end of a line; gives its slice, `"\n"` or `"\r\n"` mostly. A carriage return by itself, a vertical tab and a form
-/// feed end a line too, and of characters next line (U+0085), line separator (U+2028) and paragraph separator (U+2029).
-#[inline]
-pub fn newline<I, E>() -> Newline<LineEnd, I, E> {
-    Newline {
-        kind: LineEnd,
-        of: PhantomData,
-    }
 }
 
 impl<'src, K, I: SliceInput<'src>, E> IsParser<I, I::Slice, E> for Newline<K, I, E> {}

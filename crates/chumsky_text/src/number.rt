@@ -5,30 +5,12 @@ ghost use Rattle.chumsky_input.specs.Wanted.{Label};
 
 use crate::chars::Char;
 use crate::kind::{Kind, Lexeme};
-use crate::word::{Word, word_of};
 use chumsky_input::util::Plain;
 
 /// Digits of a radix, which is between 2 and 36. Letters of either case count as digits from ten on.
 #[derive(Clone, Copy, Debug)]
 pub struct Digits {
     pub radix: u32,
-}
-
-/// Digits of a radix between 2 and 36, one at least; gives their slice. `digits(16)` takes `00fF`.
-#[inline]
-pub fn digits<I, E>(radix: u32) -> Word<Digits, I, E>
-    ensures { result.kind.radix ≡ radix }
-{
-    word_of(Digits { radix })
-}
-
-/// A number of a radix between 2 and 36, without a sign; gives its slice. It is a zero alone, or digits of which the first
-/// is no zero: on `"012"` it takes the zero.
-#[inline]
-pub fn int<I, E>(radix: u32) -> Word<Int, I, E>
-    ensures { result.kind.radix ≡ radix }
-{
-    word_of(Int { radix })
 }
 
 impl<T: Char> Kind<T> for Digits {

@@ -19,17 +19,6 @@ pub struct Run<K, I, E> {
     pub of: PhantomData<(I, E)>,
 }
 
-/// The longest run of tokens of a kind, be it empty; gives its slice: `run_of(Whitespace)` is `whitespace()`.
-#[inline]
-pub fn run_of<K, I, E>(kind: K) -> Run<K, I, E>
-    ensures { result.kind ≡ kind }
-{
-    Run {
-        kind,
-        of: PhantomData,
-    }
-}
-
 impl<'src, K, I: SliceInput<'src>, E> IsParser<I, I::Slice, E> for Run<K, I, E> {}
 
 impl<'src, K: Kind<I::Token>, I: SliceInput<'src>, E: ParserExtra<I>> Parser<'src, I, I::Slice, E>

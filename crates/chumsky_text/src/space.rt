@@ -4,24 +4,11 @@ ghost use Rattle.chumsky_input.specs.Wanted.{Label};
 
 use crate::chars::Char;
 use crate::kind::{Kind, Lexeme};
-use crate::run::{Run, run_of};
 use chumsky_input::util::Plain;
 
 /// White space of any kind, ends of lines too.
 #[derive(Clone, Copy, Debug)]
 pub struct Whitespace;
-
-/// White space, as much as there is, be it none; gives its slice. On `" \n x"` it gives `" \n "`.
-#[inline]
-pub fn whitespace<I, E>() -> Run<Whitespace, I, E> {
-    run_of(Whitespace)
-}
-
-/// Spaces and tabs, as many as there are, be it none; gives their slice. On `" \n x"` it gives `" "`.
-#[inline]
-pub fn inline_whitespace<I, E>() -> Run<InlineWhitespace, I, E> {
-    run_of(InlineWhitespace)
-}
 
 impl<T: Char> Kind<T> for Whitespace {
     ghost fits = { λ _. ⊤ };

@@ -3,7 +3,8 @@ ghost use Rattle.std.specs.Prelude.{◌≡◌};
 
 use crate::ident::UnicodeIdent;
 use crate::keyword::Keyword;
-use crate::word::{Word, word_of};
+use crate::make::word_of;
+use crate::word::Word;
 use std::marker::PhantomData;
 
 /// An identifier of Unicode: a character of `XID_Start` or `_`, and then the longest run of characters of `XID_Continue`;

@@ -19,17 +19,6 @@ pub struct Word<K, I, E> {
     pub of: PhantomData<(I, E)>,
 }
 
-/// A token of a kind and the longest run of what may follow it; gives its slice: `word_of(AsciiIdent)` is `ascii::ident()`.
-#[inline]
-pub fn word_of<K, I, E>(kind: K) -> Word<K, I, E>
-    ensures { result.kind ≡ kind }
-{
-    Word {
-        kind,
-        of: PhantomData,
-    }
-}
-
 impl<'src, K, I: SliceInput<'src>, E> IsParser<I, I::Slice, E> for Word<K, I, E> {}
 
 impl<'src, K: Lexeme<I::Token>, I: SliceInput<'src>, E: ParserExtra<I>> Parser<'src, I, I::Slice, E>
