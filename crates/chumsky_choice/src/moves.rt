@@ -1,5 +1,5 @@
 //! A choice moves where each of its alternatives does.
-ghost use Rattle.std.specs.Prelude.{◌&&◌, ◌≡◌};
+ghost use Rattle.std.specs.Prelude.{◌≡◌, ◌&&◌};
 ghost use Rattle.std.specs.List.{list_all};
 
 use crate::choice::Choice;

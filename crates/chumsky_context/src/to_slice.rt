@@ -1,5 +1,5 @@
 //! `ToSlice`: the part of the input that a parser took.
-ghost use Rattle.std.specs.Prelude.{[], ◌∷◌, ◌≡◌};
+ghost use Rattle.std.specs.Prelude.{◌≡◌, [], ◌∷◌};
 ghost use Rattle.chumsky_parser.specs.ByParts.{part, OutOnlyBy};
 
 use chumsky_input::extra::ParserExtra;

@@ -1,5 +1,5 @@
 //! `ToSpan`: the span of what a parser took.
-ghost use Rattle.std.specs.Prelude.{[], ◌∷◌, ◌≡◌};
+ghost use Rattle.std.specs.Prelude.{◌≡◌, [], ◌∷◌};
 ghost use Rattle.chumsky_parser.specs.ByParts.{part, OutOnlyBy};
 
 use chumsky_input::extra::ParserExtra;

@@ -1,5 +1,5 @@
 //! A group moves where one of its parts does.
-ghost use Rattle.std.specs.Prelude.{◌||◌, ◌≡◌};
+ghost use Rattle.std.specs.Prelude.{◌≡◌, ◌||◌};
 ghost use Rattle.std.specs.List.{list_any};
 
 use crate::group::Group;

@@ -1,5 +1,5 @@
 //! Any token.
-ghost use Rattle.std.specs.Prelude.{true, ◌≡◌};
+ghost use Rattle.std.specs.Prelude.{◌≡◌, true};
 ghost use Rattle.chumsky_parser.specs.ByParts.{NeverOut};
 
 use chumsky_input::extra::ParserExtra;

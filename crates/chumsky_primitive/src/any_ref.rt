@@ -1,5 +1,5 @@
 //! Any token, where it lies.
-ghost use Rattle.std.specs.Prelude.{true, ◌≡◌};
+ghost use Rattle.std.specs.Prelude.{◌≡◌, true};
 ghost use Rattle.std.specs.Borrow.{Bor};
 
 use chumsky_input::extra::ParserExtra;
