@@ -4,7 +4,7 @@
 pub mod array;
 mod each;
 pub mod laws;
-mod list;
+pub mod list;
 pub mod make;
 mod mode;
 mod part;
