@@ -1,0 +1,48 @@
+//! Reads a setting, as `size = 10`, from the standard input. Prints it, or a report of what is wrong on the standard error.
+#![tactic(auto)]
+
+use chumsky::extra::RichText;
+use chumsky::prelude::*;
+use chumsky::report::Report;
+use std::alloc::Global;
+use std::io;
+use std::io::Read;
+use std::process::ExitCode;
+
+/// A name and its number, as `size = 10`.
+fn setting<'src>(
+    alloc: Global,
+    line: &'src str,
+) -> Result<ParseResult<(&'src str, &'src str), Rich<char>>, Stop> {
+    let name = text::ascii::ident::<_, RichText>().padded();
+    let value = text::int(10).padded();
+    name.then_ignore(just('=')).then(value).parse(alloc, line)
+}
+
+fn main(rt: HostRuntime) -> io::Result<ExitCode> {
+    let alloc = rt.alloc();
+    let mut text = String::new(alloc);
+    rt.reader().read_to_string(&mut text)?;
+    let parsed = match setting(alloc, text.as_str()) {
+        Ok(parsed) => parsed,
+        Err(stop) => {
+            eprintln!(rt; "refused: {stop:?}")?;
+            return Ok(ExitCode::from(3));
+        }
+    };
+    for error in parsed.errors() {
+        let report = Report {
+            name: "input",
+            text: text.as_str(),
+            error,
+        };
+        eprintln!(rt; "{report}")?;
+    }
+    match parsed.output() {
+        Some((name, value)) => {
+            println!(rt; "{name} is {value}")?;
+            Ok(ExitCode::SUCCESS)
+        }
+        None => Ok(ExitCode::from(1)),
+    }
+}
