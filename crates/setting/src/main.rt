@@ -3,7 +3,6 @@
 
 use chumsky::extra::RichText;
 use chumsky::prelude::*;
-use chumsky::report::Report;
 use std::alloc::Global;
 use std::io;
 use std::io::Read;
