@@ -488,8 +488,7 @@ pub mod laws {
     pub use chumsky_set::laws::{
         a_list_takes_at_most_one_round_more, a_set_takes_at_most_one_round_more,
     };
-    pub use chumsky_set::list::set_of_a_list_is_steady;
-    pub use chumsky_set::set::set_is_steady;
+    pub use chumsky_set::set::{set_is_steady, set_of_a_list_is_steady};
 }
 
 pub use chumsky_context::config::{ConfigParser, Configurable, IsConfigParser};

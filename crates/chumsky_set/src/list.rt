@@ -1,12 +1,8 @@
 //! Sets of a list of parsers.
-ghost use Rattle.std.specs.List.{All};
-ghost use Rattle.chumsky_set.specs.Lists.{Each};
-
 use crate::each::{Each, no_slots};
 use crate::mode::{ForValue, WithoutValue};
 use crate::rounds::in_any_order;
 use crate::set::Set;
-use arrayvec::ArrayVec;
 use chumsky_input::extra::ParserExtra;
 use chumsky_input::input::Input;
 use chumsky_input::input_ref::InputRef;
@@ -66,22 +62,3 @@ impl<'src, I: Input<'src>, O: Drop, E: ParserExtra<I>, P: Parser<'src, I, O, E>>
         in_any_order(&row, slots, inp)
     }
 }
-
-/// When it is ready and steady, and which outputs are the same: a set of the parsers of a `Vec` or an array.
-pub fn set_of_a_list_is_steady<
-    'src,
-    I: Input<'src>,
-    O: Drop,
-    U: Default + Drop,
-    E: ParserExtra<I>,
-    P: Parser<'src, I, O, E>,
-    Q: Parser<'src, I, U, E>,
-    const N: usize,
->(vec: &Set<Vec<P>>, array: &Set<[Q; N]>)
-    ensures ready_vec { All P.ready vec.now.parsers.items → ⟦<Set<Vec<P>> as Parser<'src, I, Vec<O>, E>>⟧.ready vec.now }
-    ensures ready_array { All Q.ready array.now.parsers → ⟦<Set<[Q; N]> as Parser<'src, I, ArrayVec<U, N>, E>>⟧.ready array.now }
-    ensures vec { All P.steady vec.now.parsers.items → ⟦<Set<Vec<P>> as Parser<'src, I, Vec<O>, E>>⟧.steady vec.now }
-    ensures array { All Q.steady array.now.parsers → ⟦<Set<[Q; N]> as Parser<'src, I, ArrayVec<U, N>, E>>⟧.steady array.now }
-    ensures same_vec { (x y : _) → ⟦<Set<Vec<P>> as Parser<'src, I, Vec<O>, E>>⟧.same vec.now x y → Each P.same vec.now.parsers.items x.items y.items }
-    ensures same_array { (x y : _) → ⟦<Set<[Q; N]> as Parser<'src, I, ArrayVec<U, N>, E>>⟧.same array.now x y → Each Q.same array.now.parsers x.items y.items }
-{}

@@ -1,7 +1,11 @@
 //! Parsers in any order.
+ghost use Rattle.std.specs.List.{All};
+ghost use Rattle.chumsky_set.specs.Lists.{Each};
+
 use crate::mode::{ForValue, WithoutValue};
 use crate::rounds::in_any_order;
 use crate::row::{NoPart, PartAnd};
+use arrayvec::ArrayVec;
 use chumsky_input::extra::ParserExtra;
 use chumsky_input::input::Input;
 use chumsky_input::input_ref::InputRef;
@@ -403,4 +407,23 @@ pub fn set_is_steady<
         (x y : O0 × O1 × O2 × O3) →
         ⟦<Set<(P0, P1, P2, P3)> as Parser<'src, I, (O0, O1, O2, O3), E>>⟧.same four.now x y →
         P0.same t.0 x.0 y.0 × P1.same t.1 x.1 y.1 × P2.same t.2 x.2 y.2 × P3.same t.3 x.3 y.3 }
+{}
+
+/// When it is ready and steady, and which outputs are the same: a set of the parsers of a `Vec` or an array.
+pub fn set_of_a_list_is_steady<
+    'src,
+    I: Input<'src>,
+    O: Drop,
+    U: Default + Drop,
+    E: ParserExtra<I>,
+    P: Parser<'src, I, O, E>,
+    Q: Parser<'src, I, U, E>,
+    const N: usize,
+>(vec: &Set<Vec<P>>, array: &Set<[Q; N]>)
+    ensures ready_vec { All P.ready vec.now.parsers.items → ⟦<Set<Vec<P>> as Parser<'src, I, Vec<O>, E>>⟧.ready vec.now }
+    ensures ready_array { All Q.ready array.now.parsers → ⟦<Set<[Q; N]> as Parser<'src, I, ArrayVec<U, N>, E>>⟧.ready array.now }
+    ensures vec { All P.steady vec.now.parsers.items → ⟦<Set<Vec<P>> as Parser<'src, I, Vec<O>, E>>⟧.steady vec.now }
+    ensures array { All Q.steady array.now.parsers → ⟦<Set<[Q; N]> as Parser<'src, I, ArrayVec<U, N>, E>>⟧.steady array.now }
+    ensures same_vec { (x y : _) → ⟦<Set<Vec<P>> as Parser<'src, I, Vec<O>, E>>⟧.same vec.now x y → Each P.same vec.now.parsers.items x.items y.items }
+    ensures same_array { (x y : _) → ⟦<Set<[Q; N]> as Parser<'src, I, ArrayVec<U, N>, E>>⟧.same array.now x y → Each Q.same array.now.parsers x.items y.items }
 {}
