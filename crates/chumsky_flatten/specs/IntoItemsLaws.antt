@@ -75,17 +75,18 @@ module _ {Tok Cx St Er S A : Type 0} where
         chained-agrees (Asked true step) (Asked true step') _ _ (SameNext same alike) (SameNext same alike) (two_asked (SameNext same alike) step step' h)
         (after_step-agrees same alike (SameNext same alike) Offers Offers (Given (Some End)) (Given (Some End)) offers-agrees (given-agrees (SameNext same alike) (Some End) (Some End) tt))
 
-module _ {Tok Cx St Er O J A : Type 0} (makes : O → J → Type 0) (nexts : J → Option A → J → Type 0) (part : Meaning Tok Cx St Er O) where
+module _ {Tok Cx St Er O J : Type 0} (makes : O → J → Type 0) where
   iterator-ends : (v : Option O) → EndsAfterStart (IteratorOf {Tok = Tok} {Cx = Cx} {St = St} {Er = Er} makes v)
   iterator-ends (Some o) b q m a = given-ends (Some m.0) b q m.2 a
   iterator-ends None b q m a = absurd m
 
+module _ {Tok Cx St Er O J A : Type 0} (makes : O → J → Type 0) (nexts : J → Option A → J → Type 0) (part : Meaning Tok Cx St Er O) where
   next-ends : (j : J) → EndsAfterStart (NextOf {Tok = Tok} {Cx = Cx} {St = St} {Er = Er} nexts j)
   next-ends j b o (inl m) a = given-ends (Some (More (Some m.0) m.1)) b o m.3 a
   next-ends j b o (inr m) a = given-ends (Some End) b o m.2 a
 
   pub into_items-end : EndsAfterStart part → ItemsEnd (BeginsOver makes part) (GivesNext nexts)
-  into_items-end h = record { begin = chained-ends part _ h iterator-ends; step = λ j b o m a. makes_item-ends (NextOf nexts j) (next-ends j) b o m.step a }
+  into_items-end h = record { begin = chained-ends part _ h (iterator-ends makes); step = λ j b o m a. makes_item-ends (NextOf nexts j) (next-ends j) b o m.step a }
 
   module _ (same : O → O → Type 0) (many : AsMany makes nexts same) where
     iterator-agrees : (v w : Option O) → SameValue same v w → Agreeing (SameRest makes nexts same) (IteratorOf {Tok = Tok} {Cx = Cx} {St = St} {Er = Er} makes v) (IteratorOf makes w)
@@ -111,10 +112,6 @@ module _ {Tok Cx St Er O J A : Type 0} (makes : O → J → Type 0) (nexts : J �
         }
 
 module _ {Tok Cx St Er O J : Type 0} (makes : O → J → Type 0) (part : Meaning Tok Cx St Er O) where
-  iterator-ends : (o : Option O) → EndsAfterStart (IteratorOf {Tok = Tok} {Cx = Cx} {St = St} {Er = Er} makes o)
-  iterator-ends (Some o) b q m a = given-ends (Some m.0) b q m.2 a
-  iterator-ends None b q m a = absurd m
-
   -- the items of an output, whose parser moves
   pub into_items-move : {V : Type 0} (gives : J → Meaning Tok Cx St Er (Next J V)) → Moves part → ItemsMove (BeginsOver makes part) gives
-  into_items-move gives h = record { by = inl (chained-first part _ h iterator-ends) }
+  into_items-move gives h = record { by = inl (chained-first part _ h (iterator-ends makes)) }
