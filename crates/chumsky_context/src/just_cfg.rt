@@ -2,6 +2,7 @@
 ghost use Rattle.std.specs.Prelude.{◌≡◌, Some, None};
 ghost use Rattle.chumsky_parser.specs.Copied.{BothCopies};
 ghost use Rattle.chumsky_context.specs.Configured.{set_or};
+ghost use Rattle.chumsky_context.specs.declared.just_cfg.JustCfg as config;
 
 use crate::config::{ConfigParser, Configurable, IsConfigParser};
 use chumsky_input::extra::ParserExtra;

@@ -2,6 +2,7 @@
 ghost use Rattle.std.specs.Prelude.{◌≡◌, Some, None, map};
 ghost use Rattle.chumsky_input.specs.Wanted as wanted;
 ghost use Rattle.chumsky_primitive.specs.OneOf.{among};
+ghost use Rattle.chumsky_context.specs.declared.one_of_cfg.OneOfCfg as sequence;
 
 use crate::config::{ConfigParser, Configurable, IsConfigParser};
 use chumsky_input::extra::ParserExtra;

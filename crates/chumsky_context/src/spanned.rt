@@ -1,5 +1,6 @@
 //! `Spanned`: a parser's output with the span of what it took.
 ghost use Rattle.std.specs.Prelude.{◌≡◌};
+ghost use Rattle.chumsky_input.specs.declared.span.Spanned as output;
 
 use chumsky_input::extra::ParserExtra;
 use chumsky_input::input::{Input, Tokens};
