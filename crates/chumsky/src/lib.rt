@@ -311,7 +311,7 @@ pub mod grammar_laws {
         founded_rules_make_progress, founded_rules_stay_within_depth, lists_count_their_items,
         open_calls_never_go_back, rules_that_never_wait_ask_for_no_memory, two_derivations_agree,
     };
-    pub use chumsky_recursive::leaves::leaves_are_steady;
+    pub use chumsky_recursive::laws::leaves_are_steady;
     pub use chumsky_rules::caps::caps_fit;
 }
 

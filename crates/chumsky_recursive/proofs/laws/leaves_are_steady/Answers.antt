@@ -1,6 +1,6 @@
 use Rattle.std.proofs.Common.{rules}
 use Rattle.chumsky_recursive.specs.LeavesLaws.{listed_leaf-agrees}
-use Rattle.chumsky_recursive.proofs.leaves.leaves_are_steady.Goals as goal
+use Rattle.chumsky_recursive.proofs.laws.leaves_are_steady.Goals as goal
 
 pub returns-clause-steady : goal.returns-clause-steady
 returns-clause-steady g c = λ all within makes.
