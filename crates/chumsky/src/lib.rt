@@ -308,10 +308,10 @@ pub mod grammar_laws {
     pub use chumsky_recursive::laws::{
         a_run_begins_with_room, an_answer_is_derived, answers_agree_under_any_limit,
         answers_stand_under_a_greater_limit, founded_grammars_are_refused_as_leaves,
-        founded_rules_make_progress, founded_rules_stay_within_depth, lists_count_their_items,
-        open_calls_never_go_back, rules_that_never_wait_ask_for_no_memory, two_derivations_agree,
+        founded_rules_make_progress, founded_rules_stay_within_depth, leaves_are_steady,
+        lists_count_their_items, open_calls_never_go_back, rules_that_never_wait_ask_for_no_memory,
+        two_derivations_agree,
     };
-    pub use chumsky_recursive::laws::leaves_are_steady;
     pub use chumsky_rules::caps::caps_fit;
 }
 
