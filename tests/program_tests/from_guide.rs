@@ -1,6 +1,7 @@
 //! The items of docs/GUIDE.md, and the parser that README.md begins with, run as they say; and laws called at parsers.
 use answers::asserts::{assert_answers, assert_line};
-use chumsky::laws::{end_is_steady, just_is_steady, or_not_never_says_no, then_is_associative};
+use chumsky::laws::steady::{end_is_steady, just_is_steady};
+use chumsky::laws::{or_not_never_says_no, then_is_associative};
 use chumsky::prelude::*;
 use guide::arithmetic::value_of;
 use guide::checking::{day_of_month, minute, minutes, port, share};

@@ -144,13 +144,6 @@ pub mod pratt {
             an_operator_past_the_bound_is_passed_over, associativity_decides, none_does_not_chain,
             the_stronger_binds_first, without_operators_an_expression_is_its_atom,
         };
-        pub use chumsky_pratt::list::operators_of_a_list_are_steady;
-        pub use chumsky_pratt::operator::{infix_is_steady, postfix_is_steady, prefix_is_steady};
-        pub use chumsky_pratt::operator_with::{
-            infix_with_is_steady, postfix_with_is_steady, prefix_with_is_steady,
-        };
-        pub use chumsky_pratt::pratt::pratt_is_steady;
-        pub use chumsky_pratt::row::operators_are_steady;
     }
 }
 
@@ -224,7 +217,6 @@ pub mod label {
     /// What holds of labelled parsers, as those of `chumsky::laws`.
     pub mod laws {
         pub use chumsky_label::label_error::rich_takes_one_label;
-        pub use chumsky_label::labelled::labelled_is_steady;
         pub use chumsky_label::laws::labelled_answers_as_its_part;
     }
 }
@@ -249,16 +241,6 @@ pub mod text {
     pub use chumsky_text::unicode::{ident, keyword};
     pub use chumsky_text::word::Word;
     pub use chumsky_text::{ascii, unicode};
-
-    /// What holds of parsers of text, as those of `chumsky::laws`.
-    pub mod laws {
-        pub use chumsky_text::keyword::keyword_is_steady;
-        pub use chumsky_text::kind::tokens_may_be_tested;
-        pub use chumsky_text::newline::newline_is_steady;
-        pub use chumsky_text::padded::padded_is_steady;
-        pub use chumsky_text::run::run_is_steady;
-        pub use chumsky_text::word::word_is_steady;
-    }
 }
 
 /// Recursion: calls of functions that call themselves; and rules as data, the parser that runs them, whether they are well-founded,
@@ -295,165 +277,54 @@ pub mod debug {
     pub use chumsky_debug::railroad::RailroadSvg;
 }
 
-/// Laws of calls of functions, as those of `laws` and of `memory_laws`.
-pub mod recursion_laws {
-    pub use chumsky_descent::laws::{recursive_is_never_out_of_memory, recursive_is_steady};
-}
-
 /// Laws of grammars, each the contract of a function that does nothing, or looks at the nodes alone: how answers under limits
-/// agree, and for what well-founded rules are refused.
 pub mod grammar_laws {
     pub use crate::refusals::founded_runs_are_refused_as_leaves;
-    pub use chumsky_recursive::grammar::grammar_is_steady;
     pub use chumsky_recursive::laws::{
         a_run_begins_with_room, an_answer_is_derived, answers_agree_under_any_limit,
         answers_stand_under_a_greater_limit, founded_grammars_are_refused_as_leaves,
-        founded_rules_make_progress, founded_rules_stay_within_depth, leaves_are_steady,
-        lists_count_their_items, open_calls_never_go_back, rules_that_never_wait_ask_for_no_memory,
-        two_derivations_agree,
+        founded_rules_make_progress, founded_rules_stay_within_depth, lists_count_their_items,
+        open_calls_never_go_back, rules_that_never_wait_ask_for_no_memory, two_derivations_agree,
     };
     pub use chumsky_rules::caps::caps_fit;
 }
 
-/// Which parsers are never refused for memory, as those of `laws`: primitives, where tokens, errors and states take none, and what
-/// is made of parts that never are. A run of one wants memory for nothing but the errors of a failure. And when one whose mapper
-/// asks for memory is ready and steady.
-pub mod memory_laws {
-    pub use crate::memory::{memory_is_wanted_only_for_errors, these_take_no_memory};
-    pub use chumsky_choice::alternatives::choice_is_never_out_of_memory;
-    pub use chumsky_choice::lists::choice_of_a_list_is_never_out_of_memory;
-    pub use chumsky_combinator::delimited_by::delimited_by_is_never_out_of_memory;
-    pub use chumsky_combinator::ignore_then::ignore_then_is_never_out_of_memory;
-    pub use chumsky_combinator::map::map_is_never_out_of_memory;
-    pub use chumsky_combinator::map_in::map_in_is_steady;
-    pub use chumsky_combinator::or::or_is_never_out_of_memory;
-    pub use chumsky_combinator::then::then_is_never_out_of_memory;
-    pub use chumsky_combinator::to::to_is_never_out_of_memory;
-    pub use chumsky_context::to_slice::to_slice_is_never_out_of_memory;
-    pub use chumsky_context::to_span::to_span_is_never_out_of_memory;
-    pub use chumsky_group::arrays::group_of_an_array_is_never_out_of_memory;
-    pub use chumsky_group::parts::group_is_never_out_of_memory;
-    pub use chumsky_items::count::count_is_never_out_of_memory;
-    pub use chumsky_items::repeated::repeated_is_never_out_of_memory;
-    pub use chumsky_items::separated_by::separated_by_is_never_out_of_memory;
-    pub use chumsky_judge::filter::filter_is_never_out_of_memory;
-    pub use chumsky_judge::filter_map::filter_map_is_never_out_of_memory;
-    pub use chumsky_judge::try_map::try_map_is_never_out_of_memory;
-    pub use chumsky_parser::parser::a_run_is_never_out_of_memory;
-    pub use chumsky_primitive::any::any_is_never_out_of_memory;
-    pub use chumsky_primitive::end::end_is_never_out_of_memory;
-    pub use chumsky_primitive::just::just_is_never_out_of_memory;
-    pub use chumsky_primitive::one_of::one_of_is_never_out_of_memory;
-    pub use chumsky_recovery::laws::{
-        closes_is_out_of_memory_only_to_nest, recover_with_is_out_of_memory_only_to_tell,
-        skip_then_retry_until_is_never_out_of_memory, skip_until_is_never_out_of_memory,
-        via_parser_is_never_out_of_memory,
-    };
-}
-
-/// When parsers under contexts, states, configurations and nested inputs are ready and steady, as in `laws`.
-pub mod context_laws {
-    pub use chumsky_context::configure::configure_is_steady;
-    pub use chumsky_context::contextual::contextual_is_steady;
-    pub use chumsky_context::ignore_with_ctx::{
-        any_under_any_is_steady, ignore_with_ctx_is_steady,
-    };
-    pub use chumsky_context::ignore_with_ctx_items::ignored_items_with_ctx_are_steady;
-    pub use chumsky_context::iter_configure::{
-        configured_items_are_steady, configured_list_is_steady,
-    };
-    pub use chumsky_context::just_cfg::configured_just_is_steady;
-    pub use chumsky_context::map_ctx::map_ctx_is_steady;
-    pub use chumsky_context::nested_in::{any_nested_in_any_is_steady, nested_in_is_steady};
-    pub use chumsky_context::one_of_cfg::configured_one_of_is_steady;
-    pub use chumsky_context::spanned::spanned_is_steady;
-    pub use chumsky_context::then_with_ctx::then_with_ctx_is_steady;
-    pub use chumsky_context::then_with_ctx_items::items_with_ctx_are_steady;
-    pub use chumsky_context::to_slice::to_slice_is_steady;
-    pub use chumsky_context::to_span::to_span_is_steady;
-    pub use chumsky_context::try_iter_configure::{tried_list_is_steady, try_configure_is_steady};
-    pub use chumsky_context::with_ctx::with_ctx_is_steady;
-    pub use chumsky_context::with_state::with_state_is_steady;
-}
-
-/// When parsers that decide by the word are ready and steady, as in `laws`.
-pub mod word_laws {
-    pub use chumsky_judge::pick_by::pick_by_is_steady;
-    pub use chumsky_judge::test_by::test_by_is_steady;
-}
-
-/// Laws of parsers that recover, as those of `laws`: what each answer of one is, and when it is ready and steady.
+/// Laws of parsers that recover, as those of `laws`: what each answer of one is.
 pub mod recovery_laws {
     pub use chumsky_recovery::laws::{
         a_quiet_success_is_the_parsers, it_fails_only_where_its_parser_does,
         recover_with_tells_each_failure, without_a_failure_it_does_as_its_parser,
     };
-    pub use chumsky_recovery::nested_delimiters::closes_is_steady;
-    pub use chumsky_recovery::recover_with::recover_with_is_steady;
-    pub use chumsky_recovery::skip_then_retry_until::skip_then_retry_until_is_steady;
-    pub use chumsky_recovery::skip_until::skip_until_is_steady;
-    pub use chumsky_recovery::via_parser::via_parser_is_steady;
 }
 
-/// Laws of parsers, each the contract of a function that does nothing: which of them mean the same, and which are ready and
-/// steady.
+/// Laws of parsers, each the contract of a function that does nothing: what they mean beside one another. Those of operators, of
+/// labels, of parsers that recover and of grammars are `pratt::laws`, `label::laws`, `recovery_laws` and `grammar_laws`.
 pub mod laws {
-    pub use crate::steady::{from_str_is_steady, lazy_is_steady};
-    pub use chumsky_choice::alternatives::{Alternatives, choice_is_steady};
+    pub use chumsky_choice::alternatives::Alternatives;
     pub use chumsky_choice::laws::{
         choice_agrees_by_one_alternative, choice_is_repeated_or,
         choice_of_a_list_agrees_by_one_alternative, one_alternative_of_a_list_stands,
         one_alternative_stands,
     };
-    pub use chumsky_choice::lists::choice_of_a_list_is_steady;
-    pub use chumsky_combinator::delimited_by::delimited_by_is_steady;
-    pub use chumsky_combinator::ignore_then::ignore_then_is_steady;
     pub use chumsky_combinator::laws::{
         ignore_then_agrees_with_then, map_with_by_a_blind_mapper_is_map,
         or_agrees_by_one_alternative, or_not_never_says_no, then_is_associative,
     };
-    pub use chumsky_combinator::map::map_is_steady;
-    pub use chumsky_combinator::map_items::map_items_is_steady;
-    pub use chumsky_combinator::map_items_with::map_items_with_is_steady;
-    pub use chumsky_combinator::map_with::map_with_is_steady;
-    pub use chumsky_combinator::or::or_is_steady;
-    pub use chumsky_combinator::part::part_is_steady;
-    pub use chumsky_combinator::then::then_is_steady;
-    pub use chumsky_combinator::then_items::then_items_is_steady;
-    pub use chumsky_combinator::to::to_is_steady;
-    pub use chumsky_flatten::flatten::flatten_is_steady;
-    pub use chumsky_flatten::into_iter::into_iter_is_steady;
     pub use chumsky_flatten::laws::{
         flatten_gives_the_items_of_each_collection, into_iter_gives_the_items_of_the_output,
     };
-    pub use chumsky_folds::enumerate::enumerate_is_steady;
-    pub use chumsky_folds::fold::fold_is_steady;
-    pub use chumsky_folds::foldl::foldl_is_steady;
-    pub use chumsky_folds::foldl_with::foldl_with_is_steady;
-    pub use chumsky_folds::foldr::foldr_is_steady;
-    pub use chumsky_folds::foldr_with::foldr_with_is_steady;
     pub use chumsky_folds::laws::{
         enumerate_numbers_from_zero, fold_is_the_fold_of_what_collect_gives,
         foldl_is_the_fold_of_what_collect_gives, foldl_with_by_a_blind_folder_is_foldl,
         foldr_is_the_fold_of_the_reverse, foldr_with_by_a_blind_folder_is_foldr,
         try_foldl_that_never_refuses_is_foldl_with,
     };
-    pub use chumsky_folds::try_foldl::try_foldl_is_steady;
-    pub use chumsky_group::arrays::group_of_an_array_is_steady;
     pub use chumsky_group::laws::{group_of_three_is_then_twice, group_of_two_is_then};
-    pub use chumsky_group::parts::group_is_steady;
-    pub use chumsky_items::collect::collect_is_steady;
-    pub use chumsky_items::collect_exactly::collect_exactly_is_steady;
     pub use chumsky_items::laws::{
         collect_exactly_adds_no_event, count_is_the_length_of_collect,
         repeated_is_one_more_or_no_more, repeated_never_gives_more_than_its_cap,
         separated_by_never_ends_with_a_separator,
     };
-    pub use chumsky_items::repeated::repeated_is_steady;
-    pub use chumsky_items::separated_by::separated_by_is_steady;
-    pub use chumsky_judge::and_is::and_is_is_steady;
-    pub use chumsky_judge::filter::filter_is_steady;
-    pub use chumsky_judge::filter_map::filter_map_is_steady;
     pub use chumsky_judge::laws::{
         and_is_ends_where_its_first_part_ends, filter_gives_what_passed,
         filter_map_gives_what_was_picked, filter_map_of_all_answers_as_its_part,
@@ -463,32 +334,154 @@ pub mod laws {
         try_map_with_by_a_blind_closure_is_try_map,
         validate_that_emits_nothing_answers_as_its_part,
     };
-    pub use chumsky_judge::map_err::map_err_is_steady;
-    pub use chumsky_judge::map_err_with::map_err_with_is_steady;
-    pub use chumsky_judge::map_err_with_state::map_err_with_state_is_steady;
-    pub use chumsky_judge::not::not_is_steady;
-    pub use chumsky_judge::try_map::try_map_is_steady;
-    pub use chumsky_judge::try_map_with::try_map_with_is_steady;
-    pub use chumsky_judge::unwrapped::unwrapped_is_steady;
-    pub use chumsky_judge::validate::validate_is_steady;
     pub use chumsky_parse_iter::laws::{
         finish_answers_the_whole, items_are_the_first_of_those_that_collect_gives,
         once_none_is_given_none_is_any_more, run_may_be_asked,
     };
-    pub use chumsky_parser::blanket::by_reference_is_steady;
-    pub use chumsky_parser::either_parser::either_is_steady;
-    pub use chumsky_primitive::any::any_is_steady;
-    pub use chumsky_primitive::any_ref::any_ref_is_steady;
-    pub use chumsky_primitive::custom::{closures_may_read, custom_is_steady};
-    pub use chumsky_primitive::end::end_is_steady;
-    pub use chumsky_primitive::just::just_is_steady;
-    pub use chumsky_primitive::one_of::one_of_is_steady;
-    pub use chumsky_primitive::select::select_is_steady;
-    pub use chumsky_primitive::select_ref::select_ref_is_steady;
     pub use chumsky_set::laws::{
         a_list_takes_at_most_one_round_more, a_set_takes_at_most_one_round_more,
     };
-    pub use chumsky_set::set::{set_is_steady, set_of_a_list_is_steady};
+
+    /// Which parsers are ready, and which are steady, and what is known of outputs that count as the same.
+    pub mod steady {
+        pub use crate::steady::from_str_is_steady;
+        pub use crate::steady::lazy_is_steady;
+        pub use chumsky_choice::alternatives::choice_is_steady;
+        pub use chumsky_choice::lists::choice_of_a_list_is_steady;
+        pub use chumsky_combinator::delimited_by::delimited_by_is_steady;
+        pub use chumsky_combinator::ignore_then::ignore_then_is_steady;
+        pub use chumsky_combinator::map::map_is_steady;
+        pub use chumsky_combinator::map_in::map_in_is_steady;
+        pub use chumsky_combinator::map_items::map_items_is_steady;
+        pub use chumsky_combinator::map_items_with::map_items_with_is_steady;
+        pub use chumsky_combinator::map_with::map_with_is_steady;
+        pub use chumsky_combinator::or::or_is_steady;
+        pub use chumsky_combinator::part::part_is_steady;
+        pub use chumsky_combinator::then::then_is_steady;
+        pub use chumsky_combinator::then_items::then_items_is_steady;
+        pub use chumsky_combinator::to::to_is_steady;
+        pub use chumsky_context::configure::configure_is_steady;
+        pub use chumsky_context::contextual::contextual_is_steady;
+        pub use chumsky_context::ignore_with_ctx::any_under_any_is_steady;
+        pub use chumsky_context::ignore_with_ctx::ignore_with_ctx_is_steady;
+        pub use chumsky_context::ignore_with_ctx_items::ignored_items_with_ctx_are_steady;
+        pub use chumsky_context::iter_configure::configured_items_are_steady;
+        pub use chumsky_context::iter_configure::configured_list_is_steady;
+        pub use chumsky_context::just_cfg::configured_just_is_steady;
+        pub use chumsky_context::map_ctx::map_ctx_is_steady;
+        pub use chumsky_context::nested_in::any_nested_in_any_is_steady;
+        pub use chumsky_context::nested_in::nested_in_is_steady;
+        pub use chumsky_context::one_of_cfg::configured_one_of_is_steady;
+        pub use chumsky_context::spanned::spanned_is_steady;
+        pub use chumsky_context::then_with_ctx::then_with_ctx_is_steady;
+        pub use chumsky_context::then_with_ctx_items::items_with_ctx_are_steady;
+        pub use chumsky_context::to_slice::to_slice_is_steady;
+        pub use chumsky_context::to_span::to_span_is_steady;
+        pub use chumsky_context::try_iter_configure::tried_list_is_steady;
+        pub use chumsky_context::try_iter_configure::try_configure_is_steady;
+        pub use chumsky_context::with_ctx::with_ctx_is_steady;
+        pub use chumsky_context::with_state::with_state_is_steady;
+        pub use chumsky_descent::laws::recursive_is_steady;
+        pub use chumsky_flatten::flatten::flatten_is_steady;
+        pub use chumsky_flatten::into_iter::into_iter_is_steady;
+        pub use chumsky_folds::enumerate::enumerate_is_steady;
+        pub use chumsky_folds::fold::fold_is_steady;
+        pub use chumsky_folds::foldl::foldl_is_steady;
+        pub use chumsky_folds::foldl_with::foldl_with_is_steady;
+        pub use chumsky_folds::foldr::foldr_is_steady;
+        pub use chumsky_folds::foldr_with::foldr_with_is_steady;
+        pub use chumsky_folds::try_foldl::try_foldl_is_steady;
+        pub use chumsky_group::arrays::group_of_an_array_is_steady;
+        pub use chumsky_group::parts::group_is_steady;
+        pub use chumsky_items::collect::collect_is_steady;
+        pub use chumsky_items::collect_exactly::collect_exactly_is_steady;
+        pub use chumsky_items::repeated::repeated_is_steady;
+        pub use chumsky_items::separated_by::separated_by_is_steady;
+        pub use chumsky_judge::and_is::and_is_is_steady;
+        pub use chumsky_judge::filter::filter_is_steady;
+        pub use chumsky_judge::filter_map::filter_map_is_steady;
+        pub use chumsky_judge::map_err::map_err_is_steady;
+        pub use chumsky_judge::map_err_with::map_err_with_is_steady;
+        pub use chumsky_judge::map_err_with_state::map_err_with_state_is_steady;
+        pub use chumsky_judge::not::not_is_steady;
+        pub use chumsky_judge::pick_by::pick_by_is_steady;
+        pub use chumsky_judge::test_by::test_by_is_steady;
+        pub use chumsky_judge::try_map::try_map_is_steady;
+        pub use chumsky_judge::try_map_with::try_map_with_is_steady;
+        pub use chumsky_judge::unwrapped::unwrapped_is_steady;
+        pub use chumsky_judge::validate::validate_is_steady;
+        pub use chumsky_label::labelled::labelled_is_steady;
+        pub use chumsky_parser::blanket::by_reference_is_steady;
+        pub use chumsky_parser::either_parser::either_is_steady;
+        pub use chumsky_pratt::list::operators_of_a_list_are_steady;
+        pub use chumsky_pratt::operator::infix_is_steady;
+        pub use chumsky_pratt::operator::postfix_is_steady;
+        pub use chumsky_pratt::operator::prefix_is_steady;
+        pub use chumsky_pratt::operator_with::infix_with_is_steady;
+        pub use chumsky_pratt::operator_with::postfix_with_is_steady;
+        pub use chumsky_pratt::operator_with::prefix_with_is_steady;
+        pub use chumsky_pratt::pratt::pratt_is_steady;
+        pub use chumsky_pratt::row::operators_are_steady;
+        pub use chumsky_primitive::any::any_is_steady;
+        pub use chumsky_primitive::any_ref::any_ref_is_steady;
+        pub use chumsky_primitive::custom::closures_may_read;
+        pub use chumsky_primitive::custom::custom_is_steady;
+        pub use chumsky_primitive::end::end_is_steady;
+        pub use chumsky_primitive::just::just_is_steady;
+        pub use chumsky_primitive::one_of::one_of_is_steady;
+        pub use chumsky_primitive::select::select_is_steady;
+        pub use chumsky_primitive::select_ref::select_ref_is_steady;
+        pub use chumsky_recovery::nested_delimiters::closes_is_steady;
+        pub use chumsky_recovery::recover_with::recover_with_is_steady;
+        pub use chumsky_recovery::skip_then_retry_until::skip_then_retry_until_is_steady;
+        pub use chumsky_recovery::skip_until::skip_until_is_steady;
+        pub use chumsky_recovery::via_parser::via_parser_is_steady;
+        pub use chumsky_recursive::grammar::grammar_is_steady;
+        pub use chumsky_recursive::laws::leaves_are_steady;
+        pub use chumsky_set::set::set_is_steady;
+        pub use chumsky_set::set::set_of_a_list_is_steady;
+        pub use chumsky_text::keyword::keyword_is_steady;
+        pub use chumsky_text::kind::tokens_may_be_tested;
+        pub use chumsky_text::newline::newline_is_steady;
+        pub use chumsky_text::padded::padded_is_steady;
+        pub use chumsky_text::run::run_is_steady;
+        pub use chumsky_text::word::word_is_steady;
+    }
+
+    /// Which parsers are never refused for memory: primitives, where tokens, errors and states take none, and what is made of parts
+    /// that never are. A run of one wants memory for nothing but the errors of a failure.
+    pub mod memory {
+        pub use crate::memory::{memory_is_wanted_only_for_errors, these_take_no_memory};
+        pub use chumsky_choice::alternatives::choice_is_never_out_of_memory;
+        pub use chumsky_choice::lists::choice_of_a_list_is_never_out_of_memory;
+        pub use chumsky_combinator::delimited_by::delimited_by_is_never_out_of_memory;
+        pub use chumsky_combinator::ignore_then::ignore_then_is_never_out_of_memory;
+        pub use chumsky_combinator::map::map_is_never_out_of_memory;
+        pub use chumsky_combinator::or::or_is_never_out_of_memory;
+        pub use chumsky_combinator::then::then_is_never_out_of_memory;
+        pub use chumsky_combinator::to::to_is_never_out_of_memory;
+        pub use chumsky_context::to_slice::to_slice_is_never_out_of_memory;
+        pub use chumsky_context::to_span::to_span_is_never_out_of_memory;
+        pub use chumsky_descent::laws::recursive_is_never_out_of_memory;
+        pub use chumsky_group::arrays::group_of_an_array_is_never_out_of_memory;
+        pub use chumsky_group::parts::group_is_never_out_of_memory;
+        pub use chumsky_items::count::count_is_never_out_of_memory;
+        pub use chumsky_items::repeated::repeated_is_never_out_of_memory;
+        pub use chumsky_items::separated_by::separated_by_is_never_out_of_memory;
+        pub use chumsky_judge::filter::filter_is_never_out_of_memory;
+        pub use chumsky_judge::filter_map::filter_map_is_never_out_of_memory;
+        pub use chumsky_judge::try_map::try_map_is_never_out_of_memory;
+        pub use chumsky_parser::parser::a_run_is_never_out_of_memory;
+        pub use chumsky_primitive::any::any_is_never_out_of_memory;
+        pub use chumsky_primitive::end::end_is_never_out_of_memory;
+        pub use chumsky_primitive::just::just_is_never_out_of_memory;
+        pub use chumsky_primitive::one_of::one_of_is_never_out_of_memory;
+        pub use chumsky_recovery::laws::{
+            closes_is_out_of_memory_only_to_nest, recover_with_is_out_of_memory_only_to_tell,
+            skip_then_retry_until_is_never_out_of_memory, skip_until_is_never_out_of_memory,
+            via_parser_is_never_out_of_memory,
+        };
+    }
 }
 
 pub use chumsky_context::config::{ConfigParser, Configurable, IsConfigParser};

@@ -6,7 +6,7 @@ use crate::mapping::{TwoDigits, digit, two_digits};
 use chumsky::combinator::{OfPart, Or, Part, Then, ThenIgnore, To, part_of, run_part};
 use chumsky::extra::RichText;
 use chumsky::input::TextRef;
-use chumsky::laws::part_is_steady;
+use chumsky::laws::steady::part_is_steady;
 use chumsky::prelude::*;
 use chumsky::primitive::Just;
 use chumsky::{PResult, Stop};
