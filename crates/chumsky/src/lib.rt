@@ -156,7 +156,7 @@ pub mod pratt {
 
 /// Parsers made of parsers.
 pub mod combinator {
-    pub use crate::made::{FromStr, Lazy, ReadStr};
+    pub use crate::made::{AtSpan, FromStr, HandsOn, Lazy, ReadStr, TryMapIn};
     pub use chumsky_combinator::delimited_by::DelimitedBy;
     pub use chumsky_combinator::ignore_then::IgnoreThen;
     pub use chumsky_combinator::ignored::Ignored;
@@ -320,6 +320,7 @@ pub mod grammar_laws {
 /// asks for memory is ready and steady.
 pub mod memory_laws {
     pub use crate::memory::{memory_is_wanted_only_for_errors, these_take_no_memory};
+    pub use crate::steady::try_map_in_is_steady;
     pub use chumsky_choice::alternatives::choice_is_never_out_of_memory;
     pub use chumsky_choice::lists::choice_of_a_list_is_never_out_of_memory;
     pub use chumsky_combinator::delimited_by::delimited_by_is_never_out_of_memory;
