@@ -77,6 +77,7 @@ static const struct row rows[] = {
     {"merges", 0, BY_BOTH, "no output; (((a b) c) d)"},
     {"messages", 0, BY_PARSE, "ok a b; 0..1 expected found end; 1..2 expected found end"},
     {"messages", 0, BY_CHECK, "ok (); 0..1 expected found end; 1..2 expected found end"},
+    {"refusal_with_a_message", 0, BY_BOTH, "no output; 1..2 expected found end"},
     {"filter", 0, BY_BOTH, "no output; 0..1 expected a something c found b"},
     {"nested", 0, BY_BOTH, "no output; 0..1 expected 1 found 2"},
     {"recovered", 0, BY_PARSE, "ok [azzb]; 2..3 expected a b found x; 6..7 expected ; found z"},
@@ -170,7 +171,7 @@ static const struct {
     const char *name;
     unsigned char rows;
 } clones[] = {
-    {"clone_primitive", 10}, {"clone_sequence", 14}, {"clone_mapped", 18},
+    {"clone_primitive", 10}, {"clone_sequence", 14}, {"clone_mapped", 19},
     {"clone_items", 14},     {"clone_under", 10},    {"clone_value", 14},
     {"clone_recovered", 5},  {"clone_operators", 7},
 };

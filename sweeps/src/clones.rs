@@ -120,6 +120,7 @@ pub fn sweep_clone_mapped(alloc: Global, row: usize, _check: bool, again: bool) 
         15 => cloning.show(a.map_err_with(|error, _| error)),
         16 => cloning.show(a.map_err_with_state(|error, _, _| error)),
         17 => cloning.show(a.map_in(|text, _| Ok(text))),
+        18 => cloning.show(a.try_map_in(|text, _, _| Ok(Ok(text)))),
         _ => cloning.none(),
     }
     cloning.line()

@@ -85,6 +85,7 @@ fn answer_of(alloc: Global, name: &[u8], row: usize, check: bool, again: bool) -
         b"filtered_merges" => rows::sweep_filtered_merges(alloc, row, check, again),
         b"merges" => rows::sweep_merges(alloc, row, check, again),
         b"messages" => rows::sweep_messages(alloc, row, check, again),
+        b"refusal_with_a_message" => rows::sweep_refusal_with_a_message(alloc, row, check, again),
         b"filter" => rows::sweep_filter(alloc, row, check, again),
         b"nested" => rows::sweep_nested(alloc, row, check, again),
         b"declared" => states::sweep_declared(alloc, row, check, again),

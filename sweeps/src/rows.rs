@@ -60,3 +60,12 @@ pub fn sweep_messages(alloc: Global, _row: usize, check: bool, again: bool) -> L
     });
     over(&(&doubted).then(&doubted), alloc, "ab", Asked { check, again })
 }
+
+/// A character that is no `a` is refused with a message.
+pub fn sweep_refusal_with_a_message(alloc: Global, _row: usize, check: bool, again: bool) -> Line {
+    let only_a = any::<&str, RichText>().try_map_in(|c, span, alloc| match c {
+        'a' => Ok(Ok(c)),
+        _ => Ok(Err(Rich::custom_in(alloc, span, "no a")?)),
+    });
+    over(&(&only_a).then(&only_a), alloc, "ab", Asked { check, again })
+}

@@ -4,7 +4,7 @@ use answers::extras::{Merging, Own};
 use answers::leaves::{any_char, just_char, just_text};
 use chumsky::prelude::*;
 use extending::states::Kept;
-use std::alloc::Global;
+use std::alloc::{AllocError, Global};
 
 #[test]
 fn not_succeeds_where_its_part_fails_and_takes_nothing(rt: HostRuntime) {
@@ -152,6 +152,48 @@ fn an_error_of_try_map_stands_at_its_start(rt: HostRuntime) {
         ("xz", "error 1..2 expected 'y' found 'z'"),
     ];
     assert_answers(&rt, &same_or_xy, &rows);
+}
+
+#[test]
+fn try_map_in_refuses_with_a_message(rt: HostRuntime) {
+    let small = digit!().try_map_in(|n, span, alloc| {
+        if n < 5 {
+            return Ok(Ok(n));
+        }
+        Ok(Err(Rich::custom_in(alloc, span, "no")?))
+    });
+    let rows = [("3", "ok 3"), ("7", "error 0..1 \"no\"")];
+    assert_answers(&rt, &small, &rows);
+    let same = any_char().then(any_char()).try_map_in(|(one, two), span, alloc| {
+        if one == two {
+            return Ok(Ok(one));
+        }
+        let message = format_args!("{one} and {two}");
+        Ok(Err(Rich::custom_in(alloc, span, message)?))
+    });
+    let same_or_xy = same.or(just_char('x').ignore_then(just_char('y')));
+    let rows = [
+        ("aa", "ok 'a'"),
+        ("éa", "error 0..3 \"é and a\""),
+        ("xy", "ok 'y'"),
+        ("xz", "error 1..2 expected 'y' found 'z'"),
+        ("a", "error 1..1 expected any found end"),
+    ];
+    assert_answers(&rt, &same_or_xy, &rows);
+}
+
+/// The mapper is called where no output is wanted too, since it may refuse.
+#[test]
+fn a_try_map_in_without_memory_refuses_the_run(rt: HostRuntime) {
+    let refused = just_char('a')
+        .try_map_in(|_, _, _| Err::<Result<char, Rich<char>>, AllocError>(AllocError))
+        .or(just_char('b'));
+    let rows = [
+        ("a", "refused Memory"),
+        ("b", "ok 'b'"),
+        ("c", "error 0..1 expected 'a', 'b' found 'c'"),
+    ];
+    assert_answers(&rt, &refused, &rows);
 }
 
 #[test]
@@ -358,6 +400,10 @@ fn a_try_map_that_refuses_drops_the_failures_of_its_part(rt: HostRuntime) {
         move |_, span| Err::<(), _>(Rich::custom(span, String::new(alloc))),
     );
     assert_answers(&rt, &refusing, &[("test", "error 0..0 \"\"")]);
+    let refusing = choice((just::<_, &str, Own>("something").ignored(), empty())).try_map_in(
+        |(), span, alloc| Ok(Err::<(), _>(Rich::custom_in(alloc, span, "no")?)),
+    );
+    assert_answers(&rt, &refusing, &[("test", "error 0..0 \"no\"")]);
 }
 
 #[test]

@@ -419,6 +419,10 @@ fn a_judge_is_called_once(rt: HostRuntime) {
     assert_clones(&rt, &picked, &counts, &[("a", 2, 2), ("b", 0, 0)]);
     let tried = letter(&rt, 'a', &counts).try_map(|it, _| it.clone().map_err(|_| EmptyErr));
     assert_clones(&rt, &tried, &counts, &[("a", 2, 2), ("b", 0, 0)]);
+    let tried = letter(&rt, 'a', &counts).try_map_in(|it, _, _| {
+        Ok(it.clone().map_err(|_| EmptyErr))
+    });
+    assert_clones(&rt, &tried, &counts, &[("a", 2, 2), ("b", 0, 0)]);
     let valid = letter(&rt, 'a', &counts).validate(|it, _, _| it.clone().ok());
     assert_clones(&rt, &valid, &counts, &[("a", 2, 2), ("b", 0, 0)]);
 }

@@ -182,6 +182,8 @@ fn what_judges_an_output_moves_as_its_part(rt: HostRuntime) {
             ("filter_map, none", moves(none().filter_map(Some)), false),
             ("try_map", moves(a().try_map(|c, _| Ok(c))), true),
             ("try_map, none", moves(none().try_map(|c, _| Ok(c))), false),
+            ("try_map_in", moves(a().try_map_in(|c, _, _| Ok(Ok(c)))), true),
+            ("try_map_in, none", moves(none().try_map_in(|c, _, _| Ok(Ok(c)))), false),
             ("try_map_with", moves(a().try_map_with(|c, _| Ok(c))), true),
             ("validate", moves(a().validate(|c, _, _| c)), true),
             ("map_err", moves(a().map_err(|error| error)), true),

@@ -2,3 +2,4 @@ pub mod AnswerLemmas
 mod Refusing
 mod Taking
 mod AcceptedLemmas
+mod TriedInLemmas

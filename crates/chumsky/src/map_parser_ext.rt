@@ -2,9 +2,9 @@
 ghost use Rattle.std.specs.Prelude.{◌≡◌};
 
 use crate::combinator::{
-    Filter, FilterMap, FromStr, Ignored, Map, MapErr, MapErrWith, MapErrWithState, MapIn, MapWith,
-    Mapper, MapperIn, PickBy, Picker, ReadStr, Spanned, TestBy, Tester, To, ToSlice, ToSpan,
-    TryMap, TryMapWith, TryMapper, Unwrapped, Validate,
+    AtSpan, Filter, FilterMap, FromStr, HandsOn, Ignored, Map, MapErr, MapErrWith, MapErrWithState,
+    MapIn, MapWith, Mapper, MapperIn, PickBy, Picker, ReadStr, Spanned, TestBy, Tester, To,
+    ToSlice, ToSpan, TryMap, TryMapIn, TryMapWith, TryMapper, Unwrapped, Validate,
 };
 use crate::extra::ParserExtra;
 use crate::input::{Emitter, Input, MapExtra, SliceInput, Tokens};
@@ -256,6 +256,30 @@ pub trait MapParserExt<'src, I, O, E>: Sized {
         TryMap {
             parser: self,
             mapper,
+            of: PhantomData,
+        }
+    }
+
+    /// Maps as `try_map` does, by a closure that is given the run's allocator too, so that its error may have a message:
+    /// `digit.try_map_in(|n, span, alloc| if n < 5 { Ok(Ok(n)) } else { Ok(Err(Rich::custom_in(alloc, span, "no")?)) })`
+    /// on `3` gives `3`, and fails on `7` with that error at 0..1. An `Ok(Err(error))` is the failure, as an `Err` of
+    /// `try_map` is, and an `Err` refuses the run by `Stop::Memory`; both where no output is wanted too.
+    #[inline]
+    final fn try_map_in<U, F>(self, mapper: F) -> TryMapIn<Self, O, F, U, I, E>
+    where
+        I: Tokens,
+        E: ParserExtra<I>,
+        F: Fn(O, I::Span, Global) -> Result<Result<U, E::Error>, AllocError>,
+        ensures parser { result.parser.parser.parser ≡ self }
+        ensures mapper { result.parser.mapper.mapper ≡ mapper }
+    {
+        TryMap {
+            parser: MapIn {
+                parser: self.spanned(),
+                mapper: AtSpan { mapper },
+                of: PhantomData,
+            },
+            mapper: HandsOn,
             of: PhantomData,
         }
     }

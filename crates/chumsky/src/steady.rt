@@ -1,12 +1,14 @@
 //! Which parsers made of others are ready, and which are steady, each the contract of a function that does nothing, and what
 //! is known of two outputs that count as the same.
-ghost use Rattle.std.specs.Prelude.{Result};
+ghost use Rattle.std.specs.Prelude.{◌≡◌, Result, Ok};
 ghost use Rattle.chumsky_combinator.specs.Mapped.{IsFunction, SameMapped};
+ghost use Rattle.chumsky_judge.specs.Tried.{TriesAlike, SameTryMapped};
 
-use crate::made::{FromStr, Lazy};
+use crate::made::{FromStr, Lazy, TryMapIn};
 use chumsky_input::extra::ParserExtra;
 use chumsky_input::input::{Input, ValueInput};
 use chumsky_parser::parser::Parser;
+use std::alloc::{AllocError, Global};
 use std::convert::AsStr;
 use std::str;
 
@@ -35,4 +37,26 @@ pub fn from_str_is_steady<
     ensures ready { A.ready from_str.now.parser → ⟦<FromStr<A, O, U> as Parser<'src, I, Result<U, U::Err>, E>>⟧.ready from_str.now }
     ensures steady { A.steady from_str.now.parser → IsFunction (λ value read. U.from_str_gives (O.text value) read) → ⟦<FromStr<A, O, U> as Parser<'src, I, Result<U, U::Err>, E>>⟧.steady from_str.now }
     ensures same { (x y : Result U U.Err) → ⟦<FromStr<A, O, U> as Parser<'src, I, Result<U, U::Err>, E>>⟧.same from_str.now x y → SameMapped (A.same from_str.now.parser) (λ value read. U.from_str_gives (O.text value) read) x y }
+{}
+
+/// `a.try_map_in(f)`, where `f` makes one `Result` of a value and its span, and where two that it makes of values that are the
+/// same are both values, or are errors that count as one.
+pub fn try_map_in_is_steady<
+    'src,
+    I: Input<'src>,
+    O,
+    U: Drop,
+    E: ParserExtra<I>,
+    A: Parser<'src, I, O, E>,
+    F: Fn(O, I::Span, Global) -> Result<Result<U, E::Error>, AllocError>,
+>(try_map_in: &TryMapIn<A, O, F, U, I, E>)
+    ensures ready { A.ready try_map_in.now.parser.parser.parser → F.IsAlwaysCallable try_map_in.now.parser.mapper.mapper →
+        ⟦<TryMapIn<A, O, F, U, I, E> as Parser<'src, I, U, E>>⟧.ready try_map_in.now }
+    ensures steady { let p = try_map_in.now.parser.parser.parser in
+        let made : O → I.Span → Result U E.Error → Type 0 = λ value span answer. (alloc : _) × F.post try_map_in.now.parser.mapper.mapper value span alloc (Ok answer) in
+        A.steady p → ((v : O) (s : I.Span) → (x y : Result U E.Error) → made v s x → made v s y → x ≡ y) → TriesAlike (A.same p) E.Error.seen made →
+        ⟦<TryMapIn<A, O, F, U, I, E> as Parser<'src, I, U, E>>⟧.steady try_map_in.now }
+    ensures same { (x y : U) → ⟦<TryMapIn<A, O, F, U, I, E> as Parser<'src, I, U, E>>⟧.same try_map_in.now x y →
+        SameTryMapped (A.same try_map_in.now.parser.parser.parser) E.Error.seen
+        (λ value span answer. (alloc : _) × F.post try_map_in.now.parser.mapper.mapper value span alloc (Ok answer)) x y }
 {}

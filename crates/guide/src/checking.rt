@@ -56,21 +56,13 @@ pub fn port(alloc: Global, text: &str) -> Result<ParseResult<u16, Rich<char>>, S
         .parse(alloc, text)
 }
 
-/// The error of a day that is none. Where there is no memory for its message, that is empty.
-fn no_such_day(alloc: Global, span: SimpleSpan) -> Rich<char> {
-    match Rich::custom_in(alloc, span, "no such day") {
-        Ok(error) => error,
-        Err(_) => Rich::custom(span, String::new(alloc)),
-    }
-}
-
 /// A day of a month, as `31`.
 pub fn day_of_month(alloc: Global, text: &str) -> Result<ParseResult<u8, Rich<char>>, Stop> {
     let number = text::digits::<_, RichText>(10).from_str::<u8>();
     number
-        .try_map(move |number: Result<u8, ParseIntError>, span| match number {
-            Ok(day) if day >= 1 && day <= 31 => Ok(day),
-            _ => Err(no_such_day(alloc, span)),
+        .try_map_in(|number: Result<u8, ParseIntError>, span, alloc| match number {
+            Ok(day) if day >= 1 && day <= 31 => Ok(Ok(day)),
+            _ => Ok(Err(Rich::custom_in(alloc, span, "no such day")?)),
         })
         .parse(alloc, text)
 }
