@@ -278,6 +278,7 @@ pub mod debug {
 }
 
 /// Laws of grammars, each the contract of a function that does nothing, or looks at the nodes alone: how answers under limits
+/// agree, and for what well-founded rules are refused.
 pub mod grammar_laws {
     pub use crate::refusals::founded_runs_are_refused_as_leaves;
     pub use chumsky_recursive::laws::{
@@ -289,79 +290,7 @@ pub mod grammar_laws {
     pub use chumsky_rules::caps::caps_fit;
 }
 
-<<<<<<< HEAD
 /// Laws of parsers that recover, as those of `laws`: what each answer of one is.
-=======
-/// Which parsers are never refused for memory, as those of `laws`: primitives, where tokens, errors and states take none, and what
-/// is made of parts that never are. A run of one wants memory for nothing but the errors of a failure. And when one whose mapper
-/// asks for memory is ready and steady.
-pub mod memory_laws {
-    pub use crate::memory::{memory_is_wanted_only_for_errors, these_take_no_memory};
-    pub use crate::steady::try_map_in_is_steady;
-    pub use chumsky_choice::alternatives::choice_is_never_out_of_memory;
-    pub use chumsky_choice::lists::choice_of_a_list_is_never_out_of_memory;
-    pub use chumsky_combinator::delimited_by::delimited_by_is_never_out_of_memory;
-    pub use chumsky_combinator::ignore_then::ignore_then_is_never_out_of_memory;
-    pub use chumsky_combinator::map::map_is_never_out_of_memory;
-    pub use chumsky_combinator::map_in::map_in_is_steady;
-    pub use chumsky_combinator::or::or_is_never_out_of_memory;
-    pub use chumsky_combinator::then::then_is_never_out_of_memory;
-    pub use chumsky_combinator::to::to_is_never_out_of_memory;
-    pub use chumsky_context::to_slice::to_slice_is_never_out_of_memory;
-    pub use chumsky_context::to_span::to_span_is_never_out_of_memory;
-    pub use chumsky_group::arrays::group_of_an_array_is_never_out_of_memory;
-    pub use chumsky_group::parts::group_is_never_out_of_memory;
-    pub use chumsky_items::count::count_is_never_out_of_memory;
-    pub use chumsky_items::repeated::repeated_is_never_out_of_memory;
-    pub use chumsky_items::separated_by::separated_by_is_never_out_of_memory;
-    pub use chumsky_judge::filter::filter_is_never_out_of_memory;
-    pub use chumsky_judge::filter_map::filter_map_is_never_out_of_memory;
-    pub use chumsky_judge::try_map::try_map_is_never_out_of_memory;
-    pub use chumsky_parser::parser::a_run_is_never_out_of_memory;
-    pub use chumsky_primitive::any::any_is_never_out_of_memory;
-    pub use chumsky_primitive::end::end_is_never_out_of_memory;
-    pub use chumsky_primitive::just::just_is_never_out_of_memory;
-    pub use chumsky_primitive::one_of::one_of_is_never_out_of_memory;
-    pub use chumsky_recovery::laws::{
-        closes_is_out_of_memory_only_to_nest, recover_with_is_out_of_memory_only_to_tell,
-        skip_then_retry_until_is_never_out_of_memory, skip_until_is_never_out_of_memory,
-        via_parser_is_never_out_of_memory,
-    };
-}
-
-/// When parsers under contexts, states, configurations and nested inputs are ready and steady, as in `laws`.
-pub mod context_laws {
-    pub use chumsky_context::configure::configure_is_steady;
-    pub use chumsky_context::contextual::contextual_is_steady;
-    pub use chumsky_context::ignore_with_ctx::{
-        any_under_any_is_steady, ignore_with_ctx_is_steady,
-    };
-    pub use chumsky_context::ignore_with_ctx_items::ignored_items_with_ctx_are_steady;
-    pub use chumsky_context::iter_configure::{
-        configured_items_are_steady, configured_list_is_steady,
-    };
-    pub use chumsky_context::just_cfg::configured_just_is_steady;
-    pub use chumsky_context::map_ctx::map_ctx_is_steady;
-    pub use chumsky_context::nested_in::{any_nested_in_any_is_steady, nested_in_is_steady};
-    pub use chumsky_context::one_of_cfg::configured_one_of_is_steady;
-    pub use chumsky_context::spanned::spanned_is_steady;
-    pub use chumsky_context::then_with_ctx::then_with_ctx_is_steady;
-    pub use chumsky_context::then_with_ctx_items::items_with_ctx_are_steady;
-    pub use chumsky_context::to_slice::to_slice_is_steady;
-    pub use chumsky_context::to_span::to_span_is_steady;
-    pub use chumsky_context::try_iter_configure::{tried_list_is_steady, try_configure_is_steady};
-    pub use chumsky_context::with_ctx::with_ctx_is_steady;
-    pub use chumsky_context::with_state::with_state_is_steady;
-}
-
-/// When parsers that decide by the word are ready and steady, as in `laws`.
-pub mod word_laws {
-    pub use chumsky_judge::pick_by::pick_by_is_steady;
-    pub use chumsky_judge::test_by::test_by_is_steady;
-}
-
-/// Laws of parsers that recover, as those of `laws`: what each answer of one is, and when it is ready and steady.
->>>>>>> e233ad59d2f5c7a397afb3f471838589a2ff07af
 pub mod recovery_laws {
     pub use chumsky_recovery::laws::{
         a_quiet_success_is_the_parsers, it_fails_only_where_its_parser_does,
@@ -418,6 +347,7 @@ pub mod laws {
     pub mod steady {
         pub use crate::steady::from_str_is_steady;
         pub use crate::steady::lazy_is_steady;
+        pub use crate::steady::try_map_in_is_steady;
         pub use chumsky_choice::alternatives::choice_is_steady;
         pub use chumsky_choice::lists::choice_of_a_list_is_steady;
         pub use chumsky_combinator::delimited_by::delimited_by_is_steady;
