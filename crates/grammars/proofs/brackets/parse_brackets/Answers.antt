@@ -1,8 +1,7 @@
-use Rattle.std.proofs.Common.{◌≡◌, ◌<◌, ◌^◌, [], length, refl, arith, rules}
+use Rattle.std.proofs.Common.{◌≡◌, ◌<◌, ◌^◌, length, arith, rules}
 use Rattle.std.specs.Str.{chars}
-use Rattle.chumsky_grammars.specs.ExactlyLaws.{exactly-by_one_rule, chars-few}
-use Rattle.grammars.specs.Brackets.{IsBalanced, brackets}
-use Rattle.grammars.specs.BracketsLaws.{leaves, depths, sound, complete}
+use Rattle.chumsky_grammars.specs.ExactlyLaws.{chars-few}
+use Rattle.grammars.specs.BracketsLaws.{brackets-of}
 use Rattle.grammars.proofs.brackets.parse_brackets.Goals as goal
 
 pub returns : goal.returns
@@ -14,7 +13,5 @@ returns c =
     let enough : length (chars c.args.text.now) < c.in-Ok.grammar.limit = omega (arith, few, given.1, some) in
     let opening : c.to.result.parser.seq ≡ 40 = rw c.to.ensures.parser c.just.ensures in
     let closing : c.to-2.result.parser.seq ≡ 41 = rw c.to-2.ensures.parser c.just-2.ensures in
-    let built = rw (c.exact.ensures, given.0) at c.parse.ensures.3.reads in
-    exactly-by_one_rule IsBalanced depths leaves brackets refl refl c.in-Ok.ensures.rules c.in_ok-rules.ensures.rules enough
-    (λ v s. sound c.in-Ok.grammar.limit (chars c.args.text.now) v (omega (arith, few, short)) s) (λ v d. complete d [] refl c.in-Ok.grammar.limit enough)
-    (rw (opening, closing, c.to.ensures.value, c.to-2.ensures.value) at built)
+    brackets-of c.to.result.parser.seq c.to.result.value c.to-2.result.parser.seq c.to-2.result.value opening c.to.ensures.value closing c.to-2.ensures.value
+    c.in-Ok.ensures.rules c.in_ok-rules.ensures.rules enough (omega (arith, few, short)) (rw (c.exact.ensures, given.0) at c.parse.ensures.3.reads)
