@@ -18,6 +18,19 @@ fn setting<'src>(
     name.then_ignore(just('=')).then(value).parse(alloc, line)
 }
 
+/// Prints a report of each error on the standard error.
+fn print_reports(rt: &HostRuntime, text: &str, errors: &[Rich<char>]) -> io::Result<()> {
+    for error in errors {
+        let report = Report {
+            name: "input",
+            text,
+            error,
+        };
+        eprintln!(rt; "{report}")?;
+    }
+    Ok(())
+}
+
 fn main(rt: HostRuntime) -> io::Result<ExitCode> {
     let alloc = rt.alloc();
     let mut text = String::new(alloc);
@@ -29,14 +42,7 @@ fn main(rt: HostRuntime) -> io::Result<ExitCode> {
             return Ok(ExitCode::from(3));
         }
     };
-    for error in parsed.errors() {
-        let report = Report {
-            name: "input",
-            text: text.as_str(),
-            error,
-        };
-        eprintln!(rt; "{report}")?;
-    }
+    print_reports(&rt, text.as_str(), parsed.errors.as_slice())?;
     match parsed.output() {
         Some((name, value)) => {
             println!(rt; "{name} is {value}")?;
