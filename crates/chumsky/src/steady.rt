@@ -1,7 +1,7 @@
 //! Which parsers made of others are ready, and which are steady, each the contract of a function that does nothing, and what
 //! is known of two outputs that count as the same.
 ghost use Rattle.std.specs.Prelude.{◌≡◌, Result, Ok};
-ghost use Rattle.chumsky_combinator.specs.Mapped.{IsFunction, SameMapped};
+ghost use Rattle.chumsky_combinator.specs.Mapped.{SameMapped};
 ghost use Rattle.chumsky_judge.specs.Tried.{TriesAlike, SameTryMapped};
 
 use crate::made::{FromStr, Lazy, TryMapIn};
@@ -25,7 +25,7 @@ pub fn lazy_is_steady<
     ensures same { (x y : O) → ⟦<Lazy<A, I, E> as Parser<'src, I, O, E>>⟧.same lazy.now x y → A.same lazy.now.first x y }
 {}
 
-/// `a.from_str::<U>()`, where `U` reads each text as one value.
+/// `a.from_str::<U>()`.
 pub fn from_str_is_steady<
     'src,
     I: Input<'src>,
@@ -35,12 +35,12 @@ pub fn from_str_is_steady<
     A: Parser<'src, I, O, E>,
 >(from_str: &FromStr<A, O, U>)
     ensures ready { A.ready from_str.now.parser → ⟦<FromStr<A, O, U> as Parser<'src, I, Result<U, U::Err>, E>>⟧.ready from_str.now }
-    ensures steady { A.steady from_str.now.parser → IsFunction (λ value read. U.from_str_gives (O.text value) read) → ⟦<FromStr<A, O, U> as Parser<'src, I, Result<U, U::Err>, E>>⟧.steady from_str.now }
+    ensures steady { A.steady from_str.now.parser → ⟦<FromStr<A, O, U> as Parser<'src, I, Result<U, U::Err>, E>>⟧.steady from_str.now }
     ensures same { (x y : Result U U.Err) → ⟦<FromStr<A, O, U> as Parser<'src, I, Result<U, U::Err>, E>>⟧.same from_str.now x y → SameMapped (A.same from_str.now.parser) (λ value read. U.from_str_gives (O.text value) read) x y }
 {}
 
-/// `a.try_map_in(f)`, where `f` makes one `Result` of a value and its span, and where two that it makes of values that are the
-/// same are both values, or are errors that count as one.
+/// `a.try_map_in(f)`, where two results that `f` makes of values that are the same, at one span, are both values, or are errors
+/// that count as one.
 pub fn try_map_in_is_steady<
     'src,
     I: Input<'src>,
@@ -54,7 +54,7 @@ pub fn try_map_in_is_steady<
         ⟦<TryMapIn<A, O, F, U, I, E> as Parser<'src, I, U, E>>⟧.ready try_map_in.now }
     ensures steady { let p = try_map_in.now.parser.parser.parser in
         let made : O → I.Span → Result U E.Error → Type 0 = λ value span answer. (alloc : _) × F.post try_map_in.now.parser.mapper.mapper value span alloc (Ok answer) in
-        A.steady p → ((v : O) (s : I.Span) → (x y : Result U E.Error) → made v s x → made v s y → x ≡ y) → TriesAlike (A.same p) E.Error.seen made →
+        A.steady p → TriesAlike (A.same p) E.Error.seen made →
         ⟦<TryMapIn<A, O, F, U, I, E> as Parser<'src, I, U, E>>⟧.steady try_map_in.now }
     ensures same { (x y : U) → ⟦<TryMapIn<A, O, F, U, I, E> as Parser<'src, I, U, E>>⟧.same try_map_in.now x y →
         SameTryMapped (A.same try_map_in.now.parser.parser.parser) E.Error.seen

@@ -1,5 +1,5 @@
 -- What an output mapper makes of a value.
-use Rattle.std.specs.Prelude.{◌≡◌, Option, Some, None}
+use Rattle.std.specs.Prelude.{Option, Some, None}
 use Rattle.chumsky_input.specs.Outcome.{Meaning, Beginning, Outcome}
 use Rattle.chumsky_parser.specs.Chained.{Chained, Given}
 
@@ -14,10 +14,6 @@ module _ {Tok Cx St Er V W : Type 0} (maps : V → W → Type 0) where
 
   abbrev pub Mapped : Meaning Tok Cx St Er V → Meaning Tok Cx St Er W
   Mapped part = Chained part GivenBy
-
--- one answer to each argument
-abbrev pub IsFunction : {V W : Type 0} → (V → W → Type 0) → Type 0
-IsFunction {V} {W} maps = (v : V) (w w' : W) → maps v w → maps v w' → w ≡ w'
 
 -- two answers to arguments that are the same
 pub record SameMapped {V W : Type 0} (same : V → V → Type 0) (maps : V → W → Type 0) (w w' : W) : Type 0 where

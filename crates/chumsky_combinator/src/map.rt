@@ -1,7 +1,7 @@
 //! Output mappers.
 ghost use Rattle.std.specs.Prelude.{◌≡◌, ⊤, [], ◌∷◌, map};
 ghost use Rattle.chumsky_parser.specs.ByParts.{part, OutOnlyBy};
-ghost use Rattle.chumsky_combinator.specs.Mapped.{IsFunction, SameMapped};
+ghost use Rattle.chumsky_combinator.specs.Mapped.{SameMapped};
 
 use chumsky_input::extra::ParserExtra;
 use chumsky_input::input::Input;
@@ -70,14 +70,14 @@ impl<
     F: Mapper<O, U>,
 > Parser<'src, I, U, E> for Map<A, O, F, U> {
     ghost use Rattle.chumsky_combinator.specs.MappedLanguage.{map_language, map-accepts};
-    ghost use Rattle.chumsky_combinator.specs.Mapped.{Mapped, IsFunction, SameMapped};
+    ghost use Rattle.chumsky_combinator.specs.Mapped.{Mapped, SameMapped};
     ghost use Rattle.chumsky_combinator.specs.MappedLaws.{mapped-ends, mapped-agrees};
 
     ghost ready = { λ p. A.ready p.parser × F.callable p.mapper };
 
     ghost meaning = { λ p errors states. Mapped (F.gives p.mapper) (A.meaning p.parser errors states) };
 
-    ghost steady = { λ p. A.steady p.parser × IsFunction (F.gives p.mapper) };
+    ghost steady = { λ p. A.steady p.parser };
 
     ghost same = { λ p. SameMapped (A.same p.parser) (F.gives p.mapper) };
 
@@ -85,7 +85,7 @@ impl<
 
     ghost ends_after_start = { λ p. mapped-ends (F.gives p.mapper) _ (A.ends_after_start p.parser) };
 
-    ghost agrees = { λ p s. mapped-agrees (F.gives p.mapper) _ (A.same p.parser) (A.agrees p.parser s.0) };
+    ghost agrees = { λ p s. mapped-agrees (F.gives p.mapper) _ (A.same p.parser) (A.agrees p.parser s) };
 
     ghost accepts = { λ p. map-accepts (F.gives p.mapper) _ (A.accepts p.parser) };
 
@@ -138,8 +138,8 @@ pub fn map_is_never_out_of_memory<
         (⟦<Map<A, O, F, U> as Parser<'src, I, U, E>>⟧.meaning m) }
 {}
 
-/// When it is ready and steady, and which outputs are the same: `a.map(f)` and `a.map_by(f)`, where `f` gives one answer to
-/// each argument.
+/// When it is ready and steady, and which outputs are the same: `a.map(f)` and `a.map_by(f)`. Two outputs are the same
+/// where `f` may give them for values that are.
 pub fn map_is_steady<
     'src,
     I: Input<'src>,
@@ -151,7 +151,7 @@ pub fn map_is_steady<
 >(map: &Map<A, O, F, U>)
     ensures ready { A.ready map.now.parser → F.callable map.now.mapper →
         ⟦<Map<A, O, F, U> as Parser<'src, I, U, E>>⟧.ready map.now }
-    ensures steady { A.steady map.now.parser → IsFunction (F.gives map.now.mapper) →
+    ensures steady { A.steady map.now.parser →
         ⟦<Map<A, O, F, U> as Parser<'src, I, U, E>>⟧.steady map.now }
     ensures same { (x y : U) → ⟦<Map<A, O, F, U> as Parser<'src, I, U, E>>⟧.same map.now x y →
         SameMapped (A.same map.now.parser) (F.gives map.now.mapper) x y }

@@ -1,7 +1,7 @@
 //! Output mappers that ask for memory.
 ghost use Rattle.std.specs.Prelude.{◌≡◌, ⊤, Result};
 ghost use Rattle.std.specs.declared.alloc.AllocError.{AllocError};
-ghost use Rattle.chumsky_combinator.specs.Mapped.{IsFunction, SameMapped};
+ghost use Rattle.chumsky_combinator.specs.Mapped.{SameMapped};
 ghost use Rattle.chumsky_combinator.specs.MappedIn.{GivesOk};
 
 use chumsky_input::extra::ParserExtra;
@@ -60,7 +60,7 @@ impl<
     A: Parser<'src, I, O, E>,
     F: MapperIn<O, U>,
 > Parser<'src, I, U, E> for MapIn<A, O, F, U> {
-    ghost use Rattle.chumsky_combinator.specs.Mapped.{IsFunction, SameMapped};
+    ghost use Rattle.chumsky_combinator.specs.Mapped.{SameMapped};
     ghost use Rattle.chumsky_combinator.specs.MappedIn.{GivesOk, MappedIn, map_in_language};
     ghost use Rattle.chumsky_combinator.specs.MappedInLaws.{mapped_in-ends, mapped_in-agrees, map_in-accepts};
 
@@ -68,7 +68,7 @@ impl<
 
     ghost meaning = { λ p errors states. MappedIn (F.gives p.mapper) (A.meaning p.parser errors states) };
 
-    ghost steady = { λ p. A.steady p.parser × IsFunction (GivesOk (F.gives p.mapper)) };
+    ghost steady = { λ p. A.steady p.parser };
 
     ghost same = { λ p. SameMapped (A.same p.parser) (GivesOk (F.gives p.mapper)) };
 
@@ -76,7 +76,7 @@ impl<
 
     ghost ends_after_start = { λ p. mapped_in-ends (F.gives p.mapper) _ (A.ends_after_start p.parser) };
 
-    ghost agrees = { λ p s. mapped_in-agrees (F.gives p.mapper) _ (A.same p.parser) (A.agrees p.parser s.0) };
+    ghost agrees = { λ p s. mapped_in-agrees (F.gives p.mapper) _ (A.same p.parser) (A.agrees p.parser s) };
 
     ghost accepts = { λ p. map_in-accepts (F.gives p.mapper) _ (A.accepts p.parser) };
 
@@ -115,8 +115,8 @@ impl<
     }
 }
 
-/// When it is ready and steady, and which outputs are the same: `a.map_in(f)` and `a.map_in_by(f)`, where `f` gives one output
-/// to each value.
+/// When it is ready and steady, and which outputs are the same: `a.map_in(f)` and `a.map_in_by(f)`. Two outputs are the
+/// same where `f` may give them for values that are.
 pub fn map_in_is_steady<
     'src,
     I: Input<'src>,
@@ -128,7 +128,7 @@ pub fn map_in_is_steady<
 >(map_in: &MapIn<A, O, F, U>)
     ensures ready { A.ready map_in.now.parser → F.callable map_in.now.mapper →
         ⟦<MapIn<A, O, F, U> as Parser<'src, I, U, E>>⟧.ready map_in.now }
-    ensures steady { A.steady map_in.now.parser → IsFunction (GivesOk (F.gives map_in.now.mapper)) →
+    ensures steady { A.steady map_in.now.parser →
         ⟦<MapIn<A, O, F, U> as Parser<'src, I, U, E>>⟧.steady map_in.now }
     ensures same { (x y : U) → ⟦<MapIn<A, O, F, U> as Parser<'src, I, U, E>>⟧.same map_in.now x y →
         SameMapped (A.same map_in.now.parser) (GivesOk (F.gives map_in.now.mapper)) x y }

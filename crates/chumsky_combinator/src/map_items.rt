@@ -1,6 +1,6 @@
 //! Items whose outputs go through a mapper.
 ghost use Rattle.std.specs.Prelude.{◌≡◌};
-ghost use Rattle.chumsky_combinator.specs.Mapped.{IsFunction, SameMapped};
+ghost use Rattle.chumsky_combinator.specs.Mapped.{SameMapped};
 
 use crate::map::{Map, Mapper};
 use chumsky_input::extra::ParserExtra;
@@ -27,7 +27,7 @@ impl<
     F: Mapper<O, U>,
 > IterParser<'src, I, U, E> for Map<A, O, F, U> {
     ghost use Rattle.chumsky_combinator.specs.MappedItemsLanguage.{map_items_language, map_items-accepts};
-    ghost use Rattle.chumsky_combinator.specs.Mapped.{IsFunction, SameMapped};
+    ghost use Rattle.chumsky_combinator.specs.Mapped.{SameMapped};
     ghost use Rattle.chumsky_combinator.specs.MappedItems.{MapsItem};
     ghost use Rattle.chumsky_combinator.specs.MappedItemsLaws.{maps_item-end, maps_item-agree};
 
@@ -39,7 +39,7 @@ impl<
 
     ghost gives = { λ p d s errors states. MapsItem (F.gives p.mapper) (A.gives p.parser d s errors states) };
 
-    ghost steady = { λ p. A.steady p.parser × IsFunction (F.gives p.mapper) };
+    ghost steady = { λ p. A.steady p.parser };
 
     ghost same = { λ p. SameMapped (A.same p.parser) (F.gives p.mapper) };
 
@@ -49,7 +49,7 @@ impl<
 
     ghost ends_after_start = { λ p d. maps_item-end (F.gives p.mapper) _ _ (A.ends_after_start p.parser d) };
 
-    ghost agrees = { λ p s d. maps_item-agree (F.gives p.mapper) _ _ (A.same p.parser) (A.alike p.parser) (A.agrees p.parser s.0 d) };
+    ghost agrees = { λ p s d. maps_item-agree (F.gives p.mapper) _ _ (A.same p.parser) (A.alike p.parser) (A.agrees p.parser s d) };
 
     ghost accepts = { λ p d. map_items-accepts _ _ (A.accepts p.parser d) (F.gives p.mapper) };
 
@@ -104,8 +104,8 @@ impl<
     }
 }
 
-/// When it is ready and steady, and which outputs are the same: `a.map_items(f)` and `a.map_items_by(f)`, where `f` gives one
-/// answer to each item.
+/// When it is ready and steady, and which outputs are the same: `a.map_items(f)` and `a.map_items_by(f)`. Two items are
+/// the same where `f` may give them for items that are.
 pub fn map_items_is_steady<
     'src,
     I: Input<'src>,
@@ -117,7 +117,7 @@ pub fn map_items_is_steady<
 >(map_items: &Map<A, O, F, U>)
     ensures ready { let p = map_items.now in A.ready p.parser → F.callable p.mapper →
         ⟦<Map<A, O, F, U> as IterParser<'src, I, U, E>>⟧.ready p }
-    ensures steady { let p = map_items.now in A.steady p.parser → IsFunction (F.gives p.mapper) →
+    ensures steady { let p = map_items.now in A.steady p.parser →
         ⟦<Map<A, O, F, U> as IterParser<'src, I, U, E>>⟧.steady p }
     ensures same { let p = map_items.now in (x y : U) →
         ⟦<Map<A, O, F, U> as IterParser<'src, I, U, E>>⟧.same p x y →

@@ -16,10 +16,6 @@ abbrev pub FoldsFrom : {A V : Type 0} → (A → V → A → Type 0) → Option 
 FoldsFrom steps (Some a) xs z = FoldsLeft steps a xs z
 FoldsFrom steps None xs z = ⊥
 
--- one answer to each accumulator and item
-abbrev pub IsFunctionOfTwo : {A V W : Type 0} → (A → V → W → Type 0) → Type 0
-IsFunctionOfTwo {A} {V} {W} steps = (a : A) (v : V) (w w' : W) → steps a v w → steps a v w' → w ≡ w'
-
 module _ {Tok Cx St Er S V A : Type 0} (gives : S → Meaning Tok Cx St Er (Next S V)) (begins : Meaning Tok Cx St Er S) (steps : A → V → A → Type 0) where
   -- the left fold of the list of all items, from this start; for the list itself no memory is wanted
   abbrev pub FoldsItems : Option A → Meaning Tok Cx St Er A

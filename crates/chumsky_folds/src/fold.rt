@@ -1,7 +1,7 @@
 //! All items, folded from a value.
 ghost use Rattle.std.specs.Prelude.{◌≡◌, false};
 ghost use Rattle.chumsky_parser.specs.Copied.{BothCopies};
-ghost use Rattle.chumsky_folds.specs.Folding.{IsFunctionOfTwo, SameFolded};
+ghost use Rattle.chumsky_folds.specs.Folding.{SameFolded};
 
 use crate::folder::Folder;
 use crate::from_left::fold_from_left;
@@ -38,20 +38,20 @@ impl<
 > Parser<'src, I, B, E> for Fold<F, A, B, O> {
     ghost use Rattle.chumsky_folds.specs.FoldsLanguage.{fold_language, fold-accepts};
     ghost use Rattle.chumsky_parser.specs.Copied.{BothCopies};
-    ghost use Rattle.chumsky_folds.specs.Folding.{FoldsFromCopy, IsFunctionOfTwo, SameFolded};
+    ghost use Rattle.chumsky_folds.specs.Folding.{FoldsFromCopy, SameFolded};
     ghost use Rattle.chumsky_folds.specs.FoldingLaws.{folds_copy-ends, folds_copy-agree};
 
     ghost ready = { λ p. A.ready p.parser × F.callable p.folder };
 
     ghost meaning = { λ p errors states. FoldsFromCopy (λ s. A.gives p.parser (record { nonconsumption_is_ok = false }) s errors states) (A.begins p.parser errors states) (F.gives p.folder) (B.is_clone p.init) (B.is_infallible p.init) };
 
-    ghost steady = { λ p. A.steady p.parser × IsFunctionOfTwo (F.gives p.folder) };
+    ghost steady = { λ p. A.steady p.parser };
 
     ghost same = { λ p. SameFolded (BothCopies (B.is_clone p.init)) (A.same p.parser) (F.gives p.folder) };
 
     ghost ends_after_start = { λ p. folds_copy-ends _ _ (F.gives p.folder) (B.is_clone p.init) (B.is_infallible p.init) (A.ends_after_start p.parser (record { nonconsumption_is_ok = false })) };
 
-    ghost agrees = { λ p s. folds_copy-agree _ _ (F.gives p.folder) (B.is_clone p.init) (B.is_infallible p.init) (A.same p.parser) (A.alike p.parser) (A.agrees p.parser s.0 (record { nonconsumption_is_ok = false })) };
+    ghost agrees = { λ p s. folds_copy-agree _ _ (F.gives p.folder) (B.is_clone p.init) (B.is_infallible p.init) (A.same p.parser) (A.alike p.parser) (A.agrees p.parser s (record { nonconsumption_is_ok = false })) };
 
     ghost language = { λ p. fold_language (A.language p.parser) (F.gives p.folder) (B.is_clone p.init) (B.is_infallible p.init) };
 
@@ -103,6 +103,6 @@ pub fn fold_is_steady<
     F: Folder<B, O>,
 >(fold: &Fold<F, A, B, O>)
     ensures ready { A.ready fold.now.parser → F.callable fold.now.folder → ⟦<Fold<F, A, B, O> as Parser<'src, I, B, E>>⟧.ready fold.now }
-    ensures steady { A.steady fold.now.parser → IsFunctionOfTwo (F.gives fold.now.folder) → ⟦<Fold<F, A, B, O> as Parser<'src, I, B, E>>⟧.steady fold.now }
+    ensures steady { A.steady fold.now.parser → ⟦<Fold<F, A, B, O> as Parser<'src, I, B, E>>⟧.steady fold.now }
     ensures same { (x y : B) → ⟦<Fold<F, A, B, O> as Parser<'src, I, B, E>>⟧.same fold.now x y → SameFolded (BothCopies (B.is_clone fold.now.init)) (A.same fold.now.parser) (F.gives fold.now.folder) x y }
 {}

@@ -1,6 +1,6 @@
 //! A parser and then items, folded from its output.
 ghost use Rattle.std.specs.Prelude.{◌≡◌, false, ◌||◌};
-ghost use Rattle.chumsky_folds.specs.Folding.{IsFunctionOfTwo, SameFolded};
+ghost use Rattle.chumsky_folds.specs.Folding.{SameFolded};
 
 use crate::folder::Folder;
 use crate::from_left::fold_from_left;
@@ -38,14 +38,14 @@ impl<
     F: Folder<O, U>,
 > Parser<'src, I, O, E> for Foldl<F, A, B, U> {
     ghost use Rattle.chumsky_folds.specs.FoldsLanguage.{foldl_language, foldl-accepts};
-    ghost use Rattle.chumsky_folds.specs.Folding.{FoldsFromPart, IsFunctionOfTwo, SameFolded};
+    ghost use Rattle.chumsky_folds.specs.Folding.{FoldsFromPart, SameFolded};
     ghost use Rattle.chumsky_folds.specs.FoldingLaws.{folds_part-ends, folds_part-agree};
 
     ghost ready = { λ p. A.ready p.parser × B.ready p.items × F.callable p.folder };
 
     ghost meaning = { λ p errors states. FoldsFromPart (λ s. B.gives p.items (record { nonconsumption_is_ok = false }) s errors states) (B.begins p.items errors states) (F.gives p.folder) (A.meaning p.parser errors states) };
 
-    ghost steady = { λ p. A.steady p.parser × B.steady p.items × IsFunctionOfTwo (F.gives p.folder) };
+    ghost steady = { λ p. A.steady p.parser × B.steady p.items };
 
     ghost same = { λ p. SameFolded (A.same p.parser) (B.same p.items) (F.gives p.folder) };
 
@@ -106,6 +106,6 @@ pub fn foldl_is_steady<
     F: Folder<O, U>,
 >(foldl: &Foldl<F, A, B, U>)
     ensures ready { A.ready foldl.now.parser → B.ready foldl.now.items → F.callable foldl.now.folder → ⟦<Foldl<F, A, B, U> as Parser<'src, I, O, E>>⟧.ready foldl.now }
-    ensures steady { A.steady foldl.now.parser → B.steady foldl.now.items → IsFunctionOfTwo (F.gives foldl.now.folder) → ⟦<Foldl<F, A, B, U> as Parser<'src, I, O, E>>⟧.steady foldl.now }
+    ensures steady { A.steady foldl.now.parser → B.steady foldl.now.items → ⟦<Foldl<F, A, B, U> as Parser<'src, I, O, E>>⟧.steady foldl.now }
     ensures same { (x y : O) → ⟦<Foldl<F, A, B, U> as Parser<'src, I, O, E>>⟧.same foldl.now x y → SameFolded (A.same foldl.now.parser) (B.same foldl.now.items) (F.gives foldl.now.folder) x y }
 {}

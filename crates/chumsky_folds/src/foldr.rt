@@ -2,7 +2,6 @@
 ghost use Rattle.std.specs.Prelude.{◌≡◌, false, ◌||◌};
 ghost use Rattle.std.proofs.Common.{sym, ◌∙◌};
 ghost use Rattle.chumsky_folds.specs.FoldingBack.{FoldsRight, SameFoldedBack};
-ghost use Rattle.chumsky_folds.specs.Folding.{IsFunctionOfTwo};
 
 use crate::folder::RightFolder;
 use chumsky_input::extra::ParserExtra;
@@ -39,7 +38,6 @@ impl<
     F: RightFolder<O, U>,
 > Parser<'src, I, U, E> for Foldr<F, A, B, O> {
     ghost use Rattle.chumsky_folds.specs.FoldsLanguage.{foldr_language, foldr-accepts};
-    ghost use Rattle.chumsky_folds.specs.Folding.{IsFunctionOfTwo};
     ghost use Rattle.chumsky_folds.specs.FoldingBack.{FoldsBack, SameFoldedBack};
     ghost use Rattle.chumsky_folds.specs.FoldingBackLaws.{folds_back-ends, folds_back-agree};
 
@@ -47,7 +45,7 @@ impl<
 
     ghost meaning = { λ p errors states. FoldsBack (λ s. A.gives p.items.parser (record { nonconsumption_is_ok = false }) s errors states) (A.begins p.items.parser errors states) ⟦<Vec<O> as Container<O>>⟧.holds ⟦<Vec<O> as Container<O>>⟧.takes_no_memory (B.meaning p.parser errors states) (F.gives p.folder) };
 
-    ghost steady = { λ p. A.steady p.items.parser × B.steady p.parser × IsFunctionOfTwo (F.gives p.folder) };
+    ghost steady = { λ p. A.steady p.items.parser × B.steady p.parser };
 
     ghost same = { λ p. SameFoldedBack (B.same p.parser) (A.same p.items.parser) (F.gives p.folder) };
 
@@ -123,6 +121,6 @@ pub fn foldr_is_steady<
     F: RightFolder<O, U>,
 >(foldr: &Foldr<F, A, B, O>)
     ensures ready { A.ready foldr.now.items.parser → B.ready foldr.now.parser → F.callable foldr.now.folder → ⟦<Foldr<F, A, B, O> as Parser<'src, I, U, E>>⟧.ready foldr.now }
-    ensures steady { A.steady foldr.now.items.parser → B.steady foldr.now.parser → IsFunctionOfTwo (F.gives foldr.now.folder) → ⟦<Foldr<F, A, B, O> as Parser<'src, I, U, E>>⟧.steady foldr.now }
+    ensures steady { A.steady foldr.now.items.parser → B.steady foldr.now.parser → ⟦<Foldr<F, A, B, O> as Parser<'src, I, U, E>>⟧.steady foldr.now }
     ensures same { (x y : U) → ⟦<Foldr<F, A, B, O> as Parser<'src, I, U, E>>⟧.same foldr.now x y → SameFoldedBack (B.same foldr.now.parser) (A.same foldr.now.items.parser) (F.gives foldr.now.folder) x y }
 {}

@@ -75,10 +75,10 @@ fn items<'src>(inp: &mut Run<'src, '_>, wanted: bool, depth: usize) -> PResult<O
 }
 
 /// How many calls may be open at once. One takes some 800 bytes of stack at most, so all of them fit into 256 kB.
-const DEPTH: usize = 300;
+const DEPTH: usize = 240;
 
-/// The items of the program that tokens are. Where more than three hundred calls would be open at once, as in tokens that are
-/// nested more than some sixty deep, the run is refused with `Stop::TooDeep`.
+/// The items of the program that tokens are. Where more than two hundred and forty calls would be open at once, as in tokens that
+/// are nested more than some fifty deep, the run is refused with `Stop::TooDeep`.
 pub fn program_of(
     alloc: Global,
     tokens: &[Spanned<Token, SimpleSpan>],
