@@ -9,7 +9,8 @@ pub mod Assured
 pub mod Founded
 pub mod FoundedLaws
 pub mod Leaves
-pub mod ExactlyLaws
-pub mod Enclosed
+pub mod BuiltLeaves
+pub mod EachWord
 pub mod SeparatedLaws
+pub mod ExactlyLaws
 pub mod ValueMakes
