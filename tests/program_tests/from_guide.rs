@@ -8,6 +8,7 @@ use guide::checking::{day_of_month, minute, minutes, port, share};
 use guide::closure::{day, foo_or_nothing, one_x};
 use guide::conclusion::two;
 use guide::contexts::{declared, prefixed, settings};
+use guide::csv::parse_csv;
 use guide::extras::Plain;
 use guide::flattening::{all_letters, number_plate};
 use guide::folding::{spanned_sum, sum};
@@ -54,6 +55,21 @@ fn each_line_that_is_no_number_is_reported(rt: HostRuntime) {
         assert_line(&rt, numbers(rt.alloc(), text), line);
         assert_line(&rt, numbers_read(rt.alloc(), text), line);
     }
+}
+
+#[test]
+fn a_field_in_quotes_may_hold_commas_ends_of_lines_and_quotes(rt: HostRuntime) {
+    let rows = [
+        ("a,b\r\n1,\r\n", "ok [[\"a\", \"b\"], [\"1\", \"\"]]"),
+        ("\"a,\"\"b\"\"\n\",c", "ok [[\"a,\\\"b\\\"\\n\", \"c\"]]"),
+        ("a\n\nb", "ok [[\"a\"], [\"\"], [\"b\"]]"),
+        ("", "ok []"),
+    ];
+    for (text, line) in rows {
+        assert_line(&rt, parse_csv(rt.alloc(), text), line);
+    }
+    let wrong = parse_csv(rt.alloc(), "a,\"b").expect(&rt, "refused");
+    assert_eq!(rt; wrong.errors[0].span().start, 4);
 }
 
 #[test]

@@ -8,6 +8,7 @@ pub mod checking;
 pub mod closure;
 pub mod conclusion;
 pub mod contexts;
+pub mod csv;
 pub mod descent;
 pub mod extras;
 pub mod file_lines;
