@@ -7,6 +7,7 @@ use exact::level::{Level, parse_level};
 use exact::nested::parse_nested;
 use exact::number::parse_number;
 use exact::pairs::parse_pairs;
+use exact::quoted::{Token, parse_quoted_number};
 use exact::trees::{Tree, parse_tree};
 use std::alloc::{AllocError, Global};
 use std::test::Fail;
@@ -79,6 +80,28 @@ fn decimals_below_two_to_the_thirty_two_are_numbers(rt: HostRuntime) -> Result<(
     for text in ["", "042", "4294967296", "4x", "-1", "99999999999999999999"] {
         let parsed = parse_number(alloc, text)?;
         assert_eq!(rt; parsed.into_output(), None, "{text}");
+    }
+    Ok(())
+}
+
+#[test]
+fn a_number_is_read_within_a_token_in_quotes(rt: HostRuntime) -> Result<(), Fail> {
+    let alloc = rt.alloc();
+    for (text, number) in [("0", 0), ("42", 42), ("4294967295", 4294967295)] {
+        let parsed = parse_quoted_number(alloc, &[Token::Quoted(text)])?;
+        assert_eq!(rt; parsed.into_output(), Some(number), "{text}");
+        let parsed = parse_quoted_number(alloc, &[Token::Name(text)])?;
+        assert_eq!(rt; parsed.into_output(), None, "{text}");
+        let parsed = parse_quoted_number(alloc, &[Token::Quoted(text), Token::Quoted(text)])?;
+        assert_eq!(rt; parsed.into_output(), None, "{text}");
+    }
+    for text in ["", "042", "4294967296", "4x", "-1", " 1", "1 "] {
+        let parsed = parse_quoted_number(alloc, &[Token::Quoted(text)])?;
+        assert_eq!(rt; parsed.into_output(), None, "{text}");
+    }
+    for tokens in [&[] as &[Token], &[Token::Equals]] {
+        let parsed = parse_quoted_number(alloc, tokens)?;
+        assert_eq!(rt; parsed.into_output(), None);
     }
     Ok(())
 }

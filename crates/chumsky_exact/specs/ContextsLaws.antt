@@ -1,5 +1,5 @@
 -- What is said of a part and of what stands under its value holds of both in turn.
--- Main laws: then_under-accepts, ignore_under-accepts. Read first: Contexts.antt.
+-- Main laws: decided_at, then_under-accepts, ignore_under-accepts. Read first: Contexts.antt.
 use Rattle.std.proofs.Common.{◌≡◌, ◌≤◌, ◌<◌, true, ◌||◌, Option, Some, None, List, ◌++◌, length, drop, refl, sym, ◌∙◌, ap, subst, arith, append_assoc, inl, inr}
 use Rattle.chumsky_input.specs.Outcome.{Meaning, Beginning, EndsAfterStart}
 use Rattle.chumsky_parser.specs.Chained.{Chained, Given, Asked, both}
@@ -19,6 +19,11 @@ use Rattle.chumsky_context.specs.Under.{UnderValue, IgnoringUnder, SequenceUnder
 use Rattle.chumsky_context.specs.UnderLanguage.{under-accepts}
 use Rattle.chumsky_context.specs.UnderLaws.{under-ends}
 use Rattle.chumsky_exact.specs.Contexts.{LanguageUnder, language_at, OnlyUnder, AcceptsUnder, IsDecided, ends_under, under_ends, under_language, then_under_language, ignore_under_language}
+
+module _ {Tok V : Type 0} (F : Language Tok V) (decides : List Tok → Option V) where
+  -- a value of a part is the one that its word decided
+  pub decided_at : IsDecided F decides → GivesOnly F.ends F.value F.stands_for → (ts rest : List Tok) (v : V) → F.ends ts ≡ At rest → F.value ts v → decides (taken_of ts rest) ≡ Some v
+  decided_at i g ts rest v e a = let b = g.given ts rest v e a in ap decides (taken_word ts rest b.word b.all) ∙ i.one b.word v b.is
 
 module _ {Tok Cx St Er V W : Type 0} (first : Meaning Tok Cx St Er V) (second : Meaning Tok V St Er W) (F : Language Tok V) (decides : List Tok → Option V) (G : LanguageUnder V Tok W) where
   -- the second under a value
@@ -94,14 +99,10 @@ module _ {Tok Cx St Er V W : Type 0} (first : Meaning Tok Cx St Er V) (second : 
         | inr t ↦ let c : length rest < length i.mid = (k i.value).further t i.mid rest i.is_second in omega (arith, a, c)
       ]
 
-  -- a value of the first is the one that its word decided
-  decided_at : IsDecided F decides → GivesOnly F.ends F.value F.stands_for → (ts rest : List Tok) (v : V) → F.ends ts ≡ At rest → F.value ts v → decides (taken_of ts rest) ≡ Some v
-  decided_at i g ts rest v e a = let b = g.given ts rest v e a in ap decides (taken_word ts rest b.word b.all) ∙ i.one b.word v b.is
-
   -- and then the second ends as it does under that value
   second_at : IsDecided F decides → GivesOnly F.ends F.value F.stands_for → (ts rest : List Tok) (v : V) → (i : IsUnder ts rest) → F.value ts v → (G.under v).ends i.mid ≡ At rest
   second_at d g ts rest v i a =
-      let q : Some i.value ≡ Some v = sym i.decided ∙ decided_at d g ts i.mid v i.is_first a in
+      let q : Some i.value ≡ Some v = sym i.decided ∙ decided_at F decides d g ts i.mid v i.is_first a in
       let z : i.value ≡ v = cc q in
       subst (λ u. (G.under u).ends i.mid ≡ At rest) z i.is_second
 
@@ -158,7 +159,7 @@ module _ {Tok Cx St Er V W : Type 0} (first : Meaning Tok Cx St Er V) (second : 
           → Here (IgnoreValue ts) (UnderValue second v) (ends_under F decides G (decides (taken_of ts (drop c.start c.tokens.list))) (drop c.start c.tokens.list)) c
       follow ts (Some v) c y q a =
           let rest : List Tok = drop c.start c.tokens.list in
-          let z : decides (taken_of ts rest) ≡ Some v = decided_at i d.given ts rest v q a in
+          let z : decides (taken_of ts rest) ≡ Some v = decided_at F decides i d.given ts rest v q a in
           let h = (e v).reads.here c y in
           rw z (weaker-here ((G.under v).value rest) (IgnoreValue ts) (λ x j. (v, a, ends_there (F.ends ts) rest (λ r. (G.under v).value r x) q j)) (UnderValue second (Some v)) ((G.under v).ends rest) c h)
       follow ts None c y q a = λ o m. absurd m.runs
@@ -180,7 +181,7 @@ module _ {Tok Cx St Er V W : Type 0} (first : Meaning Tok Cx St Er V) (second : 
           → Here (ThenValue ts) (Chained (UnderValue second v) (λ x. Given (both v x))) (ends_under F decides G (decides (taken_of ts (drop c.start c.tokens.list))) (drop c.start c.tokens.list)) c
       follow ts (Some v) c y q a o m =
           let rest : List Tok = drop c.start c.tokens.list in
-          let z : decides (taken_of ts rest) ≡ Some v = decided_at i d.given ts rest v q a in
+          let z : decides (taken_of ts rest) ≡ Some v = decided_at F decides i d.given ts rest v q a in
           let h = (e v).reads.here c y in
           let k : Answers (ThenValue ts) (and_then (λ us. At us) ((G.under v).ends rest)) c.tokens.list o.verdict o.end =
           chained-here ((G.under v).value rest) (ThenValue ts) (UnderValue second (Some v)) (λ x. Given (both (Some v) x)) ((G.under v).ends rest) (λ us. At us) c y h

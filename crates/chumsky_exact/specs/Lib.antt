@@ -3,6 +3,9 @@ pub mod Capped
 pub mod Contexts
 pub mod ContextsLaws
 pub mod Fields
+pub mod Nested
+pub mod NestedLaws
+pub mod Quiet
 pub mod Rendered
 pub mod RenderedOnce
 pub mod ReadBack

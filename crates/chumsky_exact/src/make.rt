@@ -1,12 +1,16 @@
-//! What makes a length with what it stands before, a head with what stands under it, and so many items.
+//! What makes a length with what it stands before, a head with what stands under it, so many items, and a parser over the whole of an
+//! input that another one gives.
 ghost use Rattle.std.specs.Prelude.{◌≡◌};
 
+use crate::nested::{Counted, Nested};
 use crate::prefixed::{Headed, Prefixed};
 use crate::so_many::SoMany;
 use chumsky_context::ignore_with_ctx::IgnoreWithCtx;
+use chumsky_context::nested_in::NestedIn;
 use chumsky_context::then_with_ctx::ThenWithCtx;
 use chumsky_input::extra::{Full, ParserExtra};
-use chumsky_input::input::Tokens;
+use chumsky_input::input::{Input, Tokens};
+use chumsky_input::inspector::Inspector;
 use chumsky_parser::parser::IsParser;
 use std::marker::PhantomData;
 
@@ -72,5 +76,41 @@ pub fn so_many<P, O, C>(item: P) -> SoMany<P, O, C>
     SoMany {
         item,
         of: PhantomData,
+    }
+}
+
+/// Runs `outer` for its output, which is an input, and then `inner` over the whole of that input, and gives the output of `inner`, as
+/// `inner.nested_in(outer)` does. It is known which texts it accepts: `outer` is a parser whose word decides its output, as a
+/// `pick_by`, and `inner` one of which that is known. A number in quotes, where a text in quotes is one token:
+///
+/// ```text
+/// let number = text::int(10).pick_by(text::decimal::<u32>());
+/// let quoted = nested(number, any().pick_by(ToQuoted));
+/// ```
+///
+/// on the token `"42"` gives 42, and on `"4x"` the error is at 1..2 of that text.
+pub fn nested<'src, A, B, U, J, I, E>(
+    inner: A,
+    outer: B,
+) -> Nested<A, B, J, J::Cursor, J::Token, J::Span, <E::State as Inspector<J>>::Mark>
+where
+    I: Tokens,
+    J: Input<'src>,
+    E: ParserExtra<I>,
+    E::State: Inspector<J>,
+    A: IsParser<J, U, Full<E::Error, E::State, E::Context>>,
+    B: IsParser<I, J, E>,
+    ensures inner { result.parts.parser ≡ inner }
+    ensures outer { result.parts.outer.parser ≡ outer }
+{
+    Nested {
+        parts: NestedIn {
+            parser: inner,
+            outer: Counted {
+                parser: outer,
+                of: PhantomData,
+            },
+            of: PhantomData,
+        },
     }
 }

@@ -1,14 +1,18 @@
-//! When a length with what it stands before, a head with what stands under it, and so many items are ready, and when they are
-//! steady, each the contract of a function that does nothing: where their parts are. And what is known of two outputs that count as
-//! the same.
+//! When a length with what it stands before, a head with what stands under it, so many items, and a parser over the whole of an input
+//! that another one gives are ready, and when they are steady, each the contract of a function that does nothing: where their parts
+//! are. And what is known of two outputs that count as the same.
 ghost use Rattle.chumsky_context.specs.Under.{SameAreEqual};
+ghost use Rattle.chumsky_context.specs.Within.{SameOverBoth};
 ghost use Rattle.chumsky_items.specs.Consumers.{SameContents};
 
 use crate::context::{DecidedByWord, ParserUnder};
+use crate::nested::Nested;
 use crate::prefixed::{Headed, Prefixed};
 use crate::so_many::{HowMany, SoMany};
-use chumsky_input::extra::ParserExtra;
+use chumsky_input::error::Error;
+use chumsky_input::extra::{Full, ParserExtra};
 use chumsky_input::input::Input;
+use chumsky_input::inspector::Inspector;
 use chumsky_items::container::Container;
 use chumsky_parser::parser::Parser;
 
@@ -56,4 +60,28 @@ where
     ensures ready { P.ready so_many.now.item → ⟦<SoMany<P, O, C> as Parser<'src, I, C, E>>⟧.ready so_many.now }
     ensures steady { P.steady so_many.now.item → ⟦<SoMany<P, O, C> as Parser<'src, I, C, E>>⟧.steady so_many.now }
     ensures same { (x y : C) → ⟦<SoMany<P, O, C> as Parser<'src, I, C, E>>⟧.same so_many.now x y → SameContents (P.same so_many.now.item) C.holds x y }
+{}
+
+/// `nested` is steady where both parts are, errors and states count as the same over both inputs alike, and outputs of the outer part
+/// that are the same have the same tokens. Its outputs that are the same are so to the inner part.
+pub fn nested_is_steady<'src, I, J, U, E, A, B, C, T, S, M>(nested: &Nested<A, B, J, C, T, S, M>)
+where
+    I: Input<'src>,
+    I::Token: 'src,
+    J: Input<'src, Cursor = C, Token = T, Span = S> + Copy,
+    C: Copy,
+    T: Drop + 'src,
+    S: Drop,
+    U: Drop,
+    E: ParserExtra<I>,
+    E::Error: Error<J>,
+    E::State: Inspector<J, Mark = M>,
+    M: Drop,
+    A: Parser<'src, J, U, Full<E::Error, E::State, E::Context>>,
+    B: DecidedByWord<'src, I, J, E>,
+    ensures ready { let p = nested.now.parts in A.ready p.parser → B.ready p.outer.parser → ⟦<Nested<A, B, J, C, T, S, M> as Parser<'src, I, U, E>>⟧.ready nested.now }
+    ensures steady { let p = nested.now.parts in A.steady p.parser → B.steady p.outer.parser
+        → SameOverBoth J.Input ⟦<E::Error as Error<J>>⟧ ⟦<E::State as Inspector<J>>⟧ ⟦<E::Error as Error<I>>⟧ ⟦<E::State as Inspector<I>>⟧ (B.same p.outer.parser)
+        → ⟦<Nested<A, B, J, C, T, S, M> as Parser<'src, I, U, E>>⟧.steady nested.now }
+    ensures same { (x y : U) → ⟦<Nested<A, B, J, C, T, S, M> as Parser<'src, I, U, E>>⟧.same nested.now x y → A.same nested.now.parts.parser x y }
 {}

@@ -32,6 +32,8 @@ pub mod Number
 pub mod Owned
 pub mod Pairs
 pub mod PairsLaws
+pub mod Quoted
+pub mod QuotedLaws
 pub mod Trees
 pub mod TreesLaws
 pub mod TreesLevelsLaws

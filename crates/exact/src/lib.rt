@@ -16,5 +16,6 @@ pub mod owned;
 pub mod pairs;
 pub mod print_expression;
 pub mod print_json;
+pub mod quoted;
 pub mod rows;
 pub mod trees;
