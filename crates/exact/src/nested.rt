@@ -1,7 +1,8 @@
 //! Pairs of brackets within one another, by a function that calls itself.
+ghost use Rattle.std.specs.Prelude.{◌≡◌, ◌<◌, ℕ, suc, IsOk};
 ghost use Rattle.std.specs.Str.{chars};
 ghost use Rattle.chumsky.specs.Accepted.{ExactlyUnless};
-ghost use Rattle.exact.specs.Nested.{IsNested, IsTooDeep};
+ghost use Rattle.exact.specs.Nested.{nested, IsNested, IsTooDeep};
 
 use chumsky::combinator::{DelimitedBy, Ignored, OrNot, run_part};
 use chumsky::extra::EmptyText;
@@ -71,7 +72,8 @@ pub fn parse_nested(
     text: &str,
     limit: usize,
 ) -> Result<ParseResult<(), EmptyErr>, Stop>
-    ensures { ExactlyUnless IsNested (chars text.now) (IsTooDeep limit (chars text.now)) result }
+    ensures exact { ExactlyUnless IsNested (chars text.now) (IsTooDeep limit (chars text.now)) result }
+    ensures answered { (around : ℕ) → suc around < limit → chars text.now ≡ nested around → IsOk result }
 {
     recursive_as::<OfPair, _, _, _, EmptyText>(pair, limit).parse(alloc, text)
 }

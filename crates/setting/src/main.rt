@@ -34,7 +34,10 @@ fn print_reports(rt: &HostRuntime, text: &str, errors: &[Rich<char>]) -> io::Res
 fn main(rt: HostRuntime) -> io::Result<ExitCode> {
     let alloc = rt.alloc();
     let mut text = String::new(alloc);
-    rt.reader().read_to_string(&mut text)?;
+    if rt.reader().read_to_string(&mut text).is_err() {
+        eprintln!(rt; "cannot read input")?;
+        return Ok(ExitCode::from(2));
+    }
     let parsed = match setting(alloc, text.as_str()) {
         Ok(parsed) => parsed,
         Err(stop) => {
