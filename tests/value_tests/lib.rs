@@ -16,6 +16,8 @@ mod founded;
 #[cfg(test)]
 mod judged;
 #[cfg(test)]
+mod leaf_kinds;
+#[cfg(test)]
 mod moves;
 #[cfg(test)]
 mod node_values;
