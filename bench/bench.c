@@ -1,4 +1,4 @@
-/* The jobs of crates/bench_jobs, by parsers and by hand, in turn: the best of the rounds of each. See scripts/bench. */
+/* The jobs of bench/jobs, by parsers and by hand, in turn: the best of the rounds of each. See scripts/bench. */
 #include "jobs.h"
 #include <stdio.h>
 #include <stdlib.h>

@@ -1,4 +1,4 @@
-/* The jobs of crates/bench_jobs by hand. See scripts/bench. */
+/* The jobs of bench/jobs by hand. See scripts/bench. */
 #include "jobs.h"
 #include <stdlib.h>
 #include <string.h>

@@ -1,4 +1,4 @@
-//! The jobs of crates/bench_jobs by hand. See scripts/bench.
+//! The jobs of bench/jobs by hand. See scripts/bench.
 
 /// # Safety
 /// Pointer and length are those of one array of bytes, borrowed for the call.

@@ -2,6 +2,8 @@
 //! number. `bench/` has the same jobs by hand, and `scripts/bench` runs both.
 #![tactic(auto)]
 
+#[cfg(test)]
+mod answers;
 mod dates;
 mod descent;
 mod descent_trees;
