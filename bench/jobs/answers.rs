@@ -1,31 +1,31 @@
 //! What each job answers of a small input. `scripts/tests` compiles the jobs with this and runs it, and proves nothing.
-use crate::dates::{bench_dates_check, bench_dates_parse, bench_fail_empty, bench_fail_rich};
-use crate::descent::{
+use super::dates::{bench_dates_check, bench_dates_parse, bench_fail_empty, bench_fail_rich};
+use super::descent::{
     bench_called_brackets_check, bench_called_brackets_parse, bench_called_json_check,
     bench_called_json_parse,
 };
-use crate::descent_trees::{bench_called_tree_check, bench_called_tree_parse};
-use crate::grammars::{
+use super::descent_trees::{bench_called_tree_check, bench_called_tree_parse};
+use super::grammars::{
     bench_brackets_check, bench_brackets_parse, bench_json_check, bench_json_parse,
 };
-use crate::headers::{bench_headers_check, bench_headers_parse};
-use crate::lists::{
+use super::headers::{bench_headers_check, bench_headers_parse};
+use super::lists::{
     bench_digits_check, bench_digits_parse, bench_lists_check, bench_lists_parse,
     bench_slices_check, bench_slices_parse,
 };
-use crate::messages::{bench_messages_check, bench_messages_parse};
-use crate::settings::{
+use super::messages::{bench_messages_check, bench_messages_parse};
+use super::settings::{
     bench_keys_check, bench_keys_parse, bench_settings_check, bench_settings_parse,
 };
-use crate::sums::{
+use super::sums::{
     bench_sums_by_powers_check, bench_sums_by_powers_parse, bench_sums_check, bench_sums_parse,
 };
-use crate::texts::{
+use super::texts::{
     bench_idents_check, bench_idents_parse, bench_ints_check, bench_ints_parse, bench_spaces_check,
     bench_spaces_parse,
 };
-use crate::trees::{bench_tree_check, bench_tree_parse};
-use crate::words::{bench_words_check, bench_words_parse};
+use super::trees::{bench_tree_check, bench_tree_parse};
+use super::words::{bench_words_check, bench_words_parse};
 use std::process::Abort;
 
 /// Asserts that a job answers these numbers, by `parse` and by `check`.

@@ -1,5 +1,5 @@
 //! A date on each line, as `2026-11-23`.
-use crate::run::{Asked, over_lines};
+use super::run::{Asked, over_lines};
 use chumsky::combinator::{Map, Mapper};
 use chumsky::extra::{EmptyText, RichText};
 use chumsky::prelude::*;

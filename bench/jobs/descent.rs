@@ -1,5 +1,5 @@
 //! Pairs of brackets within one another, and JSON: the grammars of `grammars.rt`, by functions that call themselves.
-use crate::run::once;
+use super::run::once;
 use chumsky::PResult;
 use chumsky::combinator::{Part, part_of, run_part};
 use chumsky::extra::{EmptyText, ParserExtra};

@@ -1,6 +1,6 @@
 //! JSON into a tree by functions that call themselves, over the strings and numbers of `trees.rt`.
-use crate::run::once;
-use crate::trees::{Blank, Number, Quoted, Tree, weight_of};
+use super::run::once;
+use super::trees::{Blank, Number, Quoted, Tree, weight_of};
 use chumsky::PResult;
 use chumsky::combinator::{Part, part_of, run_part};
 use chumsky::extra::{EmptyText, ParserExtra};

@@ -1,7 +1,7 @@
 //! Pairs of brackets within one another, and JSON: grammars by rules, each run once over the whole text.
 ghost use Rattle.std.specs.Prelude.{IfOk, ⊤};
 
-use crate::run::once;
+use super::run::once;
 use chumsky::extra::EmptyText;
 use chumsky::prelude::*;
 use chumsky::recursive::{BuildError, Leaves, Node, RecursiveError, SepCfg, Values};

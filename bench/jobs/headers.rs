@@ -1,5 +1,5 @@
 //! Headers of eight bytes: four fixed ones, a class of two, a version, and two flags.
-use crate::run::again;
+use super::run::again;
 use chumsky::extra::ParserExtra;
 use chumsky::prelude::*;
 use std::alloc::Global;

@@ -1,5 +1,5 @@
 //! Digits, and numbers in brackets, on each line.
-use crate::run::again;
+use super::run::again;
 use chumsky::extra::EmptyText;
 use chumsky::prelude::*;
 use std::alloc::Global;

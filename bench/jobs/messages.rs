@@ -1,5 +1,5 @@
 //! Messages, each a byte that says how many bytes follow, and these.
-use crate::run::again;
+use super::run::again;
 use chumsky::extra;
 use chumsky::prelude::*;
 use std::alloc::Global;

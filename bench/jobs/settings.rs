@@ -1,5 +1,5 @@
 //! A setting on each line, as `port = 8080` or `verbose = true`.
-use crate::run::again;
+use super::run::again;
 use chumsky::PResult;
 use chumsky::combinator::{Part, To, part_of, run_part};
 use chumsky::extra::EmptyText;

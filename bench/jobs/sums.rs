@@ -1,5 +1,5 @@
 //! A sum of products on each line, as `12+3*45-6`.
-use crate::run::again;
+use super::run::again;
 use chumsky::PResult;
 use chumsky::combinator::{Part, part_of, run_part};
 use chumsky::extra::EmptyText;

@@ -1,5 +1,5 @@
 //! White space, numbers and identifiers, of each one after another.
-use crate::run::again;
+use super::run::again;
 use chumsky::extra::EmptyText;
 use chumsky::prelude::*;
 use std::alloc::Global;

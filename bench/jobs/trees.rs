@@ -1,7 +1,7 @@
 //! JSON into a tree: a grammar by rules whose leaves read a whole token each.
 ghost use Rattle.std.specs.Prelude.{[], ◌||◌, ◌==◌, IfOk, ⊤};
 
-use crate::run::once;
+use super::run::once;
 use chumsky::PResult;
 use chumsky::combinator::{OfPart, Part, part_of, run_part};
 use chumsky::extra::EmptyText;

@@ -1,5 +1,5 @@
 //! One of eight words on each line.
-use crate::run::again;
+use super::run::again;
 use chumsky::extra::EmptyText;
 use chumsky::prelude::*;
 use std::alloc::Global;

@@ -1,5 +1,5 @@
 //! What sums come to.
-use crate::printed::{Refusal, assert_lines, nested, printed};
+use super::printed::{Refusal, assert_lines, nested, printed};
 use arithmetic::{Refused, parse_arithmetic, parse_sum};
 use std::alloc::{AllocError, AllocGlobal, Global};
 use std::process::Abort;

@@ -1,5 +1,5 @@
 //! What the s-expressions of a text are.
-use crate::printed::{Refusal, assert_lines, nested, printed};
+use super::printed::{Refusal, assert_lines, nested, printed};
 use s_expression::{Expression, read_expressions};
 use std::alloc::{AllocError, Global};
 use std::test::Fail;

@@ -1,5 +1,5 @@
 //! What JSON is, on texts whose answers are known from outside.
-use crate::printed::{Refusal, assert_lines, nested, printed};
+use super::printed::{Refusal, assert_lines, nested, printed};
 use chumsky::Stop;
 use json_tree::{Json, JsonText, read_json, read_json_within};
 use std::alloc::{AllocError, Global};

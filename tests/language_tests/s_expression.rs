@@ -1,5 +1,5 @@
 //! S-expressions with texts as JSON has them, and texts of a length that stands before them.
-use crate::printed::Refusal;
+use super::printed::Refusal;
 use chumsky::PResult;
 use chumsky::combinator::{Part, part_of, run_part};
 use chumsky::extra::RichText;

@@ -1,6 +1,6 @@
 //! What s-expressions are.
-use crate::printed::{assert_lines, nested, printed};
-use crate::s_expression::{Expression, ExpressionsText, parse_expressions};
+use super::printed::{assert_lines, nested, printed};
+use super::s_expression::{Expression, ExpressionsText, parse_expressions};
 use std::alloc::{AllocError, Global};
 use std::test::Fail;
 

@@ -1,5 +1,5 @@
 //! The callers of `callers::by_value` and of `callers::under`, run as they say.
-use crate::builders::assert_rows;
+use super::builders::assert_rows;
 use answers::asserts::assert_line;
 use chumsky::prelude::*;
 use callers::by_value::{

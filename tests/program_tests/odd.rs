@@ -5,7 +5,7 @@ ghost use Rattle.std.specs.List.{filter_map};
 ghost use Rattle.std.specs.Iterator.{IsFinite, Drains};
 ghost use Rattle.chumsky_input.specs.Wanted.{named_token};
 
-use crate::grammars::Counts;
+use super::grammars::Counts;
 use answers::asserts::assert_answers;
 use answers::extras::Own;
 use answers::leaves::just_text;

@@ -1,5 +1,5 @@
 //! Grammars by functions beside the same grammars by rules, on every text of a few characters.
-use crate::calls::brackets;
+use super::calls::brackets;
 use answers::answer::{answer, line_of};
 use chumsky::Stop;
 use chumsky::extra::RichText;

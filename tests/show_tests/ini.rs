@@ -1,5 +1,5 @@
 //! What sections hold.
-use crate::shown::assert_shown;
+use super::shown::assert_shown;
 
 #[test]
 fn sections_hold_names_and_values(rt: HostRuntime) {

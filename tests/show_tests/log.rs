@@ -1,5 +1,5 @@
 //! What lines of a log say, and which are errors.
-use crate::shown::assert_shown;
+use super::shown::assert_shown;
 
 #[test]
 fn each_line_that_is_wrong_has_its_own_error_and_the_rest_are_read(rt: HostRuntime) {

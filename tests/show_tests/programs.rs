@@ -1,5 +1,5 @@
 //! How programs are asked, what they say where they give no answer, and the statuses that they end with.
-use crate::shown::{assert_ran, words_of};
+use super::shown::{assert_ran, words_of};
 use console::failure::{Failure, status_of};
 use console::run::{Program, run};
 use programs::calc::Calc;

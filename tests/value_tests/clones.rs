@@ -1,5 +1,5 @@
 //! How often values are cloned, with a value wanted and without, and that whatever lets go of a value drops it.
-use crate::counted::{Counted, Counts, assert_clones, counted_letter, make_counts};
+use super::counted::{Counted, Counts, assert_clones, counted_letter, make_counts};
 use answers::extras::Quiet;
 use arrayvec::ArrayVec;
 use chumsky::combinator::{Configurer, RepeatedCfg, To};
