@@ -1,8 +1,11 @@
 //! What the programs of a text are, read in two stages.
 use chumsky::report::Report;
+use front::item_text::ItemText;
+use front::leaves::DEEPEST;
 use front::read::read_program;
 use std::alloc::{AllocError, AllocGlobal, Global};
 use std::process::Abort;
+use std::test::Fail;
 
 /// What is printed of a text: a report of each error, and then each item in a line of its own.
 fn shown(alloc: Global, text: &str) -> Result<String, AllocError> {
@@ -95,8 +98,165 @@ fn programs_nested_too_deep_are_refused(rt: HostRuntime) {
     let alloc = rt.alloc();
     let well = nested(alloc, 30, "{", "a", "}").expect(&rt, "want of memory");
     let deep = nested(alloc, 100, "{", "a", "}").expect(&rt, "want of memory");
-    let bare = nested(alloc, 1_000, "-", "1", "").expect(&rt, "want of memory");
     assert!(rt; read_program(alloc, well.as_str()).is_ok());
     assert_lines(&rt, shown, &[(deep.as_str(), "refused\n")]);
-    assert!(rt; read_program(alloc, bare.as_str()).is_ok());
+}
+
+/// What is told of a text: each error with its span, and then each item as text again.
+fn told(alloc: Global, text: &str) -> Result<String, AllocError> {
+    let Ok(reading) = read_program(alloc, text) else {
+        return String::from_str(alloc, "refused\n");
+    };
+    let mut all = String::new(alloc);
+    for error in reading.errors.iter() {
+        let span = error.span();
+        all.push_str(format!(in alloc; "{}..{}: {error}\n", span.start, span.end)?.as_str())?;
+    }
+    if let Some(program) = reading.program {
+        for item in program.iter() {
+            let item = ItemText { text, item };
+            all.push_str(format!(in alloc; "{item}\n")?.as_str())?;
+        }
+    }
+    Ok(all)
+}
+
+/// An operation that is said again and again: what stands before and behind its operand, and so in what is printed.
+#[derive(Clone, Copy)]
+struct Chain {
+    before: &'static str,
+    behind: &'static str,
+    before_printed: &'static str,
+    behind_printed: &'static str,
+}
+
+/// Sums, minuses and calls.
+const CHAINS: [Chain; 4] = [
+    Chain {
+        before: "",
+        behind: "+b",
+        before_printed: "(",
+        behind_printed: " + b)",
+    },
+    Chain {
+        before: "b*",
+        behind: "",
+        before_printed: "(",
+        behind_printed: " * b)",
+    },
+    Chain {
+        before: "-",
+        behind: "",
+        before_printed: "-",
+        behind_printed: "",
+    },
+    Chain {
+        before: "",
+        behind: "()",
+        before_printed: "",
+        behind_printed: "()",
+    },
+];
+
+/// A text between two others.
+fn between(alloc: Global, before: &str, text: &str, behind: &str) -> Result<String, AllocError> {
+    format!(in alloc; "{before}{text}{behind}")
+}
+
+/// The text of an operation so many times, and what is printed of it.
+fn chained(alloc: Global, chain: Chain, count: usize) -> Result<(String, String), AllocError> {
+    let text = nested(alloc, count, chain.before, "b", chain.behind)?;
+    let printed = nested(
+        alloc,
+        count,
+        chain.before_printed,
+        "b",
+        chain.behind_printed,
+    )?;
+    Ok((text, printed))
+}
+
+#[test]
+fn as_many_operations_as_may_be_are_read(rt: HostRuntime) -> Result<(), Fail> {
+    let alloc = rt.alloc();
+    for chain in CHAINS {
+        let (text, printed) = chained(alloc, chain, DEEPEST - 1)?;
+        let line = between(alloc, "", printed.as_str(), "\n")?;
+        assert_lines(&rt, told, &[(text.as_str(), line.as_str())]);
+        let (text, printed) = chained(alloc, chain, DEEPEST - 2)?;
+        let bound = between(alloc, "let a = ", text.as_str(), "")?;
+        let line = between(alloc, "let a = ", printed.as_str(), "\n")?;
+        assert_lines(&rt, told, &[(bound.as_str(), line.as_str())]);
+    }
+    Ok(())
+}
+
+#[test]
+fn more_operations_are_an_error(rt: HostRuntime) -> Result<(), Fail> {
+    let alloc = rt.alloc();
+    for chain in CHAINS {
+        for count in [DEEPEST, DEEPEST + 1, 3 * DEEPEST, 100_000] {
+            let (text, _) = chained(alloc, chain, count)?;
+            let end = 3 + text.len();
+            let text = between(alloc, "a; ", text.as_str(), "; c")?;
+            let expected = format!(in alloc; "3..{end}: this item nests too deep\na\n{}\nc\n", text.as_str().get(3..end).unwrap_or(""))?;
+            assert_lines(&rt, told, &[(text.as_str(), expected.as_str())]);
+        }
+    }
+    Ok(())
+}
+
+#[test]
+fn what_nests_in_an_operation_counts(rt: HostRuntime) -> Result<(), Fail> {
+    let alloc = rt.alloc();
+    let half = DEEPEST / 2;
+    for chain in CHAINS {
+        let (text, printed) = chained(alloc, chain, half)?;
+        // What stands in brackets counts, but for these, as do an argument, its call, and an item and its block.
+        for (before, behind, printed_before, printed_behind, levels) in [
+            ("(", ")", "", "", 0),
+            ("f(a, ", ", a)", "f(a, ", ", a)", 1),
+            ("{a; ", "; a}", "{a; ", "; a}", 1),
+            ("{let a = ", "}", "{let a = ", "}", 2),
+        ] {
+            let inside = between(alloc, before, text.as_str(), behind)?;
+            let printed = between(alloc, printed_before, printed.as_str(), printed_behind)?;
+            let count = DEEPEST - 1 - half - levels;
+            let most = nested(alloc, count, "-", inside.as_str(), "")?;
+            let line = nested(alloc, count, "-", printed.as_str(), "")?;
+            let line = between(alloc, "", line.as_str(), "\n")?;
+            assert_lines(&rt, told, &[(most.as_str(), line.as_str())]);
+            let more = between(alloc, "-", most.as_str(), "")?;
+            let expected = format!(in alloc; "0..{}: this item nests too deep\n{more}\n", more.len())?;
+            assert_lines(&rt, told, &[(more.as_str(), expected.as_str())]);
+        }
+    }
+    Ok(())
+}
+
+#[test]
+fn each_item_that_nests_too_deep_is_told_once(rt: HostRuntime) -> Result<(), Fail> {
+    let alloc = rt.alloc();
+    let deep = nested(alloc, DEEPEST, "-", "b", "")?;
+    let text = format!(in alloc; "f(({deep}), -{deep}); g({{a; let b = {deep}; c}}); {deep} d; {deep}")?;
+    let most = deep.len();
+    let mut expected = String::new(alloc);
+    for (start, end) in [
+        (0, 2 * most + 8),
+        (2 * most + 16, 3 * most + 24),
+    ] {
+        expected.push_str(format!(in alloc; "{start}..{end}: this item nests too deep\n")?.as_str())?;
+    }
+    expected.push_str(
+        format!(in alloc; "{}..{}: expected an operator, ';', '}}' or end of input, found 'a name'\n", 4 * most + 32, 4 * most + 33)?
+            .as_str(),
+    )?;
+    expected.push_str(
+        format!(in alloc; "{}..{}: this item nests too deep\n", 4 * most + 35, 5 * most + 35)?.as_str(),
+    )?;
+    expected.push_str(
+        format!(in alloc; "f(({deep}), -{deep})\ng({{a; let b = {deep}; c}})\n{deep} d\n{deep}\n")?.as_str(),
+    )?;
+    assert_lines(&rt, told, &[(text.as_str(), expected.as_str())]);
+    Ok(())
 }

@@ -233,3 +233,19 @@ fn what_is_nested_too_deeply_is_refused(rt: HostRuntime) -> Result<(), Fail> {
     );
     Ok(())
 }
+
+#[test]
+fn an_item_that_nests_too_deep_is_told(rt: HostRuntime) -> Result<(), Fail> {
+    let alloc = rt.alloc();
+    let minuses = opened(alloc, '-', 120)?;
+    let marks = opened(alloc, '^', 121)?;
+    let text = format!(in alloc; "a+b;{minuses}1")?;
+    let out = format!(in alloc; "(a + b);\n{minuses}1;\n")?;
+    let err = format!(in alloc; "input:1:5: this item nests too deep\n{text}\n    {marks}\n")?;
+    assert_ran(
+        &rt,
+        &FormatProgram,
+        &[("", text.as_str().as_bytes(), 1, out.as_str(), err.as_str())],
+    );
+    Ok(())
+}

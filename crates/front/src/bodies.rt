@@ -2,7 +2,10 @@
 //! no builder stands.
 ghost use Rattle.std.specs.Prelude.{⊤};
 
-use crate::leaves::{Between, Extra, ItemEnd, Name, Operand, Run, Sign, Tokens, Tree, WrongItem};
+use crate::leaves::{
+    Between, DEEPEST, Extra, ItemEnd, Measured, Name, Operand, Run, Sign, Tokens, Tree, WrongItem,
+    wrong_at,
+};
 use crate::syntax::Expression;
 use crate::token::Token;
 use chumsky::PResult;
@@ -13,10 +16,11 @@ use chumsky::prelude::*;
 use chumsky::recursive::{RunsUnder, Unsaid};
 use std::alloc::{AllocError, Global};
 
-/// Expressions, one after another.
+/// Expressions, one after another, and how deep the deepest of them is.
 #[derive(Drop)]
 pub struct Expressions {
     pub items: Vec<Expression>,
+    pub depth: usize,
 }
 
 impl Container<Tree> for Expressions {
@@ -27,11 +31,14 @@ impl Container<Tree> for Expressions {
     fn new(alloc: Global) -> Expressions {
         Expressions {
             items: Vec::new(alloc),
+            depth: 0,
         }
     }
 
     fn push(&mut self, tree: Tree) -> Result<(), AllocError> {
-        self.items.push(tree?)?;
+        let tree = tree?;
+        self.depth = self.depth.max(tree.depth);
+        self.items.push(tree.expression)?;
         Ok(())
     }
 }
@@ -43,14 +50,34 @@ pub struct Arguments {
     span: SimpleSpan,
 }
 
+/// How deep an expression is whose deepest part is so deep, where it may be.
+fn depth_over(part: usize) -> Option<usize> {
+    if part < DEEPEST { Some(part + 1) } else { None }
+}
+
+/// What stands in the place of an expression that would be too deep.
+fn too_deep(span: SimpleSpan) -> Tree {
+    Ok(Measured {
+        expression: Expression::Wrong(span),
+        depth: DEEPEST + 1,
+    })
+}
+
 /// What a minus makes of its operand.
 fn negative(alloc: Global, minus: SimpleSpan, operand: Tree) -> Tree {
     let operand = operand?;
     let span = SimpleSpan {
         start: minus.start,
-        end: operand.span().end,
+        end: operand.expression.span().end,
     };
-    Ok(Expression::Negative(Box::new(alloc, operand)?, span))
+    let Some(depth) = depth_over(operand.depth) else {
+        return too_deep(span);
+    };
+    let operand = Box::new(alloc, operand.expression)?;
+    Ok(Measured {
+        expression: Expression::Negative(operand, span),
+        depth,
+    })
 }
 
 /// What a sign makes of the operands on its sides.
@@ -58,27 +85,67 @@ fn binary(alloc: Global, left: Tree, sign: char, right: Tree) -> Tree {
     let left = left?;
     let right = right?;
     let span = SimpleSpan {
-        start: left.span().start,
-        end: right.span().end,
+        start: left.expression.span().start,
+        end: right.expression.span().end,
     };
-    let left = Box::new(alloc, left)?;
-    Ok(Expression::Binary(sign, left, Box::new(alloc, right)?, span))
+    let Some(depth) = depth_over(left.depth.max(right.depth)) else {
+        return too_deep(span);
+    };
+    let left = Box::new(alloc, left.expression)?;
+    let right = Box::new(alloc, right.expression)?;
+    Ok(Measured {
+        expression: Expression::Binary(sign, left, right, span),
+        depth,
+    })
 }
 
 /// What arguments make of the callee before them.
 fn called(alloc: Global, callee: Tree, arguments: Arguments) -> Tree {
     let callee = callee?;
     let span = SimpleSpan {
-        start: callee.span().start,
+        start: callee.expression.span().start,
         end: arguments.span.end,
     };
-    let callee = Box::new(alloc, callee)?;
-    Ok(Expression::Call(callee, arguments.list.items, span))
+    let Some(depth) = depth_over(callee.depth.max(arguments.list.depth)) else {
+        return too_deep(span);
+    };
+    let callee = Box::new(alloc, callee.expression)?;
+    Ok(Measured {
+        expression: Expression::Call(callee, arguments.list.items, span),
+        depth,
+    })
+}
+
+/// A block of items.
+fn block_of(list: Expressions, span: SimpleSpan) -> Tree {
+    let Some(depth) = depth_over(list.depth) else {
+        return too_deep(span);
+    };
+    Ok(Measured {
+        expression: Expression::Block(list.items, span),
+        depth,
+    })
 }
 
 /// A name bound to a value, as an item with this span.
 fn bound(alloc: Global, name: SimpleSpan, value: Tree, span: SimpleSpan) -> Tree {
-    Ok(Expression::Let(name, Box::new(alloc, value?)?, span))
+    let value = value?;
+    let Some(depth) = depth_over(value.depth) else {
+        return too_deep(span);
+    };
+    let value = Box::new(alloc, value.expression)?;
+    Ok(Measured {
+        expression: Expression::Let(name, value, span),
+        depth,
+    })
+}
+
+/// Whether an expression would be too deep.
+fn is_too_deep(tree: &Tree) -> bool {
+    match tree {
+        Ok(tree) => tree.depth > DEEPEST,
+        Err(_) => false,
+    }
 }
 
 /// Expressions in brackets, with a `,` between them and perhaps one at the end.
@@ -114,7 +181,7 @@ pub fn run_atom<
     let bracketed = expression.delimited_by(part_of(Sign::Opening('(')), part_of(Sign::Mark(')')));
     let block = items
         .delimited_by(part_of(Sign::Opening('{')), part_of(Sign::Mark('}')))
-        .map_with(|list: Expressions, extra| Ok(Expression::Block(list.items, extra.span())));
+        .map_with(|list: Expressions, extra| block_of(list, extra.span()));
     let atom = choice((part_of(Operand), bracketed, block));
     run_part(&atom, wanted, inp)
 }
@@ -189,8 +256,8 @@ pub fn run_item<
     run_part(&item, wanted, inp)
 }
 
-/// Items with a `;` between them, and perhaps one at the end. Where one is wrong, its error is emitted, and what follows the
-/// next `;` is read.
+/// Items with a `;` between them, and perhaps one at the end. Where one is wrong or would be too deep, its error is emitted, and
+/// what follows the next `;` is read.
 pub fn run_items<
     'src,
     P: IsParser<Tokens<'src>, Tree, Extra> + Parser<'src, Tokens<'src>, Tree, Extra>,
@@ -199,6 +266,13 @@ pub fn run_items<
     ensures { ⟦<Unsaid as RunsUnder<'src, Tokens<'src>, Expressions, Extra>>⟧.runs 0 wanted inp.old inp.new result }
 {
     let items = item
+        .validate(|item: Tree, extra, emitter| {
+            if is_too_deep(&item) {
+                emitter.emit_message(extra.alloc(), extra.span(), "this item nests too deep");
+                return wrong_at(extra.span());
+            }
+            item
+        })
         .recover_with(via_parser(part_of(WrongItem)))
         .separated_by(part_of(Sign::Mark(';')))
         .allow_trailing()

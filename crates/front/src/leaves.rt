@@ -18,8 +18,20 @@ pub type Extra = RichTokens<Token>;
 /// A run over them.
 pub type Run<'src, 'run> = InputRef<'src, 'run, Tokens<'src>, Extra>;
 
-/// An expression, unless the memory for it was refused.
-pub type Tree = Result<Expression, AllocError>;
+/// How deep the tree of an expression may be. A tree is dropped and printed by calls that go as deep as it does.
+pub const DEEPEST: usize = 120;
+
+/// An expression, and how deep its tree is: 1 where it has no parts, else one more than its deepest part. What would be deeper than
+/// `DEEPEST` is not made: its parts are dropped, and in its place is what is wrong, which counts as one deeper than `DEEPEST`, and so
+/// does all that has it as a part.
+#[derive(Drop)]
+pub struct Measured {
+    pub expression: Expression,
+    pub depth: usize,
+}
+
+/// An expression with its depth, unless the memory for it was refused.
+pub type Tree = Result<Measured, AllocError>;
 
 /// A number, a name or a quotation.
 #[derive(Clone, Copy)]
@@ -135,18 +147,27 @@ fn sign_of(token: Token) -> char {
     }
 }
 
+/// An expression without parts.
+fn bare(expression: Expression) -> Tree {
+    Ok(Measured {
+        expression,
+        depth: 1,
+    })
+}
+
 fn number_at(number: u64, span: SimpleSpan) -> Tree {
-    Ok(Expression::Number(number, span))
+    bare(Expression::Number(number, span))
 }
 
 fn name_at(span: SimpleSpan) -> Tree {
-    Ok(Expression::Name(span))
+    bare(Expression::Name(span))
 }
 
 fn text_at(span: SimpleSpan) -> Tree {
-    Ok(Expression::Text(span))
+    bare(Expression::Text(span))
 }
 
-fn wrong_at(span: SimpleSpan) -> Tree {
-    Ok(Expression::Wrong(span))
+/// An item that is wrong.
+pub fn wrong_at(span: SimpleSpan) -> Tree {
+    bare(Expression::Wrong(span))
 }

@@ -74,7 +74,8 @@ fn items<'src>(inp: &mut Run<'src, '_>, wanted: bool, depth: usize) -> PResult<O
     run_items(&recursive(item, depth), wanted, inp)
 }
 
-/// How many calls may be open at once. One takes some 900 bytes of stack at most, so all of them fit into 256 kB.
+/// How many calls may be open at once. One takes some 900 bytes of stack at most, so all of them fit into 256 kB, with the drop of a
+/// tree in the innermost of them.
 const DEPTH: usize = 240;
 
 /// The items of the program that tokens are. Where more than two hundred and forty calls would be open at once, as in tokens that
