@@ -195,7 +195,7 @@ fn as_many_operations_as_may_be_are_read(rt: HostRuntime) -> Result<(), Fail> {
 fn more_operations_are_an_error(rt: HostRuntime) -> Result<(), Fail> {
     let alloc = rt.alloc();
     for chain in CHAINS {
-        for count in [DEEPEST, DEEPEST + 1, 3 * DEEPEST, 100_000] {
+        for count in [DEEPEST, DEEPEST + 1, 3 * DEEPEST, 10_000] {
             let (text, _) = chained(alloc, chain, count)?;
             let end = 3 + text.len();
             let text = between(alloc, "a; ", text.as_str(), "; c")?;
