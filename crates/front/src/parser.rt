@@ -76,10 +76,10 @@ fn items<'src>(inp: &mut Run<'src, '_>, wanted: bool, depth: usize) -> PResult<O
 
 /// How many calls may be open at once. One takes some 900 bytes of stack at most, so all of them fit into 256 kB, with the drop of a
 /// tree in the innermost of them.
-const DEPTH: usize = 240;
+const DEPTH: usize = 200;
 
-/// The items of the program that tokens are. Where more than two hundred and forty calls would be open at once, as in tokens that
-/// are nested more than some fifty deep, the run is refused with `Stop::TooDeep`.
+/// The items of the program that tokens are. Where more than two hundred calls would be open at once, as in tokens that
+/// are nested more than some forty deep, the run is refused with `Stop::TooDeep`.
 pub fn program_of(
     alloc: Global,
     tokens: &[Spanned<Token, SimpleSpan>],
