@@ -249,7 +249,7 @@ static bool is_given_back(const struct row *row, size_t refuse, const struct ans
     return false;
 }
 
-/* Refuses the first request, the second, .. until a run meets no refusal. A run that met one answers want of memory, and
+/* Refuses the first request, the second, .. until a run meets no refusal. A run that met one answers out of memory, and
    the next run of the same thing, which meets none, answers the row; so does the run that met none. */
 static bool sweep(const struct row *row, bool check) {
     for (size_t refuse = 1;; refuse += 1) {

@@ -24,7 +24,7 @@ where
     E::Context: Default + Drop,
 {
     for (input, expected) in rows {
-        let line = answer(parser, rt.alloc(), *input).expect(rt, "want of memory");
+        let line = answer(parser, rt.alloc(), *input).expect(rt, "out of memory");
         assert_eq!(rt; line.as_str(), *expected);
     }
 }
@@ -45,7 +45,7 @@ where
     E::Context: Default + Drop,
 {
     for (input, expected) in rows {
-        let line = answer_from(parser, rt.alloc(), *input, state).expect(rt, "want of memory");
+        let line = answer_from(parser, rt.alloc(), *input, state).expect(rt, "out of memory");
         assert_eq!(rt; line.as_str(), *expected);
     }
 }
@@ -56,6 +56,6 @@ pub fn assert_line<O: Debug + Drop, E: Says, R: Abort + AllocGlobal>(
     answer: Result<ParseResult<O, E>, Stop>,
     expected: &str,
 ) {
-    let line = line_of(rt.alloc(), &answer).expect(rt, "want of memory");
+    let line = line_of(rt.alloc(), &answer).expect(rt, "out of memory");
     assert_eq!(rt; line.as_str(), expected);
 }

@@ -160,7 +160,7 @@ fn a_report_of_a_line_shows_it_in_its_file(rt: HostRuntime) {
     let parsed = line.parse(alloc, text_at(6, "b = x")).expect(&rt, "refused");
     for error in parsed.errors() {
         let report = Report { name: "file", text: file, error };
-        let printed = format!(in alloc; "{report}").expect(&rt, "want of memory");
+        let printed = format!(in alloc; "{report}").expect(&rt, "out of memory");
         assert_eq!(rt; printed.as_str(), "file:2:5: expected int, found 'x'\nb = x\n    ^");
     }
     assert_eq!(rt; parsed.errors().len(), 1);

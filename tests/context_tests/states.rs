@@ -24,7 +24,7 @@ type OnCount = On<SimpleState<u64>>;
 fn list_of<R: Abort + AllocGlobal>(rt: &R, text: &str) -> TruncateState<char> {
     let mut list = Vec::new(rt.alloc());
     for c in text.chars() {
-        list.push(c).expect(rt, "want of memory");
+        list.push(c).expect(rt, "out of memory");
     }
     TruncateState(list)
 }

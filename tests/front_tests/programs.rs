@@ -36,7 +36,7 @@ fn assert_lines<R: Abort + AllocGlobal, F: Fn(Global, &str) -> Result<String, Al
     rows: &[(&str, &str)],
 ) {
     for (text, expected) in rows {
-        let lines = shown(rt.alloc(), *text).expect(rt, "want of memory");
+        let lines = shown(rt.alloc(), *text).expect(rt, "out of memory");
         assert_eq!(rt; lines.as_str(), *expected, "of {text}");
     }
 }
@@ -96,8 +96,8 @@ fn errors_of_both_stages_stand_in_the_order_of_the_text(rt: HostRuntime) {
 #[test]
 fn programs_nested_too_deep_are_refused(rt: HostRuntime) {
     let alloc = rt.alloc();
-    let well = nested(alloc, 30, "{", "a", "}").expect(&rt, "want of memory");
-    let deep = nested(alloc, 100, "{", "a", "}").expect(&rt, "want of memory");
+    let well = nested(alloc, 30, "{", "a", "}").expect(&rt, "out of memory");
+    let deep = nested(alloc, 100, "{", "a", "}").expect(&rt, "out of memory");
     assert!(rt; read_program(alloc, well.as_str()).is_ok());
     assert_lines(&rt, shown, &[(deep.as_str(), "refused\n")]);
 }

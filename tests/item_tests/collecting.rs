@@ -243,8 +243,8 @@ fn an_item_without_room_refuses_the_run(rt: HostRuntime) {
 
 /// A value and a copy of it for a parser to hand out, whose clones are counted.
 fn shared<R: Abort + AllocGlobal>(rt: &R) -> (Rc<u8>, Rc<u8>) {
-    let first = Rc::new(rt.alloc(), 7).ok().expect(rt, "want of memory");
-    let second = first.clone().ok().expect(rt, "want of memory");
+    let first = Rc::new(rt.alloc(), 7).ok().expect(rt, "out of memory");
+    let second = first.clone().ok().expect(rt, "out of memory");
     (first, second)
 }
 

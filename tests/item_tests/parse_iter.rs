@@ -45,7 +45,7 @@ where
     E::Context: Default + Drop,
 {
     for (text, asked, expected) in rows {
-        let line = walked(parser, rt.alloc(), *text, *asked).expect(rt, "want of memory");
+        let line = walked(parser, rt.alloc(), *text, *asked).expect(rt, "out of memory");
         assert_eq!(rt; line.as_str(), *expected);
     }
 }
@@ -159,7 +159,7 @@ fn there_are_no_more_items_after_the_last(rt: HostRuntime) {
     assert_eq!(&rt; run.next(), Some('a'));
     assert_eq!(&rt; run.next(), None);
     assert_eq!(&rt; run.next(), None);
-    let line = line_of(alloc, &run.finish(7)).expect(&rt, "want of memory");
+    let line = line_of(alloc, &run.finish(7)).expect(&rt, "out of memory");
     assert_eq!(&rt;
         line.as_str(),
         "ok 7; error 1..2 expected 'a', 'b' found 'c'"
@@ -169,7 +169,7 @@ fn there_are_no_more_items_after_the_last(rt: HostRuntime) {
     assert_eq!(&rt; run.next(), Some('b'));
     assert_eq!(&rt; run.next(), None);
     assert_eq!(&rt; run.next(), None);
-    let line = line_of(alloc, &run.finish(7)).expect(&rt, "want of memory");
+    let line = line_of(alloc, &run.finish(7)).expect(&rt, "out of memory");
     assert_eq!(&rt;
         line.as_str(),
         "ok 7; error 2..3 expected 'a', 'b', end of input found 'c'"
@@ -184,6 +184,6 @@ fn the_state_is_handed_back(rt: HostRuntime) {
     assert_eq!(&rt; run.next(), Some('a'));
     let (answer, state) = run.finish_with_state('x');
     assert_eq!(&rt; state.tokens, 7);
-    let line = line_of(rt.alloc(), &answer).expect(&rt, "want of memory");
+    let line = line_of(rt.alloc(), &answer).expect(&rt, "out of memory");
     assert_eq!(&rt; line.as_str(), "ok 'x'; error");
 }

@@ -164,7 +164,7 @@ fn assert_same<R: Abort + AllocGlobal>(rt: &R, text: &str) -> bool {
     let theirs = match Value::from_str(rt.alloc(), text) {
         Ok(theirs) => theirs,
         Err(error) => {
-            let error = format!(in rt.alloc(); "{error}").expect(rt, "want of memory");
+            let error = format!(in rt.alloc(); "{error}").expect(rt, "out of memory");
             let is_out_of_range = error.as_str().starts_with("number out of range");
             let is_none = !parsed.has_output() && parsed.has_errors();
             assert!(rt; is_none || is_out_of_range, "of {text}: {error}");
@@ -180,7 +180,7 @@ fn assert_same<R: Abort + AllocGlobal>(rt: &R, text: &str) -> bool {
         assert!(rt; is_same(rt.alloc(), json, &theirs), "of {text}");
         for indented in [false, true] {
             let json = JsonText { json, indented };
-            let written = format!(in rt.alloc(); "{json}").expect(rt, "want of memory");
+            let written = format!(in rt.alloc(); "{json}").expect(rt, "out of memory");
             let read = Value::from_str(rt.alloc(), written.as_str()).expect(rt, "not JSON");
             assert!(rt; read == theirs, "of {text}: {written}");
         }

@@ -34,7 +34,7 @@ fn one_parser_runs_twice_by_reference(rt: HostRuntime) {
 
 #[test]
 fn a_parser_in_a_box_does_as_the_parser(rt: HostRuntime) {
-    let boxed = Box::new(rt.alloc(), just_char('a')).expect(&rt, "want of memory");
+    let boxed = Box::new(rt.alloc(), just_char('a')).expect(&rt, "out of memory");
     let rows = [
         ("a", "ok 'a'"),
         ("c", "error 0..1 expected 'a', 'b' found 'c'"),
@@ -44,7 +44,7 @@ fn a_parser_in_a_box_does_as_the_parser(rt: HostRuntime) {
 
 #[test]
 fn a_shared_parser_does_as_the_parser(rt: HostRuntime) {
-    let shared = Rc::new(rt.alloc(), just_char('a')).expect(&rt, "want of memory");
+    let shared = Rc::new(rt.alloc(), just_char('a')).expect(&rt, "out of memory");
     let rows = [
         ("a", "ok 'a'"),
         ("c", "error 0..1 expected 'a', 'b' found 'c'"),

@@ -155,6 +155,6 @@ fn assert_of_vec<'src, R: Abort + AllocGlobal>(
 
 #[test]
 fn each_of_a_vec_is_tried_in_order(rt: HostRuntime) {
-    let letters = vec![in rt.alloc(); just('a'), just('b')].expect(&rt, "want of memory");
+    let letters = vec![in rt.alloc(); just('a'), just('b')].expect(&rt, "out of memory");
     assert_of_vec(&rt, letters, &[("b", "ok 'b'")]);
 }

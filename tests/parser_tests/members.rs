@@ -10,12 +10,12 @@ use std::process::Abort;
 
 /// The bytes 7 and 5.
 fn seven_and_five(alloc: Global, rt: &impl Abort) -> Vec<u8> {
-    vec![in alloc; 7, 5].expect(rt, "want of memory")
+    vec![in alloc; 7, 5].expect(rt, "out of memory")
 }
 
 /// A quote and an `é`.
 fn quote_and_accent(alloc: Global, rt: &impl Abort) -> String {
-    String::from_str(alloc, "\"é").expect(rt, "want of memory")
+    String::from_str(alloc, "\"é").expect(rt, "out of memory")
 }
 
 #[test]
@@ -149,11 +149,11 @@ fn a_set_of_characters_has_a_character_where_its_text_has_it(rt: HostRuntime) {
 fn a_rich_error_names_a_repeated_member_once(rt: HostRuntime) {
     // `a` and `á` share a bucket, since 225 is 97 and 128, and so do `é` and `i`.
     let members = one_of::<_, &str, RichText>("aáaéiáéi");
-    let errors = members.parse(rt.alloc(), "x").expect(&rt, "want of memory").into_errors();
+    let errors = members.parse(rt.alloc(), "x").expect(&rt, "out of memory").into_errors();
     let mut letters = String::new(rt.alloc());
     for pattern in errors.as_slice()[0].expected() {
         if let RichPattern::Token(letter) = pattern {
-            letters.push(*letter).expect(&rt, "want of memory");
+            letters.push(*letter).expect(&rt, "out of memory");
         }
     }
     assert_eq!(rt; letters.as_str(), "aáéi");

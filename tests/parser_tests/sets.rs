@@ -72,7 +72,7 @@ fn assert_of_vec<'src, R: Abort + AllocGlobal>(
 fn parts_of_a_vec_come_in_any_order(rt: HostRuntime) {
     let words = vec![in rt.alloc(); just("abc"), just("def"), just("ijk")].expect(
         &rt,
-        "want of memory",
+        "out of memory",
     );
     assert_of_vec(
         &rt,

@@ -215,10 +215,10 @@ fn prefix_operators_do_not_nest_on_the_stack(rt: HostRuntime) {
         .to(0u32)
         .pratt((prefix(2, just('-'), |_: char, count: u32| count.wrapping_add(1)),));
     let mut text = String::new(rt.alloc());
-    add_times(&mut text, "-").expect(&rt, "want of memory");
+    add_times(&mut text, "-").expect(&rt, "out of memory");
     let open = turned.parse(rt.alloc(), text.as_str()).expect(&rt, "a refusal");
     assert!(rt; open.has_errors());
-    text.push('1').expect(&rt, "want of memory");
+    text.push('1').expect(&rt, "out of memory");
     let parsed = turned.parse(rt.alloc(), text.as_str()).expect(&rt, "a refusal");
     assert!(rt; !parsed.has_errors());
     assert!(rt; parsed.output() == Some(&100_000));
@@ -232,14 +232,14 @@ fn right_operands_do_not_nest_on_the_stack(rt: HostRuntime) {
         .to(0u32)
         .pratt((infix(right(1), just('^'), |_: u32, _: char, after: u32| after.wrapping_add(1)),));
     let mut text = String::new(rt.alloc());
-    text.push('1').expect(&rt, "want of memory");
-    add_times(&mut text, "^0").expect(&rt, "want of memory");
+    text.push('1').expect(&rt, "out of memory");
+    add_times(&mut text, "^0").expect(&rt, "out of memory");
     let parsed = towers.parse(rt.alloc(), text.as_str()).expect(&rt, "a refusal");
     assert!(rt; !parsed.has_errors());
     assert!(rt; parsed.output() == Some(&100_000));
     let checked = towers.check(rt.alloc(), text.as_str()).expect(&rt, "a refusal");
     assert!(rt; !checked.has_errors());
-    text.push('^').expect(&rt, "want of memory");
+    text.push('^').expect(&rt, "out of memory");
     let open = towers.parse(rt.alloc(), text.as_str()).expect(&rt, "a refusal");
     assert!(rt; open.has_errors());
 }

@@ -58,7 +58,7 @@ fn operators_of_a_list_bind_as_those_of_a_tuple_do(rt: HostRuntime) {
     assert_answers(&rt, &digit!().pratt(array.as_slice()), &rows);
     let mut list = Vec::new(rt.alloc());
     for sign in array {
-        list.push(sign).expect(&rt, "want of memory");
+        list.push(sign).expect(&rt, "out of memory");
     }
     assert_answers(&rt, &digit!().pratt(list), &rows);
 }

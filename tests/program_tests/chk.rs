@@ -57,7 +57,7 @@ impl Read for Torn {
     }
 }
 
-/// Fails for want of memory.
+/// Fails where memory runs out.
 #[derive(Drop)]
 struct Starved;
 

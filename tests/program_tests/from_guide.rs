@@ -351,9 +351,9 @@ fn arithmetic_fails_where_it_is_amiss(rt: HostRuntime) {
 #[test]
 fn arithmetic_stays_at_the_greatest_number(rt: HostRuntime) {
     let mut text = String::new(rt.alloc());
-    text.push('9').expect(&rt, "want of memory");
+    text.push('9').expect(&rt, "out of memory");
     for _ in 0..30 {
-        text.push_str("*9").expect(&rt, "want of memory");
+        text.push_str("*9").expect(&rt, "out of memory");
     }
     let parsed = value_of(rt.alloc(), text.as_str()).expect(&rt, "refused");
     assert!(rt; parsed.output() == Some(&u64::MAX));

@@ -31,10 +31,10 @@ fn brackets_fail_where_they_are_amiss(rt: HostRuntime) {
 fn depth_costs_no_stack(rt: HostRuntime) {
     let mut text = String::new(rt.alloc());
     for _ in 0..2_000 {
-        text.push('[').expect(&rt, "want of memory");
+        text.push('[').expect(&rt, "out of memory");
     }
     for _ in 0..2_000 {
-        text.push(']').expect(&rt, "want of memory");
+        text.push(']').expect(&rt, "out of memory");
     }
     let parsed = depth(rt.alloc(), text.as_str()).expect(&rt, "refused");
     assert!(rt; parsed.output() == Some(&2_000));

@@ -33,13 +33,13 @@ fn assert_agree<R: Abort + AllocGlobal>(rt: &R, text: &str) {
     let exact = parse_sections(alloc, text).expect(rt, "refused");
     let lines = read_lines(alloc, text).expect(rt, "refused");
     let parsed = parse_ini(alloc, text).expect(rt, "refused");
-    let whole = shown(alloc, parsed.output()).expect(rt, "want of memory");
-    let by_lines = shown(alloc, lines.output()).expect(rt, "want of memory");
+    let whole = shown(alloc, parsed.output()).expect(rt, "out of memory");
+    let by_lines = shown(alloc, lines.output()).expect(rt, "out of memory");
     assert_eq!(rt; exact.has_output(), !lines.has_errors(), "of {text:?}");
     assert_eq!(rt; lines.errors.len(), parsed.errors.len(), "of {text:?}");
     assert_eq!(rt; whole.as_str(), by_lines.as_str(), "of {text:?}");
     if exact.has_output() {
-        let sections = shown(alloc, exact.output()).expect(rt, "want of memory");
+        let sections = shown(alloc, exact.output()).expect(rt, "out of memory");
         assert_eq!(rt; sections.as_str(), by_lines.as_str(), "of {text:?}");
     }
 }
@@ -48,7 +48,7 @@ fn assert_agree<R: Abort + AllocGlobal>(rt: &R, text: &str) {
 fn both_readers_of_ini_agree_on_each_short_text(rt: HostRuntime) {
     for beginning in ["", "[a]", "[a]b=c\n"] {
         for number in 0..2801 {
-            let text = text_of(rt.alloc(), beginning, number).expect(&rt, "want of memory");
+            let text = text_of(rt.alloc(), beginning, number).expect(&rt, "out of memory");
             assert_agree(&rt, text.as_str());
         }
     }

@@ -101,9 +101,9 @@ fn a_value_is_read_to_a_tree(rt: HostRuntime) {
         ("[{}, {\"\": \"\"}]", "(list (map) (map =\"\"))"),
     ];
     for (text, expected) in rows {
-        let line = read(rt.alloc(), text).expect(&rt, "want of memory");
+        let line = read(rt.alloc(), text).expect(&rt, "out of memory");
         assert_eq!(rt; line.as_str(), expected);
-        let errors = check(rt.alloc(), text).expect(&rt, "want of memory");
+        let errors = check(rt.alloc(), text).expect(&rt, "out of memory");
         assert_eq!(rt; errors.as_str(), "", "of {text}");
     }
 }
@@ -127,9 +127,9 @@ fn what_is_no_value_fails_at_its_place_with_a_value_and_without(rt: HostRuntime)
         ("]", "0..1 "),
     ];
     for (text, expected) in rows {
-        let line = read(rt.alloc(), text).expect(&rt, "want of memory");
+        let line = read(rt.alloc(), text).expect(&rt, "out of memory");
         assert!(rt; line.as_str().starts_with(expected), "of {text}: {line}");
-        let checked = check(rt.alloc(), text).expect(&rt, "want of memory");
+        let checked = check(rt.alloc(), text).expect(&rt, "out of memory");
         assert_eq!(rt; line.as_str(), checked.as_str(), "of {text}");
     }
 }
@@ -163,9 +163,9 @@ fn a_hundred_levels_are_read_and_one_more_is_too_deep(rt: HostRuntime) {
     for (levels, is_too_deep) in levels {
         for (opening, inside, closing, begun) in kinds {
             let text =
-                nested(rt.alloc(), levels, opening, inside, closing).expect(&rt, "want of memory");
-            let line = read(rt.alloc(), text.as_str()).expect(&rt, "want of memory");
-            let checked = check(rt.alloc(), text.as_str()).expect(&rt, "want of memory");
+                nested(rt.alloc(), levels, opening, inside, closing).expect(&rt, "out of memory");
+            let line = read(rt.alloc(), text.as_str()).expect(&rt, "out of memory");
+            let checked = check(rt.alloc(), text.as_str()).expect(&rt, "out of memory");
             if is_too_deep {
                 assert_eq!(rt; line.as_str(), "TooDeep", "{levels} of {opening}");
                 assert_eq!(rt; checked.as_str(), "TooDeep", "{levels} of {opening}");
@@ -179,8 +179,8 @@ fn a_hundred_levels_are_read_and_one_more_is_too_deep(rt: HostRuntime) {
 
 #[test]
 fn a_text_of_more_items_than_levels_is_read(rt: HostRuntime) {
-    let items = nested(rt.alloc(), 3_000, "1,", "1", "").expect(&rt, "want of memory");
-    let text = nested(rt.alloc(), 1, "[", items.as_str(), "]").expect(&rt, "want of memory");
-    let line = read(rt.alloc(), text.as_str()).expect(&rt, "want of memory");
+    let items = nested(rt.alloc(), 3_000, "1,", "1", "").expect(&rt, "out of memory");
+    let text = nested(rt.alloc(), 1, "[", items.as_str(), "]").expect(&rt, "out of memory");
+    let line = read(rt.alloc(), text.as_str()).expect(&rt, "out of memory");
     assert_eq!(rt; line.as_str().matches(" 1").count(), 3_001);
 }

@@ -73,13 +73,13 @@ fn line_of_lines(alloc: Global, lines: &[Line]) -> Result<String, AllocError> {
 fn is_taken<R: Abort + AllocGlobal>(rt: &R, text: &str) -> bool {
     let exact = parse_lines(rt.alloc(), text).expect(rt, "a refusal");
     let recovered = recover_lines(rt.alloc(), text);
-    let said = line_of(rt.alloc(), &recovered).expect(rt, "want of memory");
+    let said = line_of(rt.alloc(), &recovered).expect(rt, "out of memory");
     let read = parse_log(rt.alloc(), text);
-    let line = line_of(rt.alloc(), &read).expect(rt, "want of memory");
+    let line = line_of(rt.alloc(), &read).expect(rt, "out of memory");
     assert_eq!(rt; line.as_str(), said.as_str(), "of {text:?}");
     match exact.into_output() {
         Some(lines) => {
-            let line = line_of_lines(rt.alloc(), lines.as_slice()).expect(rt, "want of memory");
+            let line = line_of_lines(rt.alloc(), lines.as_slice()).expect(rt, "out of memory");
             assert_eq!(rt; line.as_str(), said.as_str(), "of {text:?}");
             true
         }
@@ -99,7 +99,7 @@ fn both_readers_take_the_same_texts(rt: HostRuntime) {
             for other in OTHERS {
                 for (first, second) in [(line, other), (other, line)] {
                     let text = format!(in rt.alloc(); "{first}{end}{second}")
-                        .expect(&rt, "want of memory");
+                        .expect(&rt, "out of memory");
                     if is_taken(&rt, text.as_str()) {
                         taken += 1;
                     } else {

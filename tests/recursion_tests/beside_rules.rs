@@ -36,15 +36,15 @@ fn text_of(alloc: Global, characters: &[char], number: usize) -> Result<String, 
 #[test]
 fn brackets_answer_as_rules_do(rt: HostRuntime) {
     for number in 0..1_093 {
-        let text = text_of(rt.alloc(), &['[', ']', 'x'], number).expect(&rt, "want of memory");
+        let text = text_of(rt.alloc(), &['[', ']', 'x'], number).expect(&rt, "out of memory");
         for limit in [1, 3, 10] {
             let rules = by_rules(recursion::depth_within(rt.alloc(), text.as_str(), limit));
-            let of_rules = line_of(rt.alloc(), &rules).expect(&rt, "want of memory");
+            let of_rules = line_of(rt.alloc(), &rules).expect(&rt, "out of memory");
             let calls = descent::depth(rt.alloc(), text.as_str(), limit);
-            let of_calls = line_of(rt.alloc(), &calls).expect(&rt, "want of memory");
+            let of_calls = line_of(rt.alloc(), &calls).expect(&rt, "out of memory");
             assert_eq!(rt; of_calls.as_str(), of_rules.as_str());
             let call = recursive::<_, _, _, RichText>(brackets, limit);
-            let both = answer(&call, rt.alloc(), text.as_str()).expect(&rt, "want of memory");
+            let both = answer(&call, rt.alloc(), text.as_str()).expect(&rt, "out of memory");
             assert_eq!(rt; both.as_str(), of_rules.as_str());
         }
     }
@@ -57,7 +57,7 @@ fn sums_come_to_what_they_do_by_rules(rt: HostRuntime) {
     for number in 0..3_906 {
         let text = text_of(rt.alloc(), &['2', '+', '*', '(', ')'], number).expect(
             &rt,
-            "want of memory",
+            "out of memory",
         );
         if text.as_str().contains("22") {
             continue;

@@ -56,11 +56,11 @@ fn ninety_nine_brackets_are_not_too_deep(rt: HostRuntime) {
     for (brackets, answer) in [(99, None), (100, Some(Stop::TooDeep))] {
         let mut text = String::new(rt.alloc());
         for _ in 0..brackets {
-            text.push('(').expect(&rt, "want of memory");
+            text.push('(').expect(&rt, "out of memory");
         }
-        text.push('1').expect(&rt, "want of memory");
+        text.push('1').expect(&rt, "out of memory");
         for _ in 0..brackets {
-            text.push(')').expect(&rt, "want of memory");
+            text.push(')').expect(&rt, "out of memory");
         }
         match value_of(rt.alloc(), text.as_str()) {
             Ok(parsed) => assert!(rt; answer.is_none() && parsed.output() == Some(&1)),
@@ -99,7 +99,7 @@ fn reports_are_those_of_the_guide(rt: HostRuntime) {
         ),
     ];
     for (text, expected) in rows {
-        let told = told(rt.alloc(), text).expect(&rt, "want of memory");
+        let told = told(rt.alloc(), text).expect(&rt, "out of memory");
         assert_eq!(rt; told.as_str(), expected);
     }
 }

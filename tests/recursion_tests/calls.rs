@@ -79,10 +79,10 @@ fn openings_of(alloc: Global, count: usize) -> Result<String, AllocError> {
 fn a_hundred_thousand_calls_may_be_open(rt: HostRuntime) {
     let limit = 100_000;
     let call = recursive::<_, _, _, RichText>(openings, limit);
-    let text = openings_of(rt.alloc(), limit - 1).expect(&rt, "want of memory");
+    let text = openings_of(rt.alloc(), limit - 1).expect(&rt, "out of memory");
     let checked = call.check(rt.alloc(), text.as_str()).expect(&rt, "refused");
     assert!(rt; checked.has_output());
-    let text = openings_of(rt.alloc(), limit).expect(&rt, "want of memory");
+    let text = openings_of(rt.alloc(), limit).expect(&rt, "out of memory");
     let checked = call.check(rt.alloc(), text.as_str());
     assert!(rt; matches!(checked, Err(Stop::TooDeep)));
 }

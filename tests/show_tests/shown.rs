@@ -50,7 +50,7 @@ pub fn assert_ran<R: Abort + AllocGlobal, P: Program>(
     rows: &[(&str, &[u8], u8, &str, &str)],
 ) {
     for (line, text, status, output, reported) in rows {
-        let answer = ran(program, rt.alloc(), line, text).expect(rt, "want of memory");
+        let answer = ran(program, rt.alloc(), line, text).expect(rt, "out of memory");
         let printed = String::from_utf8(answer.out).expect(rt, "not UTF-8");
         let told = String::from_utf8(answer.err).expect(rt, "not UTF-8");
         assert_eq!(rt; printed.as_str(), *output, "of {text:?}");

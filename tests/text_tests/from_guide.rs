@@ -71,7 +71,7 @@ fn a_month_is_expected_by_its_label(rt: HostRuntime) {
             text: "Sep",
             error,
         };
-        write!(told, "{report}").expect(&rt, "want of memory");
+        write!(told, "{report}").expect(&rt, "out of memory");
     }
     let expected = "log:1:1: expected a month, found 'S'\nSep\n^^^";
     assert_eq!(rt; told.as_str(), expected);

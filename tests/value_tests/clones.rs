@@ -203,7 +203,7 @@ fn a_set_of_a_vec_lets_go(rt: HostRuntime) {
     let counts = make_counts(&rt);
     let letters = vec![in rt.alloc(); letter(&rt, 'a', &counts), letter(&rt, 'b', &counts)].expect(
         &rt,
-        "want of memory",
+        "out of memory",
     );
     let rows = [("ba", 2, 0), ("bx", 1, 0), ("x", 0, 0)];
     assert_of_vec(&rt, letters, &counts, &rows);
@@ -366,9 +366,9 @@ fn the_items_of_an_output_are_let_go(rt: HostRuntime) {
         .collect::<Vec<_>>()
         .into_iter();
     let rows = [("aaa", 3, 3), ("", 0, 0), ("aax", 2, 2)];
-    let again = items.clone().expect(&rt, "want of memory");
+    let again = items.clone().expect(&rt, "out of memory");
     assert_clones(&rt, &again.count(), &counts, &rows);
-    let again = items.clone().expect(&rt, "want of memory");
+    let again = items.clone().expect(&rt, "out of memory");
     assert_clones(&rt, &again.collect::<Vec<_>>(), &counts, &rows);
     let rows = [("aaa", 3, 3), ("aa", 2, 2), ("aaaa", 4, 4)];
     assert_clones(
@@ -389,9 +389,9 @@ fn the_items_of_each_item_are_let_go(rt: HostRuntime) {
         .separated_by(just(','))
         .flatten();
     let rows = [("aa,a", 3, 3), ("a,", 1, 1), ("", 0, 0), ("a,ax", 2, 2)];
-    let again = items.clone().expect(&rt, "want of memory");
+    let again = items.clone().expect(&rt, "out of memory");
     assert_clones(&rt, &again.count(), &counts, &rows);
-    let again = items.clone().expect(&rt, "want of memory");
+    let again = items.clone().expect(&rt, "out of memory");
     assert_clones(&rt, &again.collect::<Vec<_>>(), &counts, &rows);
     let rows = [("a,aa", 3, 3), ("a,a", 2, 2), ("aa,aa", 4, 4)];
     assert_clones(
@@ -479,9 +479,9 @@ impl Configurer<RepeatedCfg, ()> for Three {
 #[test]
 fn a_list_is_configured_once_for_each_iteration(rt: HostRuntime) {
     let none = Calls { made: Cell::new(0) };
-    let calls = Rc::new(rt.alloc(), none).expect(&rt, "want of memory");
+    let calls = Rc::new(rt.alloc(), none).expect(&rt, "out of memory");
     let three = Three {
-        calls: calls.clone().expect(&rt, "want of memory"),
+        calls: calls.clone().expect(&rt, "out of memory"),
     };
     let list = any::<&str, Quiet>().repeated().configure_by(three).count();
     assert!(rt; list.parse(rt.alloc(), "abc").is_ok());
@@ -521,7 +521,7 @@ fn both_ways<R: Abort + AllocGlobal>(rt: &R, counts: &Rc<Counts>) -> ParseResult
         counted_letter(rt, 'e', counts),
         counted_letter(rt, 'f', counts),
     ]
-    .expect(rt, "want of memory");
+    .expect(rt, "out of memory");
     ParseResult {
         output: Some(counted_letter(rt, 'o', counts)),
         errors,

@@ -56,7 +56,7 @@ fn a_choice_is_copied(rt: HostRuntime) {
 #[test]
 fn a_clone_runs_as_the_first_would(rt: HostRuntime) {
     let first = just_char('a').then(one_of("bc").or_not());
-    let cloned = first.clone().expect(&rt, "want of memory");
+    let cloned = first.clone().expect(&rt, "out of memory");
     let rows = [
         ("ac", "ok ('a', Some('c'))"),
         ("x", "error 0..1 expected 'a' found 'x'"),

@@ -33,7 +33,7 @@ pub(crate) fn make_counts<R: Abort + AllocGlobal>(rt: &R) -> Rc<Counts> {
         clones: Cell::new(0),
         alive: Cell::new(0),
     };
-    Rc::new(rt.alloc(), none).expect(rt, "want of memory")
+    Rc::new(rt.alloc(), none).expect(rt, "out of memory")
 }
 
 /// A letter that is counted, unless it is a default one.
@@ -44,7 +44,7 @@ pub(crate) struct Counted {
 
 /// A letter.
 pub(crate) fn counted_letter<R: Abort>(rt: &R, letter: char, counts: &Rc<Counts>) -> Counted {
-    let counts = counts.clone().expect(rt, "want of memory");
+    let counts = counts.clone().expect(rt, "out of memory");
     alive_in(&counts, 1);
     Counted {
         letter,
@@ -142,12 +142,12 @@ where
     for (input, by_parse, by_check) in rows {
         counts.clones.set(0);
         let parsed = parser.parse(rt.alloc(), *input).is_ok();
-        assert!(rt; parsed, "want of memory");
+        assert!(rt; parsed, "out of memory");
         assert_eq!(rt; counts.clones.get(), *by_parse, "by parse");
         assert_eq!(rt; counts.alive.get(), alive, "after parse");
         counts.clones.set(0);
         let checked = parser.check(rt.alloc(), *input).is_ok();
-        assert!(rt; checked, "want of memory");
+        assert!(rt; checked, "out of memory");
         assert_eq!(rt; counts.clones.get(), *by_check, "by check");
         assert_eq!(rt; counts.alive.get(), alive, "after check");
     }

@@ -73,7 +73,7 @@ fn assert_of_vec<'src, R: Abort + AllocGlobal>(
 fn a_set_has_room_for_its_outputs(rt: HostRuntime) {
     let letters = vec![in rt.alloc(); just('a'), just('b'), just('c')].expect(
         &rt,
-        "want of memory",
+        "out of memory",
     );
     assert_of_vec(&rt, letters, &[("cab", "ok ['a', 'b', 'c']")]);
 }

@@ -37,12 +37,12 @@ fn assert_reports<
         let parsed = parser
             .parse(rt.alloc(), *text)
             .ok()
-            .expect(rt, "want of memory");
+            .expect(rt, "out of memory");
         let errors = parsed.errors.as_slice();
-        let printed = reports(rt.alloc(), *text, errors).expect(rt, "want of memory");
+        let printed = reports(rt.alloc(), *text, errors).expect(rt, "out of memory");
         assert_eq!(rt; printed.as_str(), *expected);
-        let lines = LineIndex::new(rt.alloc(), *text).expect(rt, "want of memory");
-        let printed = reports(rt.alloc(), &lines, errors).expect(rt, "want of memory");
+        let lines = LineIndex::new(rt.alloc(), *text).expect(rt, "out of memory");
+        let printed = reports(rt.alloc(), &lines, errors).expect(rt, "out of memory");
         assert_eq!(rt; printed.as_str(), *expected);
     }
 }
@@ -291,7 +291,7 @@ fn a_caret_stands_below_each_character_of_the_span(rt: HostRuntime) {
         (30, 40, "days.txt:3:4: no such day\nend\n   ^"),
     ];
     for (start, end, expected) in rows {
-        let printed = report_of_message(rt.alloc(), text, start, end).expect(&rt, "want of memory");
+        let printed = report_of_message(rt.alloc(), text, start, end).expect(&rt, "out of memory");
         assert_eq!(rt; printed.as_str(), expected);
     }
 }
@@ -316,7 +316,7 @@ fn a_span_over_several_lines_says_to_which_it_goes(rt: HostRuntime) {
         (14, 20, "days.txt:4:5: no such day\nfour\n    ^"),
     ];
     for (start, end, expected) in rows {
-        let printed = report_of_message(rt.alloc(), text, start, end).expect(&rt, "want of memory");
+        let printed = report_of_message(rt.alloc(), text, start, end).expect(&rt, "out of memory");
         assert_eq!(rt; printed.as_str(), expected, "of {start}..{end}");
     }
     let lines = "a\nb\n";
@@ -325,7 +325,7 @@ fn a_span_over_several_lines_says_to_which_it_goes(rt: HostRuntime) {
         (4, "days.txt:1:1: no such day\na\n^ to line 2"),
         (9, "days.txt:1:1: no such day\na\n^ to line 2"),
     ] {
-        let printed = report_of_message(rt.alloc(), lines, 0, end).expect(&rt, "want of memory");
+        let printed = report_of_message(rt.alloc(), lines, 0, end).expect(&rt, "out of memory");
         assert_eq!(rt; printed.as_str(), expected, "of 0..{end}");
     }
 }
@@ -345,7 +345,7 @@ fn the_end_is_shown_behind_the_last_line_that_has_something(rt: HostRuntime) {
         for past in [0, 1, 7] {
             let start = text.len() + past;
             let printed =
-                report_of_message(rt.alloc(), text, start, start).expect(&rt, "want of memory");
+                report_of_message(rt.alloc(), text, start, start).expect(&rt, "out of memory");
             assert_eq!(rt; printed.as_str(), expected, "of {text:?}");
         }
     }
@@ -355,14 +355,14 @@ fn the_end_is_shown_behind_the_last_line_that_has_something(rt: HostRuntime) {
 fn control_characters_of_the_line_show_as_signs(rt: HostRuntime) {
     let text = "\u{1b}[31mr\u{e9}d\0\u{7}\u{9b}\u{7f}\tx\r\nnext";
     let expected = "days.txt:1:9: no such day\n\u{241b}[31mr\u{e9}d\u{2400}\u{2407}\u{fffd}\u{2421}\tx \n        ^^^^^^";
-    let printed = report_of_message(rt.alloc(), text, 9, 16).expect(&rt, "want of memory");
+    let printed = report_of_message(rt.alloc(), text, 9, 16).expect(&rt, "out of memory");
     assert_eq!(rt; printed.as_str(), expected);
 }
 
 /// A span that begins or ends within a character.
 #[test]
 fn a_place_within_a_character_is_where_it_begins(rt: HostRuntime) {
-    let printed = report_of_message(rt.alloc(), "\u{e9}\u{e9}", 3, 4).expect(&rt, "want of memory");
+    let printed = report_of_message(rt.alloc(), "\u{e9}\u{e9}", 3, 4).expect(&rt, "out of memory");
     let expected = "days.txt:1:2: no such day\n\u{e9}\u{e9}\n ^";
     assert_eq!(rt; printed.as_str(), expected);
 }
@@ -408,8 +408,8 @@ fn of_a_long_line_160_characters_are_shown(rt: HostRuntime) {
         (200_000, 100_000, (80, 80), (true, true)),
     ];
     for (length, at, sides, cut) in rows {
-        let printed = report_of_line(rt.alloc(), length, at).expect(&rt, "want of memory");
-        let expected = expected_of_line(rt.alloc(), at, sides, cut).expect(&rt, "want of memory");
+        let printed = report_of_line(rt.alloc(), length, at).expect(&rt, "out of memory");
+        let expected = expected_of_line(rt.alloc(), at, sides, cut).expect(&rt, "out of memory");
         assert_eq!(rt; printed.as_str(), expected.as_str(), "of {length} at {at}");
     }
 }
@@ -428,8 +428,8 @@ fn many_lines(alloc: Global) -> Result<String, AllocError> {
 
 #[test]
 fn an_index_finds_each_place(rt: HostRuntime) {
-    let text = many_lines(rt.alloc()).expect(&rt, "want of memory");
-    let lines = LineIndex::new(rt.alloc(), text.as_str()).expect(&rt, "want of memory");
+    let text = many_lines(rt.alloc()).expect(&rt, "out of memory");
+    let lines = LineIndex::new(rt.alloc(), text.as_str()).expect(&rt, "out of memory");
     let source = &lines;
     for offset in (0..text.len() + 3).step_by(7) {
         assert!(rt;
@@ -474,7 +474,7 @@ fn bytes_are_reported_in_hexadecimal(rt: HostRuntime) {
         ),
     ];
     for (bytes, expected) in rows {
-        let printed = report_of_bytes(rt.alloc(), bytes).expect(&rt, "want of memory");
+        let printed = report_of_bytes(rt.alloc(), bytes).expect(&rt, "out of memory");
         assert!(rt;
             printed.as_ref().map(|it| it.as_str()) == expected,
             "of {bytes:?}"
@@ -483,13 +483,13 @@ fn bytes_are_reported_in_hexadecimal(rt: HostRuntime) {
     let span = SimpleSpan { start: 26, end: 30 };
     let error: Rich<u8> = Rich::custom_in(rt.alloc(), span, "no such block").expect(
         &rt,
-        "want of memory",
+        "out of memory",
     );
     let report = ByteReport {
         name: "blob",
         error: &error,
     };
-    let printed = format!(in rt.alloc(); "{report}").expect(&rt, "want of memory");
+    let printed = format!(in rt.alloc(); "{report}").expect(&rt, "out of memory");
     assert_eq!(rt; printed.as_str(), "blob:26 (0x1a): no such block");
 }
 

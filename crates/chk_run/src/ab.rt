@@ -10,7 +10,7 @@ use chumsky::extra::RichText;
 use chumsky::prelude::*;
 use std::alloc::Global;
 
-/// The two characters of the text, where it is of two such characters. It is refused for want of memory alone.
+/// The two characters of the text, where it is of two such characters. It is refused for memory alone.
 pub fn run_ab(alloc: Global, command: Command, text: &str) -> Result<Answer<(char, char)>, Stop>
     ensures answered { IfOk result (λ answer. AnswersAb command (chars text.now) answer) }
     ensures refused { IfErr result (λ stop. stop ≡ Memory) }

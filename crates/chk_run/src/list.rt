@@ -10,7 +10,7 @@ use chumsky::extra::RichText;
 use chumsky::prelude::*;
 use std::alloc::Global;
 
-/// The digits of each number, where the text is of such numbers. It is refused for want of memory alone.
+/// The digits of each number, where the text is of such numbers. It is refused for memory alone.
 pub fn run_list<'src>(
     alloc: Global,
     command: Command,

@@ -102,7 +102,7 @@ module _ {I Tok Sp Cu Er St Mk Cx V X : Type 0} (source : input_trait.Ghosts I C
 module _ {Tok Cx St Mk Er V X : Type 0} {merged : Er → Er → Er} {safe : Type 0} {mark : St → Mk} {back : St → Mk → St}
     {quiet : Type 0} (meaning : X → Meaning Tok Cx St Er V) {first : X} {wanted : Bool}
     {old : Held Tok Cx St Er} where
-  -- want of memory for the mark
+  -- out of memory at the mark
   pub several-unmarked : (others : List X) {r : Result (Option V) Fault} → (length others ≡ 0 → ⊥) → r ≡ Err (fault.Stop Memory) → (quiet → ⊥)
       → Ran merged safe (FirstOf mark back quiet (meaning first) (map meaning others)) wanted old old r
   several-unmarked [] n e may = absurd (n refl)

@@ -152,7 +152,7 @@ module _ {Tok Cx St Mk Er V : Type 0} {merged : Er → Er → Er} {safe : Type 0
       → Ran merged safe (FirstOf mark back quiet first (next ∷ others)) wanted old new r
   tried-all e h = first_of-marked e h.completes
 
-  -- want of memory for the mark
+  -- out of memory at the mark
   pub first_of-unmarked : {old : Held Tok Cx St Er} {r : Result (Option V) Fault} → r ≡ Err (fault.Stop Memory) → (quiet → ⊥)
       → Ran merged safe (FirstOf mark back quiet first (next ∷ others)) wanted old old r
   first_of-unmarked {old} e may =

@@ -7,7 +7,7 @@ use Rattle.chumsky_parser.specs.ChoiceLaws.{first_from-attempts, first_from-only
 use Rattle.chumsky_combinator.specs.Compared.{MeansNoMore}
 
 module _ {Tok Cx St Er V : Type 0} where
-  -- each outcome of the one is one of the other, want of memory aside
+  -- each outcome of the one is one of the other, refusals for memory aside
   abbrev pub MeansNoMoreButMemory : Meaning Tok Cx St Er V → Meaning Tok Cx St Er V → Type 0
   MeansNoMoreButMemory m n = (b : Beginning Tok Cx St) (o : Outcome V Er St) → (o.verdict ≡ Halt Memory → ⊥) → m b o → n b o
 

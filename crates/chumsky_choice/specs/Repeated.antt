@@ -17,6 +17,6 @@ abbrev pub choice_of : {T : Type 0} → T → Choice T
 choice_of parsers = record { parsers = parsers }
 
 module _ {I Tok Sp Er St Mk Cx V : Type 0} (errors : error_trait.Ghosts Er I Tok Sp) (states : inspector_trait.Ghosts St I Mk Tok Sp) where
-  -- each outcome of the one parser is one of the other, want of memory aside
+  -- each outcome of the one parser is one of the other, refusals for memory aside
   abbrev pub DoesNoMoreButMemory : Does I Tok Sp Er St Mk Cx V → Does I Tok Sp Er St Mk Cx V → Type 0
   DoesNoMoreButMemory one other = MeansNoMoreButMemory (one errors states) (other errors states)

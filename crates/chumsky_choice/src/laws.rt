@@ -12,7 +12,7 @@ use chumsky_input::extra::ParserExtra;
 use chumsky_input::input::Input;
 use chumsky_parser::parser::Parser;
 
-/// `choice((a, b, c))` has the outcomes of `a.or(b).or(c)`, want of memory aside, and no other. It takes one mark where
+/// `choice((a, b, c))` has the outcomes of `a.or(b).or(c)`, refusals for memory aside, and no other. It takes one mark where
 /// that takes two.
 pub fn choice_is_repeated_or<
     'src,

@@ -17,7 +17,7 @@ module _ {Tok Cx St Er V W : Type 0} {merged : Er → Er → Er} {safe : Type 0}
   pub ran-given_in : {w : W} → r ≡ Ok w → Ran merged safe (GivenIn answers (Some v)) wanted old old (Ok (Some w))
   ran-given_in e = ran-weaker merged safe (GivenBy (GivesOk answers) (Some v)) (GivenIn answers (Some v)) wanted old old _ (λ o m. record { cases = inr m }) (ran-given_by (subst (answers v) e h))
 
-  -- want of memory for the value
+  -- out of memory for the value
   pub ran-lacks_in : {e : AllocError} {y : Result (Option W) Fault} → r ≡ Err e → y ≡ Err (fault.Stop Memory) → Ran merged safe (GivenIn answers (Some v)) wanted old old y
   ran-lacks_in {e} d n =
       rw n

@@ -14,17 +14,17 @@ module _ {V W : Type 0} (answers : V → Result W AllocError → Type 0) where
   abbrev pub GivesOk : V → W → Type 0
   GivesOk v w = answers v (Ok w)
 
-  -- that it may answer want of memory, where there is a value
+  -- that it may answer out of memory, where there is a value
   abbrev pub MayLack : Option V → Type 0
   MayLack (Some v) = (e : AllocError) × answers v (Err e)
   MayLack None = ⊥
 
 module _ {Tok Cx St Er V W : Type 0} (answers : V → Result W AllocError → Type 0) where
-  -- what the mapper gives, where there is a value, or want of memory
+  -- what the mapper gives, where there is a value, or out of memory
   pub record GivenIn (v : Option V) (b : Beginning Tok Cx St) (o : Outcome W Er St) : Type 0 where
     pub cases : Refuses (MayLack answers v) b.state o ⊎ GivenBy (GivesOk answers) v b o
 
-  -- the part, and then what the mapper gives for its value, or want of memory
+  -- the part, and then what the mapper gives for its value, or out of memory
   abbrev pub MappedIn : Meaning Tok Cx St Er V → Meaning Tok Cx St Er W
   MappedIn part = Chained part GivenIn
 

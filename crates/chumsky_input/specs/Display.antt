@@ -1,10 +1,15 @@
--- How a `Rich` prints, where `shown` says how a token prints, if that is known.
-use Rattle.std.specs.Prelude.{List, [], ◌∷◌, Option, Some, None, ℕ, codes, string_bytes}
+-- How a span and a `Rich` print, where `shown` says how a token prints, if that is known.
+use Rattle.std.specs.Prelude.{List, [], ◌∷◌, ◌++◌, Option, Some, None, ℕ, codes, decimal, string_bytes}
 use Rattle.std.specs.Fmt.{◌++?◌}
 use Rattle.chumsky_input.specs.Rich.{rich_found, rich_patterns, rich_message}
 use Rattle.chumsky_input.specs.declared.rich.Rich.{Rich}
 use Rattle.chumsky_input.specs.declared.rich.RichPattern.{RichPattern}
 use Rattle.chumsky_input.specs.declared.rich.RichPattern.TheVariants.{Token, Any, SomethingElse, EndOfInput, Label}
+use Rattle.chumsky_input.specs.declared.span.SimpleSpan.{SimpleSpan}
+
+-- a range of offsets, as `4..5`
+abbrev pub span_text : SimpleSpan → List ℕ
+span_text s = decimal s.start ++ (codes ".." ++ decimal s.end)
 
 -- a token between quotes
 abbrev pub token_text : {T : Type 0} → (T → Option (List ℕ)) → T → Option (List ℕ)

@@ -16,7 +16,7 @@ pub record Beginning (Tok Cx St : Type 0) : Type 0 where
   pub context : Cx
   pub state : St
 
--- yes, with a value where one is wanted; no; a refusal; and want of memory to merge that event with an earlier one at its place
+-- yes, with a value where one is wanted; no; a refusal; and out of memory merging that event with an earlier one at its place
 pub data Verdict (V Er : Type 0) : Type 0 where
   Yes : Option V → Verdict V Er
   No : Verdict V Er

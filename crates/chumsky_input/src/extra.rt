@@ -8,6 +8,8 @@ use crate::simple::Simple;
 use crate::spanned_tokens::SpannedTokens;
 use std::marker::PhantomData;
 
+pub use crate::{EmptyText, RichBytes, RichText, RichTokens, SimpleText};
+
 /// The error, the state and the context of parsers over the inputs `I`.
 pub trait ParserExtra<I: Tokens> {
     type Error: Error<I>;
@@ -40,12 +42,6 @@ pub type State<S> = Full<EmptyErr, S, ()>;
 /// A context type alone.
 pub type Context<C> = Full<EmptyErr, (), C>;
 
-/// `Err<Rich<char>>` over a text, as a type of its own.
-///
-/// It says what `Err<Rich<char>>` says over `&str`. The check of a function that runs a parser takes less time with it,
-/// since a type without parameters is looked up at no cost; and so with each below.
-pub struct RichText;
-
 impl<'src> ParserExtra<&'src str> for RichText {
     type Error = Rich<char>;
 
@@ -53,9 +49,6 @@ impl<'src> ParserExtra<&'src str> for RichText {
 
     type Context = ();
 }
-
-/// `Err<Simple<char>>` over a text, as a type of its own.
-pub struct SimpleText;
 
 impl<'src> ParserExtra<&'src str> for SimpleText {
     type Error = Simple<char>;
@@ -65,9 +58,6 @@ impl<'src> ParserExtra<&'src str> for SimpleText {
     type Context = ();
 }
 
-/// `Err<EmptyErr>` over a text, as a type of its own.
-pub struct EmptyText;
-
 impl<'src> ParserExtra<&'src str> for EmptyText {
     type Error = EmptyErr;
 
@@ -76,9 +66,6 @@ impl<'src> ParserExtra<&'src str> for EmptyText {
     type Context = ();
 }
 
-/// `Err<Rich<u8>>` over a slice of bytes, as a type of its own.
-pub struct RichBytes;
-
 impl<'src> ParserExtra<&'src [u8]> for RichBytes {
     type Error = Rich<u8>;
 
@@ -86,9 +73,6 @@ impl<'src> ParserExtra<&'src [u8]> for RichBytes {
 
     type Context = ();
 }
-
-/// `Err<Rich<T>>` over tokens with spans, as a type of its own.
-pub struct RichTokens<T>(PhantomData<T>);
 
 impl<'src, T: SameClone + Drop> ParserExtra<SpannedTokens<'src, T>> for RichTokens<T> {
     type Error = Rich<T>;

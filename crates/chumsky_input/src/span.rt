@@ -1,10 +1,14 @@
 //! Ranges of the input.
-ghost use Rattle.std.specs.Prelude.{◌≡◌};
+ghost use Rattle.std.specs.Prelude.{◌≡◌, Some};
+ghost use Rattle.chumsky_input.specs.Display.{span_text};
 
+use std::fmt;
+use std::fmt::{Debug, Display};
 use std::ops::Range;
 
-/// A range of offsets, from `start` up to `end`. Over a text an offset counts bytes, over a slice it is an index.
-#[derive(Clone, Copy, Debug, PartialEq, Eq)]
+/// A range of offsets, from `start` up to `end`. Over a text an offset counts bytes, over a slice it is an index. It prints as
+/// `4..5`.
+#[derive(Clone, Copy, PartialEq, Eq)]
 pub struct SimpleSpan {
     pub start: usize,
     pub end: usize,
@@ -19,6 +23,22 @@ impl From<Range<usize>> for SimpleSpan {
             start: range.start,
             end: range.end,
         }
+    }
+}
+
+impl Display for SimpleSpan {
+    ghost output = { λ s. Some (span_text s) };
+
+    fn fmt<W: fmt::Write>(&self, f: &mut fmt::Formatter<W>) -> fmt::Result {
+        write!(f, "{}..{}", self.start, self.end)
+    }
+}
+
+impl Debug for SimpleSpan {
+    ghost debug_output = { λ s. Some (span_text s) };
+
+    fn fmt<W: fmt::Write>(&self, f: &mut fmt::Formatter<W>) -> fmt::Result {
+        write!(f, "{}..{}", self.start, self.end)
     }
 }
 

@@ -67,7 +67,7 @@ module _ {I Tok Sp Cu Er St Mk Cx V : Type 0} (source : input_trait.Ghosts I Cu 
         e)
         ∙ ap (λ es. record old { place = old.place; state = states.back h.first.state (states.mark old.state); emitted = es }) cut
 
-    -- want of memory to go back, after either answer
+    -- out of memory going back, after either answer
     pub not_unrestored : {v : Verdict V errors.Seen}
         (went : Went errors.merged errors.takes_no_memory (Asked false part) w old mid v)
         (new : Held Tok Cx states.Seen errors.Seen)

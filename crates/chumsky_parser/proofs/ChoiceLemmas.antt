@@ -114,7 +114,7 @@ module _ {Tok Cx St Mk Er V : Type 0} (merged : Er → Er → Er) (safe : Type 0
   pub stands_at-after : (bk : Held Tok Cx St Er) → StandsAt m old → Ran merged safe first wanted old mid (Err fault.Fail) → bk ≡ gone_back back mid m → StandsAt m bk
   stands_at-after bk at h e = rw e (stands_at-back at h)
 
-  -- want of memory at going back
+  -- out of memory going back
   pub attempt-unrestored : (second : Meaning Tok Cx St Er V) (new : Held Tok Cx St Er) → Ran merged safe first wanted old mid (Err fault.Fail) → new ≡ mid → (quiet → ⊥)
       → Ran merged safe (AttemptFrom back quiet m.mark first second) wanted old new (Err (fault.Stop Memory))
   attempt-unrestored second new h e may =
@@ -135,7 +135,7 @@ module _ {Tok Cx St Mk Er V : Type 0} (merged : Er → Er → Er) (safe : Type 0
       ran-weaker merged safe _ _ wanted old new r (λ o k. inr k)
       (subst (λ (x : Marks Tok Mk). Ran merged safe (part x.mark) wanted old new r) e h)
 
-  -- want of memory for the mark
+  -- out of memory at the mark
   pub ran-not_marked : (quiet → ⊥) → Ran merged safe (ByMark mark quiet part) wanted old old (Err (fault.Stop Memory))
   ran-not_marked may = ran-halts merged safe _ wanted old old (record { tokens = refl; context = refl }) refl (λ o v s. inl (may, v, s))
 
@@ -156,7 +156,7 @@ module _ {Tok Cx St Mk Er V : Type 0} (merged : Er → Er → Er) (safe : Type 0
       let k : Ran merged safe second wanted (gone_back back mid here) new r = subst (λ (x : Held Tok Cx St Er). Ran merged safe second wanted x new r) (n ∙ ap (gone_back back mid) q) l in
       ran-attempt new r (attempt-gone_back merged safe back quiet here first wanted old mid second new r (stands_at-marked mark here old refl) h k)
 
-  -- want of memory at the mark, and at going back
+  -- out of memory at the mark, and going back
   pub ran-unmarked : (new : Held Tok Cx St Er) → new ≡ old → (quiet → ⊥) → Ran merged safe (OrElse mark back quiet first second) wanted old new (Err (fault.Stop Memory))
   ran-unmarked new e may = rw e (ran-halts merged safe _ wanted old old (record { tokens = refl; context = refl }) refl (λ o v s. record { cases = inl (may, v, s) }))
 

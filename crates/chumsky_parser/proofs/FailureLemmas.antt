@@ -25,7 +25,7 @@ module _ {Tok Cx St Er V : Type 0} (merged : Er → Er → Er) (safe : Type 0) (
         same = record { tokens = refl; context = refl };
       }
 
-  -- a refusal for want of memory
+  -- a refusal for memory
   pub ran-halts : (new : Held Tok Cx St Er) → SameRun old new → new.stopped ≡ old.stopped
       → ((o : Outcome V Er St) → o.verdict ≡ Halt Memory → o.state ≡ new.state → meaning (begin wanted old) o) → Ran merged safe meaning wanted old new (Err (fault.Stop Memory))
   ran-halts new same stopped m =

@@ -23,7 +23,7 @@ module _ {Tok Cx St Er V : Type 0} {merged : Er → Er → Er} {safe : Type 0} {
   pub ran-uncopied : Ran merged safe (GivesCopy copies quiet) false old old (Ok None)
   ran-uncopied = ran-yes merged safe (GivesCopy copies quiet) false old None old.place old.state (record { cases = inr (record { value = None; is_value = tt; given = refl }) })
 
-  -- want of memory for the copy
+  -- out of memory for the copy
   pub ran-lacks_copy : (quiet → ⊥) → Ran merged safe (GivesCopy copies quiet) true old old (Err (fault.Stop Memory))
   ran-lacks_copy may = ran-halts merged safe (GivesCopy copies quiet) true old old (record { tokens = refl; context = refl }) refl (λ o v s. record { cases = inl ((refl, may), v, s) })
 

@@ -35,7 +35,7 @@ module _ {Tok Cx St Mk Er V : Type 0} (back : St → Mk → St) (safe : Type 0) 
     pub stands : Stands k first others b o
 
 module _ {Tok Cx St Mk Er V : Type 0} (mark : St → Mk) (safe : Type 0) where
-  -- want of memory for a mark of the beginning, or what is done by that mark
+  -- out of memory for a mark of the beginning, or what is done by that mark
   abbrev pub ByMark : (Mk → Meaning Tok Cx St Er V) → Meaning Tok Cx St Er V
   ByMark part b o = Refuses (safe → ⊥) b.state o ⊎ part (mark b.state) b o
 

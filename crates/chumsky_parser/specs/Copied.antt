@@ -12,7 +12,7 @@ module _ {Tok Cx St Er V : Type 0} (copies : V → Type 0) where
     pub given : Given value b o
 
 module _ {Tok Cx St Er V : Type 0} (copies : V → Type 0) (safe : Type 0) where
-  -- the same, or want of memory for the copy
+  -- the same, or out of memory for the copy
   pub record GivesCopy (b : Beginning Tok Cx St) (o : Outcome V Er St) : Type 0 where
     pub cases : Refuses ((b.wanted ≡ true) × (safe → ⊥)) b.state o ⊎ Copies copies b o
 

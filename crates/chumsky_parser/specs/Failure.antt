@@ -1,4 +1,4 @@
--- How a parser fails, or is refused for want of memory.
+-- How a parser fails, or is refused for memory.
 use Rattle.std.specs.Prelude.{◌≡◌, ℕ, Bool, true, false, Option, Some, None, List, [], ◌∷◌, ◌⊎◌, ⊤, Result, Ok, Err}
 use Rattle.chumsky_input.specs.Layout.{Layout}
 use Rattle.chumsky_input.specs.declared.error.Error as error_trait
@@ -27,11 +27,11 @@ module _ {V Er St : Type 0} where
     pub left : o.state ≡ state
     pub emitted : o.emitted ≡ []
 
-  -- a refusal for want of memory, which the premise tells of
+  -- a refusal for memory, which the premise tells of
   abbrev pub Refuses : Type 0 → St → Outcome V Er St → Type 0
   Refuses may state o = may × (o.verdict ≡ Halt Memory) × (o.state ≡ state)
 
-  -- a failure, or want of memory for its error
+  -- a failure, or out of memory for its error
   abbrev pub Misses : Type 0 → Event Er → ℕ → St → Outcome V Er St → Type 0
   Misses safe e end state o = Refuses (safe → ⊥) state o ⊎ FailsAt e end state o
 

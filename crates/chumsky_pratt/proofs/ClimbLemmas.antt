@@ -24,7 +24,7 @@ use Rattle.chumsky_pratt.specs.ExpressionLaws.{head-ends, level-ends, below-ends
 use Rattle.chumsky_pratt.specs.Climbing.{Begun, tokens_left, Leads, operand_of, whole, prefixes, TriesPrefixes, HasValue, WaitsPrefix}
 
 module _ {Tok Cx St Er V : Type 0} {merged : Er → Er → Er} {quiet : Type 0} {wanted : Bool} where
-  -- a refusal for want of memory of what waits
+  -- a refusal for memory of what waits
   pub waiting-lacks : (part : Meaning Tok Cx St Er V) (now : Held Tok Cx St Er) → Ran merged quiet (Waiting part) wanted now now (Err (fault.Stop Memory))
   waiting-lacks part now = ran-halts merged quiet (Waiting part) wanted now now (record { tokens = refl; context = refl }) refl (λ o v s. inl (tt, v, s))
 

@@ -40,7 +40,7 @@ module _ {I Tok Sp Cu Er St Mk Cx S : Type 0} (source : input_trait.Ghosts I Cu 
       → (o : Outcome Tok errors.Seen states.Seen) → MeansFound source seen safe errors states what found e (begin w old) o → MeansTested source seen safe errors states test what (begin w old) o
   means w found e f p o h = record { by_token = rw (sym f, p) h }
 
-  -- a token that passes, taken by value; the same without one; and want of memory for it
+  -- a token that passes, taken by value; the same without one; and out of memory for it
   pub tested_takes : {found : Option Tok} {t v : Tok} {tokens : Layout Tok} {place : ℕ} (new : Held Tok Cx states.Seen errors.Seen)
       → found ≡ slice_get old.tokens.list old.place → (found ≡ Some t) × (test t ≡ true) → tokens ≡ old.tokens → place ≡ past found old.place → seen v ≡ seen t
       → new ≡ record old { tokens = tokens; place = place; state = states.after old.state t }
@@ -64,7 +64,7 @@ module _ {I Tok Sp Cu Er St Mk Cx S : Type 0} (source : input_trait.Ghosts I Cu 
       ran-weaker errors.merged errors.takes_no_memory _ _ true old old (Err (fault.Stop Memory)) (means true (Some t) true (sym p.0 ∙ e) p.1)
       (any_lacks source (CountsAs seen) safe errors states old old (refl, (t, sym e ∙ p.0, may)))
 
-  -- want of memory to go back from what doesn't pass
+  -- out of memory going back from what doesn't pass
   pub tested_stays : (found : Option Tok) (new : Held Tok Cx states.Seen errors.Seen)
       → found ≡ slice_get old.tokens.list old.place → passes test found ≡ false
       → StaysAt states.takes_no_memory states.after found old new

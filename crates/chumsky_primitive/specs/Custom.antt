@@ -51,7 +51,7 @@ module _ {V Er St : Type 0} where
     pub earlier : o.events ≡ before
     pub state : o.state ≡ whole.state
 
-  -- an outcome; or want of memory to merge its events, or to put its emitted errors after others
+  -- an outcome; or out of memory merging its events, or putting its emitted errors after others
   abbrev pub OrLacksMemory : Outcome V Er St → Outcome V Er St → Type 0
   OrLacksMemory whole o = (o ≡ whole) ⊎ (ClashesAmong whole o ⊎ Refuses (whole.emitted ≡ [] → ⊥) whole.state o)
 

@@ -197,7 +197,7 @@ module _ {I Tok Sp Cu Er St Mk Cx T : Type 0} {source : input_trait.Ghosts I Cu 
               (ran-weaker errors.merged errors.takes_no_memory (TakesFrom source errors states has members pairs d more) (Next (Some (role.Opens d))) w mid new r (λ o m. inr (rw (sym q) m)) k));
         }
 
-    -- want of memory for it
+    -- out of memory for it
     pub nested-full : (d : T) {y : Result (Option (Unit {0})) Fault} → x ≡ Ok (Some (role.Opens d))
         → y ≡ Err (fault.Stop Memory)
         → Ran errors.merged errors.takes_no_memory (TakesNested source errors states has members pairs first) w old mid y

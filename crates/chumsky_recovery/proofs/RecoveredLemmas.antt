@@ -57,7 +57,7 @@ module _ {Tok Cx St Mk Er V : Type 0} (merged : Er → Er → Er) (safe : Type 0
         same = h.same;
       }
 
-  -- want of memory for the mark
+  -- out of memory at the mark
   pub help_not_marked : (new : Held Tok Cx St Er) → new ≡ old → (quiet → ⊥) → Ran merged safe Inner w old new (Err (fault.Stop Memory))
   help_not_marked new e may = rw e (ran-halts merged safe Inner w old old (record { tokens = refl; context = refl }) refl (λ o v s. record { cases = inl (may, v, s) }))
 
@@ -106,7 +106,7 @@ module _ {Tok Cx St Mk Er V : Type 0} (merged : Er → Er → Er) (safe : Type 0
                 (record { attempt = went.first; meant = went.meant; then_help = subst (λ v. ElseHelp merged final back quiet (mark old.state) v help (begin w old) went.first o) (sym went.verdict) k });
           }
 
-      -- want of memory at going back from the part
+      -- out of memory going back from the part
       pub help_not_reached : (new : Held Tok Cx St Er) → new ≡ record mid { kept = None } → (quiet → ⊥) → Ran merged safe Inner w old new (Err (fault.Stop Memory))
       help_not_reached new e may =
           let left : new
@@ -180,7 +180,7 @@ module _ {Tok Cx St Mk Er V : Type 0} (merged : Er → Er → Er) (safe : Type 0
               ∙ ap (λ es. record old { state = back g.first.state (mark old.state); kept = primary merged went.first.events; emitted = es })
               (take-append_seam old.emitted g.first.emitted ∙ sym (append-nil old.emitted)))
 
-          -- want of memory at going back from the help
+          -- out of memory going back from the help
           pub help_not_restored : (new : Held Tok Cx St Er) → Ran merged safe help w bk far (Err fault.Fail) → new ≡ far → (quiet → ⊥) → Ran merged safe Inner w old new (Err (fault.Stop Memory))
           help_not_restored new k e may = refused No (went_no merged safe help w start far (there (Err fault.Fail) k)) new e (λ o i s. inl (may, i, s))
 

@@ -82,7 +82,7 @@ module _ {Tok Cx St Mk Er V : Type 0} (merged : Er → Er → Er) (safe : Type 0
   abbrev Tried : Meaning Tok Cx St Er (Turn V)
   Tried = Retries mark back quiet part
 
-  -- want of memory for the mark
+  -- out of memory at the mark
   pub retries-unmarked : (new : Held Tok Cx St Er) → new ≡ old → (quiet → ⊥) → Ran merged safe Tried w old new (Err (fault.Stop Memory))
   retries-unmarked new e may = rw e (ran-halts merged safe Tried w old old (record { tokens = refl; context = refl }) refl (λ o v s. record { cases = inl (may, v, s) }))
 

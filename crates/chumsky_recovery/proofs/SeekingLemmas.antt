@@ -63,7 +63,7 @@ module _ {Tok Cx St Mk Er V W X : Type 0} {merged : Er → Er → Er} {safe : Ty
       → Ran merged safe (Seeks mark back quiet until skip) w old new r
   seeks {new} {r} h = ran-weaker merged safe (OrElse mark back quiet (Found until) (SkipsOn skip)) (Seeks mark back quiet until skip) w old new r (λ o m. record { run = m }) h
 
-  -- want of memory for the mark
+  -- out of memory at the mark
   pub seeks-unmarked : {new : Held Tok Cx St Er} → new ≡ old → (quiet → ⊥) → Ran merged safe (Seeks {X = X} mark back quiet until skip) w old new (Err (fault.Stop Memory))
   seeks-unmarked {new} e may = seeks (ran-unmarked merged safe mark back quiet (Found until) (SkipsOn skip) w old new e may)
 
@@ -75,7 +75,7 @@ module _ {Tok Cx St Mk Er V W X : Type 0} {merged : Er → Er → Er} {safe : Ty
     pub seeks-stops : {s : Stop} → x ≡ Err (fault.Stop s) → Ran merged safe (Seeks {X = X} mark back quiet until skip) w old mid (Err (fault.Stop s))
     seeks-stops e = seeks (ran-first merged safe mark back quiet (Found until) (SkipsOn skip) w old mid _ (failed (ran-asked h) e refl) (λ z. cc))
 
-    -- want of memory at going back
+    -- out of memory going back
     pub seeks-unrestored : {new : Held Tok Cx St Er} → x ≡ Err fault.Fail → new ≡ mid → (quiet → ⊥) → Ran merged safe (Seeks {X = X} mark back quiet until skip) w old new (Err (fault.Stop Memory))
     seeks-unrestored {new} e n may = seeks (ran-unrestored merged safe mark back quiet (Found until) (SkipsOn skip) w old mid new (failed (ran-asked h) e refl) n may)
 

@@ -20,7 +20,7 @@ abbrev pub of_all : TakesNoMemory
 of_all = record { pair = ⊤; option = ⊤; unit = ⊤; map = λ _. ⊤; list = ⊤; try_map = λ _. ⊤ }
 
 module _ {V W : Type 0} (safe : Type 0) (gives : V → W → Type 0) where
-  -- of a value comes one that is given; or none, for want of memory, unless that is safe
+  -- of a value comes one that is given; or none, out of memory, unless that is safe
   abbrev pub GivesOrNone : V → Option W → Type 0
   GivesOrNone v (Some w) = gives v w
   GivesOrNone v None = safe → ⊥

@@ -21,7 +21,7 @@ map_no_slots shown (x ∷ xs) = ap (λ zs. None ∷ zs) (map_no_slots shown xs)
 module _ {X Tok Cx St Mk Er V W : Type 0} {merged : Er → Er → Er} {safe : Type 0} {mark : St → Mk}
     {back : St → Mk → St} {quiet : Type 0} {meaning : X → Meaning Tok Cx St Er V} {items : W → List V}
     {parts : List X} {wanted : Bool} {old : Held Tok Cx St Er} where
-  -- want of memory for the slots
+  -- out of memory for the slots
   pub ran_no_slots : {r : Result (Option W) Fault} → (length parts ≡ 0 → ⊥) → r ≡ Err (fault.Stop Memory) → Ran merged safe (SetEach mark back quiet meaning items parts) wanted old old r
   ran_no_slots {r} n e =
       rw e (ran-halts merged safe (SetEach mark back quiet meaning items parts) wanted old old (record { tokens = refl; context = refl }) refl (λ o v s. record { cases = inl (n, v, s) }))

@@ -23,11 +23,11 @@ module _ {Tok Cx St Er V W : Type 0} (items : W → List V) where
   FormedAs None b o = Given None b o
 
 module _ {X Tok Cx St Mk Er V W : Type 0} (mark : St → Mk) (back : St → Mk → St) (safe : Type 0) (meaning : X → Meaning Tok Cx St Er V) (items : W → List V) where
-  -- want of memory for the slots, or the parts in any order, of which none is taken, and then their values
+  -- out of memory for the slots, or the parts in any order, of which none is taken, and then their values
   pub record SetEach (parts : List X) (b : Beginning Tok Cx St) (o : Outcome W Er St) : Type 0 where
     pub cases : Refuses (length parts ≡ 0 → ⊥) b.state o ⊎ Chained (AnyOrder (each_part mark back safe meaning parts) (map (λ _. None) parts)) (FormedAs items) b o
 
-  -- every outcome of a meaning is want of memory for the slots, or the parts in any order, in so many rounds at most, the
+  -- every outcome of a meaning is out of memory for the slots, or the parts in any order, in so many rounds at most, the
   -- one that takes none among them
   abbrev pub WithinEach : List X → ℕ → Meaning Tok Cx St Er W → Type 0
   WithinEach parts n m = (b : Beginning Tok Cx St) (o : Outcome W Er St) → m b o

@@ -53,7 +53,7 @@ module _ {I Tok Sp Cu Er Cx St : Type 0} (source : input_trait.Ghosts I Cu Tok S
   ends_told [] old new f e a = let no : ⊥ = cc in absurd no
   ends_told (w ∷ ws) old new f e a = a
 
-  -- a stop there is one for want of memory
+  -- a stop there is one for memory
   pub ends_memory : (what : List (Wanted Tok)) (old new : Held Tok Cx St errors.Seen) (f : Fault)
       → (f ≡ fault.Fail → ⊥) → EndsRun source errors what old new f
       → EndsRun source errors what old new (fault.Stop Memory)

@@ -13,6 +13,6 @@ module _ {Tok Cx St Er V W : Type 0} {merged : Er → Er → Er} {safe : Type 0}
   pub ran-own : {v : V} {w : W} → copies v w → Ran merged safe (OwnCopy copies (Some v)) true old old (Ok (Some w))
   ran-own {v} {w} h = ran-weaker merged safe (GivesCopy (copies v) ⊥) (OwnCopy copies (Some v)) true old old (Ok (Some w)) (λ o m. record { by_value = m }) (ran-copied h)
 
-  -- want of memory for the copy
+  -- out of memory for the copy
   pub ran-lacks_own : {v : V} → Ran merged safe (OwnCopy copies (Some v)) true old old (Err (fault.Stop Memory))
   ran-lacks_own {v} = ran-weaker merged safe (GivesCopy (copies v) ⊥) (OwnCopy copies (Some v)) true old old (Err (fault.Stop Memory)) (λ o m. record { by_value = m }) (ran-lacks_copy (λ x. x))

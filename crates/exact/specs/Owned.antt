@@ -1,4 +1,4 @@
--- What a part gives, copied into a value of its own: the part's words, and want of memory for the copy.
+-- What a part gives, copied into a value of its own: the part's words, and out of memory for the copy.
 -- Main words: Owns, owned_language. Main laws: owns-ends, owns-agrees, owned-accepts. Read first: Mapped.antt and MappedLanguage.antt of chumsky_combinator, Copied.antt of chumsky_parser.
 use Rattle.std.proofs.Common.{Option, Some, None, List, drop, subst, inl, inr}
 use Rattle.std.specs.Prelude.{⊤}
@@ -16,7 +16,7 @@ use Rattle.chumsky_parser.specs.WordsLaws.{map-gives_only}
 use Rattle.chumsky_combinator.specs.MappedLanguage.{MapsSome}
 
 module _ {Tok Cx St Er V W : Type 0} (copies : V → W → Type 0) where
-  -- a copy of the value, where there is one, or want of memory for it
+  -- a copy of the value, where there is one, or out of memory for it
   abbrev pub CopyOf : Option V → Meaning Tok Cx St Er W
   CopyOf (Some v) b o = GivesCopy (copies v) ⊥ b o
   CopyOf None b o = Given None b o
