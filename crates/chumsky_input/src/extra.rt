@@ -6,9 +6,8 @@ use crate::rich::Rich;
 use crate::same::SameClone;
 use crate::simple::Simple;
 use crate::spanned_tokens::SpannedTokens;
-use std::marker::PhantomData;
-
 pub use crate::{EmptyText, RichBytes, RichText, RichTokens, SimpleText};
+use std::marker::PhantomData;
 
 /// The error, the state and the context of parsers over the inputs `I`.
 pub trait ParserExtra<I: Tokens> {

@@ -46,7 +46,9 @@ impl<'src, I: Input<'src>, O, E: ParserExtra<I>, A, P: Moving<'src, I, O, E>> Mo
 
     ghost moved = { λ s _. P.moved s.parser };
 
-    fn always_moves(&self, parser: &A) -> bool {
+    fn always_moves(&self, parser: &A) -> bool
+        ensures { result ≡ P.moves self.now.parser }
+    {
         self.parser.always_moves()
     }
 }
@@ -68,7 +70,9 @@ impl<
 
     ghost moved = { λ s _ e. skip_until-moves _ _ _ _ _ (U.ends_after_start s.until) (S.ends_after_start s.skip) (F.gives s.fallback) (U.moved s.until e) };
 
-    fn always_moves(&self, parser: &A) -> bool {
+    fn always_moves(&self, parser: &A) -> bool
+        ensures { result ≡ U.moves self.now.until }
+    {
         self.until.always_moves()
     }
 }
@@ -88,7 +92,9 @@ impl<
 
     ghost moved = { λ s a _. skip_then_retry-moves _ _ _ _ _ _ (U.ends_after_start s.until) (S.ends_after_start s.skip) (A.ends_after_start a) };
 
-    fn always_moves(&self, parser: &A) -> bool {
+    fn always_moves(&self, parser: &A) -> bool
+        ensures { result ≡ true }
+    {
         true
     }
 }
@@ -108,7 +114,9 @@ impl<
 
     ghost moved = { λ p e. recovered-moves _ _ _ _ _ _ _ (A.moved p.parser (both-true (A.moves p.parser) (S.moves p.strategy p.parser) e).0) (S.moved p.strategy p.parser (both-true (A.moves p.parser) (S.moves p.strategy p.parser) e).1) };
 
-    fn always_moves(&self) -> bool {
+    fn always_moves(&self) -> bool
+        ensures { result ≡ (A.moves self.now.parser && S.moves self.now.strategy self.now.parser) }
+    {
         self.parser.always_moves() && self.strategy.always_moves(&self.parser)
     }
 }
