@@ -45,12 +45,12 @@ fn a_slice_of_bytes_is_a_slice(rt: HostRuntime) {
 #[test]
 fn to_span_gives_where_it_was(rt: HostRuntime) {
     let span = just_text("ab").to_span();
-    assert_answers(&rt, &span, &[("ab", "ok SimpleSpan { start: 0, end: 2 }")]);
+    assert_answers(&rt, &span, &[("ab", "ok 0..2")]);
     let second = just_char('é').ignore_then(just_text("ab").to_span());
     assert_answers(
         &rt,
         &second,
-        &[("éab", "ok SimpleSpan { start: 2, end: 4 }")],
+        &[("éab", "ok 2..4")],
     );
 }
 
@@ -59,20 +59,20 @@ fn spanned_gives_the_output_with_its_span(rt: HostRuntime) {
     let rows = [
         (
             "é",
-            "ok Spanned { inner: 'é', span: SimpleSpan { start: 0, end: 2 } }",
+            "ok Spanned { inner: 'é', span: 0..2 }",
         ),
         ("a", "error 0..1 expected 'é' found 'a'"),
     ];
     assert_answers(&rt, &just_char('é').spanned(), &rows);
     let rows = [(
         "é",
-        "ok Spanned { inner: 'é', span: SimpleSpan { start: 0, end: 2 } }",
+        "ok Spanned { inner: 'é', span: 0..2 }",
     )];
     assert_answers(&rt, &any_char().spanned(), &rows);
     let nothing = empty::<&str, Own>().spanned();
     let rows = [(
         "",
-        "ok Spanned { inner: (), span: SimpleSpan { start: 0, end: 0 } }",
+        "ok Spanned { inner: (), span: 0..0 }",
     )];
     assert_answers(&rt, &nothing, &rows);
 }

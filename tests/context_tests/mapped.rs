@@ -33,7 +33,7 @@ fn pairs_of_a_token_and_its_span_are_an_input(rt: HostRuntime) {
     let rows = [
         (
             map_input(&tokens, END),
-            "ok (((SimpleSpan { start: 2, end: 2 }, SimpleSpan { start: 2, end: 5 }), SimpleSpan { start: 10, end: 16 }), SimpleSpan { start: 20, end: 20 })",
+            "ok (((2..2, 2..5), 10..16), 20..20)",
         ),
         (map_input(&tokens[..2], END), "error 20..20 expected 'c' found end"),
         (map_input(&tokens[1..], END), "error 10..13 expected 'a' found 'b'"),
@@ -49,7 +49,7 @@ fn tokens_of_pairs_are_taken_by_arms_and_by_reference(rt: HostRuntime) {
         'b' = extra => extra.span(),
     };
     let all = any_ref().ignore_then(b).then_ignore(one_of(['b', 'c']));
-    let rows = [(map_input(&tokens, END), "ok SimpleSpan { start: 10, end: 13 }")];
+    let rows = [(map_input(&tokens, END), "ok 10..13")];
     assert_answers(&rt, &all, &rows);
 }
 
@@ -99,7 +99,7 @@ fn elements_of_ones_own_are_taken_apart_by_ones_own_marker(rt: HostRuntime) {
     let lexemes = [a, b];
     let aa = just::<_, MappedInput<'_, Lexeme, ByLength>, OfChars>('a').spanned().repeated().collect::<Vec<_>>();
     let rows = [
-        (map_input(&lexemes[..1], END), "ok [Spanned { inner: 'a', span: SimpleSpan { start: 3, end: 5 } }]"),
+        (map_input(&lexemes[..1], END), "ok [Spanned { inner: 'a', span: 3..5 }]"),
         (map_input(&lexemes, END), "error 7..8 expected 'a', end of input found 'b'"),
     ];
     assert_answers(&rt, &aa, &rows);
@@ -110,10 +110,10 @@ fn spans_of_a_text_at_an_offset_begin_there(rt: HostRuntime) {
     let setting = text::ascii::ident::<OffsetText, OfChars>().then_ignore(just('=')).then(text::int(10).to_span());
     let rows = [
         (text_at(8, "bé=12"), "error 9..11 expected '=' found 'é'"),
-        (text_at(8, "b=12"), "ok (\"b\", SimpleSpan { start: 10, end: 12 })"),
-        (text_at(0, "b=12"), "ok (\"b\", SimpleSpan { start: 2, end: 4 })"),
+        (text_at(8, "b=12"), "ok (\"b\", 10..12)"),
+        (text_at(0, "b=12"), "ok (\"b\", 2..4)"),
         (text_at(8, "b="), "error 10..10 expected int found end"),
-        (text_at(usize::MAX, "b=1"), "ok (\"b\", SimpleSpan { start: 18446744073709551615, end: 18446744073709551615 })"),
+        (text_at(usize::MAX, "b=1"), "ok (\"b\", 18446744073709551615..18446744073709551615)"),
     ];
     assert_answers(&rt, &setting, &rows);
 }
@@ -122,7 +122,7 @@ fn spans_of_a_text_at_an_offset_begin_there(rt: HostRuntime) {
 fn keywords_and_slices_of_a_text_at_an_offset_are_those_of_the_text(rt: HostRuntime) {
     let call = text::ascii::keyword::<OffsetText, OfChars>("let").padded().then(any().repeated().to_slice().spanned());
     let rows = [
-        (text_at(5, " let éa"), "ok (\"let\", Spanned { inner: \"éa\", span: SimpleSpan { start: 10, end: 13 } })"),
+        (text_at(5, " let éa"), "ok (\"let\", Spanned { inner: \"éa\", span: 10..13 })"),
         (text_at(5, "letter"), "error 5..11 expected let found end"),
     ];
     assert_answers(&rt, &call, &rows);
@@ -142,7 +142,7 @@ fn slices_and_spans_of_tokens_are_those_of_the_file(rt: HostRuntime) {
     let token = ident.or(quoted).map_with(|token, extra| (extra.span(), token));
     let rows = [(
         text_at(100, "hello \"world\" these are \"test\" tokens"),
-        "ok [(SimpleSpan { start: 100, end: 105 }, Ident(\"hello\")), \
+        "ok [(100..105, Ident(\"hello\")), \
          (SimpleSpan { start: 106, end: 113 }, Quoted(\"\\\"world\\\"\")), \
          (SimpleSpan { start: 114, end: 119 }, Ident(\"these\")), \
          (SimpleSpan { start: 120, end: 123 }, Ident(\"are\")), \

@@ -35,7 +35,7 @@ fn a_span_goes_from_the_start_of_the_first_token_to_the_end_of_the_last(rt: Host
     let span = just::<_, Chars, RichTokens<char>>('a')
         .ignore_then(just('b').then(just('c')).to_span());
     let line = answer(&span, rt.alloc(), split_spanned(&tokens, END)).expect(&rt, "memory");
-    assert_eq!(rt; line.as_str(), "ok SimpleSpan { start: 10, end: 16 }");
+    assert_eq!(rt; line.as_str(), "ok 10..16");
 }
 
 #[test]
@@ -46,7 +46,7 @@ fn a_span_of_no_token_is_the_point_where_the_next_begins_and_at_the_end_that_whi
         .then(just('a').ignore_then(nothing))
         .then(just('b').then(just('c')).ignore_then(nothing));
     let line = answer(&spans, rt.alloc(), split_spanned(&tokens, END)).expect(&rt, "memory");
-    assert_eq!(rt; line.as_str(), "ok ((SimpleSpan { start: 2, end: 2 }, SimpleSpan { start: 10, end: 10 }), SimpleSpan { start: 20, end: 20 })");
+    assert_eq!(rt; line.as_str(), "ok ((2..2, 10..10), 20..20)");
 }
 
 #[test]
@@ -103,7 +103,7 @@ fn arms_are_of_the_tokens_themselves(rt: HostRuntime) {
         'b' = extra => extra.span(),
     };
     let after = any().ignore_then(b).then_ignore(one_of(['b', 'c']));
-    assert_answers(&rt, &after, &[(split_spanned(&tokens, END), "ok SimpleSpan { start: 10, end: 13 }")]);
+    assert_answers(&rt, &after, &[(split_spanned(&tokens, END), "ok 10..13")]);
 }
 
 #[test]

@@ -55,7 +55,7 @@ fn items_are_made_of_items(rt: HostRuntime) {
         .repeated()
         .map_items_with(|c, extra| (c, extra.span()));
     let spans_of_both =
-        "ok [('a', SimpleSpan { start: 0, end: 1 }), ('b', SimpleSpan { start: 1, end: 2 })]";
+        "ok [('a', 0..1), ('b', 1..2)]";
     let rows = [("ab", spans_of_both)];
     assert_answers(&rt, &spans.collect::<Vec<_>>(), &rows);
     let both = just_char('a')

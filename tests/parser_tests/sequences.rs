@@ -66,7 +66,7 @@ fn an_output_is_mapped(rt: HostRuntime) {
     let paired = any_char().map(|c| (c, 1));
     assert_answers(&rt, &paired, &[("a", "ok ('a', 1)")]);
     let spanned = any_char().map_with(|c, extra| (c, extra.span()));
-    let rows = [("é", "ok ('é', SimpleSpan { start: 0, end: 2 })")];
+    let rows = [("é", "ok ('é', 0..2)")];
     assert_answers(&rt, &spanned, &rows);
     assert_answers(&rt, &just_char('a').ignored(), &[("a", "ok ()")]);
     assert_answers(&rt, &just_char('a').to(1), &[("a", "ok 1")]);

@@ -60,7 +60,7 @@ fn a_fold_may_give_the_span_of_its_operation(rt: HostRuntime) {
         .to_span()
         .pratt((infix_with(left(1), just_char('+'), |_, _, _, extra| extra.span()),));
     let rows = [
-        ("1+2", "ok SimpleSpan { start: 0, end: 3 }"),
+        ("1+2", "ok 0..3"),
         ("1+", "error 2..2 expected '0', '1', '2', '3', '4', '5', '6', '7', '8', '9' found end"),
     ];
     assert_answers(&rt, &places, &rows);

@@ -129,6 +129,13 @@ fn a_range_is_a_span(rt: HostRuntime) {
 }
 
 #[test]
+fn a_span_prints_as_a_range(rt: HostRuntime) {
+    let span = SimpleSpan { start: 4, end: 15 };
+    let printed = format!(in rt.alloc(); "{span} {span:?}").expect(&rt, "out of memory");
+    assert_eq!(rt; printed.as_str(), "4..15 4..15");
+}
+
+#[test]
 fn an_answer_is_expected_and_compared(rt: HostRuntime) {
     let parsed = just::<_, _, RichText>("abc")
         .parse(rt.alloc(), "abc")
