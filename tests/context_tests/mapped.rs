@@ -143,11 +143,11 @@ fn slices_and_spans_of_tokens_are_those_of_the_file(rt: HostRuntime) {
     let rows = [(
         text_at(100, "hello \"world\" these are \"test\" tokens"),
         "ok [(100..105, Ident(\"hello\")), \
-         (SimpleSpan { start: 106, end: 113 }, Quoted(\"\\\"world\\\"\")), \
-         (SimpleSpan { start: 114, end: 119 }, Ident(\"these\")), \
-         (SimpleSpan { start: 120, end: 123 }, Ident(\"are\")), \
-         (SimpleSpan { start: 124, end: 130 }, Quoted(\"\\\"test\\\"\")), \
-         (SimpleSpan { start: 131, end: 137 }, Ident(\"tokens\"))]",
+         (106..113, Quoted(\"\\\"world\\\"\")), \
+         (114..119, Ident(\"these\")), \
+         (120..123, Ident(\"are\")), \
+         (124..130, Quoted(\"\\\"test\\\"\")), \
+         (131..137, Ident(\"tokens\"))]",
     )];
     assert_answers(&rt, &token.padded().repeated().collect::<Vec<_>>(), &rows);
 }
