@@ -323,7 +323,7 @@ static void measure(struct job *job, double seconds) {
 
 static void print(const struct job *job) {
     double megabytes = (double)job->input.length / 1e6;
-    printf("%-19s %8.0f %8.0f %8.2f", job->name, megabytes / job->best[PARSERS], megabytes / job->best[C],
+    printf("%-21s %8.0f %8.0f %8.2f", job->name, megabytes / job->best[PARSERS], megabytes / job->best[C],
            job->best[PARSERS] / job->best[C]);
     if (job->ways[RUST]) printf(" %8.0f %8.2f", megabytes / job->best[RUST], job->best[PARSERS] / job->best[RUST]);
     printf("\n");
@@ -431,6 +431,7 @@ int main(int count, char **arguments) {
         ROWS("slices", slices, slices, lists),
         ROWS("settings", settings, settings, settings),
         ROWS("keys", keys, settings, settings),
+        ROWS("keys rich", keys_rich, settings, settings),
         ROWS("sums", sums, sums, sums),
         ROWS("sums powers", sums_by_powers, sums, sums),
         ROWS("messages", messages, messages, messages),
@@ -442,6 +443,7 @@ int main(int count, char **arguments) {
         ROWS("deep", brackets, brackets, deep),
         ROWS("json", json, json, json),
         ROWS("json calls", called_json, json, json),
+        ROWS("json calls rich", called_json_rich, json, json),
         ROWS("tree", tree, tree, tree),
         ROWS("tree calls", called_tree, tree, tree),
         {"fail EmptyErr", {bench_fail_empty, c_fail, RUST(fail)}, failing, {0}},
@@ -449,7 +451,7 @@ int main(int count, char **arguments) {
     };
     size_t of = sizeof jobs / sizeof *jobs;
     int all_agree = 1;
-    printf("%-19s %8s %8s %8s", "job, MB/s", "parsers", "C", "ratio");
+    printf("%-21s %8s %8s %8s", "job, MB/s", "parsers", "C", "ratio");
     printf(jobs[0].ways[RUST] ? " %8s %8s\n" : "\n", "Rust", "ratio");
     for (size_t each = 0; each < of; each++) {
         if (strncmp(jobs[each].name, only, strlen(only))) continue;

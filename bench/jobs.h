@@ -24,13 +24,15 @@ JOB(brackets);
 JOB(json);
 JOB(tree);
 
-/* By hand, keys are settings, sums have no powers, and no grammar is rules or functions. */
+/* By hand, keys are settings, sums have no powers, no grammar is rules or functions, and no error is kept. */
 #define PARSERS_JOB(name) job_function bench_##name##_parse, bench_##name##_check
 
 PARSERS_JOB(keys);
+PARSERS_JOB(keys_rich);
 PARSERS_JOB(sums_by_powers);
 PARSERS_JOB(called_brackets);
 PARSERS_JOB(called_json);
+PARSERS_JOB(called_json_rich);
 PARSERS_JOB(called_tree);
 
 job_function bench_fail_empty, bench_fail_rich, c_fail, rust_fail;

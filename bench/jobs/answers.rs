@@ -4,6 +4,7 @@ use super::descent::{
     bench_called_brackets_check, bench_called_brackets_parse, bench_called_json_check,
     bench_called_json_parse,
 };
+use super::descent_rich::{bench_called_json_rich_check, bench_called_json_rich_parse};
 use super::descent_trees::{bench_called_tree_check, bench_called_tree_parse};
 use super::grammars::{
     bench_brackets_check, bench_brackets_parse, bench_json_check, bench_json_parse,
@@ -15,7 +16,8 @@ use super::lists::{
 };
 use super::messages::{bench_messages_check, bench_messages_parse};
 use super::settings::{
-    bench_keys_check, bench_keys_parse, bench_settings_check, bench_settings_parse,
+    bench_keys_check, bench_keys_parse, bench_keys_rich_check, bench_keys_rich_parse,
+    bench_settings_check, bench_settings_parse,
 };
 use super::sums::{
     bench_sums_by_powers_check, bench_sums_by_powers_parse, bench_sums_check, bench_sums_parse,
@@ -89,6 +91,11 @@ fn settings_are_keywords_with_values(rt: HostRuntime) {
         bench_keys_check(alloc, settings),
     );
     assert_row(&rt, "keys", answers, (34, 3));
+    let answers = (
+        bench_keys_rich_parse(alloc, settings),
+        bench_keys_rich_check(alloc, settings),
+    );
+    assert_row(&rt, "keys rich", answers, (34, 3));
 }
 
 #[test]
@@ -145,6 +152,11 @@ fn grammars_run_over_the_whole_text(rt: HostRuntime) {
         bench_called_json_check(alloc, json),
     );
     assert_row(&rt, "json by functions", answers, (6, 1));
+    let answers = (
+        bench_called_json_rich_parse(alloc, json),
+        bench_called_json_rich_check(alloc, json),
+    );
+    assert_row(&rt, "json by functions, rich", answers, (6, 1));
     let tree = b"{\"a\": [1, \"b\", true]}";
     let answers = (bench_tree_parse(alloc, tree), bench_tree_check(alloc, tree));
     assert_row(&rt, "tree", answers, (124_995, 1));
@@ -172,4 +184,9 @@ fn what_is_wrong_is_refused(rt: HostRuntime) {
         bench_called_json_check(alloc, json),
     );
     assert_row(&rt, "json by functions", answers, (0, 0));
+    let answers = (
+        bench_called_json_rich_parse(alloc, json),
+        bench_called_json_rich_check(alloc, json),
+    );
+    assert_row(&rt, "json by functions, rich", answers, (0, 0));
 }

@@ -3,13 +3,13 @@ use super::run::once;
 use chumsky::PResult;
 use chumsky::combinator::{Part, part_of, run_part};
 use chumsky::extra::{EmptyText, ParserExtra};
-use chumsky::input::{InputRef, TextRef};
+use chumsky::input::{InputRef, TextRef, ValueInput};
 use chumsky::prelude::*;
 use chumsky::recursive::{RunsUnder, Unsaid};
 use std::alloc::Global;
 
 /// How many calls may be open at once.
-const DEPTH: usize = 1_000;
+pub const DEPTH: usize = 1_000;
 
 /// Any number of pairs, one after another and within one another: how many.
 pub fn brackets<'src>(
@@ -67,13 +67,17 @@ pub fn run_brackets(alloc: Global, bytes: &[u8], wanted: bool) -> u64 {
 
 /// Letters and digits between quotes, which count one.
 #[derive(Clone, Copy)]
-struct Word;
+pub struct Word;
 
-impl<'src> IsParser<&'src str, u64, EmptyText> for Word {}
+impl<I, E> IsParser<I, u64, E> for Word {}
 
-impl<'src> Part<'src, &'src str, u64, EmptyText> for Word {
+impl<'src, I, E> Part<'src, I, u64, E> for Word
+where
+    I: ValueInput<'src, Token = char>,
+    E: ParserExtra<I>,
+{
     #[inline(always)]
-    fn run(&self, wanted: bool, inp: &mut TextRef<'src, '_, EmptyText>) -> PResult<Option<u64>> {
+    fn run(&self, wanted: bool, inp: &mut InputRef<'src, '_, I, E>) -> PResult<Option<u64>> {
         let word = one_of("abcdefghijklmnopqrstuvwxyz0123456789")
             .repeated()
             .delimited_by(one_of("\""), one_of("\""));
@@ -83,13 +87,17 @@ impl<'src> Part<'src, &'src str, u64, EmptyText> for Word {
 
 /// A word, a number, or the name of a value, which counts one.
 #[derive(Clone, Copy)]
-struct Scalar;
+pub struct Scalar;
 
-impl<'src> IsParser<&'src str, u64, EmptyText> for Scalar {}
+impl<I, E> IsParser<I, u64, E> for Scalar {}
 
-impl<'src> Part<'src, &'src str, u64, EmptyText> for Scalar {
+impl<'src, I, E> Part<'src, I, u64, E> for Scalar
+where
+    I: ValueInput<'src, Token = char>,
+    E: ParserExtra<I>,
+{
     #[inline(always)]
-    fn run(&self, wanted: bool, inp: &mut TextRef<'src, '_, EmptyText>) -> PResult<Option<u64>> {
+    fn run(&self, wanted: bool, inp: &mut InputRef<'src, '_, I, E>) -> PResult<Option<u64>> {
         let scalar = choice((
             part_of(Word),
             one_of("0123456789").repeated().at_least(1).to(1),
@@ -103,13 +111,17 @@ impl<'src> Part<'src, &'src str, u64, EmptyText> for Scalar {
 
 /// A comma, a colon or a bracket.
 #[derive(Clone, Copy)]
-struct Mark(char);
+pub struct Mark(char);
 
-impl<'src> IsParser<&'src str, char, EmptyText> for Mark {}
+impl<I, E> IsParser<I, char, E> for Mark {}
 
-impl<'src> Part<'src, &'src str, char, EmptyText> for Mark {
+impl<'src, I, E> Part<'src, I, char, E> for Mark
+where
+    I: ValueInput<'src, Token = char>,
+    E: ParserExtra<I>,
+{
     #[inline(always)]
-    fn run(&self, wanted: bool, inp: &mut TextRef<'src, '_, EmptyText>) -> PResult<Option<char>> {
+    fn run(&self, wanted: bool, inp: &mut InputRef<'src, '_, I, E>) -> PResult<Option<char>> {
         run_part(&just(self.0), wanted, inp)
     }
 }

@@ -6,6 +6,7 @@
 mod answers;
 mod dates;
 mod descent;
+mod descent_rich;
 mod descent_trees;
 mod grammars;
 mod headers;

@@ -1,7 +1,7 @@
 //! How a job runs its parser.
 ghost use Rattle.std.specs.Prelude.{◌<◌};
 
-use chumsky::extra::{EmptyText, ParserExtra};
+use chumsky::extra::ParserExtra;
 use chumsky::input::{Finished, InputRef};
 use chumsky::prelude::*;
 use std::alloc::Global;
@@ -150,9 +150,12 @@ where
 }
 
 /// The output of a run over the whole text, and where it isn't wanted 1; of a text that is refused 0.
-pub fn once<'src, P>(parser: &P, alloc: Global, text: &'src str, wanted: bool) -> u64
+pub fn once<'src, E, P>(parser: &P, alloc: Global, text: &'src str, wanted: bool) -> u64
 where
-    P: IsParser<&'src str, u64, EmptyText> + Parser<'src, &'src str, u64, EmptyText>,
+    E: ParserExtra<&'src str>,
+    E::State: Default + Drop,
+    E::Context: Default + Drop,
+    P: IsParser<&'src str, u64, E> + Parser<'src, &'src str, u64, E>,
     requires { P.ready parser.now }
 {
     if wanted {

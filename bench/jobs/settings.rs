@@ -2,8 +2,8 @@
 use super::run::again;
 use chumsky::PResult;
 use chumsky::combinator::{Part, To, part_of, run_part};
-use chumsky::extra::EmptyText;
-use chumsky::input::TextRef;
+use chumsky::extra::{EmptyText, ParserExtra, RichText};
+use chumsky::input::{InputRef, ValueInput};
 use chumsky::prelude::*;
 use chumsky::primitive::{Choice, Just};
 use std::alloc::Global;
@@ -33,13 +33,25 @@ pub extern "C" fn bench_keys_check(alloc: Global, bytes: &[u8]) -> u64 {
     keys(alloc, bytes, false)
 }
 
-type Word<'src> = To<Just<&'static str, &'src str, EmptyText>, &'static str, u64>;
+/// The sum of `bench_keys_parse`, with errors that say what was expected and found.
+#[unsafe(no_mangle)]
+pub extern "C" fn bench_keys_rich_parse(alloc: Global, bytes: &[u8]) -> u64 {
+    keys_rich(alloc, bytes, true)
+}
 
-fn word<'src>(text: &'static str, number: u64) -> Word<'src> {
+/// The number of lines.
+#[unsafe(no_mangle)]
+pub extern "C" fn bench_keys_rich_check(alloc: Global, bytes: &[u8]) -> u64 {
+    keys_rich(alloc, bytes, false)
+}
+
+type Word<I, E> = To<Just<&'static str, I, E>, &'static str, u64>;
+
+fn word<I, E>(text: &'static str, number: u64) -> Word<I, E> {
     just(text).to(number)
 }
 
-fn keyword<'src>() -> Choice<[Word<'src>; 12]> {
+fn keyword<'src>() -> Choice<[Word<&'src str, EmptyText>; 12]> {
     choice([
         word("host", 1),
         word("port", 2),
@@ -60,11 +72,15 @@ fn keyword<'src>() -> Choice<[Word<'src>; 12]> {
 #[derive(Clone, Copy)]
 struct Key;
 
-impl<'src> IsParser<&'src str, u64, EmptyText> for Key {}
+impl<I, E> IsParser<I, u64, E> for Key {}
 
-impl<'src> Part<'src, &'src str, u64, EmptyText> for Key {
+impl<'src, I, E> Part<'src, I, u64, E> for Key
+where
+    I: ValueInput<'src, Token = char>,
+    E: ParserExtra<I>,
+{
     #[inline(always)]
-    fn run(&self, wanted: bool, inp: &mut TextRef<'src, '_, EmptyText>) -> PResult<Option<u64>> {
+    fn run(&self, wanted: bool, inp: &mut InputRef<'src, '_, I, E>) -> PResult<Option<u64>> {
         let first = choice((
             word("host", 1),
             word("port", 2),
@@ -85,7 +101,7 @@ impl<'src> Part<'src, &'src str, u64, EmptyText> for Key {
     }
 }
 
-fn switch<'src>() -> Choice<[Word<'src>; 2]> {
+fn switch<'src>() -> Choice<[Word<&'src str, EmptyText>; 2]> {
     choice([word("true", 1), word("false", 2)])
 }
 
@@ -108,18 +124,36 @@ fn settings(alloc: Global, bytes: &[u8], wanted: bool) -> u64 {
 
 fn keys(alloc: Global, bytes: &[u8], wanted: bool) -> u64 {
     match std::str::from_utf8(bytes) {
-        Ok(text) => {
-            let digits = one_of('0'..='9').repeated().at_least(1).at_most(4);
-            let count = digits.count().map(|count| count as u64);
-            let value = choice((word("true", 1), word("false", 2))).or(count);
-            let line = group((part_of(Key), just(" = "), value, just('\n'))).map(|(
-                key,
-                _,
-                value,
-                _,
-            ): (u64, &str, u64, char)| key.wrapping_mul(value));
-            again(&line, alloc, text, wanted)
-        }
+        Ok(text) => run_keys::<&str, EmptyText>(alloc, text, wanted),
         Err(_) => 0,
     }
+}
+
+fn keys_rich(alloc: Global, bytes: &[u8], wanted: bool) -> u64 {
+    match std::str::from_utf8(bytes) {
+        Ok(text) => run_keys::<&str, RichText>(alloc, text, wanted),
+        Err(_) => 0,
+    }
+}
+
+fn run_keys<'src, I, E>(alloc: Global, input: I, wanted: bool) -> u64
+where
+    I: ValueInput<'src, Token = char>,
+    E: ParserExtra<I>,
+    E::State: Default + Drop,
+    E::Context: Default + Drop,
+{
+    let digits = one_of::<_, I, E>('0'..='9')
+        .repeated()
+        .at_least(1)
+        .at_most(4);
+    let count = digits.count().map(|count| count as u64);
+    let value = choice((word("true", 1), word("false", 2))).or(count);
+    let line = group((part_of(Key), just(" = "), value, just('\n'))).map(|(key, _, value, _): (
+        u64,
+        &str,
+        u64,
+        char,
+    )| key.wrapping_mul(value));
+    again(&line, alloc, input, wanted)
 }
