@@ -1,12 +1,12 @@
-//! When a length with what it stands before, a head with what stands under it, so many items, and a parser over the whole of an input
-//! that another one gives are ready, and when they are steady, each the contract of a function that does nothing: where their parts
-//! are. And what is known of two outputs that count as the same.
+//! When a length with what it stands before, a head with what stands under it, so many items, a parser that gives an input whose tokens
+//! can be counted, and one over the whole of such an input are ready, and when they are steady, each the contract of a function that
+//! does nothing: where their parts are. And what is known of two outputs that count as the same.
 ghost use Rattle.chumsky_context.specs.Under.{SameAreEqual};
 ghost use Rattle.chumsky_context.specs.Within.{SameOverBoth};
 ghost use Rattle.chumsky_items.specs.Consumers.{SameContents};
 
 use crate::context::{DecidedByWord, ParserUnder};
-use crate::nested::Nested;
+use crate::nested::{Counted, Nested};
 use crate::prefixed::{Headed, Prefixed};
 use crate::so_many::{HowMany, SoMany};
 use chumsky_input::error::Error;
@@ -60,6 +60,22 @@ where
     ensures ready { P.ready so_many.now.item → ⟦<SoMany<P, O, C> as Parser<'src, I, C, E>>⟧.ready so_many.now }
     ensures steady { P.steady so_many.now.item → ⟦<SoMany<P, O, C> as Parser<'src, I, C, E>>⟧.steady so_many.now }
     ensures same { (x y : C) → ⟦<SoMany<P, O, C> as Parser<'src, I, C, E>>⟧.same so_many.now x y → SameContents (P.same so_many.now.item) C.holds x y }
+{}
+
+/// A parser that gives an input whose tokens can be counted is steady where the one in it is. Its outputs that are the same are so to
+/// that one.
+pub fn counted_is_steady<'src, I, J, E, B, C, T, S>(counted: &Counted<B, C, T, S>)
+where
+    I: Input<'src>,
+    J: Input<'src, Cursor = C, Token = T, Span = S> + Copy,
+    C: Copy,
+    T: Drop,
+    S: Drop,
+    E: ParserExtra<I>,
+    B: Parser<'src, I, J, E>,
+    ensures ready { B.ready counted.now.parser → ⟦<Counted<B, C, T, S> as Parser<'src, I, J, E>>⟧.ready counted.now }
+    ensures steady { B.steady counted.now.parser → ⟦<Counted<B, C, T, S> as Parser<'src, I, J, E>>⟧.steady counted.now }
+    ensures same { (x y : J) → ⟦<Counted<B, C, T, S> as Parser<'src, I, J, E>>⟧.same counted.now x y → B.same counted.now.parser x y }
 {}
 
 /// `nested` is steady where both parts are, errors and states count as the same over both inputs alike, and outputs of the outer part
