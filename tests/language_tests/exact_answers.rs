@@ -7,6 +7,7 @@ use exact::level::{Level, parse_level};
 use exact::nested::parse_nested;
 use exact::number::parse_number;
 use exact::pairs::parse_pairs;
+use exact::print_pairs::print_pairs;
 use exact::quoted::{Token, parse_quoted_number};
 use exact::trees::{Tree, parse_tree};
 use std::alloc::{AllocError, Global};
@@ -144,10 +145,15 @@ fn dates_are_read_and_no_other_text_is(rt: HostRuntime) -> Result<(), Fail> {
 #[test]
 fn pairs_of_names_and_numbers_are_read_a_line_each(rt: HostRuntime) -> Result<(), Fail> {
     let alloc = rt.alloc();
-    let accepted: [(&str, &[(&str, &str)]); 5] = [
+    let accepted: [(&str, &[(&str, &str)]); 10] = [
         ("", &[]),
         ("size=10", &[("size", "10")]),
         ("size=10\n", &[("size", "10")]),
+        ("  size =  10 ", &[("size", "10")]),
+        ("size\t=\t10\t\n", &[("size", "10")]),
+        ("a =1\n\tb= 2 \n c\t=\t 3", &[("a", "1"), ("b", "2"), ("c", "3")]),
+        ("a=0 \n", &[("a", "0")]),
+        ("a=1 \n  b=2", &[("a", "1"), ("b", "2")]),
         ("size=10\n_a1=0\nb=7", &[("size", "10"), ("_a1", "0"), ("b", "7")]),
         ("a=1\na=2\n", &[("a", "1"), ("a", "2")]),
     ];
@@ -156,9 +162,29 @@ fn pairs_of_names_and_numbers_are_read_a_line_each(rt: HostRuntime) -> Result<()
         let read = parsed.into_output();
         assert!(rt; read.is_some_and(|read| read.as_slice() == pairs), "{text}");
     }
-    for text in ["\n", "a", "a=", "=1", "a=01", "a=b", "1=a", "a=1\n\n", "\na=1", "a=1 ", "a =1", "a=1\n\nb=2", "a=-1", "ä=1"] {
+    for text in [
+        "\n", "a", "a=", "=1", "a=01", "a=b", "1=a", "a=1\n\n", "\na=1", "a=1\n\nb=2", "a=-1", "ä=1", " ", "a=1\n ", "a b=1", "a=1 2", "a=1 b=2", "a = = 1", "a\n=1", "a=\n1", "a=1\r\n",
+        "a\u{A0}=1",
+    ] {
         let parsed = parse_pairs(alloc, text)?;
         assert!(rt; parsed.into_output().is_none(), "{text}");
+    }
+    Ok(())
+}
+
+#[test]
+fn pairs_are_printed_without_blanks(rt: HostRuntime) -> Result<(), Fail> {
+    let alloc = rt.alloc();
+    let printed: [(&[(&str, &str)], &str); 3] = [
+        (&[], ""),
+        (&[("size", "10")], "size=10\n"),
+        (&[("a", "1"), ("_b2", "0"), ("a", "7")], "a=1\n_b2=0\na=7\n"),
+    ];
+    for (pairs, text) in printed {
+        let written = print_pairs(alloc, pairs)?;
+        assert_eq!(rt; written.as_str(), text);
+        let read = parse_pairs(alloc, written.as_str())?.into_output();
+        assert!(rt; read.is_some_and(|read| read.as_slice() == pairs), "{text}");
     }
     Ok(())
 }

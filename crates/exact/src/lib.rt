@@ -16,6 +16,7 @@ pub mod owned;
 pub mod pairs;
 pub mod print_expression;
 pub mod print_json;
+pub mod print_pairs;
 pub mod quoted;
 pub mod rows;
 pub mod trees;

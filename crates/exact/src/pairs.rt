@@ -10,9 +10,9 @@ use chumsky::extra::EmptyText;
 use chumsky::prelude::*;
 use std::alloc::Global;
 
-/// The names and numbers of a text such as `size=10`, one pair a line, of which the last may be ended too. They are those
-/// that the text says, in order; where it says none so, there is no output. Each text that pairs are written as gives them
-/// back.
+/// The names and numbers of a text such as `size=10`, one pair a line, of which the last may be ended too. Spaces and tabs may stand
+/// around the name, the sign and the number, as in `  size =  10 `. The pairs are those that the text says, in order; where it says
+/// none so, as where a line is empty, there is no output. Each text that pairs are written as, with whatever blanks, gives them back.
 pub fn parse_pairs<'src>(
     alloc: Global,
     text: &'src str,
@@ -21,7 +21,11 @@ pub fn parse_pairs<'src>(
     ensures read_back { (ps : List Pair) → IsPairs (chars text.now) ps → GivesBack pairs_of ps result }
 {
     let name = text::ascii::ident::<&str, EmptyText>();
-    let pair = name.then_ignore(just("=")).then(text::int(10));
-    let lines = pair.separated_by(just("\n")).allow_trailing();
+    let sign = just("=").padded_by(text::inline_whitespace());
+    let line_end = text::inline_whitespace().then_ignore(none_of("\n").not());
+    let number = text::int(10).then_ignore(line_end);
+    let pair = name.then_ignore(sign).then(number);
+    let line = text::inline_whitespace().ignore_then(pair);
+    let lines = line.separated_by(just("\n")).allow_trailing();
     lines.collect::<Vec<(&str, &str)>>().parse(alloc, text)
 }

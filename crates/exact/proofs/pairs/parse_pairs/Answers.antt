@@ -1,15 +1,8 @@
-use Rattle.std.proofs.Common.{true, nat_eq, refl, arith}
-use Rattle.std.specs.Prelude.{codes}
+use Rattle.std.proofs.Common.{◌++◌, refl}
 use Rattle.std.specs.Str.{chars}
 use Rattle.chumsky_parser.specs.ProgressLaws.{never}
-use Rattle.chumsky_primitive.specs.Literals.{equals-same, same-equals}
-use Rattle.chumsky.specs.AcceptedLaws.{exactly-by_words}
-use Rattle.chumsky_exact.specs.Collected.{collected-separated}
-use Rattle.chumsky_exact.specs.Parts.{stops-at, never_goes_on}
-use Rattle.chumsky_exact.specs.ReadBack.{gives_back-by_words}
-use Rattle.chumsky_exact.specs.Rendered.{written-separated}
-use Rattle.exact.specs.Pairs.{IsPair, line, IsPairs, HoldsPairs, pairs_of}
-use Rattle.exact.specs.PairsLaws.{text_of, LineOf, line-is, is-line, pairs-once}
+use Rattle.exact.specs.AtomLaws.{number-stops}
+use Rattle.exact.specs.PairsLaws.{pairs-sound, pairs-complete, newline-follows, pair-follows, sign-follows, blanks-follow, number-follows, end-follows, nothing-follows, read-by_words}
 use Rattle.exact.proofs.pairs.parse_pairs.Goals as goal
 
 pub returns : goal.returns
@@ -18,18 +11,32 @@ returns c =
     let cs = chars c.args.text.now in
     let s = c.separated_by.ensures in
     let p = c.then-pair.ensures in
-    let lists = rw (c.collect.ensures.parser, c.allow_trailing-lines.ensures, s.parser, s.separator) at (c.parse.ensures.3.reads refl) in
-    let bounds = rw (s.at_least, s.at_most, s.leading) at lists in
-    let parts = rw (p.first, p.second) at bounds in
-    let a = rw (c.then_ignore.ensures.second, c.just.ensures, c.just-2.ensures, c.int.ensures) at parts in
-    record {
-      exact = exactly-by_words HoldsPairs a refl
-          (((tt, tt, λ w rest h f. stops-at _ (codes "=") (λ r t. refl) w rest h), tt, λ w rest h f. tt), tt, λ w rest h f. stops-at _ (codes "\n") (λ r t. never_goes_on (nat_eq t 48)) w rest h, λ w rest h f. tt, λ z. never z) (λ t. tt, tt, tt, tt)
-          (λ v w s. (collected-separated text_of line (codes "\n") 0 IsPair _ LineOf line-is (equals-same (codes "\n")) true cs v s).0)
-          (λ v i. written-separated line (codes "\n") 0 IsPair _ _ is-line (same-equals (codes "\n")) true (pairs_of v) cs i.0 i.1 (omega arith));
-      read_back = gives_back-by_words pairs_of IsPairs a refl
-          (((tt, tt, λ w rest h f. stops-at _ (codes "=") (λ r t. refl) w rest h), tt, λ w rest h f. tt), tt, λ w rest h f. stops-at _ (codes "\n") (λ r t. never_goes_on (nat_eq t 48)) w rest h, λ w rest h f. tt, λ z. never z) (λ t. tt, tt, tt, tt)
-          (λ v w s. (collected-separated text_of line (codes "\n") 0 IsPair _ LineOf line-is (equals-same (codes "\n")) true cs v s).0)
-          (pairs-once cs)
-          (λ ps i. written-separated line (codes "\n") 0 IsPair _ _ is-line (same-equals (codes "\n")) true ps cs i.0 i.1 (omega arith));
-    }
+    let n = c.then_ignore-number.ensures in
+    let r = read-by_words (c.parse.ensures.3.reads refl) refl
+    (rw (c.collect.ensures.parser, c.allow_trailing-lines.ensures, s.parser, s.separator, s.leading) (
+    rw (c.ignore_then-line.ensures.second, p.first, p.second, c.then_ignore.ensures.second, c.padded_by-sign.ensures.parser, n.first, n.second, c.then_ignore-line_end.ensures.second, c.not.ensures.parser) (
+    rw (c.just.ensures, c.int.ensures, c.none_of.ensures, c.just-2.ensures) (
+      (
+        tt,
+        (
+          (tt, (tt, (tt, tt, λ w rest h f. tt), λ w rest h f. blanks-follow w rest h), λ w rest h f t. sign-follows w rest h),
+          (tt, (tt, tt, λ w rest h f. nothing-follows w rest h f), λ w rest h f t. number-stops t (w ++ rest) (end-follows w rest h f)),
+          λ w rest h f. number-follows w rest h,
+        ),
+        λ w rest h f. pair-follows w rest h,
+      ),
+      tt,
+      λ w rest h f. newline-follows w rest h,
+      λ w rest h f. tt,
+      λ z. never z,
+    ))))
+    (rw (c.collect.ensures.parser, c.allow_trailing-lines.ensures, s.separator, c.just-2.ensures) (tt, tt, tt, tt))
+    (λ v w h. (
+    let lists = rw (c.collect.ensures.parser, c.allow_trailing-lines.ensures, s.parser, s.separator, s.at_least, s.at_most, s.leading) at h in
+    let parts = rw (c.ignore_then-line.ensures.second, p.first, p.second, c.then_ignore.ensures.second, c.padded_by-sign.ensures.parser, n.first) at lists in
+    pairs-sound cs v (rw (c.just.ensures, c.int.ensures, c.just-2.ensures) at parts)
+    ))
+    (λ ps i. rw (c.collect.ensures.parser, c.allow_trailing-lines.ensures, s.parser, s.separator, s.at_least, s.at_most, s.leading) (
+    rw (c.ignore_then-line.ensures.second, p.first, p.second, c.then_ignore.ensures.second, c.padded_by-sign.ensures.parser, n.first) (
+    rw (c.just.ensures, c.int.ensures, c.just-2.ensures) (pairs-complete cs ps i)))) in
+    record { exact = r.0; read_back = r.1 }
