@@ -1,9 +1,7 @@
-use Rattle.std.proofs.Common.{◌≡◌, ℕ, suc, ◌+◌, ◌<◌, true, List, [], ◌∷◌, ◌++◌, append_assoc, length, get_or, take, map, flat_map, refl, sym, ap, subst, ◌∙◌, arith, string_bytes, inr}
+use Rattle.std.proofs.Common.{◌≡◌, ℕ, true, List, [], ◌∷◌, ◌++◌, append_assoc, map, flat_map, refl, sym, ap, subst, ◌∙◌, string_bytes, inr}
 use Rattle.std.specs.Prelude.{codes}
 use Rattle.std.specs.Str.{chars}
-use Rattle.std.proofs.Math.Seq.{take-suc}
-use Rattle.std.proofs.lemmas.Grind.{flat_map-append}
-use Rattle.std.proofs.lemmas.List.{append-nil, take_all}
+use Rattle.std.proofs.lemmas.List.{take_all}
 use Rattle.std.proofs.lemmas.Str.{chars-nil, chars-IsAscii}
 use Rattle.chumsky_exact.specs.Rendered.{OfEach, Written, each_led}
 use Rattle.exact.specs.AtomLaws.{name-passes, number-passes, passes-ascii}
@@ -50,20 +48,8 @@ lines-say : (ls : List Line) → OfEach IsLine ls → OfEach IsPair (map pair_of
 lines-say [] h = tt
 lines-say (l ∷ ls) h = (h.0.pair, lines-say ls h.1)
 
-one-more : {A : Type 0} (f : A → List ℕ) (xs : List A) (i : ℕ) (x : A) → i < length xs → x ≡ get_or xs i x → flat_map f (take (i + 1) xs) ≡ flat_map f (take i xs) ++ f x
-one-more f xs i x l e =
-    let s : i + 1 ≡ suc i = omega arith in
-    let t = ap (λ n. take n xs) s ∙ take-suc xs i x l ∙ ap (λ z. take i xs ++ (z ∷ [])) (sym e) in
-    ap (flat_map f) t ∙ flat_map-append f (take i xs) (x ∷ []) ∙ ap (λ z. flat_map f (take i xs) ++ z) (append-nil (f x))
-
 pub loop-pair-init : goal.loop-pair-init
 loop-pair-init c = ap chars c.new-text.ensures.bytes ∙ chars-nil
-
-pub loop-pair-preserved : goal.loop-pair-preserved
-loop-pair-preserved c =
-    let f : Slices → List ℕ = λ p. ended (chars p.0.now, chars p.1.now) in
-    let p = c.pair-item in
-    c.in_ok-push_pair.ensures ∙ ap (λ z. z ++ f p.result) c.loop-pair.invariant ∙ sym (one-more f c.args.pairs.now c.loop-pair.pair-index p.result c.loop-pair-test.true p.is)
 
 pub returns : goal.returns
 returns c =

@@ -12,8 +12,8 @@ pair_printed old name number t u v new p q r s =
     let parts = append_assoc ((old ++ name) ++ (61 ∷ [])) number (10 ∷ []) ∙ append_assoc (old ++ name) (61 ∷ []) (number ++ (10 ∷ [])) ∙ append_assoc old name (61 ∷ (number ++ (10 ∷ []))) in
     all ∙ parts ∙ ap (λ z. old ++ (name ++ (61 ∷ (z ++ (10 ∷ []))))) (sym (append-nil number)) ∙ ap (λ z. old ++ z) (sym (append_assoc name (61 ∷ (number ++ [])) (10 ∷ [])))
 
-pub returns-in_ok-push-2 : goal.returns-in_ok-push-2
-returns-in_ok-push-2 c =
+pub returns : goal.returns
+returns c =
     let t = string_bytes c.push_str.new.self in
     let u = string_bytes c.push.new.self in
     let v = string_bytes c.push_str-2.new.self in
