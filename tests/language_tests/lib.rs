@@ -13,6 +13,8 @@ mod exact_numbers;
 #[cfg(test)]
 mod exact_strings;
 #[cfg(test)]
+mod exact_sums;
+#[cfg(test)]
 mod expressions;
 #[cfg(test)]
 mod json_answers;

@@ -1,2 +1,5 @@
 pub mod Steps
 pub mod Worth
+pub mod Sums
+pub mod Lines
+pub mod LinesLaws

@@ -11,6 +11,7 @@ ghost use Rattle.arithmetic.specs.Worth.{paired, AreSteps, HasWorth, worth, Lack
 ghost use Rattle.arithmetic.specs.declared.Value.{out-Value};
 ghost use Rattle.arithmetic.specs.declared.Value.TheVariants as node;
 
+pub mod exact_sum;
 mod leaves;
 mod operators;
 

@@ -1,0 +1,93 @@
+//! Sums that are read exactly.
+use arithmetic::exact_sum::parse_exact_sum;
+use std::alloc::{AllocError, Global};
+use std::test::Fail;
+
+#[test]
+fn what_sums_come_to(rt: HostRuntime) -> Result<(), Fail> {
+    let alloc = rt.alloc();
+    let rows = [
+        ("1", 1),
+        ("2*(3+4)-1", 13),
+        ("2+3*4", 14),
+        ("2*3+4*5-6/2", 23),
+        ("10-2-3", 5),
+        ("10-(2-3)", 11),
+        ("100/5/2*3", 30),
+        ("17%5-17/5", -1),
+        ("007", 7),
+        ("((((1))))", 1),
+        ("(0-7)/2", -3),
+        ("9223372036854775807", 9_223_372_036_854_775_807),
+        ("0-9223372036854775807-1", -9_223_372_036_854_775_808),
+    ];
+    for (text, number) in rows {
+        let parsed = parse_exact_sum(alloc, text)?;
+        assert_eq!(rt; parsed.into_output(), Some(Some(number)), "{text}");
+    }
+    Ok(())
+}
+
+#[test]
+fn what_no_number_holds_is_none(rt: HostRuntime) -> Result<(), Fail> {
+    let alloc = rt.alloc();
+    for text in [
+        "9223372036854775808",
+        "9223372036854775807+1-1",
+        "1+(9223372036854775807+1)*0",
+        "4611686018427387904*2",
+        "1/0",
+        "1%(2-2)+1",
+        "(0-9223372036854775807-1)/(0-1)",
+    ] {
+        let parsed = parse_exact_sum(alloc, text)?;
+        assert_eq!(rt; parsed.into_output(), Some(None), "{text}");
+    }
+    Ok(())
+}
+
+#[test]
+fn other_texts_are_no_sums(rt: HostRuntime) -> Result<(), Fail> {
+    let alloc = rt.alloc();
+    for text in [
+        "", "+", "1+", "+1", "-1", "1++2", "1 + 2", "1 2", "()", "(1", "1)", "(1)2", "2(1)", "1*", "a", "1+a", "1.5", "(1+2)(3)",
+    ] {
+        let parsed = parse_exact_sum(alloc, text)?;
+        assert_eq!(rt; parsed.into_output(), None, "{text}");
+    }
+    Ok(())
+}
+
+/// So many opening brackets, a number, and as many closing ones.
+fn within(alloc: Global, depth: usize) -> Result<String, AllocError> {
+    let mut text = String::new(alloc);
+    for _ in 0..depth {
+        text.push('(')?;
+    }
+    text.push('7')?;
+    for _ in 0..depth {
+        text.push(')')?;
+    }
+    Ok(text)
+}
+
+#[test]
+fn brackets_go_as_deep_as_the_text_is_long(rt: HostRuntime) -> Result<(), Fail> {
+    let alloc = rt.alloc();
+    let text = within(alloc, 10_000)?;
+    let parsed = parse_exact_sum(alloc, text.as_str())?;
+    assert_eq!(rt; parsed.into_output(), Some(Some(7)));
+    Ok(())
+}
+
+#[test]
+fn sums_may_be_long(rt: HostRuntime) -> Result<(), Fail> {
+    let alloc = rt.alloc();
+    let mut text = String::from_str(alloc, "1")?;
+    for _ in 0..3_000 {
+        text.push_str("+2*3-5")?;
+    }
+    let parsed = parse_exact_sum(alloc, text.as_str())?;
+    assert_eq!(rt; parsed.into_output(), Some(Some(3_001)));
+    Ok(())
+}
