@@ -105,13 +105,17 @@ abbrev IsSomeLine : List ℕ → Type 0
 IsSomeLine w = (x : Option ℤ) × (ss : List Signed) × Line w x ss
 
 lines-joined : {u w : List ℕ} → IsSomeLine u → (c : ℕ) → is_sign c ≡ true → IsSomeLine w → IsSomeLine (u ++ (c ∷ w))
-lines-joined {u} {w} (x, ss, l) c o (y, ts, m) = (x, ss ++ (record { sign = c; number = y } ∷ ts), record {
-  part = l.part;
-  rest = l.rest ++ (c ∷ w);
-  all = ap (λ z. z ++ (c ∷ w)) l.all ∙ append_assoc l.part l.rest (c ∷ w);
-  is_part = l.is_part;
-  are_steps = steps-on l.are_steps c o m;
-})
+lines-joined {u} {w} (x, ss, l) c o (y, ts, m) = (
+  x,
+  ss ++ (record { sign = c; number = y } ∷ ts),
+  record {
+    part = l.part;
+    rest = l.rest ++ (c ∷ w);
+    all = ap (λ z. z ++ (c ∷ w)) l.all ∙ append_assoc l.part l.rest (c ∷ w);
+    is_part = l.is_part;
+    are_steps = steps-on l.are_steps c o m;
+  },
+)
 
 part-line : {w : List ℕ} {x : Option ℤ} → IsPart w x → IsSomeLine w
 part-line {w} {x} i = (x, [], record { part = w; rest = []; all = sym (append-nil w); is_part = i; are_steps = none })
