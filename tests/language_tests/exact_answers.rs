@@ -4,6 +4,7 @@ use exact::access::{Content, Purpose, parse_access};
 use exact::bits::parse_bits;
 use exact::date::parse_date;
 use exact::level::{Level, parse_level};
+use exact::method::{Method, parse_method};
 use exact::nested::parse_nested;
 use exact::number::parse_number;
 use exact::pairs::parse_pairs;
@@ -28,6 +29,30 @@ fn four_texts_are_levels_and_no_other_is(rt: HostRuntime) -> Result<(), Fail> {
     }
     for text in ["", "level=", "level=wart", "level=info ", " level=info", "level=infodebug"] {
         let parsed = parse_level(alloc, text)?;
+        assert_eq!(rt; parsed.into_output(), None, "{text}");
+    }
+    Ok(())
+}
+
+#[test]
+fn eight_texts_are_methods_and_no_other_is(rt: HostRuntime) -> Result<(), Fail> {
+    let alloc = rt.alloc();
+    let accepted = [
+        ("GET", Method::Get),
+        ("HEAD", Method::Head),
+        ("POST", Method::Post),
+        ("PUT", Method::Put),
+        ("DELETE", Method::Delete),
+        ("CONNECT", Method::Connect),
+        ("OPTIONS", Method::Options),
+        ("TRACE", Method::Trace),
+    ];
+    for (text, method) in accepted {
+        let parsed = parse_method(alloc, text)?;
+        assert_eq!(rt; parsed.into_output(), Some(method), "{text}");
+    }
+    for text in ["", "G", "get", "PU", "PUTS", "POSTS", "PATCH", "GET ", " GET", "GETHEAD", "TRACK"] {
+        let parsed = parse_method(alloc, text)?;
         assert_eq!(rt; parsed.into_output(), None, "{text}");
     }
     Ok(())

@@ -26,6 +26,7 @@ pub mod JsonWritten
 pub mod JsonWrittenLaws
 pub mod Lawfully
 pub mod Level
+pub mod Method
 pub mod Nested
 pub mod NestedLaws
 pub mod Number

@@ -10,6 +10,7 @@ pub mod json_number;
 pub mod json_string;
 pub mod json_value;
 pub mod level;
+pub mod method;
 pub mod nested;
 pub mod number;
 pub mod owned;

@@ -1,4 +1,4 @@
-use Rattle.std.proofs.Common.{ℕ, List, [], ◌∷◌, refl, rules, inl, inr}
+use Rattle.std.proofs.Common.{ℕ, List, [], ◌∷◌, refl, rules}
 use Rattle.std.specs.Prelude.{codes}
 use Rattle.std.specs.Str.{chars}
 use Rattle.chumsky_exact.specs.Chosen.{Lists, answers-by_table}
@@ -13,10 +13,9 @@ words = (codes "error", Error) ∷ (codes "warn", Warn) ∷ (codes "info", Info)
 pub returns : goal.returns
 unfolding chars
 returns c =
-    let built = rw (c.ignore_then.ensures.first, c.ignore_then.ensures.second, c.choice-level.ensures) at (c.parse.ensures.3.reads refl) in
-    let of_each = rw (c.to.ensures.parser, c.to-2.ensures.parser, c.to-3.ensures.parser, c.to-4.ensures.parser) at built in
-    let valued = rw (c.to.ensures.value, c.to-2.ensures.value, c.to-3.ensures.value, c.to-4.ensures.value) at of_each in
-    let a = rw (c.just.ensures, c.just-2.ensures, c.just-3.ensures, c.just-4.ensures, c.just-5.ensures) at valued in
-    let both = answers-by_table level_text a (codes "level=") words refl (λ v s. s) refl refl (search rules)
-    (λ v. elim v as (λ level. Lists words level) [ Error ↦ inl refl | Warn ↦ inr (inl refl) | Info ↦ inr (inr (inl refl)) | Debug ↦ inr (inr (inr (inl refl))) ]) in
+    let a = c.parse.ensures.3.reads refl in
+    let both = answers-by_table level_text a (codes "level=") words _ (_ ∷ _ ∷ _ ∷ _ ∷ []) refl (λ v s. s) refl
+    (rw (c.ignore_then.ensures.first, c.ignore_then.ensures.second, c.choice-level.ensures, c.to.ensures.parser, c.to-2.ensures.parser, c.to-3.ensures.parser, c.to-4.ensures.parser)
+    (rw (c.to.ensures.value, c.to-2.ensures.value, c.to-3.ensures.value, c.to-4.ensures.value, c.just.ensures, c.just-2.ensures, c.just-3.ensures, c.just-4.ensures, c.just-5.ensures) refl))
+    (search rules) (search rules) (λ v. elim v as (λ level. Lists words level) [ Error ↦ search rules | Warn ↦ search rules | Info ↦ search rules | Debug ↦ search rules ]) in
     record { exact = both.0; answered = both.1 (search rules) (search rules) }
