@@ -57,7 +57,7 @@ module _ {V : Type 0} where
     named (e ∷ es) h v (inr l) = let n = named es h.1 v l in (n.0, n.1, inr n.2)
 
   -- what is so of each word of a table is so of a word with its value
-  of_named : (P : List ℕ → Type 0) (es : List (List ℕ × V)) → OfEach (λ e. P e.0) es → (w : List ℕ) (v : V) → Names es w v → P w
+  pub of_named : (P : List ℕ → Type 0) (es : List (List ℕ × V)) → OfEach (λ e. P e.0) es → (w : List ℕ) (v : V) → Names es w v → P w
   of_named P [] h w v n = absurd n
   of_named P (e ∷ es) h w v (inl n) = subst P (sym n.0) h.0
   of_named P (e ∷ es) h w v (inr n) = of_named P es h.1 w v n

@@ -1,6 +1,6 @@
 -- A set of two choices among fixed words: of just the texts with a word of each, in one order or in the other, the output is their values.
 -- Main words: InEitherOrder, TakenWhole. Main law: answers-by_tables. Read first: Chosen.antt, SetOrders.antt of chumsky_set.
-use Rattle.std.proofs.Common.{◌≡◌, ℕ, None, Some, List, [], ◌∷◌, ◌++◌, sym, ◌∙◌, ap, subst, inl, inr}
+use Rattle.std.proofs.Common.{◌≡◌, ℕ, None, Some, List, [], ◌∷◌, ◌++◌, ◌∙◌, ap, inl, inr}
 use Rattle.std.specs.Prelude.{◌⊎◌, Result}
 use Rattle.chumsky_input.specs.declared.stop.Stop.{Stop}
 use Rattle.chumsky_parser.specs.Ending.{Ender, At}
@@ -10,9 +10,8 @@ use Rattle.chumsky_set.specs.SetLanguage.{set_ends, InAnyOrder}
 use Rattle.chumsky_set.specs.SetOrders.{OneOfEach, set_of_two}
 use Rattle.chumsky.specs.Accepted.{AnswersText, Exactly, NeverRefuses}
 use Rattle.chumsky.specs.AcceptedLaws.{exactly-by_ends, never_refuses-by_ends}
-use Rattle.chumsky_exact.specs.Chosen.{Chosen, chosen_ends, Lists, Spells, chosen-spelled, named}
+use Rattle.chumsky_exact.specs.Chosen.{Chosen, chosen_ends, Lists, Spells, chosen-spelled, named, of_named}
 use Rattle.chumsky_exact.specs.Rendered.{OfEach}
-use Rattle.chumsky_exact.specs.Table.{Names}
 
 -- one text and then another, or the other way round
 abbrev pub InEitherOrder : List ℕ → List ℕ → List ℕ → Type 0
@@ -21,12 +20,6 @@ InEitherOrder a b cs = (cs ≡ a ++ b) ⊎ (cs ≡ b ++ a)
 -- each word of one table with each of another is taken whole, in either order
 abbrev pub TakenWhole : {V W : Type 0} → Ender ℕ → List (List ℕ × V) → List (List ℕ × W) → Type 0
 TakenWhole f firsts seconds = OfEach (λ a. OfEach (λ b. (f (a.0 ++ b.0) ≡ At []) × (f (b.0 ++ a.0) ≡ At [])) seconds) firsts
-
--- what is so of each word of a table is so of a word with its value
-of_named : {V : Type 0} (P : List ℕ → Type 0) (es : List (List ℕ × V)) → OfEach (λ e. P e.0) es → (w : List ℕ) (v : V) → Names es w v → P w
-of_named P [] h w v n = absurd n
-of_named P (e ∷ es) h w v (inl n) = subst P (sym n.0) h.0
-of_named P (e ∷ es) h w v (inr n) = of_named P es h.1 w v n
 
 -- a set of two parsers that take a word of a table each answers just of the texts of their values
 pub answers-by_tables : {V W Er : Type 0} {l : Language ℕ (V × W)} {ts : List ℕ} {spare : Type 0} {result : Result (ParseResult (V × W) Er) Stop}
