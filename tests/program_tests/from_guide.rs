@@ -18,6 +18,7 @@ use guide::laws::token_past;
 use guide::mapping::percent;
 use guide::operators::{listed_sum, sum as sum_by_operators, sum_or_span};
 use guide::parts::{on_or_off, switch_is_steady, ticket, time_of_day};
+use guide::payments::parse_payments;
 use guide::picking::span_past_x;
 use guide::readme::tell_level;
 use guide::recovering::{numbers, numbers_read};
@@ -54,6 +55,24 @@ fn each_line_that_is_no_number_is_reported(rt: HostRuntime) {
     for (text, line) in rows {
         assert_line(&rt, numbers(rt.alloc(), text), line);
         assert_line(&rt, numbers_read(rt.alloc(), text), line);
+    }
+}
+
+#[test]
+fn each_line_that_is_wrong_is_told_in_one_run(rt: HostRuntime) {
+    let rows = [
+        ("7;Ada;1250\n", "ok [Payment { id: 7, name: \"Ada\", cents: 1250 }]"),
+        (
+            "x;Ada;1\n7;;2\n9;Cy;4x\n\n5;Di;7",
+            "ok [Payment { id: 5, name: \"Di\", cents: 7 }]; \
+             error 0..1 expected a number found 'x'; \
+             error 10..11 expected a name found ';'; \
+             error 19..20 expected digit, newline, end of input found 'x'",
+        ),
+        ("", "ok []"),
+    ];
+    for (text, line) in rows {
+        assert_line(&rt, parse_payments(rt.alloc(), text), line);
     }
 }
 

@@ -20,6 +20,7 @@ pub mod laws;
 pub mod mapping;
 pub mod operators;
 pub mod parts;
+pub mod payments;
 pub mod picking;
 pub mod readme;
 pub mod recovering;
