@@ -1,6 +1,41 @@
 -- The rule takes just the sums, and lines come to what sums do.
 -- Main words: leaves, sums, AreSumLeaves. Main laws: leaves-sum, exactly-sum. Read first: Lines.antt, EachWord.antt and ExactlyLaws.antt of chumsky_grammars.
-use Rattle.std.proofs.Common.{◌≡◌, ℕ, ℤ, zero, suc, ◌+◌, ◌*◌, ◌<◌, ◌≤◌, ◌^◌, Bool, true, false, cond, nat_lt, ◌||◌, Option, Some, None, List, [], ◌∷◌, ◌++◌, length, map, drop, refl, sym, ◌∙◌, ap, subst, arith, append_assoc, inl, inr}
+use Rattle.std.proofs.Common.{
+  ◌≡◌,
+  ℕ,
+  ℤ,
+  zero,
+  suc,
+  ◌+◌,
+  ◌*◌,
+  ◌<◌,
+  ◌≤◌,
+  ◌^◌,
+  Bool,
+  true,
+  false,
+  cond,
+  nat_lt,
+  ◌||◌,
+  Option,
+  Some,
+  None,
+  List,
+  [],
+  ◌∷◌,
+  ◌++◌,
+  length,
+  map,
+  refl,
+  sym,
+  ◌∙◌,
+  ap,
+  subst,
+  arith,
+  append_assoc,
+  inl,
+  inr,
+}
 use Rattle.std.proofs.Math.Seq.{drop-append_seam}
 use Rattle.std.proofs.lemmas.Bool.Decides.{nat_tests}
 use Rattle.std.proofs.lemmas.List.{append-nil, length-append, reverse-append}
@@ -36,7 +71,7 @@ use Rattle.arithmetic.specs.Sums.{IsMade, adds, multiplies, IsSum, IsProduct, Is
 use Rattle.arithmetic.specs.Sums.IsSum.{one_product, more_products}
 use Rattle.arithmetic.specs.Sums.IsProduct.{one_part, more_parts}
 use Rattle.arithmetic.specs.Sums.IsPart.{number, brackets}
-use Rattle.arithmetic.specs.Lines.{is_sign, IsClosedAfter, IsClosed, IsStepped, ComesTo, from_part, Extends, IsPair, IsOption, IsRead, IsTotal, IsTotalOf, IsWorkedOut, AreSteps, Line, IsLine, steps_expression, sum_expression}
+use Rattle.arithmetic.specs.Lines.{is_sign, IsClosedAfter, IsClosed, ComesTo, from_part, IsPair, IsOption, IsRead, IsTotalOf, IsWorkedOut, AreSteps, Line, IsLine, steps_expression, sum_expression}
 use Rattle.arithmetic.specs.Lines.AreSteps.{none, step}
 
 -- each sign is of a sum or of a product, and no digit
@@ -68,7 +103,8 @@ onward t q c w = append_assoc t (q ++ (c ∷ [])) w ∙ ap (λ z. t ++ z) (appen
 abbrev Goes : Option Before → List ℕ → Type 0
 Goes b t = (w : List ℕ) (x z : Option ℤ) → IsProduct w x → IsClosedAfter b x z → IsSum (t ++ w) z
 
-goes_on : (b : Option Before) (t q : List ℕ) (x y : Option ℤ) (c : ℕ) → adds c ≡ true → Goes b t → IsProduct q x → IsClosedAfter b x y → Goes (Some (record { sum = y; sign = c })) (t ++ (q ++ (c ∷ [])))
+goes_on : (b : Option Before) (t q : List ℕ) (x y : Option ℤ) (c : ℕ) → adds c ≡ true → Goes b t → IsProduct q x → IsClosedAfter b x y
+    → Goes (Some (record { sum = y; sign = c })) (t ++ (q ++ (c ∷ [])))
 goes_on b t q x y c a h i d w v z j m = subst (λ s. IsSum s z) (append_assoc t q (c ∷ w) ∙ sym (onward t q c w)) (more_products c a (h q x y i d) j m)
 
 -- so much of a line makes a sum of what is left of it
@@ -80,7 +116,8 @@ line-sum none e t q z h i d = rw (append-nil q) (h q e.product z i d)
 line-sum (step {p} {r} {x = y} {ss} c o k a) e t q z h i (f, d, j) = by_kind (adds c) refl d (line-sum a)
   where
     by_kind : (s : Bool) → adds c ≡ s
-        → cond s ((v : Option ℤ) × IsClosed e v × (f ≡ record { before = Some (record { sum = v; sign = c }); product = y })) ((v : Option ℤ) × IsMade e.product c y v × (f ≡ record { before = e.before; product = v }))
+        → cond s ((v : Option ℤ) × IsClosed e v × (f ≡ record { before = Some (record { sum = v; sign = c }); product = y }))
+        ((v : Option ℤ) × IsMade e.product c y v × (f ≡ record { before = e.before; product = v }))
         → GoesOn r ss → IsSum (t ++ (q ++ (c ∷ (p ++ r)))) z
     by_kind true g d again =
         let b : Before = record { sum = d.0; sign = c } in
@@ -249,7 +286,8 @@ leaves-sum = record {
 }
 
 -- so what is made of the answer of a text is exactly what it comes to, under more calls than characters
-pub exactly-sum : {Er : Type 0} {ts : List ℕ} {spare : Type 0} {parsed : Result (ParseResult Piece Er) Stop} (result : Result (ParseResult (Option ℤ) Er) Stop) (ls : List (Language ℕ Piece)) → AreSumLeaves ls
+pub exactly-sum : {Er : Type 0} {ts : List ℕ} {spare : Type 0} {parsed : Result (ParseResult Piece Er) Stop} (result : Result (ParseResult (Option ℤ) Er) Stop)
+    (ls : List (Language ℕ Piece)) → AreSumLeaves ls
     → (limit : ℕ) → length ts < limit → ((over ls limit).said ≡ true → AnswersText Some (over ls limit) ts spare parsed) → IsWorkedOut parsed result → Exactly IsSum ts result
 exactly-sum {Er} {ts} {spare} {parsed} result ls are limit enough reads worked =
     let c = claims_of sum_expression in
@@ -264,7 +302,8 @@ exactly-sum {Er} {ts} {spare} {parsed} result ls are limit enough reads worked =
     by_output None (Some z) i t = absurd t
     by_output None None i t = λ z s. let short : FallsShort {Tok = ℕ} (At []) = subst FallsShort (are.complete limit ts z s enough) i in absurd short
 
-    by_answer : (p : Result (ParseResult Piece Er) Stop) (r : Result (ParseResult (Option ℤ) Er) Stop) → IsAnswerOf Some (over ls limit) ts p → IsWorkedOut p r → ((over ls limit).ends ts ≡ Refused → ⊥) → Exactly IsSum ts r
+    by_answer : (p : Result (ParseResult Piece Er) Stop) (r : Result (ParseResult (Option ℤ) Er) Stop) → IsAnswerOf Some (over ls limit) ts p → IsWorkedOut p r
+        → ((over ls limit).ends ts ≡ Refused → ⊥) → Exactly IsSum ts r
     by_answer (Ok p) (Ok q) i w n = by_output p.output q.output i w
     by_answer (Ok p) (Err t) i w n = absurd w
     by_answer (Err s) (Ok q) i w n = absurd w

@@ -13,4 +13,5 @@ returns-in-Ok c d =
     (k.0, to_z-of_z w64 c.in-Ok.number (subst (FitsSigned w64) (sym k.1) (fits_signed_from_abs w64 _ k.0.1)) ∙ k.1)
 
 pub returns-in-Err : goal.returns-in-Err
-returns-in-Err c d = OkIff-at_err c.parse.result _ _ _ (parse_signed_digits (numerals_by_value (AllDigits 10) tells_digits) w64 c.args.digits.now c.parse.result c.parse.ensures.value.0 d) c.in-Err.is
+returns-in-Err c d =
+    OkIff-at_err c.parse.result _ _ _ (parse_signed_digits (numerals_by_value (AllDigits 10) tells_digits) w64 c.args.digits.now c.parse.result c.parse.ensures.value.0 d) c.in-Err.is
