@@ -22,6 +22,7 @@ use Rattle.chk_run.specs.Request.{request_text}
 use Rattle.chk_run.specs.Ab.{IsAb}
 use Rattle.chk_run.specs.Checked.{HasValue}
 use Rattle.chk_run.specs.Numbers.{IsNumbers, numbers_of}
+use Rattle.chk_run.specs.Decided.{LacksRoom}
 use Rattle.chk_run.specs.Lines.{Tells, pair_text, count_text}
 use Rattle.chk_run.specs.Show.{items_text, refusal_text}
 
@@ -44,12 +45,12 @@ pub record TellsOf (command : Command) (which : Grammar) (cs : List ℕ) (old ne
   pub told : Tells old new errors line status
   pub is : IsLineOf command which cs line
 
--- runs of `ab` and of `list` are refused for memory alone
+-- runs of `ab` and of `list` are refused for memory alone, and those by rules for want of room
 abbrev pub MayRefuse : Grammar → Refusal → Type 0
 MayRefuse grammar.Ab refusal = refusal ≡ reason.Run Why.Memory
 MayRefuse grammar.List refusal = refusal ≡ reason.Run Why.Memory
-MayRefuse grammar.Loops refusal = ⊤
-MayRefuse grammar.Settings refusal = ⊤
+MayRefuse grammar.Loops refusal = LacksRoom refusal
+MayRefuse grammar.Settings refusal = LacksRoom refusal
 
 -- why what is asked for can't be told: the output can't be written, or it is as it was and the run is refused
 abbrev pub TellFails : {W : Type 0} → Grammar → W → W → Failure → Type 0

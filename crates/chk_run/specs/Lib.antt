@@ -8,4 +8,7 @@ pub mod Ab
 pub mod AbLaws
 pub mod Numbers
 pub mod NumbersLaws
+pub mod Rules
+pub mod RulesLaws
+pub mod Decided
 pub mod Answers

@@ -1,13 +1,15 @@
 //! The grammar `loops`: plus signs and pairs of brackets, one after another, with the same between the brackets.
-ghost use Rattle.std.specs.Prelude.{IfOk, ⊤};
+ghost use Rattle.std.specs.Prelude.{◌≡◌, [], IfErr, IfOk, ⊤};
+ghost use Rattle.chk_run.specs.Decided.{LacksRoom};
 ghost use Rattle.chk_run.specs.Request.{IsAnswerTo};
+ghost use Rattle.chk_run.specs.Rules.{HasLoops, MakesGrammar};
 
-use crate::grammar::{Answer, Command, run_parser};
+use crate::grammar::{Answer, Command, run_rules};
 use crate::show::Refusal;
 use chumsky::Stop;
 use chumsky::extra::RichText;
 use chumsky::prelude::*;
-use chumsky::recursive::{Leaves, RecursiveError, Values};
+use chumsky::recursive::{BuildError, Leaves, Node, RecursiveError, Values};
 use std::alloc::{AllocError, Global};
 
 /// The leaves, by number.
@@ -68,24 +70,41 @@ impl Values<SimpleSpan, Rich<char>> for Pairs {
     }
 }
 
+/// Plus signs and pairs, one after another.
+fn body(rules: &mut Rules, loops: Recursive) -> Result<Node, BuildError>
+    requires empty { rules.old.nodes ≡ [] }
+    requires first { loops ≡ 0 }
+    ensures nodes { IfOk result (HasLoops rules.new.nodes) }
+    ensures bodies { rules.new.bodies ≡ rules.old.bodies }
+{
+    let plus = rules.leaf(PLUS)?;
+    let opening = rules.leaf(OPENING)?;
+    let inside = rules.rule(loops)?;
+    let closing = rules.leaf(CLOSING)?;
+    let closed = rules.then(inside, closing)?;
+    let opened = rules.then(opening, closed)?;
+    let pair = rules.map(opened, 0)?;
+    let item = rules.choice(&[plus, pair])?;
+    let all = rules.repeated(item, 0, None)?;
+    Ok(all)
+}
+
 /// The one rule.
-pub(crate) fn loops(rules: &mut Rules) -> Result<Recursive, RecursiveError> {
-    rules.recursive(|rules, loops| {
-        let plus = rules.leaf(PLUS)?;
-        let opening = rules.leaf(OPENING)?;
-        let inside = rules.rule(loops)?;
-        let closing = rules.leaf(CLOSING)?;
-        let closed = rules.then(inside, closing)?;
-        let opened = rules.then(opening, closed)?;
-        let pair = rules.map(opened, 0)?;
-        let item = rules.choice(&[plus, pair])?;
-        rules.repeated(item, 0, None)
-    })
+pub(crate) fn loops(rules: &mut Rules) -> Result<Recursive, RecursiveError>
+    requires nodes { rules.old.nodes ≡ [] }
+    requires bodies { rules.old.bodies ≡ [] }
+    ensures { IfOk result (λ start. MakesGrammar rules.new start 3) }
+{
+    let loops = rules.declare()?;
+    let all = body(rules, loops)?;
+    rules.define(loops, all)?;
+    Ok(loops)
 }
 
 /// How many pairs of brackets the text has.
 pub fn run_loops(alloc: Global, command: Command, text: &str) -> Result<Answer<usize>, Refusal>
-    ensures { IfOk result (λ answer. IsAnswerTo command answer) }
+    ensures answered { IfOk result (λ answer. IsAnswerTo command answer) }
+    ensures refused { IfErr result LacksRoom }
 {
     let mut rules = Rules::new(alloc);
     let Ok(start) = loops(&mut rules) else {
@@ -100,8 +119,5 @@ pub fn run_loops(alloc: Global, command: Command, text: &str) -> Result<Answer<u
         leaves: &leaves,
         values: Pairs,
     };
-    match rules.close_founded(start, &actions, text.chars().count()) {
-        Ok(grammar) => run_parser(&grammar, alloc, command, text).map_err(Refusal::Run),
-        Err(error) => Err(Refusal::Rules(error)),
-    }
+    run_rules(&rules, start, &actions, alloc, command, text)
 }

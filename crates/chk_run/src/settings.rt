@@ -1,12 +1,14 @@
 //! The grammar `settings`: lines of a name, `=` and a value. A value is a number, a name, or values in brackets, with commas
 //! between them and maybe one after the last.
-ghost use Rattle.std.specs.Prelude.{◌≡◌, ◌++◌, All, IfOk, flat_map, decimal, ⊤, IsOk};
+ghost use Rattle.std.specs.Prelude.{◌≡◌, [], ◌++◌, IfErr, IfOk, None, flat_map, decimal, ⊤, IsOk};
 ghost use Rattle.std.specs.Char.{encode_utf8};
+ghost use Rattle.chk_run.specs.Decided.{LacksRoom};
 ghost use Rattle.chk_run.specs.Settings.{InBrackets, Printed, ReadsNumber};
 ghost use Rattle.chk_run.specs.Request.{IsAnswerTo};
+ghost use Rattle.chk_run.specs.Rules.{HasSettings, HasValue, MakesGrammar, first_nodes, list_nodes};
 ghost use Rattle.chk_run.specs.Texts.{text_bytes};
 
-use crate::grammar::{Answer, Command, run_parser};
+use crate::grammar::{Answer, Command, run_rules};
 use crate::show::Refusal;
 use crate::texts::Text;
 use chumsky::Stop;
@@ -14,7 +16,7 @@ use chumsky::combinator::{Map, Mapper, Repeated, ToSlice};
 use chumsky::extra::RichText;
 use chumsky::prelude::*;
 use chumsky::primitive::{Just, OneOf};
-use chumsky::recursive::{BuildError, Leaves, Moving, Node, RecursiveError, SepCfg, Values};
+use chumsky::recursive::{BuildError, Leaves, Node, RecursiveError, SepCfg, Values};
 use either::Either;
 use std::alloc::{AllocError, Global};
 use std::collections::VecDeque;
@@ -176,7 +178,12 @@ const VALUES: SepCfg = SepCfg {
 };
 
 /// Values in brackets.
-fn list(rules: &mut Rules, value: Recursive) -> Result<Node, BuildError> {
+fn list(rules: &mut Rules, value: Recursive) -> Result<Node, BuildError>
+    requires before { rules.old.nodes ≡ first_nodes }
+    requires called { value ≡ 1 }
+    ensures nodes { IfOk result (λ n. (rules.new.nodes ≡ first_nodes ++ list_nodes) × (n ≡ 11)) }
+    ensures bodies { rules.new.bodies ≡ rules.old.bodies }
+{
     let opening = rules.leaf(OPENING)?;
     let inside = rules.rule(value)?;
     let item = rules.map(inside, ITEM)?;
@@ -189,18 +196,27 @@ fn list(rules: &mut Rules, value: Recursive) -> Result<Node, BuildError> {
 }
 
 /// A number, a name, or values in brackets.
-fn value(rules: &mut Rules) -> Result<Recursive, RecursiveError> {
-    rules.recursive(|rules, value| {
-        let digits = rules.leaf(DIGITS)?;
-        let number = rules.try_map(digits, NUMBER)?;
-        let name = rules.leaf(NAME)?;
-        let list = list(rules, value)?;
-        rules.choice(&[number, name, list])
-    })
+fn any_value(rules: &mut Rules, value: Recursive) -> Result<Node, BuildError>
+    requires empty { rules.old.nodes ≡ [] }
+    requires called { value ≡ 1 }
+    ensures nodes { IfOk result (λ n. HasValue rules.new.nodes × (n ≡ 12)) }
+    ensures bodies { rules.new.bodies ≡ rules.old.bodies }
+{
+    let digits = rules.leaf(DIGITS)?;
+    let number = rules.try_map(digits, NUMBER)?;
+    let name = rules.leaf(NAME)?;
+    let list = list(rules, value)?;
+    let any = rules.choice(&[number, name, list])?;
+    Ok(any)
 }
 
-/// A line: a name, `=` and a value.
-fn setting(rules: &mut Rules, value: Recursive) -> Result<Node, BuildError> {
+/// Any number of lines, each a name, `=` and a value.
+fn lines(rules: &mut Rules, value: Recursive) -> Result<Node, BuildError>
+    requires before { HasValue rules.old.nodes }
+    requires called { value ≡ 1 }
+    ensures nodes { IfOk result (λ n. HasSettings rules.new.nodes × (n ≡ 21)) }
+    ensures bodies { rules.new.bodies ≡ rules.old.bodies }
+{
     let name = rules.leaf(NAME)?;
     let named = rules.map(name, SETTING)?;
     let equals = rules.leaf(EQUALS)?;
@@ -208,15 +224,22 @@ fn setting(rules: &mut Rules, value: Recursive) -> Result<Node, BuildError> {
     let line_end = rules.leaf(LINE_END)?;
     let ended = rules.then(given, line_end)?;
     let valued = rules.then(equals, ended)?;
-    rules.then(named, valued)
+    let line = rules.then(named, valued)?;
+    let all = rules.repeated(line, 0, None)?;
+    Ok(all)
 }
 
-/// Any number of lines.
-pub(crate) fn settings(rules: &mut Rules) -> Result<Recursive, RecursiveError> {
+/// The rules of the lines and of their values.
+pub(crate) fn settings(rules: &mut Rules) -> Result<Recursive, RecursiveError>
+    requires nodes { rules.old.nodes ≡ [] }
+    requires bodies { rules.old.bodies ≡ [] }
+    ensures { IfOk result (λ start. MakesGrammar rules.new start 7) }
+{
     let settings = rules.declare()?;
-    let value = value(rules)?;
-    let setting = setting(rules, value)?;
-    let lines = rules.repeated(setting, 0, None)?;
+    let value = rules.declare()?;
+    let any = any_value(rules, value)?;
+    rules.define(value, any)?;
+    let lines = lines(rules, value)?;
     rules.define(settings, lines)?;
     Ok(settings)
 }
@@ -241,7 +264,10 @@ type Word<'src> = Map<
 >;
 
 /// One of these characters or more.
-fn word<'src>(characters: RangeInclusive<char>) -> Word<'src> {
+fn word<'src>(characters: RangeInclusive<char>) -> Word<'src>
+    ensures least { result.parser.parser.at_least ≡ 1 }
+    ensures most { result.parser.parser.at_most ≡ None }
+{
     one_of(characters)
         .repeated()
         .at_least(1)
@@ -266,39 +292,14 @@ fn mark<'src>(mark: char) -> Mark<'src> {
     just(mark).map_by(Unsaid)
 }
 
-/// The settings of the text, by these leaves.
-fn run_over<
-    'src,
-    P: Moving<'src, &'src str, Text<'src>, RichText>,
-    Q: Moving<'src, &'src str, Text<'src>, RichText>,
->(
-    rules: &Rules,
-    start: Recursive,
-    leaves: &[Either<P, Q>],
-    alloc: Global,
-    command: Command,
-    text: &'src str,
-) -> Result<Answer<Text<'src>>, Refusal>
-    requires { All ⟦<Either<P, Q> as Parser<'src, &'src str, Text<'src>, RichText>>⟧.ready leaves.now }
-    ensures { IfOk result (λ answer. IsAnswerTo command answer) }
-{
-    let actions = Leaves {
-        leaves,
-        values: Texts { of: PhantomData },
-    };
-    match rules.close_founded(start, &actions, text.chars().count()) {
-        Ok(grammar) => run_parser(&grammar, alloc, command, text).map_err(Refusal::Run),
-        Err(error) => Err(Refusal::Rules(error)),
-    }
-}
-
 /// The settings of the text, as they are printed.
 pub fn run_settings<'src>(
     alloc: Global,
     command: Command,
     text: &'src str,
 ) -> Result<Answer<Text<'src>>, Refusal>
-    ensures { IfOk result (λ answer. IsAnswerTo command answer) }
+    ensures answered { IfOk result (λ answer. IsAnswerTo command answer) }
+    ensures refused { IfErr result LacksRoom }
 {
     let mut rules = Rules::new(alloc);
     let Ok(start) = settings(&mut rules) else {
@@ -313,5 +314,9 @@ pub fn run_settings<'src>(
         Either::Right(mark(',')),
         Either::Right(mark(']')),
     ];
-    run_over(&rules, start, &leaves, alloc, command, text)
+    let actions = Leaves {
+        leaves: &leaves,
+        values: Texts { of: PhantomData },
+    };
+    run_rules(&rules, start, &actions, alloc, command, text)
 }

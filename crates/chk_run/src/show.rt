@@ -1,6 +1,7 @@
 //! How errors print.
 ghost use Rattle.std.specs.Prelude.{◌≡◌, Some};
 ghost use Rattle.std.specs.Option.{option_copied};
+ghost use Rattle.chk_run.specs.declared.show.Refusal.TheVariants as reason;
 ghost use Rattle.chk_run.specs.Show.{is_plain, symbol_text, pattern_text, patterns_text, found_text, error_text, items_text, stop_text, rules_text, refusal_text};
 
 use chumsky::Stop;
@@ -154,6 +155,14 @@ pub enum Refusal {
     Run(Stop),
     /// The rules make no grammar.
     Rules(FoundedError),
+}
+
+impl From<Stop> for Refusal {
+    ghost from_gives = { λ stop refusal. refusal ≡ reason.Run stop };
+
+    fn from(stop: Stop) -> Refusal {
+        Refusal::Run(stop)
+    }
 }
 
 /// The name of a refusal.
