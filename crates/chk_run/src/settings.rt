@@ -1,8 +1,8 @@
 //! The grammar `settings`: lines of a name, `=` and a value. A value is a number, a name, or values in brackets, with commas
 //! between them and maybe one after the last.
-ghost use Rattle.std.specs.Prelude.{◌≡◌, [], ◌++◌, IfErr, IfOk, None, flat_map, decimal, ⊤, IsOk};
+ghost use Rattle.std.specs.Prelude.{◌≡◌, [], ◌++◌, All, IfErr, IfOk, None, flat_map, decimal, length, true, ⊤, IsOk};
 ghost use Rattle.std.specs.Char.{encode_utf8};
-ghost use Rattle.chk_run.specs.Decided.{LacksRoom};
+ghost use Rattle.chk_run.specs.Decided.{IsDecided, LacksRoom};
 ghost use Rattle.chk_run.specs.Settings.{InBrackets, Printed, ReadsNumber};
 ghost use Rattle.chk_run.specs.Request.{IsAnswerTo};
 ghost use Rattle.chk_run.specs.Rules.{HasSettings, HasValue, MakesGrammar, first_nodes, list_nodes};
@@ -16,7 +16,7 @@ use chumsky::combinator::{Map, Mapper, Repeated, ToSlice};
 use chumsky::extra::RichText;
 use chumsky::prelude::*;
 use chumsky::primitive::{Just, OneOf};
-use chumsky::recursive::{BuildError, Leaves, Node, RecursiveError, SepCfg, Values};
+use chumsky::recursive::{BuildError, Leaves, Moving, Node, RecursiveError, SepCfg, Values};
 use either::Either;
 use std::alloc::{AllocError, Global};
 use std::collections::VecDeque;
@@ -292,6 +292,33 @@ fn mark<'src>(mark: char) -> Mark<'src> {
     just(mark).map_by(Unsaid)
 }
 
+/// The settings of the text, by these leaves.
+fn run_over<
+    'src,
+    P: Moving<'src, &'src str, Text<'src>, RichText>,
+    Q: Moving<'src, &'src str, Text<'src>, RichText>,
+>(
+    rules: &Rules,
+    start: Recursive,
+    leaves: &[Either<P, Q>],
+    alloc: Global,
+    command: Command,
+    text: &'src str,
+) -> Result<Answer<Text<'src>>, Refusal>
+    requires ready { All ⟦<Either<P, Q> as Parser<'src, &'src str, Text<'src>, RichText>>⟧.ready leaves.now }
+    requires decided { All (λ p. IsDecided (⟦<Either<P, Q> as Parser<'src, &'src str, Text<'src>, RichText>>⟧.language p)) leaves.now }
+    requires moving { All (λ p. ⟦<Either<P, Q> as Moving<'src, &'src str, Text<'src>, RichText>>⟧.moves p ≡ true) leaves.now }
+    requires made { MakesGrammar rules.now start (length leaves.now) }
+    ensures answered { IfOk result (λ answer. IsAnswerTo command answer) }
+    ensures refused { IfErr result LacksRoom }
+{
+    let actions = Leaves {
+        leaves,
+        values: Texts { of: PhantomData },
+    };
+    run_rules(rules, start, &actions, alloc, command, text)
+}
+
 /// The settings of the text, as they are printed.
 pub fn run_settings<'src>(
     alloc: Global,
@@ -314,9 +341,5 @@ pub fn run_settings<'src>(
         Either::Right(mark(',')),
         Either::Right(mark(']')),
     ];
-    let actions = Leaves {
-        leaves: &leaves,
-        values: Texts { of: PhantomData },
-    };
-    run_rules(&rules, start, &actions, alloc, command, text)
+    run_over(&rules, start, &leaves, alloc, command, text)
 }

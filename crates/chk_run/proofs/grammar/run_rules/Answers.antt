@@ -17,7 +17,8 @@ returns-in_err-parse-in-Parse-clause-refused g c =
     let whole : length text < 2 ^ 64 = search rules in
     let short : length (chars text) < 2 ^ 64 = omega (arith, fewer, whole) in
     let stops = c.founded_runs_are_refused_as_leaves.ensures.parse _ _ _ c.parse.result fewer c.parse.ensures.3 in
-    rw e (refused-for_memory c.decided_parsers_are_refused_for_memory.ensures c.in-Ok.grammar.actions.now.leaves.now (rw (c.in-Ok.ensures.given.0) c.requires.decided) _ _ short _ (rw (c.in_err-parse-in-Parse.was) at stops))
+    let each = c.decided_parsers_are_refused_for_memory.ensures in
+    rw e (refused-for_memory each c.in-Ok.grammar.actions.now.leaves.now (rw (c.in-Ok.ensures.given.0) c.requires.decided) _ _ short _ (rw (c.in_err-parse-in-Parse.was) at stops))
 
 pub returns-in_err-check-in-Check-clause-refused : goal.returns-in_err-check-in-Check-clause-refused
 returns-in_err-check-in-Check-clause-refused g c =
@@ -27,4 +28,5 @@ returns-in_err-check-in-Check-clause-refused g c =
     let whole : length text < 2 ^ 64 = search rules in
     let short : length (chars text) < 2 ^ 64 = omega (arith, fewer, whole) in
     let stops = c.founded_runs_are_refused_as_leaves.ensures.check _ _ _ c.check.result fewer c.check.ensures.3 in
-    rw e (refused-for_memory c.decided_parsers_are_refused_for_memory.ensures c.in-Ok.grammar.actions.now.leaves.now (rw (c.in-Ok.ensures.given.0) c.requires.decided) _ _ short _ (rw (c.in_err-check-in-Check.was) at stops))
+    let each = c.decided_parsers_are_refused_for_memory.ensures in
+    rw e (refused-for_memory each c.in-Ok.grammar.actions.now.leaves.now (rw (c.in-Ok.ensures.given.0) c.requires.decided) _ _ short _ (rw (c.in_err-check-in-Check.was) at stops))
