@@ -1,6 +1,6 @@
 -- The parser of `ab` accepts just its texts.
 -- Main laws: ab-sound, ab-word, ab-complete. Read first: Ab.antt.
-use Rattle.std.proofs.Common.{◌≡◌, ℕ, true, nat_eq, List, [], ◌∷◌, ◌++◌, ◌⊎◌, inl, inr, refl, ◌∙◌}
+use Rattle.std.proofs.Common.{◌≡◌, ℕ, true, nat_eq, List, [], ◌∷◌, ◌⊎◌, inl, inr, refl, ◌∙◌}
 use Rattle.std.specs.Prelude.{⊤}
 use Rattle.chumsky_parser.specs.Ending.{At}
 use Rattle.chumsky_parser.specs.Words.{Joined, IsOne, then_ends, either_ends}

@@ -8,7 +8,7 @@ use Rattle.chumsky_input.specs.Layout.{Layout}
 use Rattle.chumsky_input.specs.Outcome.{Meaning, Beginning, Outcome, Verdict, Halt}
 use Rattle.chumsky_input.specs.declared.stop.Stop.{Stop}
 use Rattle.chumsky_input.specs.declared.stop.Stop.TheVariants.{Memory}
-use Rattle.chumsky_parser.specs.Ending.{Refused, Within, Answers}
+use Rattle.chumsky_parser.specs.Ending.{Within, Answers}
 use Rattle.chumsky_parser.specs.Language.{Language, Accepts, IsBelow}
 use Rattle.chumsky_rules.specs.Tables.{Tables}
 use Rattle.chumsky_rules.specs.Empty.{IsMarked}

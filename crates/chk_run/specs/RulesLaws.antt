@@ -1,6 +1,6 @@
 -- Rules that make a grammar: each node by its kind.
 use Rattle.std.proofs.Common.{◌≡◌, ℕ, zero, suc, ◌<◌, ◌⊎◌, inl, inr, List, [], ◌∷◌, Bool, true, false, not, Option, Some, None, length, map, slice_get, refl, sym, ap, ◌∙◌, subst, arith}
-use Rattle.std.specs.Prelude.{⊤, Contains, slice_index_or}
+use Rattle.std.specs.Prelude.{⊤, slice_index_or}
 use Rattle.std.specs.List.{AllByRecursion, range_with_len}
 use Rattle.std.proofs.lemmas.List.{get_or_past}
 use Rattle.std.proofs.lemmas.List.FromFn.{get_or-map-range_with_len, length-map-range_with_len}
@@ -8,14 +8,14 @@ use Rattle.std.proofs.lemmas.Option.{slice_get_within, slice_get_cases}
 use Rattle.std.specs.declared.vec.Vec.{Vec}
 use Rattle.std.specs.declared.alloc.Global.{Global}
 use Rattle.chumsky_rules.specs.declared.kinds.NodeKind.{NodeKind}
-use Rattle.chumsky_rules.specs.declared.kinds.NodeKind.TheVariants.{Leaf, Rule, Then, Choice, Repeated, SeparatedBy, OrNot, Not, AndIs, Rewind, Map, TryMap}
+use Rattle.chumsky_rules.specs.declared.kinds.NodeKind.TheVariants.{Leaf, Rule, Then, Choice, Repeated, Map, TryMap}
 use Rattle.chumsky_rules.specs.Tables.{Tables}
 use Rattle.chumsky_rules.specs.Closed.{IsDefined, RefusesToClose}
 use Rattle.chumsky_rules.specs.declared.errors.CloseError.{CloseError}
 use Rattle.chumsky_rules.specs.declared.errors.CloseError.TheVariants.{Undefined, ForeignStart, UnknownLeaf}
 use Rattle.chumsky_rules.specs.Empty.{IsMarked, IsNode, IsEmptyAlone, IsEmptyWith, MayBeEmpty}
 use Rattle.chumsky_rules.specs.Empty.MayBeEmpty.{alone, with_part, with_both}
-use Rattle.chumsky_rules.specs.Founded.{HasEmptyRound, IsEmptyRound}
+use Rattle.chumsky_rules.specs.Founded.{HasEmptyRound}
 use Rattle.chumsky_rules.specs.LeftCalls.{IsLeftPart, LeadsTo, LeftCalls, ComesTo}
 use Rattle.chumsky_rules.specs.LeftCalls.LeadsTo.{there, on}
 use Rattle.chumsky_rules.specs.LeftCalls.ComesTo.{by_call, by_calls}

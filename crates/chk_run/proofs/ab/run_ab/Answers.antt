@@ -1,7 +1,7 @@
 use Rattle.std.proofs.Common.{◌≡◌, ◌∙◌, ◌∷◌, [], refl}
 use Rattle.std.specs.Str.{chars}
 use Rattle.chumsky.specs.AcceptedLaws.{exactly-by_ends}
-use Rattle.chk_run.specs.Ab.{IsAb, AnswersAb}
+use Rattle.chk_run.specs.Ab.{IsAb}
 use Rattle.chk_run.specs.AbLaws.{ab-sound, ab-word, ab-complete}
 use Rattle.chk_run.specs.Checked.{exactly-checked}
 use Rattle.chk_run.proofs.ab.run_ab.Goals as goal

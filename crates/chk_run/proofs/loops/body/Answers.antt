@@ -1,5 +1,4 @@
-use Rattle.std.proofs.Common.{◌≡◌, ◌∙◌, [], ◌∷◌, refl, rules}
-use Rattle.chk_run.specs.Rules.{loops_nodes}
+use Rattle.std.proofs.Common.{◌∙◌, refl, rules}
 use Rattle.chk_run.proofs.loops.body.Goals as goal
 
 pub returns-clause-nodes : goal.returns-clause-nodes

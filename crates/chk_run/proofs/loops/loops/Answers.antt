@@ -1,4 +1,4 @@
-use Rattle.std.proofs.Common.{◌≡◌, ◌∙◌, [], ◌∷◌, Some, None, refl, subst, sym, rules}
+use Rattle.std.proofs.Common.{◌≡◌, [], ◌∷◌, Some, subst, sym, rules}
 use Rattle.chk_run.specs.Rules.{MakesGrammar, loops_nodes}
 use Rattle.chk_run.specs.RulesLaws.{loops-make}
 use Rattle.chk_run.proofs.loops.loops.Goals as goal

@@ -1,4 +1,4 @@
-use Rattle.std.proofs.Common.{◌≡◌, ◌∙◌, [], ◌∷◌, refl, rules}
+use Rattle.std.proofs.Common.{rules}
 use Rattle.chk_run.proofs.settings.lines.Goals as goal
 
 pub returns-clause-nodes : goal.returns-clause-nodes

@@ -1,4 +1,4 @@
-use Rattle.std.proofs.Common.{refl, rules}
+use Rattle.std.proofs.Common.{rules}
 use Rattle.chk_run.proofs.settings.run_settings.Goals as goal
 
 pub run_over-requires : goal.run_over-requires

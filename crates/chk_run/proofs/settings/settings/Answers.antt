@@ -1,4 +1,4 @@
-use Rattle.std.proofs.Common.{◌≡◌, ◌∙◌, [], ◌∷◌, Some, None, refl, subst, sym, rules}
+use Rattle.std.proofs.Common.{◌≡◌, [], ◌∷◌, Some, subst, sym, rules}
 use Rattle.chk_run.specs.Rules.{MakesGrammar, settings_nodes}
 use Rattle.chk_run.specs.RulesLaws.{settings-make}
 use Rattle.chk_run.proofs.settings.settings.Goals as goal
