@@ -230,6 +230,45 @@ fn a_leaf_moves_where_its_parser_says_so(rt: HostRuntime) {
     }
 }
 
+/// A leaf, and then the same again or nothing.
+fn leaf_and_perhaps_again(rules: &mut Rules, again: Recursive) -> Result<Node, BuildError> {
+    let first = rules.leaf(0)?;
+    let call = rules.rule(again)?;
+    let perhaps = rules.or_not(call)?;
+    rules.then(first, perhaps)
+}
+
+/// The rule comes to itself through its one leaf alone, a set: of which one part takes a token, or both may be absent.
+#[test]
+fn a_set_as_a_leaf_moves_where_one_part_does(rt: HostRuntime) {
+    let mut rules = Rules::new(rt.alloc());
+    let start = rules.recursive(leaf_and_perhaps_again).expect(&rt, "refused");
+    let leaves = [set((just_text("a"), just_text("+").or_not())).to(1)];
+    let actions = Leaves {
+        leaves: &leaves,
+        values: Counts,
+    };
+    match rules.close_founded(start, &actions, 5) {
+        Ok(grammar) => {
+            assert_eq!(rt; grammar.limit, 6);
+            let rows = [
+                ("a", "ok 1"),
+                ("a++aa", "ok 3"),
+                ("", "error 0..0 expected 'a', '+' found end"),
+            ];
+            assert_answers(&rt, &grammar, &rows);
+        }
+        Err(_) => assert!(rt; false),
+    }
+    let absent = [set((just_text("a").or_not(), just_text("+").or_not())).to(1)];
+    let actions = Leaves {
+        leaves: &absent,
+        values: Counts,
+    };
+    let refused = rules.close_founded(start, &actions, 5);
+    assert!(rt; matches!(refused, Err(FoundedError::LeftCycle(_))));
+}
+
 #[test]
 fn a_grammar_says_whether_its_rules_are_well_founded(rt: HostRuntime) {
     let leaves = [just_text("a").to(1), just_text("+").to(1)];

@@ -117,6 +117,36 @@ fn a_group_moves_where_one_part_does(rt: HostRuntime) {
 }
 
 #[test]
+fn a_set_moves_where_one_part_does(rt: HostRuntime) {
+    let (a, none) = (|| just_text("a"), || no_text());
+    let parts = vec![in rt.alloc(); none(), a()].expect(&rt, "refused");
+    let stay = vec![in rt.alloc(); none(), none()].expect(&rt, "refused");
+    let mut no_parts = vec![in rt.alloc(); a()].expect(&rt, "refused");
+    no_parts.clear();
+    assert_rows(
+        &rt,
+        &[
+            ("one", moves(set((a(),))), true),
+            ("one, none", moves(set((none(),))), false),
+            ("two, the first", moves(set((a(), none()))), true),
+            ("two, the second", moves(set((none(), a()))), true),
+            ("two, none", moves(set((none(), none()))), false),
+            ("two, one of which may be absent", moves(set((a().or_not(), a()))), true),
+            ("two that may be absent", moves(set((a().or_not(), a().or_not()))), false),
+            ("three", moves(set((none(), a(), none()))), true),
+            ("three, none", moves(set((none(), none(), none()))), false),
+            ("four", moves(set((none(), none(), none(), a()))), true),
+            ("four, none", moves(set((none(), none(), none(), none()))), false),
+            ("an array", moves::<ArrayVec<&str, 2>, _>(set([none(), a()])), true),
+            ("an array, none", moves::<ArrayVec<&str, 2>, _>(set([none(), none()])), false),
+            ("a vector", moves::<Vec<&str>, _>(set(parts)), true),
+            ("a vector, none", moves::<Vec<&str>, _>(set(stay)), false),
+            ("a vector of no parts", moves::<Vec<&str>, _>(set(no_parts)), false),
+        ],
+    );
+}
+
+#[test]
 fn a_choice_moves_where_each_alternative_does(rt: HostRuntime) {
     let (a, none) = (|| just_text("a"), || no_text());
     let letters = [a(), a()];
@@ -238,7 +268,10 @@ fn a_list_moves_where_it_has_an_item_that_does(rt: HostRuntime) {
             ("then_items, no minimum", moves(a().repeated().then_items(a().repeated().at_least(1)).count()), false),
             ("enumerate", moves(a().repeated().at_least(1).enumerate().count()), true),
             ("into_iter", moves(a().map(Some).into_iter().count()), true),
-            ("flatten", moves(a().map(Some).repeated().at_least(1).flatten().count()), false),
+            ("flatten", moves(a().map(Some).repeated().at_least(1).flatten().count()), true),
+            ("flatten, no minimum", moves(a().map(Some).repeated().flatten().count()), false),
+            ("flatten of an output", moves(a().map(|c| Some(Some(c))).into_iter().flatten().count()), true),
+            ("flatten, none", moves(none().map(Some).repeated().at_least(1).flatten().count()), false),
         ],
     );
 }
@@ -297,7 +330,6 @@ fn what_goes_back_is_not_said_to_move(rt: HostRuntime) {
             ("or_not", moves(a().or_not()), false),
             ("not", moves(a().not()), false),
             ("rewind", moves(a().rewind()), false),
-            ("set", moves(set((a(), a()))), false),
             ("by reference", moves(&letter), false),
             ("in a box", moves(boxed), true),
             ("in a box, none", moves(boxed_end), false),

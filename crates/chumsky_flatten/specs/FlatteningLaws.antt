@@ -7,13 +7,15 @@ use Rattle.chumsky_parser.specs.Choice.{ElseFrom, AttemptFrom, OrElse}
 use Rattle.chumsky_parser.specs.ChoiceLaws.{or_else-ends}
 use Rattle.chumsky_parser.specs.Failure.{SaysNo, Stops}
 use Rattle.chumsky_parser.specs.FailureLaws.{stops-ends, stops-agrees, no-ends}
-use Rattle.chumsky_parser.specs.Items.{Next, More, End, SameNext, ItemsEnd, ItemsAgree}
+use Rattle.chumsky_parser.specs.Items.{Next, More, End, AfterStep, SameNext, ItemsEnd, ItemsAgree}
 use Rattle.chumsky_parser.specs.ItemsLaws.{after_step-ends, after_step-agrees}
 use Rattle.chumsky_parser.specs.Laws.{chained-ends, chained-agrees, given-ends, given-agrees}
+use Rattle.chumsky_parser.specs.Progress.{Moves, ItemsMove}
+use Rattle.chumsky_parser.specs.ProgressLaws.{no-moves, chained-first, or_else-moves, held-items}
 use Rattle.chumsky_flatten.specs.Collections.{CollectionHas, SameItem, AsMany}
 use Rattle.chumsky_flatten.specs.Flattening.{BeginsInside, FirstElse, Inside, FirstWithin, FirstOfNext, InHandOrNext, Flattens, SameInHand, AlikeInside}
 use Rattle.chumsky_flatten.specs.FlatteningSteps.{FirstSteps, first-unlisted}
-use Rattle.chumsky_flatten.specs.IntoItemsLaws.{fresh-same, rest-more, item-same, makes_item-ends, makes_item-agrees}
+use Rattle.chumsky_flatten.specs.IntoItemsLaws.{fresh-same, rest-more, item-same, makes_item-ends, makes_item-moves, makes_item-agrees}
 
 -- two parts that agree, a no of which is gone back from
 module _ {Tok Cx St Mk Er V : Type 0} (back : St → Mk → St) (safe : Type 0) (mark : Mk)
@@ -78,17 +80,21 @@ module _ {Tok Cx St Mk Er S O J A : Type 0} (mark : St → Mk) (back : St → Mk
   first_else-ends else h (Some c) s b o (inr m) a = h b o m.1 a
   first_else-ends else h None s b o m a = absurd m
 
+  after_first-ends : (else : S → Meaning Tok Cx St Er (Next (S × Option J) A)) → ((s : S) → EndsAfterStart (else s))
+      → (v : Option (Next S O)) → EndsAfterStart (AfterStep (λ c t. FirstElse makes nexts (else t) c t) (Given (Some End)) v)
+  after_first-ends else h = after_step-ends (λ c t. FirstElse makes nexts (else t) c t) (Given (Some End)) (λ c t. first_else-ends (else t) (h t) c t) (given-ends (Some End))
+
   first_steps-ends : ((s : S) → EndsAfterStart (gives s)) → (room : ℕ) (s : S) → EndsAfterStart (FirstSteps mark back safe makes nexts gives room s)
-  first_steps-ends h zero s =
-      chained-ends (Inside mark back safe gives s) _ (inside-ends h s)
-      (after_step-ends (FirstElse makes nexts (Stops CountTooLarge)) (Given (Some End))
-      (first_else-ends (Stops CountTooLarge) (stops-ends CountTooLarge)) (given-ends (Some End)))
-  first_steps-ends h (suc room) s =
-      chained-ends (Inside mark back safe gives s) _ (inside-ends h s)
-      (after_step-ends (λ v t. FirstElse makes nexts (FirstSteps mark back safe makes nexts gives room t) v t)
-      (Given (Some End))
-      (λ v t. first_else-ends (FirstSteps mark back safe makes nexts gives room t) (first_steps-ends h room t) v t)
-      (given-ends (Some End)))
+  first_steps-ends h zero s = chained-ends (Inside mark back safe gives s) _ (inside-ends h s) (after_first-ends (λ _. Stops CountTooLarge) (λ _. stops-ends CountTooLarge))
+  first_steps-ends h (suc room) s = chained-ends (Inside mark back safe gives s) _ (inside-ends h s) (after_first-ends (FirstSteps mark back safe makes nexts gives room) (first_steps-ends h room))
+
+  -- they move where the first step inside does
+  first_steps-move : ((s : S) → EndsAfterStart (gives s)) → (room : ℕ) (s : S) → Moves (gives s) → Moves (FirstSteps mark back safe makes nexts gives room s)
+  first_steps-move h zero s k =
+      chained-first (Inside mark back safe gives s) _ (or_else-moves mark back safe (gives s) SaysNo k no-moves) (after_first-ends (λ _. Stops CountTooLarge) (λ _. stops-ends CountTooLarge))
+  first_steps-move h (suc room) s k =
+      chained-first (Inside mark back safe gives s) _ (or_else-moves mark back safe (gives s) SaysNo k no-moves)
+      (after_first-ends (FirstSteps mark back safe makes nexts gives room) (first_steps-ends h room))
 
   first-ends : ((s : S) → EndsAfterStart (gives s)) → (s : S) → EndsAfterStart (FirstOfNext mark back safe makes nexts gives s)
   first-ends h s b o m a = first_steps-ends h m.room s b o (first-unlisted mark back safe makes nexts gives m.room s b o m.first) a
@@ -104,6 +110,13 @@ module _ {Tok Cx St Mk Er S O J A : Type 0} (mark : St → Mk) (back : St → Mk
         begin = chained-ends begins _ h.begin (λ s. given-ends (option_map (λ t. (t, None)) s));
         step = λ s b o m a. makes_item-ends (InHandOrNext mark back safe makes nexts gives s.1 s.0) (in_hand-ends h.step s.1 s.0) b o m.step a;
       }
+
+  pub flattens-move : ItemsEnd begins gives → ItemsMove begins gives → ItemsMove (BeginsInside begins) (Flattens mark back safe makes nexts gives)
+  flattens-move h k =
+      held-items (λ t. (t, None)) begins gives (Flattens mark back safe makes nexts gives)
+      (λ s f b o m y. makes_item-moves (InHandOrNext mark back safe makes nexts gives None s)
+      (λ c q n z. first_steps-move h.step n.room s f c q (first-unlisted mark back safe makes nexts gives n.room s c q n.first) z) b o m.step y)
+      k
 
   module _ (same : O → O → Type 0) (alike : S → S → Type 0) (many : AsMany makes nexts same) where
     abbrev Same : Next (S × Option J) A → Next (S × Option J) A → Type 0

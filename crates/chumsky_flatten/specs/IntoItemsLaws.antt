@@ -11,7 +11,7 @@ use Rattle.chumsky_parser.specs.ItemsLaws.{after_step-ends, after_step-agrees}
 use Rattle.chumsky_flatten.specs.Collections.{SameRest, SameItem, AsMany}
 use Rattle.chumsky_flatten.specs.IntoItems.{Offers, MakesItem, IteratorOf, BeginsOver, NextOf, GivesNext}
 use Rattle.chumsky_parser.specs.Progress.{Moves, ItemsMove}
-use Rattle.chumsky_parser.specs.ProgressLaws.{chained-first}
+use Rattle.chumsky_parser.specs.ProgressLaws.{chained-first, asked-moves}
 
 module _ {J A : Type 0} (nexts : J → Option A → J → Type 0) where
   -- one more item of a run of calls
@@ -62,6 +62,9 @@ module _ {Tok Cx St Er S A : Type 0} where
 
   pub makes_item-ends : (step : Meaning Tok Cx St Er (Next S A)) → EndsAfterStart step → EndsAfterStart (MakesItem step)
   makes_item-ends step h = chained-ends (Asked true step) _ (asked-ends true step h) (after_step-ends Offers (Given (Some End)) offers-ends (given-ends (Some End)))
+
+  pub makes_item-moves : (step : Meaning Tok Cx St Er (Next S A)) → Moves step → Moves (MakesItem step)
+  makes_item-moves step h = chained-first (Asked true step) _ (asked-moves true step h) (after_step-ends Offers (Given (Some End)) offers-ends (given-ends (Some End)))
 
   module _ (same : A → A → Type 0) (alike : S → S → Type 0) where
     offers-agrees : (v w : Option A) (s t : S) → SameValue same v w → alike s t → Agreeing (SameNext same alike) (Offers {Tok = Tok} {Cx = Cx} {St = St} {Er = Er} v s) (Offers w t)

@@ -1,6 +1,6 @@
 -- Items out of collections in the words of their errors and of their states, and what the laws say of them as parsers.
 -- Main words: DoesInHandOrNext, DoesFirstOfNext, IntoIterGives, FlattenGives. Read first: Flattening.antt, Compared.antt.
-use Rattle.std.specs.Prelude.{◌≡◌, false, Option, List}
+use Rattle.std.specs.Prelude.{◌≡◌, false, Option}
 use Rattle.std.specs.declared.alloc.Global.{Global}
 use Rattle.std.specs.declared.vec.Vec.{Vec}
 use Rattle.chumsky_input.specs.declared.error.Error as error_trait

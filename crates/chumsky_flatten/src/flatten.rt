@@ -12,7 +12,7 @@ use chumsky_input::input::Input;
 use chumsky_input::input_ref::InputRef;
 use chumsky_input::stop::{Fault, PResult, Stop};
 use chumsky_parser::iter::{IsIterParser, IterParser, IterParserDebug, Iterates};
-use chumsky_parser::moving::MayStay;
+use chumsky_parser::moving::MovingItems;
 use std::marker::PhantomData;
 
 /// The items of each item of a parser. See `flatten`.
@@ -214,7 +214,27 @@ where
     }
 }
 
-impl<A, O> MayStay for Flatten<A, O> {}
+/// Its first step begins with the first of the items inside.
+impl<'src, I, O, E, A> MovingItems<'src, I, O::Item, E> for Flatten<A, O>
+where
+    I: Input<'src>,
+    O: IntoIterator,
+    O::Item: Drop,
+    E: ParserExtra<I>,
+    A: MovingItems<'src, I, O, E>,
+{
+    ghost use Rattle.chumsky_flatten.specs.FlatteningLaws.{flattens-move};
+
+    ghost first_moves = { λ p. A.first_moves p.parser };
+
+    ghost first_moved = { λ p e d. flattens-move E.State.mark E.State.back E.State.takes_no_memory O.into_iter_gives O.IntoIter.next_gives _ _ (A.ends_after_start p.parser (record { nonconsumption_is_ok = false })) (A.first_moved p.parser e (record { nonconsumption_is_ok = false })) };
+
+    fn first_always_moves(&self) -> bool
+        ensures { result ≡ A.first_moves self.now.parser }
+    {
+        self.parser.first_always_moves()
+    }
+}
 
 /// When it is ready and steady, and which outputs are the same: `a.flatten()`. Two of its items are the same where iterators
 /// give them that have given as many items of items of `a` that are the same.

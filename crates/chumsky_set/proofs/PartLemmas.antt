@@ -1,12 +1,10 @@
 -- What the turns of a part leave.
-use Rattle.std.proofs.Common.{◌≡◌, ℕ, ◌<◌, ◌≤◌, Bool, true, false, Option, Some, None, [], refl, sym, Result, Ok, Err, inl, inr, is_some, arith}
-use Rattle.std.proofs.lemmas.List.{append-nil}
+use Rattle.std.proofs.Common.{◌≡◌, ℕ, ◌<◌, ◌≤◌, Bool, true, false, Option, Some, None, refl, Result, Ok, Err, inl, inr, is_some, arith}
 use Rattle.chumsky_input.specs.declared.stop.Fault.{Fault}
 use Rattle.chumsky_input.specs.declared.stop.Fault.TheVariants as fault
-use Rattle.chumsky_input.specs.Outcome.{Meaning, No}
+use Rattle.chumsky_input.specs.Outcome.{Meaning}
 use Rattle.chumsky_input.specs.Held.{Held}
 use Rattle.chumsky_input.specs.Run.{Ran}
-use Rattle.chumsky_input.proofs.PrimaryLemmas.{kept-same}
 use Rattle.chumsky_parser.specs.Chained.{Given, Chained}
 use Rattle.chumsky_parser.proofs.ChainedLemmas.{ran-weaker, ran-given, chained, failed}
 use Rattle.chumsky_parser.specs.Failure.{SaysNo}

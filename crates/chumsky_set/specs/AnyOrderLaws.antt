@@ -1,7 +1,7 @@
 -- The laws of parsers in any order.
 use Rattle.std.proofs.Common.{◌≡◌, ℕ, zero, suc, ◌≤◌, Option, Some, None, List, [], ◌∷◌, length, refl, ap, subst, arith, inl, inr}
 use Rattle.std.specs.Prelude.{⊤}
-use Rattle.chumsky_input.specs.Outcome.{Meaning, Beginning, Outcome, Verdict, Yes, No, Halt, Clash, SameValue, Agree, EndsAfterStart, Agreeing}
+use Rattle.chumsky_input.specs.Outcome.{Meaning, Beginning, Outcome, Verdict, Yes, No, Halt, Clash, SameValue, EndsAfterStart, Agreeing}
 use Rattle.chumsky_parser.specs.Chained.{Chained, Given, Follows, Sequence, SamePair, both, from}
 use Rattle.chumsky_parser.specs.Laws.{chained-ends, chained-agrees, given-ends, given-agrees, sequence-ends}
 use Rattle.chumsky_parser.specs.FailureLaws.{SameUnit, no-ends, no-agrees}
@@ -124,15 +124,15 @@ module _ {Tok Cx St Mk Er : Type 0} (mark : St → Mk) (back : St → Mk → St)
       }
 
 module _ {Tok Cx St Er T V : Type 0} (row : Row Tok Cx St Er T V) where
-  took_none-ends : RowEnds row → (t : T) (v : Option T) → EndsAfterStart (TookNone row t v)
+  pub took_none-ends : RowEnds row → (t : T) (v : Option T) → EndsAfterStart (TookNone row t v)
   took_none-ends h t (Some u) b o m a = h.last u b o m.1 a
   took_none-ends h t None b o m a = absurd m
 
-  took_some-ends : (t u : T) (next : Meaning Tok Cx St Er V) → EndsAfterStart next → (v : Option T) → EndsAfterStart (TookSome row t u next v)
+  pub took_some-ends : (t u : T) (next : Meaning Tok Cx St Er V) → EndsAfterStart next → (v : Option T) → EndsAfterStart (TookSome row t u next v)
   took_some-ends t u next h (Some v) b o m a = h b o m.2 a
   took_some-ends t u next h None b o m a = absurd m
 
-  rounds-ends : RowEnds row → (us : List T) (t : T) → EndsAfterStart (Rounds row us t)
+  pub rounds-ends : RowEnds row → (us : List T) (t : T) → EndsAfterStart (Rounds row us t)
   rounds-ends h [] t = chained-ends (row.pass t) (TookNone row t) (h.pass t) (took_none-ends h t)
   rounds-ends h (u ∷ us) t = chained-ends (row.pass t) (TookSome row t u (Rounds row us u)) (h.pass t) (took_some-ends t u (Rounds row us u) (rounds-ends h us u))
 

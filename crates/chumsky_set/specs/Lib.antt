@@ -5,6 +5,7 @@ pub mod Tuples
 pub mod TuplesLaws
 pub mod Lists
 pub mod ListsLaws
+pub mod SetsMove
 pub mod Doing
 pub mod SetLanguage
 pub mod SetWords

@@ -21,7 +21,7 @@ module _ {X Y : Type 0} (same : X → Y → Y → Type 0) where
   with_first-same x xs None z v w e d = tt
 
 module _ {X Tok Cx St Er V Y : Type 0} (turn : X → Slot V → Meaning Tok Cx St Er Y) where
-  turns-ends : ((x : X) (s : Slot V) → EndsAfterStart (turn x s)) → (parts : List X) (slots : List (Slot V)) (empty : Option (List Y)) → EndsAfterStart (Turns turn parts slots empty)
+  pub turns-ends : ((x : X) (s : Slot V) → EndsAfterStart (turn x s)) → (parts : List X) (slots : List (Slot V)) (empty : Option (List Y)) → EndsAfterStart (Turns turn parts slots empty)
   turns-ends h [] slots empty b o m a = given-ends empty b o m a
   turns-ends h (x ∷ xs) [] empty b o m a = absurd m
   turns-ends h (x ∷ xs) (s ∷ ss) empty b o m a =
@@ -92,7 +92,7 @@ module _ {X Tok Cx St Mk Er V : Type 0} (mark : St → Mk) (back : St → Mk →
       }
 
 module _ {Tok Cx St Er V W : Type 0} (items : W → List V) where
-  formed-ends : (v : Option (List V)) → EndsAfterStart (FormedAs {Tok = Tok} {Cx = Cx} {St = St} {Er = Er} items v)
+  pub formed-ends : (v : Option (List V)) → EndsAfterStart (FormedAs {Tok = Tok} {Cx = Cx} {St = St} {Er = Er} items v)
   formed-ends (Some v) b o m a = given-ends (Some m.0) b o m.2 a
   formed-ends None b o m a = given-ends None b o m a
 
@@ -181,7 +181,7 @@ module _ {Tok Cx St Er V : Type 0} where
       (λ v w e. given-agrees same (only b.wanted v) (only c.wanted w) (only-same same b.wanted c.wanted v w e)) b c o q alike m n a z
 
 module _ {X Tok Cx St Mk Er V : Type 0} (mark : St → Mk) (back : St → Mk → St) (safe : Type 0) (meaning : X → Meaning Tok Cx St Er V) where
-  each_stored-ends : ((x : X) → EndsAfterStart (meaning x)) → (parts : List X) → RowEnds (each_stored mark back safe meaning parts)
+  pub each_stored-ends : ((x : X) → EndsAfterStart (meaning x)) → (parts : List X) → RowEnds (each_stored mark back safe meaning parts)
   each_stored-ends h parts =
       let r = each_part-ends mark back safe meaning h parts in
       record {

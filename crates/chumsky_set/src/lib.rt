@@ -7,6 +7,7 @@ pub mod laws;
 pub mod list;
 pub mod make;
 mod mode;
+pub mod moves;
 mod part;
 mod rounds;
 mod row;

@@ -10,7 +10,6 @@ use chumsky_input::extra::ParserExtra;
 use chumsky_input::input::Input;
 use chumsky_input::input_ref::InputRef;
 use chumsky_input::stop::PResult;
-use chumsky_parser::moving::MayStay;
 use chumsky_parser::parser::{IsParser, Parser};
 
 /// Some parsers, each of which succeeds once, in whatever order the input has them. See `set`.
@@ -354,8 +353,6 @@ impl<
         Ok(())
     }
 }
-
-impl<T> MayStay for Set<T> {}
 
 /// When it is ready and steady, and which outputs are the same: `set` of one to four parsers.
 pub fn set_is_steady<
