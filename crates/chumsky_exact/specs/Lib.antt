@@ -3,9 +3,14 @@ pub mod Capped
 pub mod Contexts
 pub mod ContextsLaws
 pub mod Fields
+pub mod InTurn
+pub mod Lexemes
+pub mod Lines
 pub mod Nested
 pub mod NestedLaws
+pub mod Pieces
 pub mod Quiet
+pub mod Ranges
 pub mod Rendered
 pub mod RenderedOnce
 pub mod ReadBack

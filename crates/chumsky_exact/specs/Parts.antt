@@ -1,5 +1,5 @@
 -- Parts of a text, one after another: how they are put together, what stands before fixed text, and which tokens end a part.
--- Main laws: joined, one, one-is, before, within, between, stops-at; name-lacks, int-lacks. Read first: Words.antt of chumsky_parser.
+-- Main laws: joined, one, one-is, before, within, between, stops-at; int-lacks. Read first: Words.antt of chumsky_parser.
 use Rattle.std.proofs.Common.{◌≡◌, ℕ, Bool, true, false, cond, nat_eq, List, [], ◌∷◌, ◌++◌, refl, sym, ◌∙◌, ap, subst}
 use Rattle.std.specs.Prelude.{⊤}
 use Rattle.std.specs.Char.{is_digit}
@@ -7,7 +7,6 @@ use Rattle.chumsky_parser.specs.Words.{Joined, IsOne, StopsAt}
 use Rattle.chumsky_primitive.specs.Literals.{equals-same, same-equals}
 use Rattle.chumsky_primitive.specs.PrimitiveLanguage.{Equals}
 use Rattle.chumsky_text.specs.Decimals.{IsInt}
-use Rattle.chumsky_text.specs.Names.{IsName, begins_name, in_name}
 use Rattle.chumsky_exact.specs.RenderedOnce.{Lacks, pass-lacks}
 
 -- a word with P, and after it one with Q
@@ -42,11 +41,6 @@ stops-at goes_on s h w rest e t = let same : w ≡ s = equals-same s w e in rw s
 pub never_goes_on : (z : Bool) → cond z false false ≡ false
 never_goes_on true = refl
 never_goes_on false = refl
-
--- what is in no name is not in this one
-pub name-lacks : (t : ℕ) (w : List ℕ) → begins_name t ≡ false → in_name t ≡ false → IsName w → Lacks t w
-name-lacks t [] b i h = absurd h
-name-lacks t (c ∷ cs) b i h = (λ e. (let p = h.0 in absurd (cc (e, p, b))), pass-lacks t in_name cs i h.1)
 
 -- what is no digit is not in a number
 pub int-lacks : (t : ℕ) (w : List ℕ) → is_digit t 10 ≡ false → IsInt w → Lacks t w

@@ -1,6 +1,6 @@
 -- What a caller of `parse` makes of an exact answer: what is so of each value of the text is so of the output; and where a text has
 -- one value alone, that value is given back.
--- Main words: GivesBack. Main laws: output-is, gives_back-by_words. Read first: Accepted.antt of chumsky.
+-- Main words: GivesBack. Main laws: output-is, gives_back-by_words, exact-and_back. Read first: Accepted.antt of chumsky.
 use Rattle.std.proofs.Common.{◌≡◌, Option, Some, None, List, [], subst, inl, inr}
 use Rattle.std.specs.Prelude.{Result, Ok, Err, IfOk, IfSome}
 use Rattle.chumsky_input.specs.declared.stop.Stop.{Stop}
@@ -9,7 +9,7 @@ use Rattle.chumsky_parser.specs.Ending.{At}
 use Rattle.chumsky_parser.specs.Language.{Language}
 use Rattle.chumsky_parser.specs.WordsLaws.{ends-unless}
 use Rattle.chumsky_parser.specs.declared.result.ParseResult.{ParseResult}
-use Rattle.chumsky.specs.AcceptedLaws.{decided_by}
+use Rattle.chumsky.specs.AcceptedLaws.{decided_by, exactly-by_words}
 use Rattle.chumsky.specs.Accepted.{FallsShort, AnswersText, IsOutputOf, IsAnswerOf, IsExactly, Exactly}
 
 -- an output has what each value of the text has
@@ -45,3 +45,8 @@ module _ {Tok V X Er : Type 0} {l : Language Tok V} {ts : List Tok} {spare : Typ
   -- of an unambiguous language, where a word stands for values with P alone, a text has one value with P, and is a word where it has one
   pub gives_back-by_words : l.refused_from ≡ None → l.unambiguous → l.follow [] → ((v : V) → l.word ts → l.stands_for ts v → P ts (of v)) → ((x y : X) → P ts x → P ts y → x ≡ y) → ((x : X) → P ts x → l.word ts) → (x : X) → P ts x → GivesBack of x result
   gives_back-by_words n u f sound once complete x p = let w = complete x p in given_back x (ends-unless (a.accepted u f w) (decided_by a n)) (λ v s. once (of v) x (sound v w s) p) result a.output
+
+  -- so the output is exact, and each value is given back
+  pub exact-and_back : l.refused_from ≡ None → l.unambiguous → l.follow [] → ((v : V) → l.word ts → l.stands_for ts v → P ts (of v)) → ((x y : X) → P ts x → P ts y → x ≡ y) → ((x : X) → P ts x → l.word ts)
+      → Exactly (λ us v. P us (of v)) ts result × ((x : X) → P ts x → GivesBack of x result)
+  exact-and_back n u f sound once complete = (exactly-by_words (λ us v. P us (of v)) a n u f sound (λ v p. complete (of v) p), gives_back-by_words n u f sound once complete)

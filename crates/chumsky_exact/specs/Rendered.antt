@@ -1,5 +1,5 @@
 -- Lists as they are written: the words of the items, and a separator between each two.
--- Main words: joined_by, Written, all_words. Main laws: separated-written, written-separated, repeated-written, written-repeated, tokens-written, written-tokens, written-once. Read first: ListWords.antt.
+-- Main words: joined_by, Written, all_words. Main laws: separated-written, written-separated, repeated-written, written-repeated, tokens-written, written-tokens. Read first: ListWords.antt.
 use Rattle.std.proofs.Common.{◌≡◌, ℕ, zero, suc, ◌+◌, ◌≤◌, Bool, true, false, None, List, [], ◌∷◌, ◌++◌, length, refl, sym, ◌∙◌, ap, subst, arith, append_assoc, inl, inr}
 use Rattle.std.specs.Prelude.{⊤, ◌⊎◌, map}
 use Rattle.chumsky_parser.specs.Words.{IsOne, AllPass}

@@ -1,6 +1,5 @@
-use Rattle.std.proofs.Common.{◌≡◌, ℕ, List, [], ◌∷◌, ◌++◌, append_assoc, sym, ap, ◌∙◌, arith, string_bytes}
+use Rattle.std.proofs.Common.{◌≡◌, ℕ, List, [], ◌∷◌, ◌++◌, append_assoc, ◌∙◌, arith, string_bytes}
 use Rattle.std.specs.Str.{chars}
-use Rattle.std.proofs.lemmas.List.{append-nil}
 use Rattle.std.proofs.lemmas.Str.{IsUtf8-string_bytes}
 use Rattle.exact.specs.Pairs.{ended}
 use Rattle.exact.proofs.PrintLemmas.{pushed-text, pushed-char}
@@ -10,7 +9,7 @@ pair_printed : (old name number t u v new : List ℕ) → t ≡ old ++ name → 
 pair_printed old name number t u v new p q r s =
     let all : new ≡ (((old ++ name) ++ (61 ∷ [])) ++ number) ++ (10 ∷ []) = cc (p, q, r, s) in
     let parts = append_assoc ((old ++ name) ++ (61 ∷ [])) number (10 ∷ []) ∙ append_assoc (old ++ name) (61 ∷ []) (number ++ (10 ∷ [])) ∙ append_assoc old name (61 ∷ (number ++ (10 ∷ []))) in
-    all ∙ parts ∙ ap (λ z. old ++ (name ++ (61 ∷ (z ++ (10 ∷ []))))) (sym (append-nil number)) ∙ ap (λ z. old ++ z) (sym (append_assoc name (61 ∷ (number ++ [])) (10 ∷ [])))
+    all ∙ parts
 
 pub returns : goal.returns
 returns c =
