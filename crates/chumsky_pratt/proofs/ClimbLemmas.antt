@@ -1,5 +1,5 @@
 -- What the steps of reading an expression lead to.
-use Rattle.std.proofs.Common.{◌≡◌, ℕ, zero, suc, ◌+◌, ◌<◌, ◌≤◌, Bool, Option, length, refl, sym, ap, subst, ◌∙◌, Result, Ok, Err, inl, inr, arith}
+use Rattle.std.proofs.Common.{◌≡◌, ℕ, zero, suc, ◌+◌, ◌<◌, ◌≤◌, Bool, Option, length, refl, sym, ap, subst, ◌∙◌, Result, Ok, Err, inl, inr, arith, ◌⊎◌}
 use Rattle.chumsky_input.specs.Layout.{same_list}
 use Rattle.std.proofs.Math.Nat.{eq-or-lt_of_le}
 use Rattle.chumsky_input.specs.declared.stop.Fault.{Fault}
@@ -195,6 +195,13 @@ module _ {Tok Cx St Mk Er F V : Type 0} (merged : Er → Er → Er) (quiet : Typ
         -- it is read
         pub not_read : {new : Held Tok Cx St Er} {g : Fault} → Ran merged quiet (s.reads next) wanted now new (Err g) → Ran merged quiet Read wanted now new (Err g)
         not_read h = failed h refl refl
+
+        -- its reading is refused, or it fails and can't be gone back from
+        pub read_refused : {new : Held Tok Cx St Er} (h : Stop)
+            → (Ran merged quiet (s.reads next) wanted now new (Err (fault.Stop h)) ⊎ ((h ≡ Memory) × Ran merged quiet (s.reads next) wanted now new (Err fault.Fail) × (s.safe → ⊥)))
+            → Ran merged quiet (whole merged quiet s wanted l) wanted l.held new (Err (fault.Stop h))
+        read_refused h (inl k) = try_stops h (not_read k)
+        read_refused h (inr k) = rw k.0 (try_lacks (not_read k.1) refl k.2)
 
         pub read_stays : {new : Held Tok Cx St Er} (x : Option F)
             → Ran merged quiet (s.reads next) wanted now new (Ok x) → new.place ≤ l.held.place

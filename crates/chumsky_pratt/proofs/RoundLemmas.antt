@@ -209,6 +209,13 @@ module _ {Tok Cx St Mk Er F V : Type 0} (merged : Er → Er → Er) (quiet : Typ
           (postfixes merged quiet s wanted l t.turn.place x below m.mark k.0 (suc next)) fin
           (failed n refl refl) e may))
 
+      -- its reading is refused, or it fails and can't be gone back from
+      pub postfix_read_refused : {new : Held Tok Cx St Er} (h : Stop)
+          → (Ran merged quiet (s.reads next) wanted now new (Err (fault.Stop h)) ⊎ ((h ≡ Memory) × Ran merged quiet (s.reads next) wanted now new (Err fault.Fail) × (s.safe → ⊥)))
+          → Ran merged quiet (whole merged quiet s wanted l) wanted l.held new (Err (fault.Stop h))
+      postfix_read_refused h (inl k) = postfix_stops h k
+      postfix_read_refused h (inr k) = rw k.0 (postfix_lacks k.1 refl k.2)
+
       pub postfix_stays : {new : Held Tok Cx St Er} (g : Option F)
           → Ran merged quiet (s.reads next) wanted now new (Ok g) → new.place ≤ t.turn.place
           → Ran merged quiet (whole merged quiet s wanted l) wanted l.held new (Err (fault.Stop NoProgress))
@@ -325,6 +332,13 @@ module _ {Tok Cx St Mk Er F V : Type 0} (merged : Er → Er → Er) (quiet : Typ
 
       pub infix_unread : {new : Held Tok Cx St Er} {g : Fault} → Ran merged quiet (s.reads next) wanted now new (Err g) → Ran merged quiet ReadInfix wanted now new (Err g)
       infix_unread h = failed h refl refl
+
+      -- its reading is refused, or it fails and can't be gone back from
+      pub infix_read_refused : {new : Held Tok Cx St Er} (h : Stop)
+          → (Ran merged quiet (s.reads next) wanted now new (Err (fault.Stop h)) ⊎ ((h ≡ Memory) × Ran merged quiet (s.reads next) wanted now new (Err fault.Fail) × (s.safe → ⊥)))
+          → Ran merged quiet (whole merged quiet s wanted l) wanted l.held new (Err (fault.Stop h))
+      infix_read_refused h (inl k) = infix_stops h (infix_unread k)
+      infix_read_refused h (inr k) = rw k.0 (infix_lacks (infix_unread k.1) refl k.2)
 
       pub infix_stays : {new : Held Tok Cx St Er} (g : Option F)
           → Ran merged quiet (s.reads next) wanted now new (Ok g) → new.place ≤ l.held.place

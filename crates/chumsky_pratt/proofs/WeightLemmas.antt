@@ -138,6 +138,15 @@ module _ (n size : ℕ) where
 pub beside : (w a b : ℕ) → a < b → w + a < w + b
 beside w a b l = omega (arith, l)
 
+pub beside_most : (w a b x : ℕ) → a < b → w + b ≤ x → w + a ≤ x
+beside_most w a b x l k = omega (arith, l, k)
+
+pub beside_below : (w a b x : ℕ) → a < b → w + b ≤ x → w + a < x
+beside_below w a b x l k = omega (arith, l, k)
+
+pub below_most : (a b x : ℕ) → a < b → b ≤ x → a < x
+below_most a b x l k = omega (arith, l, k)
+
 pub beside_frame : (w f a : ℕ) → a < f → w + a < f + w
 beside_frame w f a l = omega (arith, l)
 

@@ -1,17 +1,19 @@
 //! The steps of reading an expression.
-ghost use Rattle.std.specs.Prelude.{◌≡◌, ◌<◌, ◌≤◌, ◌+◌, ◌^◌, [], ◌∷◌, length, reverse, IfOk, IfErr, Some};
+ghost use Rattle.std.specs.Prelude.{◌≡◌, ◌<◌, ◌≤◌, [], ◌∷◌, length, reverse, IfOk, IfErr, Some};
 ghost use Rattle.chumsky_input.specs.Held.{held, marks};
 ghost use Rattle.chumsky_folds.specs.Running.{InTokens, NotPast};
 ghost use Rattle.chumsky_pratt.specs.Climbing.{MayGo, GoesOn, WaitsFor};
 ghost use Rattle.chumsky_pratt.specs.Doing.{syntax_of};
 ghost use Rattle.chumsky_pratt.specs.Kinds.{answer_of};
 ghost use Rattle.chumsky_pratt.specs.Operators.{bound_by};
+ghost use Rattle.chumsky_pratt.specs.Showing.{TriesShown};
 ghost use Rattle.chumsky_pratt.specs.Weight.{total, weights};
 
 use crate::fixity::Fixity;
 use crate::kinds::{kind, last};
 use crate::machine::{
-    Frame, Heading, Holding, InfixFrame, Kind, Open, PrefixFrame, Stack, Todo, Turning, Waiting,
+    Frame, Heading, Holding, InfixFrame, Kind, Open, PrefixFrame, Stack, Todo, Tried, Turning,
+    Waiting,
 };
 use crate::opening::{
     open_answer, open_begin, open_infixes, open_postfixes, open_prefixes, open_value, take_infix,
@@ -27,7 +29,41 @@ use chumsky_input::inspector::Inspector;
 use chumsky_input::stop::{Fault, PResult, Stop};
 use chumsky_parser::parser::Parser;
 
+/// An operator is tried, and where it is not there, it is gone back from.
+#[inline(always)]
+fn attempt<'src, I, O, E, P, R, A, B, D>(
+    way: &D,
+    operators: &R,
+    index: usize,
+    before: &Checkpoint<I::Cursor, <E::State as Inspector<I>>::Mark>,
+    inp: &mut InputRef<'src, '_, I, E>,
+) -> Tried<B>
+where
+    I: Input<'src>,
+    E: ParserExtra<I>,
+    P: Parser<'src, I, O, E>,
+    R: Operators<'src, I, O, E>,
+    B: Drop,
+    D: Way<'src, I, O, E, P, R, A, B>,
+    requires operators { R.ready operators.now }
+    requires there { index < R.number operators.now }
+    requires tokens { (marks I.Input E.State.Inspector before.now).tokens ≡ (held I.Input E.Error.Error E.State.Inspector inp.old).tokens }
+    ensures tried { TriesShown I.Input E.Error.Error E.State.Inspector (R.reads operators.now index) D.wanted D.found before.now inp.old inp.new result }
+    ensures tokens { (held I.Input E.Error.Error E.State.Inspector inp.new).tokens ≡ (held I.Input E.Error.Error E.State.Inspector inp.old).tokens }
+    ensures lent { inp.new.state.ghost_name ≡ inp.old.state.ghost_name }
+{
+    match way.operator(operators, index, inp) {
+        Ok(found) => Tried::Read(found),
+        Err(Fault::Stop(stop)) => Tried::Refused(stop),
+        Err(Fault::Fail) => match inp.rewind(before) {
+            Ok(()) => Tried::Absent,
+            Err(_) => Tried::Refused(Stop::Memory),
+        },
+    }
+}
+
 /// An expression begins.
+#[inline(always)]
 fn begin<'src, I, O, E, P, R, A, B, D>(
     way: &D,
     atom: &P,
@@ -62,13 +98,14 @@ where
     }
 }
 
-/// The next prefix operator is tried; past the last one, the atom.
-fn prefix_from<'src, I, O, E, P, R, A, B, D>(
+/// Prefix operators are tried from an index on; past the last one, an atom is read.
+#[inline(always)]
+fn try_prefixes<'src, I, O, E, P, R, A, B, D>(
     way: &D,
     atom: &P,
     operators: &R,
     stack: &mut Stack<A, B, I::Cursor, <E::State as Inspector<I>>::Mark>,
-    p: Heading<I::Cursor, <E::State as Inspector<I>>::Mark>,
+    mut head: Heading<I::Cursor, <E::State as Inspector<I>>::Mark>,
     inp: &mut InputRef<'src, '_, I, E>,
 ) -> Todo<A, I::Cursor, <E::State as Inspector<I>>::Mark>
 where
@@ -81,45 +118,49 @@ where
     D: Way<'src, I, O, E, P, R, A, B>,
     requires atom { P.ready atom.now }
     requires operators { R.ready operators.now }
-    requires may { MayGo I.Input E.Error.Error E.State.Inspector (syntax_of (P.meaning atom.now) (R.number operators.now) (R.stands operators.now) (R.reads operators.now) (R.gives operators.now) E.Error.Error E.State.Inspector) D.wanted D.shown D.found (reverse stack.old.items) inp.old (Todo.Prefixes p) }
-    ensures goes { GoesOn I.Input E.Error.Error E.State.Inspector (syntax_of (P.meaning atom.now) (R.number operators.now) (R.stands operators.now) (R.reads operators.now) (R.gives operators.now) E.Error.Error E.State.Inspector) D.wanted D.shown D.found (reverse stack.old.items) inp.old (Todo.Prefixes p) (reverse stack.new.items) inp.new result }
-    ensures lighter { total (R.number operators.now) (length (I.cursor_tokens inp.old.cursor).list) I.Input stack.new.items inp.new.cursor result < total (R.number operators.now) (length (I.cursor_tokens inp.old.cursor).list) I.Input stack.old.items inp.old.cursor (Todo.Prefixes p) }
+    requires may { MayGo I.Input E.Error.Error E.State.Inspector (syntax_of (P.meaning atom.now) (R.number operators.now) (R.stands operators.now) (R.reads operators.now) (R.gives operators.now) E.Error.Error E.State.Inspector) D.wanted D.shown D.found (reverse stack.old.items) inp.old (Todo.Prefixes head) }
+    ensures goes { GoesOn I.Input E.Error.Error E.State.Inspector (syntax_of (P.meaning atom.now) (R.number operators.now) (R.stands operators.now) (R.reads operators.now) (R.gives operators.now) E.Error.Error E.State.Inspector) D.wanted D.shown D.found (reverse stack.old.items) inp.old (Todo.Prefixes head) (reverse stack.new.items) inp.new result }
+    ensures lighter { total (R.number operators.now) (length (I.cursor_tokens inp.old.cursor).list) I.Input stack.new.items inp.new.cursor result < total (R.number operators.now) (length (I.cursor_tokens inp.old.cursor).list) I.Input stack.old.items inp.old.cursor (Todo.Prefixes head) }
     ensures lent { inp.new.state.ghost_name ≡ inp.old.state.ghost_name }
 {
-    let Heading {
-        level,
-        before,
-        next,
-    } = p;
-    if next == operators.count() {
-        return read_atom(way, atom, operators, stack, level, before, next, inp);
-    }
-    match operators.fixity(next) {
-        Fixity::Prefix(power) => {
-            try_prefix(way, atom, operators, stack, level, before, next, power, inp)
+    'tries: loop {
+        if head.next == operators.count() {
+            return read_atom(way, atom, operators, stack, head, inp);
         }
-        Fixity::Postfix(_) => Todo::Prefixes(Heading {
-            level,
-            before,
-            next: next + 1,
-        }),
-        Fixity::Infix(_, _, _) => Todo::Prefixes(Heading {
-            level,
-            before,
-            next: next + 1,
-        }),
+        match operators.fixity(head.next) {
+            Fixity::Prefix(power) => {
+                let before = &head.before;
+                match attempt::<I, O, E, P, R, A, B, D>(way, operators, head.next, before, inp) {
+                    Tried::Read(found) => {
+                        if I::place(&inp.cursor) <= I::place(&head.level.start) {
+                            return Todo::Answer(Err(Fault::Stop(Stop::NoProgress)));
+                        }
+                        let frame = PrefixFrame {
+                            level: head.level,
+                            found,
+                            before: head.before,
+                            next: head.next + 1,
+                        };
+                        return wait(stack, Frame::Before(frame), power);
+                    }
+                    Tried::Absent => head.next += 1,
+                    Tried::Refused(stop) => return Todo::Answer(Err(Fault::Stop(stop))),
+                }
+            }
+            Fixity::Postfix(_) => head.next += 1,
+            Fixity::Infix(_, _, _) => head.next += 1,
+        }
     }
 }
 
 /// An atom is read.
+#[inline(always)]
 fn read_atom<'src, I, O, E, P, R, A, B, D>(
     way: &D,
     atom: &P,
     operators: &R,
     stack: &mut Stack<A, B, I::Cursor, <E::State as Inspector<I>>::Mark>,
-    level: Open<I::Cursor>,
-    before: Checkpoint<I::Cursor, <E::State as Inspector<I>>::Mark>,
-    next: usize,
+    head: Heading<I::Cursor, <E::State as Inspector<I>>::Mark>,
     inp: &mut InputRef<'src, '_, I, E>,
 ) -> Todo<A, I::Cursor, <E::State as Inspector<I>>::Mark>
 where
@@ -132,15 +173,15 @@ where
     D: Way<'src, I, O, E, P, R, A, B>,
     requires atom { P.ready atom.now }
     requires operators { R.ready operators.now }
-    requires may { MayGo I.Input E.Error.Error E.State.Inspector (syntax_of (P.meaning atom.now) (R.number operators.now) (R.stands operators.now) (R.reads operators.now) (R.gives operators.now) E.Error.Error E.State.Inspector) D.wanted D.shown D.found (reverse stack.old.items) inp.old (Todo.Prefixes (record { level = level; before = before; next = next })) }
-    requires last { next ≡ R.number operators.now }
-    ensures goes { GoesOn I.Input E.Error.Error E.State.Inspector (syntax_of (P.meaning atom.now) (R.number operators.now) (R.stands operators.now) (R.reads operators.now) (R.gives operators.now) E.Error.Error E.State.Inspector) D.wanted D.shown D.found (reverse stack.old.items) inp.old (Todo.Prefixes (record { level = level; before = before; next = next })) (reverse stack.new.items) inp.new result }
-    ensures lighter { total (R.number operators.now) (length (I.cursor_tokens inp.old.cursor).list) I.Input stack.new.items inp.new.cursor result < total (R.number operators.now) (length (I.cursor_tokens inp.old.cursor).list) I.Input stack.old.items inp.old.cursor (Todo.Prefixes (record { level = level; before = before; next = next })) }
+    requires may { MayGo I.Input E.Error.Error E.State.Inspector (syntax_of (P.meaning atom.now) (R.number operators.now) (R.stands operators.now) (R.reads operators.now) (R.gives operators.now) E.Error.Error E.State.Inspector) D.wanted D.shown D.found (reverse stack.old.items) inp.old (Todo.Prefixes head) }
+    requires last { head.next ≡ R.number operators.now }
+    ensures goes { GoesOn I.Input E.Error.Error E.State.Inspector (syntax_of (P.meaning atom.now) (R.number operators.now) (R.stands operators.now) (R.reads operators.now) (R.gives operators.now) E.Error.Error E.State.Inspector) D.wanted D.shown D.found (reverse stack.old.items) inp.old (Todo.Prefixes head) (reverse stack.new.items) inp.new result }
+    ensures lighter { total (R.number operators.now) (length (I.cursor_tokens inp.old.cursor).list) I.Input stack.new.items inp.new.cursor result < total (R.number operators.now) (length (I.cursor_tokens inp.old.cursor).list) I.Input stack.old.items inp.old.cursor (Todo.Prefixes head) }
     ensures lent { inp.new.state.ghost_name ≡ inp.old.state.ghost_name }
 {
     match way.atom(atom, inp) {
         Ok(value) => Todo::Value(Holding {
-            level,
+            level: head.level,
             value,
             below: 131_072,
         }),
@@ -149,6 +190,7 @@ where
 }
 
 /// A frame more, and then an operand of this power begins; or there is no memory for it.
+#[inline(always)]
 fn wait<A: Drop, B: Drop, C: Drop, M: Drop>(
     stack: &mut Stack<A, B, C, M>,
     frame: Frame<A, B, C, M>,
@@ -162,65 +204,8 @@ fn wait<A: Drop, B: Drop, C: Drop, M: Drop>(
     }
 }
 
-/// A prefix operator is tried.
-fn try_prefix<'src, I, O, E, P, R, A, B, D>(
-    way: &D,
-    atom: &P,
-    operators: &R,
-    stack: &mut Stack<A, B, I::Cursor, <E::State as Inspector<I>>::Mark>,
-    level: Open<I::Cursor>,
-    before: Checkpoint<I::Cursor, <E::State as Inspector<I>>::Mark>,
-    next: usize,
-    power: u32,
-    inp: &mut InputRef<'src, '_, I, E>,
-) -> Todo<A, I::Cursor, <E::State as Inspector<I>>::Mark>
-where
-    I: Input<'src>,
-    E: ParserExtra<I>,
-    P: Parser<'src, I, O, E>,
-    R: Operators<'src, I, O, E>,
-    A: Drop,
-    B: Drop,
-    D: Way<'src, I, O, E, P, R, A, B>,
-    requires atom { P.ready atom.now }
-    requires operators { R.ready operators.now }
-    requires may { MayGo I.Input E.Error.Error E.State.Inspector (syntax_of (P.meaning atom.now) (R.number operators.now) (R.stands operators.now) (R.reads operators.now) (R.gives operators.now) E.Error.Error E.State.Inspector) D.wanted D.shown D.found (reverse stack.old.items) inp.old (Todo.Prefixes (record { level = level; before = before; next = next })) }
-    requires there { next < R.number operators.now }
-    requires fits { next + 1 < 2 ^ 64 }
-    requires fixity { R.stands operators.now next ≡ Fixity.Prefix power }
-    ensures goes { GoesOn I.Input E.Error.Error E.State.Inspector (syntax_of (P.meaning atom.now) (R.number operators.now) (R.stands operators.now) (R.reads operators.now) (R.gives operators.now) E.Error.Error E.State.Inspector) D.wanted D.shown D.found (reverse stack.old.items) inp.old (Todo.Prefixes (record { level = level; before = before; next = next })) (reverse stack.new.items) inp.new result }
-    ensures lighter { total (R.number operators.now) (length (I.cursor_tokens inp.old.cursor).list) I.Input stack.new.items inp.new.cursor result < total (R.number operators.now) (length (I.cursor_tokens inp.old.cursor).list) I.Input stack.old.items inp.old.cursor (Todo.Prefixes (record { level = level; before = before; next = next })) }
-    ensures lent { inp.new.state.ghost_name ≡ inp.old.state.ghost_name }
-{
-    match way.operator(operators, next, inp) {
-        Ok(found) => {
-            if I::place(&inp.cursor) <= I::place(&level.start) {
-                return Todo::Answer(Err(Fault::Stop(Stop::NoProgress)));
-            }
-            wait(
-                stack,
-                Frame::Before(PrefixFrame {
-                    level,
-                    found,
-                    before,
-                    next: next + 1,
-                }),
-                power,
-            )
-        }
-        Err(Fault::Stop(stop)) => Todo::Answer(Err(Fault::Stop(stop))),
-        Err(Fault::Fail) => match inp.rewind(&before) {
-            Ok(()) => Todo::Prefixes(Heading {
-                level,
-                before,
-                next: next + 1,
-            }),
-            Err(_) => Todo::Answer(Err(Fault::Stop(Stop::Memory))),
-        },
-    }
-}
-
 /// A value is there: operators after it are tried.
+#[inline(always)]
 fn after_value<'src, I, O, E, P, R, A, B, D>(
     way: &D,
     atom: &P,
@@ -261,13 +246,14 @@ where
     }
 }
 
-/// The next postfix operator is tried; past the last one, infix operators.
-fn postfix_from<'src, I, O, E, P, R, A, B, D>(
+/// Postfix operators are tried from an index on; past the last one, infix operators.
+#[inline(always)]
+fn try_postfixes<'src, I, O, E, P, R, A, B, D>(
     way: &D,
     atom: &P,
     operators: &R,
     stack: &mut Stack<A, B, I::Cursor, <E::State as Inspector<I>>::Mark>,
-    p: Turning<A, I::Cursor, <E::State as Inspector<I>>::Mark>,
+    mut turn: Turning<A, I::Cursor, <E::State as Inspector<I>>::Mark>,
     inp: &mut InputRef<'src, '_, I, E>,
 ) -> Todo<A, I::Cursor, <E::State as Inspector<I>>::Mark>
 where
@@ -280,219 +266,64 @@ where
     D: Way<'src, I, O, E, P, R, A, B>,
     requires atom { P.ready atom.now }
     requires operators { R.ready operators.now }
-    requires may { MayGo I.Input E.Error.Error E.State.Inspector (syntax_of (P.meaning atom.now) (R.number operators.now) (R.stands operators.now) (R.reads operators.now) (R.gives operators.now) E.Error.Error E.State.Inspector) D.wanted D.shown D.found (reverse stack.old.items) inp.old (Todo.Postfixes p) }
-    requires since { InTokens I.Input E.Error.Error E.State.Inspector p.level.start inp.old }
-    requires order { I.place p.level.start ≤ I.place p.before.cursor }
-    ensures goes { GoesOn I.Input E.Error.Error E.State.Inspector (syntax_of (P.meaning atom.now) (R.number operators.now) (R.stands operators.now) (R.reads operators.now) (R.gives operators.now) E.Error.Error E.State.Inspector) D.wanted D.shown D.found (reverse stack.old.items) inp.old (Todo.Postfixes p) (reverse stack.new.items) inp.new result }
-    ensures lighter { total (R.number operators.now) (length (I.cursor_tokens inp.old.cursor).list) I.Input stack.new.items inp.new.cursor result < total (R.number operators.now) (length (I.cursor_tokens inp.old.cursor).list) I.Input stack.old.items inp.old.cursor (Todo.Postfixes p) }
+    requires may { MayGo I.Input E.Error.Error E.State.Inspector (syntax_of (P.meaning atom.now) (R.number operators.now) (R.stands operators.now) (R.reads operators.now) (R.gives operators.now) E.Error.Error E.State.Inspector) D.wanted D.shown D.found (reverse stack.old.items) inp.old (Todo.Postfixes turn) }
+    requires since { InTokens I.Input E.Error.Error E.State.Inspector turn.level.start inp.old }
+    requires order { I.place turn.level.start ≤ I.place turn.before.cursor }
+    ensures goes { GoesOn I.Input E.Error.Error E.State.Inspector (syntax_of (P.meaning atom.now) (R.number operators.now) (R.stands operators.now) (R.reads operators.now) (R.gives operators.now) E.Error.Error E.State.Inspector) D.wanted D.shown D.found (reverse stack.old.items) inp.old (Todo.Postfixes turn) (reverse stack.new.items) inp.new result }
+    ensures lighter { total (R.number operators.now) (length (I.cursor_tokens inp.old.cursor).list) I.Input stack.new.items inp.new.cursor result < total (R.number operators.now) (length (I.cursor_tokens inp.old.cursor).list) I.Input stack.old.items inp.old.cursor (Todo.Postfixes turn) }
     ensures lent { inp.new.state.ghost_name ≡ inp.old.state.ghost_name }
 {
-    let Turning {
-        level,
-        value,
-        below,
-        before,
-        next,
-    } = p;
-    if next == operators.count() {
-        return Todo::Infixes(Turning {
-            level,
-            value,
-            below,
-            before,
-            next: 0,
-        });
-    }
-    match operators.fixity(next) {
-        Fixity::Postfix(power) => {
-            if power < level.least {
-                return Todo::Postfixes(Turning {
-                    level,
-                    value,
-                    below,
-                    before,
-                    next: next + 1,
-                });
-            }
-            try_postfix(
-                way, atom, operators, stack, level, value, below, before, next, power, inp,
-            )
+    'tries: loop {
+        if turn.next == operators.count() {
+            turn.next = 0;
+            return Todo::Infixes(turn);
         }
-        Fixity::Prefix(_) => Todo::Postfixes(Turning {
-            level,
-            value,
-            below,
-            before,
-            next: next + 1,
-        }),
-        Fixity::Infix(_, _, _) => Todo::Postfixes(Turning {
-            level,
-            value,
-            below,
-            before,
-            next: next + 1,
-        }),
-    }
-}
-
-/// A postfix operator is tried.
-fn try_postfix<'src, I, O, E, P, R, A, B, D>(
-    way: &D,
-    atom: &P,
-    operators: &R,
-    stack: &mut Stack<A, B, I::Cursor, <E::State as Inspector<I>>::Mark>,
-    level: Open<I::Cursor>,
-    value: A,
-    below: u32,
-    before: Checkpoint<I::Cursor, <E::State as Inspector<I>>::Mark>,
-    next: usize,
-    power: u32,
-    inp: &mut InputRef<'src, '_, I, E>,
-) -> Todo<A, I::Cursor, <E::State as Inspector<I>>::Mark>
-where
-    I: Input<'src>,
-    E: ParserExtra<I>,
-    P: Parser<'src, I, O, E>,
-    R: Operators<'src, I, O, E>,
-    A: Drop,
-    B: Drop,
-    D: Way<'src, I, O, E, P, R, A, B>,
-    requires atom { P.ready atom.now }
-    requires operators { R.ready operators.now }
-    requires may { MayGo I.Input E.Error.Error E.State.Inspector (syntax_of (P.meaning atom.now) (R.number operators.now) (R.stands operators.now) (R.reads operators.now) (R.gives operators.now) E.Error.Error E.State.Inspector) D.wanted D.shown D.found (reverse stack.old.items) inp.old (Todo.Postfixes (record { level = level; value = value; below = below; before = before; next = next })) }
-    requires there { next < R.number operators.now }
-    requires fits { next + 1 < 2 ^ 64 }
-    requires fixity { R.stands operators.now next ≡ Fixity.Postfix power }
-    requires enough { level.least ≤ power }
-    requires since { InTokens I.Input E.Error.Error E.State.Inspector level.start inp.old }
-    requires order { I.place level.start ≤ I.place before.cursor }
-    ensures goes { GoesOn I.Input E.Error.Error E.State.Inspector (syntax_of (P.meaning atom.now) (R.number operators.now) (R.stands operators.now) (R.reads operators.now) (R.gives operators.now) E.Error.Error E.State.Inspector) D.wanted D.shown D.found (reverse stack.old.items) inp.old (Todo.Postfixes (record { level = level; value = value; below = below; before = before; next = next })) (reverse stack.new.items) inp.new result }
-    ensures lighter { total (R.number operators.now) (length (I.cursor_tokens inp.old.cursor).list) I.Input stack.new.items inp.new.cursor result < total (R.number operators.now) (length (I.cursor_tokens inp.old.cursor).list) I.Input stack.old.items inp.old.cursor (Todo.Postfixes (record { level = level; value = value; below = below; before = before; next = next })) }
-    ensures lent { inp.new.state.ghost_name ≡ inp.old.state.ghost_name }
-{
-    match way.operator(operators, next, inp) {
-        Ok(found) => {
-            if I::place(&inp.cursor) <= I::place(&before.cursor) {
-                return Todo::Answer(Err(Fault::Stop(Stop::NoProgress)));
+        match operators.fixity(turn.next) {
+            Fixity::Postfix(power) => {
+                if power < turn.level.least {
+                    turn.next += 1;
+                    continue 'tries;
+                }
+                let before = &turn.before;
+                match attempt::<I, O, E, P, R, A, B, D>(way, operators, turn.next, before, inp) {
+                    Tried::Read(found) => {
+                        if I::place(&inp.cursor) <= I::place(&turn.before.cursor) {
+                            return Todo::Answer(Err(Fault::Stop(Stop::NoProgress)));
+                        }
+                        let operands = Operands::Before(turn.value);
+                        let output = way.fold(operators, found, operands, &turn.level.start, inp);
+                        return Todo::Value(Holding {
+                            level: turn.level,
+                            value: output,
+                            below: turn.below,
+                        });
+                    }
+                    Tried::Absent => turn.next += 1,
+                    Tried::Refused(stop) => return Todo::Answer(Err(Fault::Stop(stop))),
+                }
             }
-            let output = way.fold(operators, found, Operands::Before(value), &level.start, inp);
-            Todo::Value(Holding {
-                level,
-                value: output,
-                below,
-            })
+            Fixity::Prefix(_) => turn.next += 1,
+            Fixity::Infix(_, _, _) => turn.next += 1,
         }
-        Err(Fault::Stop(stop)) => Todo::Answer(Err(Fault::Stop(stop))),
-        Err(Fault::Fail) => match inp.rewind(&before) {
-            Ok(()) => Todo::Postfixes(Turning {
-                level,
-                value,
-                below,
-                before,
-                next: next + 1,
-            }),
-            Err(_) => Todo::Answer(Err(Fault::Stop(Stop::Memory))),
-        },
-    }
-}
-
-/// The next infix operator is tried; past the last one, the expression has its value.
-fn infix_from<'src, I, O, E, P, R, A, B, D>(
-    way: &D,
-    atom: &P,
-    operators: &R,
-    stack: &mut Stack<A, B, I::Cursor, <E::State as Inspector<I>>::Mark>,
-    p: Turning<A, I::Cursor, <E::State as Inspector<I>>::Mark>,
-    inp: &mut InputRef<'src, '_, I, E>,
-) -> Todo<A, I::Cursor, <E::State as Inspector<I>>::Mark>
-where
-    I: Input<'src>,
-    E: ParserExtra<I>,
-    P: Parser<'src, I, O, E>,
-    R: Operators<'src, I, O, E>,
-    A: Drop,
-    B: Drop,
-    D: Way<'src, I, O, E, P, R, A, B>,
-    requires atom { P.ready atom.now }
-    requires operators { R.ready operators.now }
-    requires may { MayGo I.Input E.Error.Error E.State.Inspector (syntax_of (P.meaning atom.now) (R.number operators.now) (R.stands operators.now) (R.reads operators.now) (R.gives operators.now) E.Error.Error E.State.Inspector) D.wanted D.shown D.found (reverse stack.old.items) inp.old (Todo.Infixes p) }
-    ensures goes { GoesOn I.Input E.Error.Error E.State.Inspector (syntax_of (P.meaning atom.now) (R.number operators.now) (R.stands operators.now) (R.reads operators.now) (R.gives operators.now) E.Error.Error E.State.Inspector) D.wanted D.shown D.found (reverse stack.old.items) inp.old (Todo.Infixes p) (reverse stack.new.items) inp.new result }
-    ensures lighter { total (R.number operators.now) (length (I.cursor_tokens inp.old.cursor).list) I.Input stack.new.items inp.new.cursor result < total (R.number operators.now) (length (I.cursor_tokens inp.old.cursor).list) I.Input stack.old.items inp.old.cursor (Todo.Infixes p) }
-    ensures lent { inp.new.state.ghost_name ≡ inp.old.state.ghost_name }
-{
-    let Turning {
-        level,
-        value,
-        below,
-        before,
-        next,
-    } = p;
-    if next == operators.count() {
-        return Todo::Answer(Ok(value));
-    }
-    match operators.fixity(next) {
-        Fixity::Infix(left, right, chains) => {
-            if left < level.least {
-                return Todo::Infixes(Turning {
-                    level,
-                    value,
-                    below,
-                    before,
-                    next: next + 1,
-                });
-            }
-            if below <= left {
-                return Todo::Infixes(Turning {
-                    level,
-                    value,
-                    below,
-                    before,
-                    next: next + 1,
-                });
-            }
-            try_infix(
-                way, atom, operators, stack, level, value, below, before, next, left, right,
-                chains, inp,
-            )
-        }
-        Fixity::Prefix(_) => Todo::Infixes(Turning {
-            level,
-            value,
-            below,
-            before,
-            next: next + 1,
-        }),
-        Fixity::Postfix(_) => Todo::Infixes(Turning {
-            level,
-            value,
-            below,
-            before,
-            next: next + 1,
-        }),
     }
 }
 
 /// What bounds the powers of infix operators after one.
+#[inline(always)]
 fn bound_after(chains: bool, below: u32, left: u32) -> u32
     ensures { result ≡ bound_by chains below left }
 {
     if chains { below } else { left }
 }
 
-/// An infix operator is tried.
-fn try_infix<'src, I, O, E, P, R, A, B, D>(
+/// Infix operators are tried from an index on; past the last one, the expression has its value.
+#[inline(always)]
+fn try_infixes<'src, I, O, E, P, R, A, B, D>(
     way: &D,
     atom: &P,
     operators: &R,
     stack: &mut Stack<A, B, I::Cursor, <E::State as Inspector<I>>::Mark>,
-    level: Open<I::Cursor>,
-    value: A,
-    below: u32,
-    before: Checkpoint<I::Cursor, <E::State as Inspector<I>>::Mark>,
-    next: usize,
-    left: u32,
-    right: u32,
-    chains: bool,
+    mut turn: Turning<A, I::Cursor, <E::State as Inspector<I>>::Mark>,
     inp: &mut InputRef<'src, '_, I, E>,
 ) -> Todo<A, I::Cursor, <E::State as Inspector<I>>::Mark>
 where
@@ -505,51 +336,55 @@ where
     D: Way<'src, I, O, E, P, R, A, B>,
     requires atom { P.ready atom.now }
     requires operators { R.ready operators.now }
-    requires may { MayGo I.Input E.Error.Error E.State.Inspector (syntax_of (P.meaning atom.now) (R.number operators.now) (R.stands operators.now) (R.reads operators.now) (R.gives operators.now) E.Error.Error E.State.Inspector) D.wanted D.shown D.found (reverse stack.old.items) inp.old (Todo.Infixes (record { level = level; value = value; below = below; before = before; next = next })) }
-    requires there { next < R.number operators.now }
-    requires fits { next + 1 < 2 ^ 64 }
-    requires fixity { R.stands operators.now next ≡ Fixity.Infix left right chains }
-    requires enough { level.least ≤ left }
-    requires under { left < below }
-    ensures goes { GoesOn I.Input E.Error.Error E.State.Inspector (syntax_of (P.meaning atom.now) (R.number operators.now) (R.stands operators.now) (R.reads operators.now) (R.gives operators.now) E.Error.Error E.State.Inspector) D.wanted D.shown D.found (reverse stack.old.items) inp.old (Todo.Infixes (record { level = level; value = value; below = below; before = before; next = next })) (reverse stack.new.items) inp.new result }
-    ensures lighter { total (R.number operators.now) (length (I.cursor_tokens inp.old.cursor).list) I.Input stack.new.items inp.new.cursor result < total (R.number operators.now) (length (I.cursor_tokens inp.old.cursor).list) I.Input stack.old.items inp.old.cursor (Todo.Infixes (record { level = level; value = value; below = below; before = before; next = next })) }
+    requires may { MayGo I.Input E.Error.Error E.State.Inspector (syntax_of (P.meaning atom.now) (R.number operators.now) (R.stands operators.now) (R.reads operators.now) (R.gives operators.now) E.Error.Error E.State.Inspector) D.wanted D.shown D.found (reverse stack.old.items) inp.old (Todo.Infixes turn) }
+    ensures goes { GoesOn I.Input E.Error.Error E.State.Inspector (syntax_of (P.meaning atom.now) (R.number operators.now) (R.stands operators.now) (R.reads operators.now) (R.gives operators.now) E.Error.Error E.State.Inspector) D.wanted D.shown D.found (reverse stack.old.items) inp.old (Todo.Infixes turn) (reverse stack.new.items) inp.new result }
+    ensures lighter { total (R.number operators.now) (length (I.cursor_tokens inp.old.cursor).list) I.Input stack.new.items inp.new.cursor result < total (R.number operators.now) (length (I.cursor_tokens inp.old.cursor).list) I.Input stack.old.items inp.old.cursor (Todo.Infixes turn) }
     ensures lent { inp.new.state.ghost_name ≡ inp.old.state.ghost_name }
 {
-    match way.operator(operators, next, inp) {
-        Ok(found) => {
-            let then_below = bound_after(chains, below, left);
-            if I::place(&inp.cursor) <= I::place(&level.start) {
-                return Todo::Answer(Err(Fault::Stop(Stop::NoProgress)));
-            }
-            wait(
-                stack,
-                Frame::Between(InfixFrame {
-                    level,
-                    found,
-                    before,
-                    next: next + 1,
-                    value,
-                    below,
-                    then_below,
-                }),
-                right,
-            )
+    'tries: loop {
+        if turn.next == operators.count() {
+            return Todo::Answer(Ok(turn.value));
         }
-        Err(Fault::Stop(stop)) => Todo::Answer(Err(Fault::Stop(stop))),
-        Err(Fault::Fail) => match inp.rewind(&before) {
-            Ok(()) => Todo::Infixes(Turning {
-                level,
-                value,
-                below,
-                before,
-                next: next + 1,
-            }),
-            Err(_) => Todo::Answer(Err(Fault::Stop(Stop::Memory))),
-        },
+        match operators.fixity(turn.next) {
+            Fixity::Infix(left, right, chains) => {
+                if left < turn.level.least {
+                    turn.next += 1;
+                    continue 'tries;
+                }
+                if turn.below <= left {
+                    turn.next += 1;
+                    continue 'tries;
+                }
+                let before = &turn.before;
+                match attempt::<I, O, E, P, R, A, B, D>(way, operators, turn.next, before, inp) {
+                    Tried::Read(found) => {
+                        let then_below = bound_after(chains, turn.below, left);
+                        if I::place(&inp.cursor) <= I::place(&turn.level.start) {
+                            return Todo::Answer(Err(Fault::Stop(Stop::NoProgress)));
+                        }
+                        let frame = InfixFrame {
+                            level: turn.level,
+                            found,
+                            before: turn.before,
+                            next: turn.next + 1,
+                            value: turn.value,
+                            below: turn.below,
+                            then_below,
+                        };
+                        return wait(stack, Frame::Between(frame), right);
+                    }
+                    Tried::Absent => turn.next += 1,
+                    Tried::Refused(stop) => return Todo::Answer(Err(Fault::Stop(stop))),
+                }
+            }
+            Fixity::Prefix(_) => turn.next += 1,
+            Fixity::Postfix(_) => turn.next += 1,
+        }
     }
 }
 
 /// What waits last hears of its operand; where nothing waits, the answer is that of the whole.
+#[inline(always)]
 pub(crate) fn hear<'src, I, O, E, P, R, A, B, D>(
     way: &D,
     atom: &P,
@@ -588,6 +423,7 @@ where
 }
 
 /// An expression hears of the operand of a prefix operator.
+#[inline(always)]
 fn hear_prefix<'src, I, O, E, P, R, A, B, D>(
     way: &D,
     atom: &P,
@@ -648,6 +484,7 @@ where
 }
 
 /// An expression hears of the right operand of an infix operator.
+#[inline(always)]
 fn hear_infix<'src, I, O, E, P, R, A, B, D>(
     way: &D,
     atom: &P,
@@ -716,6 +553,7 @@ where
 }
 
 /// What comes next is done.
+#[inline(always)]
 pub(crate) fn step<'src, I, O, E, P, R, A, B, D>(
     way: &D,
     atom: &P,
@@ -746,20 +584,20 @@ where
             Ok(begin(way, atom, operators, stack, least, inp))
         }
         Kind::Prefixes => {
-            let p = open_prefixes(way, atom, operators, stack, todo, inp);
-            Ok(prefix_from(way, atom, operators, stack, p, inp))
+            let head = open_prefixes(way, atom, operators, stack, todo, inp);
+            Ok(try_prefixes(way, atom, operators, stack, head, inp))
         }
         Kind::Value => {
             let p = open_value(way, atom, operators, stack, todo, inp);
             Ok(after_value(way, atom, operators, stack, p, inp))
         }
         Kind::Postfixes => {
-            let p = open_postfixes(way, atom, operators, stack, todo, inp);
-            Ok(postfix_from(way, atom, operators, stack, p, inp))
+            let turn = open_postfixes(way, atom, operators, stack, todo, inp);
+            Ok(try_postfixes(way, atom, operators, stack, turn, inp))
         }
         Kind::Infixes => {
-            let p = open_infixes(way, atom, operators, stack, todo, inp);
-            Ok(infix_from(way, atom, operators, stack, p, inp))
+            let turn = open_infixes(way, atom, operators, stack, todo, inp);
+            Ok(try_infixes(way, atom, operators, stack, turn, inp))
         }
         Kind::Answer => {
             let answer = open_answer(way, atom, operators, stack, todo, inp);

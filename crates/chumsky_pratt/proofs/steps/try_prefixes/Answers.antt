@@ -1,0 +1,162 @@
+use Rattle.std.proofs.Common.{◌≡◌, refl, sym, ◌∙◌, ap, arith, length, rules}
+use Rattle.chumsky_input.specs.Held.{Held}
+use Rattle.chumsky_input.specs.Layout.{same_list}
+use Rattle.chumsky_pratt.proofs.AnswerLemmas.{waited}
+use Rattle.chumsky_pratt.proofs.ClimbLemmas.{index_before, passes_postfix, passes_infix, try_fails, not_read, read_refused, read_stays, read_lacks, read_waits}
+use Rattle.chumsky_pratt.proofs.WeightLemmas.{beside_most, beside_below, below_most, fewer, prefix_next, prefix_some, prefix_wait, waited_less}
+use Rattle.chumsky_pratt.proofs.steps.try_prefixes.Goals as goal
+
+pub tries-init : goal.tries-init
+tries-init g c =
+    record {
+      may = c.requires.may;
+      goes = λ to w. w;
+      lighter = omega arith;
+      upto = (let w = c.requires.may.1 in index_before _ _ _ _ w.0 _ _ _ w.2);
+      stood = (let w = c.requires.may.1 in w.2.stands.tokens);
+      tokens = refl;
+      lent = refl;
+    }
+
+pub returns-then-head-count-clause-goes : goal.returns-then-head-count-clause-goes
+returns-then-head-count-clause-goes g c = λ to w. c.read_atom.ensures.goes to (c.tries.invariant.goes to w)
+
+pub returns-then-head-count-clause-lighter : goal.returns-then-head-count-clause-lighter
+returns-then-head-count-clause-lighter g c =
+    let e : g.I.Input.cursor_tokens c.tries.inp.cursor ≡ g.I.Input.cursor_tokens c.args.inp.now.cursor = c.tries.invariant.tokens in
+    below_most _ _ _ (rw e at c.read_atom.ensures.lighter) c.tries.invariant.lighter
+
+pub returns-then-place-clause-goes : goal.returns-then-place-clause-goes
+returns-then-place-clause-goes g c =
+    λ to v. let w = c.tries.invariant.goes to v in (
+      w.0,
+      read_stays _ _ _ _ w.0 _ _ _ w.2 (omega (arith, c.tries.invariant.upto, c.if-head-count.false, c.count.ensures)) _ (sym c.fixity.ensures ∙ c.in-Prefix.is) _
+          (rw c.in-Read.is at c.attempt.ensures.tried) (omega (arith, c.if-place.true, c.place.ensures, c.place-in-Read.ensures, w.1.place)),
+      w.3,
+    )
+
+pub returns-in-Refused-clause-goes : goal.returns-in-Refused-clause-goes
+returns-in-Refused-clause-goes g c =
+    λ to v. let w = c.tries.invariant.goes to v in (
+      w.0,
+      read_refused _ _ _ _ w.0 _ _ _ w.2
+          (omega (arith, c.tries.invariant.upto, c.if-head-count.false, c.count.ensures)) _ (sym c.fixity.ensures ∙ c.in-Prefix.is) _
+          (rw c.in-Refused.is at c.attempt.ensures.tried),
+      w.3,
+    )
+
+pub returns-in-Read-clause-goes : goal.returns-in-Read-clause-goes
+returns-in-Read-clause-goes g c =
+    λ to v. let w = c.tries.invariant.goes to v in waited _ _ _ _ _ _ _ to w.0 _ _ _ _ _ _ c.wait.ensures (
+      w.0,
+      w.1,
+      read_waits _ _ _ _ w.0 _ _ _ w.2 (omega (arith, c.tries.invariant.upto, c.if-head-count.false, c.count.ensures)) _ (sym c.fixity.ensures ∙ c.in-Prefix.is) _
+          (rw c.in-Read.is at c.attempt.ensures.tried) (omega (arith, c.if-place.false, c.place.ensures, c.place-in-Read.ensures, w.1.place))
+          ((g.met.I.Input c.lifetimes (search rules)).within _) _ (omega arith),
+      w.3,
+    )
+    (read_lacks _ _ _ _ w.0 _ _ _ w.2 (omega (arith, c.tries.invariant.upto, c.if-head-count.false, c.count.ensures)) _ (sym c.fixity.ensures ∙ c.in-Prefix.is) _
+    (rw c.in-Read.is at c.attempt.ensures.tried) (omega (arith, c.if-place.false, c.place.ensures, c.place-in-Read.ensures, w.1.place))) w.3
+
+pub returns-then-place-clause-lighter : goal.returns-then-place-clause-lighter
+returns-then-place-clause-lighter g c = beside_below _ _ _ _ (prefix_some _ _ _ _) c.tries.invariant.lighter
+
+pub returns-in-Refused-clause-lighter : goal.returns-in-Refused-clause-lighter
+returns-in-Refused-clause-lighter g c = beside_below _ _ _ _ (prefix_some _ _ _ _) c.tries.invariant.lighter
+
+pub returns-in-Read-clause-lighter : goal.returns-in-Read-clause-lighter
+returns-in-Read-clause-lighter g c =
+    below_most _ _ _
+    (waited_less _ _ g.I.Input _ _ _ _ _ _ _ c.wait.ensures
+    (prefix_wait _ _ _ _ _ (omega (arith, c.tries.invariant.upto, c.if-head-count.false, c.count.ensures))
+    (fewer _ _ _ (omega (arith, c.if-place.false, c.place.ensures, c.place-in-Read.ensures))
+    (let k = (g.met.I.Input c.lifetimes (search rules)).within c.attempt.new.inp.cursor in
+    let t = rw c.in-Read.is at c.attempt.ensures.tried in
+    let e = ap length (same_list (t.same.tokens ∙ c.tries.invariant.tokens)) in omega (arith, k, e)))))
+    c.tries.invariant.lighter
+
+pub tries-preserved-in-Absent : goal.tries-preserved-in-Absent
+tries-preserved-in-Absent g c =
+    let t = rw c.in-Absent.is at c.attempt.ensures.tried in
+    record {
+      may = (let w = c.tries.invariant.may.1 in (
+        c.tries.invariant.may.0,
+        (
+          w.0,
+          w.1,
+          try_fails _ _ _ _ w.0 _ _ _ w.2
+              (omega (arith, c.tries.invariant.upto, c.if-head-count.false, c.count.ensures)) _ (sym c.fixity.ensures ∙ c.in-Prefix.is)
+              (not_read _ _ _ _ w.0 _ _ _ w.2 (omega (arith, c.tries.invariant.upto, c.if-head-count.false, c.count.ensures)) _
+              (sym c.fixity.ensures ∙ c.in-Prefix.is) t.1) t.2 _ (omega arith),
+          w.3,
+        ),
+      ));
+      goes = λ to v. let w = c.tries.invariant.goes to v in (
+        w.0,
+        w.1,
+        try_fails _ _ _ _ w.0 _ _ _ w.2
+            (omega (arith, c.tries.invariant.upto, c.if-head-count.false, c.count.ensures)) _ (sym c.fixity.ensures ∙ c.in-Prefix.is)
+            (not_read _ _ _ _ w.0 _ _ _ w.2 (omega (arith, c.tries.invariant.upto, c.if-head-count.false, c.count.ensures)) _
+            (sym c.fixity.ensures ∙ c.in-Prefix.is) t.1) t.2 _ (omega arith),
+        w.3,
+      );
+      lighter = beside_most _ _ _ _ (prefix_next _ _ _ _ (omega (arith, c.tries.invariant.upto, c.if-head-count.false, c.count.ensures))) c.tries.invariant.lighter;
+      upto = omega (arith, c.tries.invariant.upto, c.if-head-count.false, c.count.ensures);
+      stood = c.tries.invariant.stood ∙ sym t.1.same.tokens ∙ sym (ap (λ (z : Held _ _ _ _). z.tokens) t.2);
+      tokens = ap (λ (z : Held _ _ _ _). z.tokens) t.2 ∙ t.1.same.tokens ∙ c.tries.invariant.tokens;
+      lent = c.attempt.ensures.lent ∙ c.tries.invariant.lent;
+    }
+
+pub tries-preserved-in-Postfix : goal.tries-preserved-in-Postfix
+tries-preserved-in-Postfix g c =
+    record {
+      may = (let w = c.tries.invariant.may.1 in (
+        c.tries.invariant.may.0,
+        (
+          w.0,
+          w.1,
+          passes_postfix _ _ _ _ w.0 _ _ _ w.2
+              (omega (arith, c.tries.invariant.upto, c.if-head-count.false, c.count.ensures)) _ (sym c.fixity.ensures ∙ c.in-Postfix.is) _ (omega arith),
+          w.3,
+        ),
+      ));
+      goes = λ to v. let w = c.tries.invariant.goes to v in (
+        w.0,
+        w.1,
+        passes_postfix _ _ _ _ w.0 _ _ _ w.2
+            (omega (arith, c.tries.invariant.upto, c.if-head-count.false, c.count.ensures)) _ (sym c.fixity.ensures ∙ c.in-Postfix.is) _ (omega arith),
+        w.3,
+      );
+      lighter = beside_most _ _ _ _ (prefix_next _ _ _ _ (omega (arith, c.tries.invariant.upto, c.if-head-count.false, c.count.ensures))) c.tries.invariant.lighter;
+      upto = omega (arith, c.tries.invariant.upto, c.if-head-count.false, c.count.ensures);
+      stood = c.tries.invariant.stood;
+      tokens = c.tries.invariant.tokens;
+      lent = c.tries.invariant.lent;
+    }
+
+pub tries-preserved : goal.tries-preserved
+tries-preserved g c =
+    record {
+      may = (let w = c.tries.invariant.may.1 in (
+        c.tries.invariant.may.0,
+        (
+          w.0,
+          w.1,
+          passes_infix _ _ _ _ w.0 _ _ _ w.2
+              (omega (arith, c.tries.invariant.upto, c.if-head-count.false, c.count.ensures)) _ _ _ (sym c.fixity.ensures ∙ c.in-Infix.is) _ (omega arith),
+          w.3,
+        ),
+      ));
+      goes = λ to v. let w = c.tries.invariant.goes to v in (
+        w.0,
+        w.1,
+        passes_infix _ _ _ _ w.0 _ _ _ w.2
+            (omega (arith, c.tries.invariant.upto, c.if-head-count.false, c.count.ensures)) _ _ _ (sym c.fixity.ensures ∙ c.in-Infix.is) _ (omega arith),
+        w.3,
+      );
+      lighter = beside_most _ _ _ _ (prefix_next _ _ _ _ (omega (arith, c.tries.invariant.upto, c.if-head-count.false, c.count.ensures))) c.tries.invariant.lighter;
+      upto = omega (arith, c.tries.invariant.upto, c.if-head-count.false, c.count.ensures);
+      stood = c.tries.invariant.stood;
+      tokens = c.tries.invariant.tokens;
+      lent = c.tries.invariant.lent;
+    }
