@@ -20,6 +20,20 @@ fn what_sums_come_to(rt: HostRuntime) -> Result<(), Fail> {
         ("(0-7)/2", -3),
         ("9223372036854775807", 9_223_372_036_854_775_807),
         ("0-9223372036854775807-1", -9_223_372_036_854_775_808),
+        ("2 * (3 + 4) - 1", 13),
+        (" 007\n", 7),
+        ("\t( 1 +\r\n2 ) * 3 ", 9),
+        ("\u{3000}1\u{a0}+\u{2009}1\u{85}", 2),
+        ("-1", -1),
+        ("- 7 / 2", -3),
+        ("-7 % 2", -1),
+        ("-2 + 3", 1),
+        ("1--1", 2),
+        ("1 - - -1", 0),
+        ("--5 + -(2 * -3)", 11),
+        ("2*-3", -6),
+        ("- ( - ( 4 ) )", 4),
+        ("-9223372036854775807 - 1", -9_223_372_036_854_775_808),
     ];
     for (text, number) in rows {
         let parsed = parse_exact_sum(alloc, text)?;
@@ -39,6 +53,11 @@ fn what_no_number_holds_is_none(rt: HostRuntime) -> Result<(), Fail> {
         "1/0",
         "1%(2-2)+1",
         "(0-9223372036854775807-1)/(0-1)",
+        "-9223372036854775808",
+        "-(-9223372036854775807 - 1)",
+        "(-9223372036854775807 - 1) / -1",
+        "- (1 / 0)",
+        "3 * -(7 % 0)",
     ] {
         let parsed = parse_exact_sum(alloc, text)?;
         assert_eq!(rt; parsed.into_output(), Some(None), "{text}");
@@ -50,11 +69,24 @@ fn what_no_number_holds_is_none(rt: HostRuntime) -> Result<(), Fail> {
 fn other_texts_are_no_sums(rt: HostRuntime) -> Result<(), Fail> {
     let alloc = rt.alloc();
     for text in [
-        "", "+", "1+", "+1", "-1", "1++2", "1 + 2", "1 2", "()", "(1", "1)", "(1)2", "2(1)", "1*", "a", "1+a", "1.5", "(1+2)(3)",
+        "", " ", "+", "-", "- ", "1+", "+1", "1++2", "1-+2", "-*1", "1 2", "1 -", "()", "( )", "(-)", "(1", "1)", "(1)2", "2(1)", "(1) -(2) 3", "1*", "a", "1+a", "1.5", "(1+2)(3)",
     ] {
         let parsed = parse_exact_sum(alloc, text)?;
         assert_eq!(rt; parsed.into_output(), None, "{text}");
     }
+    Ok(())
+}
+
+#[test]
+fn minuses_stand_before_one_another(rt: HostRuntime) -> Result<(), Fail> {
+    let alloc = rt.alloc();
+    let mut text = String::new(alloc);
+    for _ in 0..10_001 {
+        text.push_str("- ")?;
+    }
+    text.push('7')?;
+    let parsed = parse_exact_sum(alloc, text.as_str())?;
+    assert_eq!(rt; parsed.into_output(), Some(Some(-7)));
     Ok(())
 }
 

@@ -3,3 +3,4 @@ pub mod Worth
 pub mod Sums
 pub mod Lines
 pub mod LinesLaws
+pub mod TakenLaws

@@ -8,13 +8,13 @@ use Rattle.std.specs.declared.vec.Vec.{Vec}
 use Rattle.chumsky_input.specs.declared.stop.Stop.{Stop}
 use Rattle.chumsky_parser.specs.declared.result.ParseResult.{ParseResult}
 use Rattle.chumsky_primitive.specs.OneOf.{among}
-use Rattle.chumsky_grammars.specs.Expression.{Expression, Leaf, Call, Then, Or, Optional}
+use Rattle.chumsky_grammars.specs.Expression.{Expression, Leaf, Call, Then, Or, Map, Optional}
 use Rattle.arithmetic.specs.declared.exact_sum.Before.{Before}
 use Rattle.arithmetic.specs.declared.exact_sum.Running.{Running}
 use Rattle.arithmetic.specs.declared.exact_sum.Signed.{Signed}
 use Rattle.arithmetic.specs.declared.exact_sum.Piece.{Piece}
 use Rattle.arithmetic.specs.declared.exact_sum.Piece.TheVariants as piece
-use Rattle.arithmetic.specs.Sums.{IsMade, adds, IsPart}
+use Rattle.arithmetic.specs.Sums.{IsMade, IsNegative, adds, IsPart}
 
 -- each sign
 abbrev pub is_sign : ℕ → Bool
@@ -47,10 +47,12 @@ from_part x = record { before = None; product = x }
 abbrev pub Extends : List Signed → Signed → Piece → Type 0
 Extends items step v = (ss : Vec Signed Global) × (v ≡ piece.Steps ss) × (ss.items ≡ items ++ (step ∷ []))
 
--- a sign and a line are steps; a part and steps a line; a line and a bracket a part; and a bracket and a part that part
+-- a sign and a line are steps; a part and steps a line; a minus and a line that line, of which it makes the first part negative; a line
+-- and a bracket a part; and a bracket and a part that part
 abbrev pub IsPair : Piece → Piece → Piece → Type 0
 IsPair (piece.Mark c) (piece.Line x steps) v = Extends steps.items (record { sign = c; number = x }) v
 IsPair (piece.Part x) (piece.Steps steps) v = v ≡ piece.Line x steps
+IsPair piece.Minus (piece.Line x steps) v = (y : Option ℤ) × (v ≡ piece.Line y steps) × IsNegative x y
 IsPair (piece.Line x steps) second v = (y : Option ℤ) × (v ≡ piece.Part y) × ComesTo (from_part x) (reverse steps.items) y
 IsPair first second v = v ≡ second
 
@@ -102,6 +104,14 @@ IsLine w v = (x : Option ℤ) × (ss : Vec Signed Global) × (v ≡ piece.Line x
 abbrev pub steps_expression : Expression
 steps_expression = Optional (Then (Leaf 1) (Call 0))
 
--- ( number / "(" S ")" ) ( sign S )?
+-- number / "(" S ")"
+abbrev pub part_expression : Expression
+part_expression = Or (Leaf 0) (Then (Leaf 2) (Then (Call 0) (Leaf 3)))
+
+-- "-" S
+abbrev pub negative_expression : Expression
+negative_expression = Then (Map (Leaf 4) 0) (Call 0)
+
+-- part ( sign S )? / "-" S
 abbrev pub sum_expression : Expression
-sum_expression = Then (Or (Leaf 0) (Then (Leaf 2) (Then (Call 0) (Leaf 3)))) steps_expression
+sum_expression = Or (Then part_expression steps_expression) negative_expression

@@ -1,5 +1,5 @@
 //! Sums of which it is known exactly which texts they are, and what each comes to, by a rule.
-ghost use Rattle.std.specs.Prelude.{◌≡◌, ℕ, ◌+◌, ◌-◌, ◌<◌, ◌^◌, None, [], length, map, reverse, pos, IfOk, IfErr, ⊤};
+ghost use Rattle.std.specs.Prelude.{◌≡◌, ℕ, ◌+◌, ◌-◌, ◌<◌, ◌^◌, None, [], length, map, reverse, pos, IfOk, IfErr, IfSome, ⊤};
 ghost use Rattle.std.specs.List.{All};
 ghost use Rattle.std.specs.Option.{SomeIff};
 ghost use Rattle.std.specs.Str.{chars};
@@ -7,9 +7,9 @@ ghost use Rattle.std.specs.Str.Parse.{AllDigits, digits_value};
 ghost use Rattle.chumsky_input.specs.declared.stop.Stop.TheVariants as stop;
 ghost use Rattle.chumsky.specs.Accepted.{Exactly};
 ghost use Rattle.chumsky_grammars.specs.Compiled.{IsNode, IsOneRule};
-ghost use Rattle.arithmetic.specs.Sums.{IsMade, IsSum};
+ghost use Rattle.arithmetic.specs.Sums.{IsMade, IsNegative, IsSum, ComesOnlyTo};
 ghost use Rattle.arithmetic.specs.Lines.{IsClosed, IsStepped, ComesTo, from_part, Extends, IsPair, IsOption, IsRead, IsTotal, IsWorkedOut, sum_expression};
-ghost use Rattle.arithmetic.specs.LinesLaws.{AreSumLeaves};
+ghost use Rattle.arithmetic.specs.TakenLaws.{AreSumLeaves};
 ghost use Rattle.arithmetic.specs.declared.exact_sum.Piece.TheVariants as piece;
 
 use crate::{Step, applied};
@@ -18,6 +18,7 @@ use chumsky::combinator::Mapper;
 use chumsky::extra::EmptyText;
 use chumsky::prelude::*;
 use chumsky::recursive::{BuildError, Leaves, Moving, Node, Values};
+use chumsky::text::{Padded, Whitespace};
 use chumsky_grammars::exact::exact;
 use either::Either;
 use std::alloc::{AllocError, Global};
@@ -31,6 +32,11 @@ const OPENING: usize = 2;
 
 const CLOSING: usize = 3;
 
+const MINUS: usize = 4;
+
+/// The one mapper.
+const BEFORE_PART: usize = 0;
+
 /// A sign, and what the part after it comes to.
 #[derive(Drop)]
 struct Signed {
@@ -43,6 +49,8 @@ struct Signed {
 enum Piece {
     /// A sign or a bracket.
     Mark(char),
+    /// A minus before a part.
+    Minus,
     /// What a number or a sum in brackets comes to.
     Part(Option<i64>),
     /// Signs, each with the part after it, the last of them first.
@@ -91,6 +99,16 @@ fn made(before: Option<i64>, sign: char, after: Option<i64>) -> Option<i64>
                 }
             }
         },
+    }
+}
+
+/// What a minus makes of the number after it.
+fn negated(number: Option<i64>) -> Option<i64>
+    ensures { IsNegative number result }
+{
+    match number {
+        Some(number) => number.checked_neg(),
+        None => None,
     }
 }
 
@@ -182,13 +200,17 @@ impl Values<SimpleSpan, EmptyErr> for Pieces {
 
     ghost option_gives = { λ _ o v. IsOption o v };
 
-    /// Steps of a sign and a line, a line of a part and steps; a part of a line and a bracket, and what is after a bracket.
+    ghost map_gives = { λ _ _ _ v. v ≡ piece.Minus };
+
+    /// Steps of a sign and a line, a line of a part and steps, or of a minus and a line; a part of a line and a bracket, and what is
+    /// after a bracket.
     fn pair(&self, _alloc: Global, first: Piece, second: Piece) -> Result<Piece, AllocError> {
         match (first, second) {
             (Piece::Mark(sign), Piece::Line(number, steps)) => {
                 extended(steps, Signed { sign, number })
             }
             (Piece::Part(first), Piece::Steps(steps)) => Ok(Piece::Line(first, steps)),
+            (Piece::Minus, Piece::Line(first, steps)) => Ok(Piece::Line(negated(first), steps)),
             (Piece::Line(first, steps), _closing) => Ok(Piece::Part(total_of(first, steps))),
             (_opening, inside) => Ok(inside),
         }
@@ -208,8 +230,9 @@ impl Values<SimpleSpan, EmptyErr> for Pieces {
         Ok(Piece::Part(None))
     }
 
-    fn map(&self, _alloc: Global, _mapper: usize, piece: Piece) -> Result<Piece, AllocError> {
-        Ok(piece)
+    /// Of a sign a minus before a part.
+    fn map(&self, _alloc: Global, _mapper: usize, _sign: Piece) -> Result<Piece, AllocError> {
+        Ok(Piece::Minus)
     }
 
     fn list(&self, _alloc: Global, _pieces: Vec<Piece>) -> Result<Piece, AllocError>
@@ -229,11 +252,11 @@ impl Values<SimpleSpan, EmptyErr> for Pieces {
     }
 }
 
-/// A number or a sum in brackets, and perhaps a sign and a sum after it.
+/// A number or a sum in brackets, and perhaps a sign and a sum after it; or a minus and a sum, whose first part it is before.
 fn body(rules: &mut Rules, sum: Recursive) -> Result<Node, BuildError>
     requires empty { rules.old.nodes ≡ [] }
     requires first { sum ≡ 0 }
-    ensures body { IfOk result (λ n. IsNode 4 sum_expression rules.new.nodes n) }
+    ensures body { IfOk result (λ n. IsNode 5 sum_expression rules.new.nodes n) }
     ensures bodies { rules.new.bodies ≡ rules.old.bodies }
 {
     let number = rules.leaf(NUMBER)?;
@@ -246,12 +269,16 @@ fn body(rules: &mut Rules, sum: Recursive) -> Result<Node, BuildError>
     let sign = rules.leaf(SIGN)?;
     let step = rules.then(sign, inside)?;
     let steps = rules.or_not(step)?;
-    rules.then(part, steps)
+    let line = rules.then(part, steps)?;
+    let minus = rules.leaf(MINUS)?;
+    let before = rules.map(minus, BEFORE_PART)?;
+    let negative = rules.then(before, inside)?;
+    rules.choice(&[line, negative])
 }
 
 /// The one rule.
 fn sum_rule(alloc: Global) -> Result<(Rules, Recursive), Stop>
-    ensures rules { IfOk result (λ p. IsOneRule 4 sum_expression p.0 × (p.1 ≡ 0)) }
+    ensures rules { IfOk result (λ p. IsOneRule 5 sum_expression p.0 × (p.1 ≡ 0)) }
     ensures memory { IfErr result (λ why. why ≡ stop.Memory) }
 {
     let mut rules = Rules::new(alloc);
@@ -296,16 +323,16 @@ fn worked_out(
     }
 }
 
-/// What a text comes to, by four leaves, which take digits, signs and brackets.
+/// What a text comes to, by five leaves, which take digits, signs, brackets and a minus, with the blanks around them.
 fn parse_over<'src, P: Moving<'src, &'src str, Piece, EmptyText>>(
     alloc: Global,
     text: &'src str,
     leaves: &[P],
 ) -> Result<ParseResult<Option<i64>, EmptyErr>, Stop>
-    requires four { length leaves.now ≡ 4 }
+    requires five { length leaves.now ≡ 5 }
     requires ready { All P.ready leaves.now }
     requires languages { AreSumLeaves (map P.language leaves.now) }
-    ensures { Exactly IsSum (chars text.now) result }
+    ensures { Exactly IsSum (chars text.now) result × IfOk result (λ parsed. IfSome parsed.output (ComesOnlyTo (chars text.now))) }
 {
     let (rules, sum) = sum_rule(alloc)?;
     let Some(limit) = text.len().checked_add(1) else {
@@ -321,20 +348,39 @@ fn parse_over<'src, P: Moving<'src, &'src str, Piece, EmptyText>>(
     }
 }
 
-/// What a sum comes to, without blanks: of `2*(3+4)-1` it is 13. There are `+`, `-`, `*`, `/` and `%`, from the left, and brackets,
-/// in which a sum may stand as deep as the text is long. Of a sum in which an `i64` doesn't hold a number, or what a sign makes, or
-/// that divides by zero, the output is `None`; of a text that is no sum there is no output.
+/// What a sum comes to: of `2 * (3 + 4) - 1` it is 13. There are `+`, `-`, `*`, `/` and `%`, from the left, a minus before a part, as
+/// in `2 * -3`, and brackets, in which a sum may stand as deep as the text is long; white space may stand around each of them. Of a
+/// sum in which an `i64` doesn't hold a number, or what a sign makes, or that divides by zero, the output is `None`; of a text that
+/// is no sum there is no output.
 pub fn parse_exact_sum(
     alloc: Global,
     text: &str,
 ) -> Result<ParseResult<Option<i64>, EmptyErr>, Stop>
-    ensures { Exactly IsSum (chars text.now) result }
+    ensures exact { Exactly IsSum (chars text.now) result }
+    ensures once { IfOk result (λ parsed. IfSome parsed.output (ComesOnlyTo (chars text.now))) }
 {
+    let kind = Whitespace;
     let leaves = [
-        Either::Left(text::digits::<&str, EmptyText>(10).map_by(ToPart)),
-        Either::Right(one_of("+-*/%").map_by(ToMark)),
-        Either::Right(one_of("(").map_by(ToMark)),
-        Either::Right(one_of(")").map_by(ToMark)),
+        Padded {
+            parser: Either::Left(text::digits::<&str, EmptyText>(10).map_by(ToPart)),
+            kind,
+        },
+        Padded {
+            parser: Either::Right(one_of("+-*/%").map_by(ToMark)),
+            kind,
+        },
+        Padded {
+            parser: Either::Right(one_of("(").map_by(ToMark)),
+            kind,
+        },
+        Padded {
+            parser: Either::Right(one_of(")").map_by(ToMark)),
+            kind,
+        },
+        Padded {
+            parser: Either::Right(one_of("-").map_by(ToMark)),
+            kind,
+        },
     ];
     parse_over(alloc, text, &leaves)
 }

@@ -1,7 +1,7 @@
 use Rattle.std.proofs.Common.{◌<◌, length, refl, arith}
 use Rattle.std.specs.Str.{chars}
 use Rattle.chumsky_grammars.specs.ExactlyLaws.{one-rule, chars-few}
-use Rattle.arithmetic.specs.LinesLaws.{exactly-sum}
+use Rattle.arithmetic.specs.TakenLaws.{exactly-sum}
 use Rattle.arithmetic.proofs.exact_sum.parse_over.Goals as goal
 
 pub parse-requires : goal.parse-requires
