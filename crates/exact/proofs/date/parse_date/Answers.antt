@@ -1,12 +1,22 @@
-use Rattle.std.proofs.Common.{refl, arith, rules}
+use Rattle.std.proofs.Common.{ℕ, refl, arith, rules}
 use Rattle.std.specs.Prelude.{codes}
 use Rattle.std.specs.Str.{chars}
-use Rattle.chumsky_primitive.specs.Literals.{same-equals}
 use Rattle.chumsky_exact.specs.Answered.{answers-by_words}
-use Rattle.chumsky_exact.specs.Fields.{field, picks}
-use Rattle.chumsky_exact.specs.Parts.{joined, before, stops-at}
+use Rattle.chumsky_exact.specs.InTurn.{Tree, Part, Then, Turn, as_defined, as_parsed}
+use Rattle.chumsky_exact.specs.Lexemes.{fixed, picked, picked_field, field_picked, spelled, spells}
+use Rattle.chumsky_exact.specs.Pieces.{unambiguous}
 use Rattle.exact.specs.Date.{IsDate}
 use Rattle.exact.proofs.date.parse_date.Goals as goal
+
+-- a date as its parser nests its parts; what is known of each in a word, with what that says; and the other way round
+abbrev nested : {A : Type 1} → A → A → A → A → Tree A
+nested year dash month day = Then (Then (Then (Then (Part year) (Part dash)) (Part month)) (Part dash)) (Part day)
+
+abbrev heard : (ℕ × ℕ) × ℕ → Tree (Turn ℕ)
+heard date = nested (picked_field 4 0 9999 date.0.0) (spelled (codes "-")) (picked_field 2 1 12 date.0.1) (picked_field 2 1 31 date.1)
+
+abbrev told : (ℕ × ℕ) × ℕ → Tree (Turn ℕ)
+told date = nested (field_picked 4 0 9999 date.0.0 (omega arith)) (spells (codes "-")) (field_picked 2 1 12 date.0.1 (omega arith)) (field_picked 2 1 31 date.1 (omega arith))
 
 pub returns : goal.returns
 unfolding chars
@@ -21,24 +31,6 @@ returns c =
     let a1 = rw (d.first, d.second, b.first, b.second, t.first, t.second, f.first, f.second) at (c.parse.ensures.3.reads refl) in
     let a2 = rw (y.parser, y.picker, m.parser, m.picker, e.parser, e.picker) at a1 in
     let a = rw (c.just.ensures, c.just-2.ensures, c.digits.ensures, c.digits-2.ensures, c.digits-3.ensures) at a2 in
-    let both = answers-by_words IsDate a (search rules) (search rules) refl
-    ((((tt, tt, λ w rest h f. stops-at _ (codes "-") (λ r t. refl) w rest h), tt, λ w rest h f. tt), tt, λ w rest h f. stops-at _ (codes "-") (λ r t. refl) w rest h), tt, λ w rest h f. tt) (λ t. tt)
-    (λ v w s. (
-    let j = before (codes "-") s.is_first in
-    let k = before (codes "-") j.2.is_first in
-    record {
-      years = k.0;
-      months = j.2.second;
-      days = s.second;
-      all = cc (s.all, j.1, j.2.all, k.1);
-      is_year = field 4 0 9999 k.0 v.0.0 k.2;
-      is_month = field 2 1 12 j.2.second v.0.1 j.2.is_second;
-      is_day = field 2 1 31 s.second v.1 s.is_second;
-    }))
-    (λ v i. (
-    let dash = same-equals (codes "-") in
-    let year = picks 4 0 9999 i.years v.0.0 (omega arith) i.is_year in
-    let month = picks 2 1 12 i.months v.0.1 (omega arith) i.is_month in
-    let day = picks 2 1 31 i.days v.1 (omega arith) i.is_day in
-    rw i.all (joined _ _ (joined _ _ (joined _ _ (joined _ _ year dash) month) dash) day))) in
+    let once = unambiguous (nested (picked 4 0 9999) (fixed (codes "-")) (picked 2 1 12) (picked 2 1 31)) refl in
+    let both = answers-by_words IsDate a (search rules) (search rules) refl once (λ t. tt) (λ v w s. as_defined (heard v) _ s) (λ v i. as_parsed (told v) _ i) in
     record { exact = both.0; answered = both.1 }
