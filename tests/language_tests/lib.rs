@@ -15,6 +15,8 @@ mod exact_strings;
 #[cfg(test)]
 mod exact_sums;
 #[cfg(test)]
+mod exact_versions;
+#[cfg(test)]
 mod expressions;
 #[cfg(test)]
 mod json_answers;

@@ -38,6 +38,8 @@ pub mod QuotedLaws
 pub mod Trees
 pub mod TreesLaws
 pub mod TreesLevelsLaws
+pub mod Version
+pub mod VersionLaws
 pub mod WrittenLaws
 pub mod Rows
 pub mod RowsLaws

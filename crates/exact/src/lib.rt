@@ -21,3 +21,4 @@ pub mod print_pairs;
 pub mod quoted;
 pub mod rows;
 pub mod trees;
+pub mod version;
