@@ -56,7 +56,8 @@ module _ (test : ℕ → Bool) (rs : Ranges) (are_in : (c : ℕ) → test c ≡ 
     once = λ w v x y p q s t e. run-once test w v x y p q (stops_in test rs are_in x s) (stops_in test rs are_in y t) e;
   }
 
-module _ (begins : ℕ → Bool) (goes_on : ℕ → ℕ → Bool) (bs rs : Ranges) (begin_in : (c : ℕ) → begins c ≡ true → within bs c ≡ true) (go_on_in : (t c : ℕ) → goes_on t c ≡ true → within rs c ≡ true) where
+module _ (begins : ℕ → Bool) (goes_on : ℕ → ℕ → Bool) (bs rs : Ranges) (begin_in : (c : ℕ) → begins c ≡ true → within bs c ≡ true)
+    (go_on_in : (t c : ℕ) → goes_on t c ≡ true → within rs c ≡ true) where
   pub lexeme_begins : (w : List ℕ) → IsWord begins goes_on w → BeginsIn false bs w
   lexeme_begins [] h = absurd h
   lexeme_begins (c ∷ cs) h = begin_in c h.0

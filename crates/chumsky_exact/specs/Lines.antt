@@ -5,10 +5,12 @@ use Rattle.std.proofs.lemmas.List.{append-nil, append_cancel_left}
 use Rattle.std.specs.Prelude.{map}
 use Rattle.std.specs.declared.vec.Vec.{Vec}
 use Rattle.chumsky_parser.specs.ItemsLanguage.{ListFrom, IsListFrom}
+use Rattle.chumsky_parser.specs.Words.{Joined}
 use Rattle.chumsky_primitive.specs.Literals.{equals-same, same-equals}
 use Rattle.chumsky_primitive.specs.PrimitiveLanguage.{Equals}
 use Rattle.chumsky_items.specs.ListLanguage.{Holding}
 use Rattle.chumsky_items.specs.ListWords.{SeparatedWord, SeparatedEnd}
+use Rattle.chumsky_exact.specs.Parts.{joined}
 use Rattle.chumsky_exact.specs.Rendered.{OfEach}
 
 -- a text is lines of these values: none; a last line that isn't ended; or a line that is, and then lines
@@ -45,31 +47,36 @@ module _ {V X : Type 0} (of : List ℕ → V → Type 0) (Shown : List ℕ → X
 
 -- and lines are a word of that list
 module _ {X : Type 0} (Shown : List ℕ → X → Type 0) (P : List ℕ → Type 0) (each : (w : List ℕ) (x : X) → Shown w x → P w) (end : List ℕ) where
+  led : (w : List ℕ) (x : X) → Shown w x → Joined (Equals nat_eq end) P (end ++ w)
+  led w x i = joined end w (same-equals end) (each w x i)
+
   ended : {w : List ℕ} {xs : List X} (k : ℕ) → Lines Shown end w xs → AreLines P end (suc k) (end ++ w)
   ended k no_line = record { items = []; are = (omega arith, inr (subst (Equals nat_eq end) (sym (append-nil end)) (same-equals end))) }
   ended k (last_line {w} {v} i) = record {
     items = w ∷ [];
-    are = record { first = end ++ w; second = []; all = sym (append-nil (end ++ w)); is_first = (tt, record { first = end; second = w; all = refl; is_first = same-equals end; is_second = each w v i }); is_second = (omega arith, inl refl) };
+    are = record { first = end ++ w; second = []; all = sym (append-nil (end ++ w)); is_first = (tt, led w v i); is_second = (omega arith, inl refl) };
   }
   ended k (more_lines {w} {rest} {v} i l) =
       let r = ended (suc k) l in
       record {
         items = w ∷ r.items;
-        are = record { first = end ++ w; second = end ++ rest; all = sym (append_assoc end w (end ++ rest)); is_first = (tt, record { first = end; second = w; all = refl; is_first = same-equals end; is_second = each w v i }); is_second = r.are };
+        are = record { first = end ++ w; second = end ++ rest; all = sym (append_assoc end w (end ++ rest)); is_first = (tt, led w v i); is_second = r.are };
       }
 
   pub lines-list : {w : List ℕ} {xs : List X} → Lines Shown end w xs → AreLines P end 0 w
   lines-list no_line = record { items = []; are = (omega arith, refl) }
   lines-list (last_line {w} {v} i) = record { items = w ∷ []; are = record { first = w; second = []; all = sym (append-nil w); is_first = (tt, each w v i); is_second = (omega arith, inl refl) } }
-  lines-list (more_lines {w} {rest} {v} i l) = let r = ended 0 l in record { items = w ∷ r.items; are = record { first = w; second = end ++ rest; all = refl; is_first = (tt, each w v i); is_second = r.are } }
+  lines-list (more_lines {w} {rest} {v} i l) =
+      let r = ended 0 l in
+      record { items = w ∷ r.items; are = record { first = w; second = end ++ rest; all = refl; is_first = (tt, each w v i); is_second = r.are } }
 
 not_nothing : {Tok : Type 0} (w rest : List Tok) (c : Tok) → w ++ (c ∷ rest) ≡ [] → ⊥
 not_nothing [] rest c e = absurd (cc e)
 not_nothing (t ∷ ts) rest c e = absurd (cc e)
 
 -- where one line alone is at the front of a text, before its end, a text is of one list of lines
-module _ {Tok V : Type 0} (of : List Tok → V → Type 0) (c : Tok) (cs : List Tok) (some : (v : V) → of [] v → ⊥) (Fits : List Tok → Type 0) (nothing : Fits []) (ends : (rest : List Tok) → Fits ((c ∷ cs) ++ rest))
-    (one : (w u x y : List Tok) (v t : V) → of w v → of u t → Fits x → Fits y → w ++ x ≡ u ++ y → (v ≡ t) × (x ≡ y)) where
+module _ {Tok V : Type 0} (of : List Tok → V → Type 0) (c : Tok) (cs : List Tok) (some : (v : V) → of [] v → ⊥) (Fits : List Tok → Type 0) (nothing : Fits [])
+    (ends : (rest : List Tok) → Fits ((c ∷ cs) ++ rest)) (one : (w u x y : List Tok) (v t : V) → of w v → of u t → Fits x → Fits y → w ++ x ≡ u ++ y → (v ≡ t) × (x ≡ y)) where
   lines_same : {w u : List Tok} {vs ts : List V} → Lines of (c ∷ cs) w vs → Lines of (c ∷ cs) u ts → w ≡ u → vs ≡ ts
   lines_same no_line no_line e = refl
   lines_same no_line (last_line {v} j) e = absurd (some v (subst (λ z. of z v) (sym e) j))
@@ -93,7 +100,8 @@ module _ {Tok V : Type 0} (of : List Tok → V → Type 0) (c : Tok) (cs : List 
   lines-once w vs ts l m = lines_same l m refl
 
 -- what each line says has P
-pub lines-each : {Tok V : Type 0} {of : List Tok → V → Type 0} {end : List Tok} (P : V → Type 0) → ((u : List Tok) (v : V) → of u v → P v) → {w : List Tok} {vs : List V} → Lines of end w vs → OfEach P vs
+pub lines-each : {Tok V : Type 0} {of : List Tok → V → Type 0} {end : List Tok} (P : V → Type 0) → ((u : List Tok) (v : V) → of u v → P v)
+    → {w : List Tok} {vs : List V} → Lines of end w vs → OfEach P vs
 lines-each P h no_line = tt
 lines-each P h (last_line {w} {v} i) = (h w v i, tt)
 lines-each P h (more_lines {w} {v} i l) = (h w v i, lines-each P h l)

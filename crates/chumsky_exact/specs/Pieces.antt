@@ -134,14 +134,16 @@ is_parted [] after = true
 is_parted (p ∷ ps) after = lets_come p.next ps after && is_parted ps after
 
 -- so one row alone is at the front of a text
-pub row-once : (ps : List Piece) (after : Limit) → is_parted ps after ≡ true → (w v x y : List ℕ) (r : Row word_of ps w) (q : Row word_of ps v) → StopsAt (barred after) x → StopsAt (barred after) y → w ++ x ≡ v ++ y
-    → SameWords word_of ps w v r q × (x ≡ y)
+pub row-once : (ps : List Piece) (after : Limit) → is_parted ps after ≡ true → (w v x y : List ℕ) (r : Row word_of ps w) (q : Row word_of ps v)
+    → StopsAt (barred after) x → StopsAt (barred after) y → w ++ x ≡ v ++ y → SameWords word_of ps w v r q × (x ≡ y)
 row-once [] after h w v x y r q s t e = (tt, sym (ap (λ z. z ++ x) r) ∙ e ∙ ap (λ z. z ++ y) q)
 row-once (p ∷ ps) after h w v x y r q s t e =
     let a = both-true (lets_come p.next ps after) (is_parted ps after) h in
     let i : w ++ x ≡ r.first ++ (r.second ++ x) = ap (λ z. z ++ x) r.all ∙ append_assoc r.first r.second x in
     let j : v ++ y ≡ q.first ++ (q.second ++ y) = ap (λ z. z ++ y) q.all ∙ append_assoc q.first q.second y in
-    let one = p.once r.first q.first (r.second ++ x) (q.second ++ y) r.is_first q.is_first (row_stops p.next ps after a.0 r.second x r.is_second s) (row_stops p.next ps after a.0 q.second y q.is_second t) (sym i ∙ e ∙ j) in
+    let k = row_stops p.next ps after a.0 r.second x r.is_second s in
+    let l = row_stops p.next ps after a.0 q.second y q.is_second t in
+    let one = p.once r.first q.first (r.second ++ x) (q.second ++ y) r.is_first q.is_first k l (sym i ∙ e ∙ j) in
     let more = row-once ps after a.1 r.second q.second x y r.is_second q.is_second s t one.1 in
     ((one.0, more.0), more.1)
 

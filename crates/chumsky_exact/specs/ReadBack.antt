@@ -47,6 +47,7 @@ module _ {Tok V X Er : Type 0} {l : Language Tok V} {ts : List Tok} {spare : Typ
   gives_back-by_words n u f sound once complete x p = let w = complete x p in given_back x (ends-unless (a.accepted u f w) (decided_by a n)) (λ v s. once (of v) x (sound v w s) p) result a.output
 
   -- so the output is exact, and each value is given back
-  pub exact-and_back : l.refused_from ≡ None → l.unambiguous → l.follow [] → ((v : V) → l.word ts → l.stands_for ts v → P ts (of v)) → ((x y : X) → P ts x → P ts y → x ≡ y) → ((x : X) → P ts x → l.word ts)
+  pub exact-and_back : l.refused_from ≡ None → l.unambiguous → l.follow [] → ((v : V) → l.word ts → l.stands_for ts v → P ts (of v))
+      → ((x y : X) → P ts x → P ts y → x ≡ y) → ((x : X) → P ts x → l.word ts)
       → Exactly (λ us v. P us (of v)) ts result × ((x : X) → P ts x → GivesBack of x result)
   exact-and_back n u f sound once complete = (exactly-by_words (λ us v. P us (of v)) a n u f sound (λ v p. complete (of v) p), gives_back-by_words n u f sound once complete)
