@@ -1,6 +1,8 @@
 //! What sums come to.
 use super::printed::{Refusal, assert_lines, nested, printed};
-use arithmetic::{Refused, parse_arithmetic, parse_sum};
+use arithmetic::{Refused, parse_arithmetic, parse_sum, read_by_powers};
+use chumsky::Stop;
+use chumsky::prelude::*;
 use std::alloc::{AllocError, AllocGlobal, Global};
 use std::process::Abort;
 use std::test::Fail;
@@ -162,13 +164,19 @@ fn a_thousand_brackets_within_one_another_are_worked_out(rt: HostRuntime) -> Res
 }
 
 #[test]
-fn by_powers_a_hundred_brackets_are_too_deep(rt: HostRuntime) -> Result<(), Fail> {
+fn brackets_nest_deeper_than_the_readers_of_errors_go(rt: HostRuntime) -> Result<(), Fail> {
     let alloc = rt.alloc();
     let text = nested(alloc, 99, "(1+", "1", ")")?;
-    let lines = shown_by_powers(alloc, text.as_str())?;
-    assert_eq!(rt; lines.as_str(), "100\n");
+    let read = read_by_powers(alloc, text.as_str())?;
+    assert_eq!(rt; read.into_output(), Some(100));
     let text = nested(alloc, 100, "(1+", "1", ")")?;
+    assert_eq!(rt; read_by_powers(alloc, text.as_str()).err(), Some(Stop::TooDeep));
     let lines = shown_by_powers(alloc, text.as_str())?;
-    assert_eq!(rt; lines.as_str(), "refused: TooDeep");
+    assert_eq!(rt; lines.as_str(), "101\n");
+    let text = nested(alloc, 100, "(", "1/0", ")")?;
+    let parsed = parse_sum(alloc, text.as_str())?;
+    let places = parsed.errors().as_slice().first().map(|error| *error.span());
+    assert_eq!(rt; places, Some(SimpleSpan::from(0..203)));
+    assert_eq!(rt; parsed.errors().as_slice().len(), 1);
     Ok(())
 }

@@ -1,5 +1,6 @@
 //! Sums that are read exactly.
 use arithmetic::exact_sum::parse_exact_sum;
+use arithmetic::{read_by_powers, read_by_rules};
 use std::alloc::{AllocError, Global};
 use std::test::Fail;
 
@@ -122,4 +123,35 @@ fn sums_may_be_long(rt: HostRuntime) -> Result<(), Fail> {
     let parsed = parse_exact_sum(alloc, text.as_str())?;
     assert_eq!(rt; parsed.into_output(), Some(Some(3_001)));
     Ok(())
+}
+
+/// The text that a number stands for, in digits that are the characters.
+fn text_of(alloc: Global, characters: &[char], number: usize) -> Result<String, AllocError> {
+    let mut text = String::new(alloc);
+    let mut left = number;
+    while left > 0 {
+        left = left - 1;
+        text.push(characters[left % characters.len()])?;
+        left = left / characters.len();
+    }
+    Ok(text)
+}
+
+/// All texts of at most five of six characters: the readers that keep errors have the number of the one that keeps none, and errors
+/// where there is no number.
+#[test]
+fn the_readers_of_sums_agree(rt: HostRuntime) {
+    let alloc = rt.alloc();
+    for number in 0..9_331 {
+        let text = text_of(alloc, &['7', '-', '/', '(', ')', ' '], number).expect(&rt, "out of memory");
+        let text = text.as_str();
+        let exact = parse_exact_sum(alloc, text).expect(&rt, "refused");
+        let number = exact.into_output().flatten();
+        let rules = read_by_rules(alloc, text).expect(&rt, "refused");
+        assert_eq!(rt; rules.output().copied(), number, "{text}");
+        assert_eq!(rt; rules.errors().as_slice().is_empty(), number.is_some(), "{text}");
+        let powers = read_by_powers(alloc, text).expect(&rt, "refused");
+        assert_eq!(rt; powers.output().copied(), number, "{text}");
+        assert_eq!(rt; powers.errors().as_slice().is_empty(), number.is_some(), "{text}");
+    }
 }

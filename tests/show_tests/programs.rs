@@ -218,7 +218,6 @@ fn what_is_nested_too_deeply_is_refused(rt: HostRuntime) -> Result<(), Fail> {
         &FormatLisp,
         &[("", lists.as_str().as_bytes(), 3, "", told)],
     );
-    assert_ran(&rt, &Calc, &[("", lists.as_str().as_bytes(), 3, "", told)]);
     let lists = opened(rt.alloc(), '[', 200)?;
     assert_ran(
         &rt,
@@ -230,6 +229,26 @@ fn what_is_nested_too_deeply_is_refused(rt: HostRuntime) -> Result<(), Fail> {
         &rt,
         &FormatProgram,
         &[("", blocks.as_str().as_bytes(), 3, "", told)],
+    );
+    Ok(())
+}
+
+#[test]
+fn a_hundred_brackets_are_a_sum_or_one_error(rt: HostRuntime) -> Result<(), Fail> {
+    let alloc = rt.alloc();
+    let opening = opened(alloc, '(', 100)?;
+    let closing = opened(alloc, ')', 100)?;
+    let sum = format!(in alloc; "{opening}7{closing}")?;
+    let marks = opened(alloc, '^', 100)?;
+    let why = "this comes to no number, and nests too deep to say why";
+    let err = format!(in alloc; "input:1:1: {why}\n{opening}\n{marks}\n")?;
+    assert_ran(
+        &rt,
+        &Calc,
+        &[
+            ("", sum.as_str().as_bytes(), 0, "7\n", ""),
+            ("", opening.as_str().as_bytes(), 1, "", err.as_str()),
+        ],
     );
     Ok(())
 }

@@ -52,3 +52,7 @@ mutual
 -- a text comes to nothing else
 abbrev pub ComesOnlyTo : List ℕ → Option ℤ → Type 0
 ComesOnlyTo cs x = (y : Option ℤ) → IsSum cs y → y ≡ x
+
+-- the number that a text comes to
+abbrev pub HasTotal : List ℕ → ℤ → Type 0
+HasTotal cs n = IsSum cs (Some n)

@@ -1,6 +1,7 @@
-//! What a sum comes to, as `2 * (3 + 4) - 1`, in two ways: by operators with their powers and a function that calls itself
-//! (`parse_sum`), and by rules, sums of products (`parse_arithmetic`), where brackets nest in memory. Numbers are worked out as they
-//! are read.
+//! What a sum comes to, as `2 * (3 + 4) - 1`: a reader that keeps no errors says of each text exactly whether it is a sum, and what it
+//! comes to (`exact_sum`). What is wrong with a text that comes to no number is told in two ways: by operators with their powers and a
+//! function that calls itself (`parse_sum`), and by rules, sums of products (`parse_arithmetic`), where brackets nest in memory.
+//! Numbers are worked out as they are read.
 #![tactic(auto)]
 
 ghost use Rattle.std.specs.Prelude.{◌≡◌, ℤ, [], IfErr, IfOk, IsTrue, MatchResult, OkIff, is_some};
@@ -11,12 +12,14 @@ ghost use Rattle.arithmetic.specs.Worth.{paired, AreSteps, HasWorth, worth, Lack
 ghost use Rattle.arithmetic.specs.declared.Value.{out-Value};
 ghost use Rattle.arithmetic.specs.declared.Value.TheVariants as node;
 
+mod answers;
 pub mod exact_sum;
 mod leaves;
 mod operators;
 
+pub use crate::answers::{parse_arithmetic, parse_sum};
 use crate::leaves::{Number, Sign, Worked};
-pub use crate::operators::parse_sum;
+pub use crate::operators::read_by_powers;
 use chumsky::combinator::{OfPart, Part, part_of, run_part};
 use chumsky::extra::RichText;
 use chumsky::input::TextRef;
@@ -295,12 +298,9 @@ fn whole(value: Value) -> i64
     }
 }
 
-/// What a sum comes to: of `2 * (3 + 4) - 1` it is 13. There are `+`, `-`, `*`, `/` and `%`, from the left, a minus before a
-/// number, and brackets.
-///
-/// What an `i64` doesn't hold is an error at the digits or at the sign that makes it, and so is a division by zero. A sum that is
-/// nested more deeply than half a million brackets is refused with `Stop::TooDeep`.
-pub fn parse_arithmetic(alloc: Global, text: &str) -> Result<ParseResult<i64, Rich<char>>, Refused>
+/// The same as `parse_arithmetic`, of which less is known: rules that keep errors. A sum that is nested more deeply than half a million
+/// brackets is refused with `Stop::TooDeep`.
+pub fn read_by_rules(alloc: Global, text: &str) -> Result<ParseResult<i64, Rich<char>>, Refused>
     ensures { IfOk result (λ parsed. parsed.errors.items ≡ [] → IsTrue (is_some parsed.output)) }
 {
     let mut rules = Rules::new(alloc);

@@ -97,9 +97,9 @@ fn sum<'src>(
 /// How many sums may stand within one another.
 const DEPTH: usize = 100;
 
-/// What a sum comes to, as `parse_arithmetic` has it: of `2 * (3 + 4) - 1` it is 13. A sum that is nested more deeply than
-/// ninety-nine brackets is refused with `Stop::TooDeep`. Where there is no memory for the message of an error, it is empty.
-pub fn parse_sum(alloc: Global, text: &str) -> Result<ParseResult<i64, Rich<char>>, Stop>
+/// The same as `parse_sum`, of which less is known: operators with their powers, which keep errors. A sum that is nested more deeply
+/// than ninety-nine brackets is refused with `Stop::TooDeep`. Where there is no memory for the message of an error, it is empty.
+pub fn read_by_powers(alloc: Global, text: &str) -> Result<ParseResult<i64, Rich<char>>, Stop>
     ensures { IfOk result (λ parsed. parsed.errors.items ≡ [] → IsTrue (is_some parsed.output)) }
 {
     recursive::<_, _, _, RichText>(sum, DEPTH).parse(alloc, text)
