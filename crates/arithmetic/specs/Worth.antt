@@ -2,7 +2,7 @@
 use Rattle.std.specs.Prelude.{◌≡◌, List, ⊤}
 use Rattle.chumsky_input.specs.declared.span.SimpleSpan.{SimpleSpan}
 use Rattle.arithmetic.specs.Steps.{signed, CanSign, from_left, CanAll, StopsAt}
-use Rattle.arithmetic.specs.declared.Value.{Value, out-Value}
+use Rattle.arithmetic.specs.declared.Value.{Value}
 use Rattle.arithmetic.specs.declared.Value.TheOpen.{Value-F}
 use Rattle.arithmetic.specs.declared.Value.TheVariants as node
 

@@ -1,6 +1,6 @@
-use Rattle.std.proofs.Common.{rules, ◌≡◌, ◌∙◌, ℤ, sym, subst, drop, ◌+◌, Err, IfErr, w64, to_z, of_z}
+use Rattle.std.proofs.Common.{rules, ◌≡◌, ◌∙◌, sym, subst, drop, ◌+◌, Err, IfErr, w64, to_z, of_z}
 use Rattle.std.proofs.lemmas.Result.{OkIff-at_ok}
-use Rattle.arithmetic.specs.Steps.{made_by, CanMake, StopsAt}
+use Rattle.arithmetic.specs.Steps.{StopsAt}
 use Rattle.arithmetic.proofs.StepsLemmas.{Left, step_taken, other_skipped, stops_here}
 use Rattle.arithmetic.proofs.total.Goals.{in-Step+in_ok-total, in_default}
 use Rattle.arithmetic.proofs.total.Goals as goal
