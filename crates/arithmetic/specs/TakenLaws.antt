@@ -1,6 +1,7 @@
 -- The rule takes each sum, with what it comes to alone; so it takes just the sums.
 -- Main word: AreSumLeaves. Main laws: leaves-sum, exactly-sum. Read first: LinesLaws.antt, ExactlyLaws.antt of chumsky_grammars.
-use Rattle.std.proofs.Common.{◌≡◌, ℕ, ℤ, zero, suc, ◌+◌, ◌<◌, ◌≤◌, ◌^◌, Bool, true, false, nat_lt, Option, Some, None, List, [], ◌∷◌, ◌++◌, length, map, drop, refl, sym, ◌∙◌, ap, subst, arith, append_assoc, inl, inr}
+use Rattle.std.proofs.Common.{◌≡◌, ℕ, ℤ, zero, suc, ◌+◌, ◌<◌, ◌≤◌, ◌^◌, Bool, true, false, nat_lt, Option, Some, None, List, [], ◌∷◌, ◌++◌, length, map, drop}
+use Rattle.std.proofs.Common.{refl, sym, ◌∙◌, ap, subst, arith, append_assoc, inl, inr}
 use Rattle.std.proofs.Math.Seq.{drop-append_seam}
 use Rattle.std.proofs.lemmas.Bool.Decides.{nat_tests}
 use Rattle.std.proofs.lemmas.List.{append-nil, length-append, reverse-append}
@@ -37,7 +38,8 @@ use Rattle.arithmetic.specs.declared.exact_sum.Piece.{Piece}
 use Rattle.arithmetic.specs.declared.exact_sum.Piece.TheVariants as piece
 use Rattle.arithmetic.specs.Sums.{AreBlanks, IsSum, IsPart, ComesOnlyTo}
 use Rattle.arithmetic.specs.Sums.IsPart.{number, negative, brackets, after_blanks, before_blanks}
-use Rattle.arithmetic.specs.Lines.{is_sign, ComesTo, from_part, IsPair, IsOption, IsTotal, IsTotalOf, IsWorkedOut, AreSteps, Line, IsLine, part_expression, steps_expression, negative_expression, sum_expression}
+use Rattle.arithmetic.specs.Lines.{is_sign, ComesTo, from_part, IsPair, IsOption, IsTotal, IsTotalOf, IsWorkedOut, AreSteps, Line, IsLine}
+use Rattle.arithmetic.specs.Lines.{part_expression, steps_expression, negative_expression, sum_expression}
 use Rattle.arithmetic.specs.Lines.AreSteps.{none, step}
 use Rattle.arithmetic.specs.LinesLaws.{sign-no_digit, total-sum, sum-line, some-once, negative-once, comes-once, padded, digits, signs, mark, leaves_by, leaves, sums, read-value, sound}
 
@@ -122,13 +124,22 @@ module _ (n : ℕ) where
   }
 
   or-first : (e f : Expression) {ts rest : List ℕ} {P : Piece → Type 0} → Reads (read e) ts rest P → Reads (read (Or e f)) ts rest P
-  or-first e f {ts} {rest} h = record { ends = ap (λ x. or_else x ((read f).ends ts)) h.ends; values = λ v m. h.values v (first_value ((read e).value ts v) ((read f).value ts v) ((read e).ends ts) rest h.ends m) }
+  or-first e f {ts} {rest} h = record {
+    ends = ap (λ x. or_else x ((read f).ends ts)) h.ends;
+    values = λ v m. h.values v (first_value ((read e).value ts v) ((read f).value ts v) ((read e).ends ts) rest h.ends m);
+  }
 
   or-second : (e f : Expression) {ts rest : List ℕ} {P : Piece → Type 0} → (read e).ends ts ≡ Nowhere → Reads (read f) ts rest P → Reads (read (Or e f)) ts rest P
-  or-second e f {ts} d h = record { ends = ap (λ x. or_else x ((read f).ends ts)) d ∙ h.ends; values = λ v m. h.values v (second_value ((read e).value ts v) ((read f).value ts v) ((read e).ends ts) d m) }
+  or-second e f {ts} d h = record {
+    ends = ap (λ x. or_else x ((read f).ends ts)) d ∙ h.ends;
+    values = λ v m. h.values v (second_value ((read e).value ts v) ((read f).value ts v) ((read e).ends ts) d m);
+  }
 
   some-reads : (e : Expression) {ts rest : List ℕ} {P : Piece → Type 0} → Reads (read e) ts rest P → Reads (read (Optional e)) ts rest P
-  some-reads e {ts} {rest} {P} h = record { ends = ap (λ x. or_else x (At ts)) h.ends; values = λ v m. by_option v m.0 (first_value (IfSomeOf ((read e).value ts) m.0) (IfNoneOf m.0) ((read e).ends ts) rest h.ends m.1) m.2 }
+  some-reads e {ts} {rest} {P} h = record {
+    ends = ap (λ x. or_else x (At ts)) h.ends;
+    values = λ v m. by_option v m.0 (first_value (IfSomeOf ((read e).value ts) m.0) (IfNoneOf m.0) ((read e).ends ts) rest h.ends m.1) m.2;
+  }
     where
       by_option : (v : Piece) (o : Option Piece) → IfSomeOf ((read e).value ts) o → IsOption o v → P v
       by_option v (Some w) i q = subst P (sym q) (h.values w i)
@@ -298,7 +309,12 @@ sum_leaves = record {
   move = refl;
   sound = each-call sums leaves sum_expression IsLine sound;
   complete = λ n w x i b. (sum-read n w x i b).ends;
-  once = λ n w x y v i b m t. let l = sum-line i in let h = (sum-read n w x i b).values v m in let c = rw h.1 at t in comes-once l.1 (from_part l.0) l.3 (subst (λ ss. ComesTo (from_part l.0) ss y) h.2 c);
+  once = λ n w x y v i b m t. (
+      let l = sum-line i in
+      let h = (sum-read n w x i b).values v m in
+      let c = rw h.1 at t in
+      comes-once l.1 (from_part l.0) l.3 (subst (λ ss. ComesTo (from_part l.0) ss y) h.2 c)
+      );
 }
   where
     sum-read : (n : ℕ) (w : List ℕ) (x : Option ℤ) (i : IsSum w x) → length w < n → Reads (calls n) w [] (IsLineOf (sum-line i).0 (sum-line i).1)
