@@ -11,6 +11,7 @@ use Rattle.chumsky_input.specs.declared.stop.Stop.TheVariants.{Memory}
 use Rattle.chumsky_input.specs.Held.{Held, Marks, held, marks}
 use Rattle.chumsky_input.specs.Outcome.{Meaning}
 use Rattle.chumsky_input.specs.Run.{Ran}
+use Rattle.chumsky_input.specs.Words.{Does}
 use Rattle.chumsky_parser.specs.Chained.{Given}
 use Rattle.chumsky_parser.specs.Choice.{StandsAt}
 use Rattle.chumsky_pratt.specs.declared.fixity.Fixity.TheVariants.{Prefix, Infix}
@@ -20,7 +21,8 @@ use Rattle.chumsky_pratt.specs.declared.machine.Frame.TheVariants as frame
 use Rattle.chumsky_pratt.specs.declared.machine.Todo.{Todo}
 use Rattle.chumsky_pratt.specs.declared.machine.Todo.TheVariants as todo
 use Rattle.chumsky_pratt.specs.Expression.{Syntax, Turn, Rests, From, TryPrefix, TryPostfix, TryInfix, Head, Round, AllRounds, Level, Below}
-use Rattle.chumsky_pratt.specs.Operators.{bound_by}
+use Rattle.chumsky_pratt.specs.Operators.{OperatorSyntax, bound_by}
+use Rattle.chumsky_pratt.specs.Doing.{syntax_of}
 use Rattle.chumsky_pratt.specs.Showing.{shown_by}
 
 -- an expression that is read: its least power, and what was held where it began
@@ -193,18 +195,19 @@ module _ {I Tok Sp Cu Er St Cx Mk F V A B : Type 0} (source : input_trait.Ghosts
 
 module _ {I X Tok Sp Cu Er St Cx Mk F V A B : Type 0} (source : input_trait.Ghosts I Cu Tok Sp)
     (errors : error_trait.Ghosts Er I Tok Sp) (states : inspector_trait.Ghosts St I Mk Tok Sp)
-    (s : Syntax Tok Cx states.Seen states.Marked errors.Seen F V) (wanted : Bool) (shown : A → Option V)
-    (found : B → Option F) where
+    (atom : Does I Tok Sp Er St Mk Cx V) (operators : OperatorSyntax I Tok Sp Er St Mk Cx F V) (wanted : Bool)
+    (shown : A → Option V) (found : B → Option F) where
   -- it leads to some goal
   abbrev pub MayGo : List (Frame A B Cu Mk) → InputRef I X Cu Tok Sp Er St Cx Mk → Todo A Cu Mk → Type 0
-  MayGo fs inp next = (goal : Begun Tok Cx states.Seen errors.Seen) × Climbs source errors states s wanted shown found goal fs (held source errors states inp) next
+  MayGo fs inp next =
+      (goal : Begun Tok Cx states.Seen errors.Seen) × Climbs source errors states (syntax_of atom operators errors states) wanted shown found goal fs (held source errors states inp) next
 
   -- to whichever goal it led, it leads after the step
   abbrev pub GoesOn : List (Frame A B Cu Mk) → InputRef I X Cu Tok Sp Er St Cx Mk → Todo A Cu Mk → List (Frame A B Cu Mk) → InputRef I X Cu Tok Sp Er St Cx Mk → Todo A Cu Mk → Type 0
   GoesOn fs old now gs new next =
       (goal : Begun Tok Cx states.Seen errors.Seen)
-      → Climbs source errors states s wanted shown found goal fs (held source errors states old) now
-      → Climbs source errors states s wanted shown found goal gs (held source errors states new) next
+      → Climbs source errors states (syntax_of atom operators errors states) wanted shown found goal fs (held source errors states old) now
+      → Climbs source errors states (syntax_of atom operators errors states) wanted shown found goal gs (held source errors states new) next
 
 -- a frame more waits for an operand of this power, which begins; or there is no memory for it
 abbrev pub WaitsFor : {A B Cu Mk : Type 0} → ℕ → Frame A B Cu Mk → List (Frame A B Cu Mk) → List (Frame A B Cu Mk) → Todo A Cu Mk → Type 0

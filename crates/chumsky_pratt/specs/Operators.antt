@@ -1,10 +1,12 @@
 -- How operators stand, what reading one of a row does, and what is given for it and its operands.
+-- Main word: OperatorSyntax.
 use Rattle.std.proofs.Common.{◌≡◌, ℕ, zero, suc, ◌+◌, ◌*◌, Bool, true, false, Option, Some, None, option_map}
 use Rattle.chumsky_input.specs.Extra.{Shown}
 use Rattle.chumsky_input.specs.Outcome.{Meaning, SameValue, EndsAfterStart, Agreeing}
+use Rattle.chumsky_input.specs.Words.{Does}
 use Rattle.chumsky_parser.specs.Chained.{Chained, Given}
 use Rattle.chumsky_parser.specs.Laws.{chained-ends, chained-agrees, given-ends, given-agrees}
-use Rattle.chumsky_parser.specs.Showing.{GivesShown, OnlyAnswers}
+use Rattle.chumsky_parser.specs.Showing.{GivesShown, Makes, OnlyAnswers}
 use Rattle.chumsky_pratt.specs.declared.fixity.Fixity.{Fixity}
 use Rattle.chumsky_pratt.specs.declared.fixity.Fixity.TheVariants as fixity
 use Rattle.chumsky_pratt.specs.declared.fixity.Associativity.{Associativity}
@@ -13,6 +15,17 @@ use Rattle.chumsky_pratt.specs.declared.operands.Operands.{Operands}
 use Rattle.chumsky_pratt.specs.declared.operands.Operands.TheVariants.{After, Before, Around}
 use Rattle.chumsky_pratt.specs.declared.row.Found.{Found}
 use Rattle.chumsky_pratt.specs.declared.row.Found.TheVariants.{Here, There}
+
+-- of what some operators are made, by their index
+pub record OperatorSyntax (I Tok Sp Er St Mk Cx F V : Type 0) : Type 1 where
+  -- how many they are
+  pub number : ℕ
+  -- how each stands
+  pub stands : ℕ → Fixity
+  -- what reading each may do
+  pub reads : ℕ → Does I Tok Sp Er St Mk Cx F
+  -- what may be given for what was found, its operands and what is shown of the run, and the state that may be left
+  pub gives : Makes I Tok Sp St Mk Cx (F × Operands V) V
 
 -- with the power p: 2p, and one more on the side that binds second
 abbrev pub prefix_fixity : ℕ → Fixity

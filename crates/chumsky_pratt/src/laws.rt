@@ -36,7 +36,8 @@ pub fn a_weak_operator_is_passed_over<
     P: Parser<'src, I, O, E>,
     R: Operators<'src, I, O, E>,
 >(parser: &Pratt<P, R>)
-    ensures { (i least : ℕ) (a : Associativity) → R.stands parser.now.operators i ≡ infix_fixity a → left_power a < least → PassesOver (syntax_of (P.meaning parser.now.atom) (R.number parser.now.operators) (R.stands parser.now.operators) (R.reads parser.now.operators) (R.gives parser.now.operators) E.Error.Error E.State.Inspector) least i }
+    ensures { let s = syntax_of (P.meaning parser.now.atom) (R.syntax parser.now.operators) E.Error.Error E.State.Inspector in
+        (i least : ℕ) (a : Associativity) → s.stands i ≡ infix_fixity a → left_power a < least → PassesOver s least i }
 {}
 
 /// After an operator of `none` no infix operator of its power, or of a higher one, is tried in the same expression.
@@ -54,7 +55,8 @@ pub fn an_operator_past_the_bound_is_passed_over<
     P: Parser<'src, I, O, E>,
     R: Operators<'src, I, O, E>,
 >(parser: &Pratt<P, R>)
-    ensures { (i below : ℕ) (a : Associativity) → R.stands parser.now.operators i ≡ infix_fixity a → below ≤ left_power a → PassesOverUnder (syntax_of (P.meaning parser.now.atom) (R.number parser.now.operators) (R.stands parser.now.operators) (R.reads parser.now.operators) (R.gives parser.now.operators) E.Error.Error E.State.Inspector) below i }
+    ensures { let s = syntax_of (P.meaning parser.now.atom) (R.syntax parser.now.operators) E.Error.Error E.State.Inspector in
+        (i below : ℕ) (a : Associativity) → s.stands i ≡ infix_fixity a → below ≤ left_power a → PassesOverUnder s below i }
 {}
 
 /// The value that an expression begins with is read as by an ordered choice: of each prefix operator with its operand, in
@@ -68,7 +70,7 @@ pub fn a_value_is_read_by_choice<
     P: Parser<'src, I, O, E>,
     R: Operators<'src, I, O, E>,
 >(parser: &Pratt<P, R>)
-    ensures { ReadsByChoice (syntax_of (P.meaning parser.now.atom) (R.number parser.now.operators) (R.stands parser.now.operators) (R.reads parser.now.operators) (R.gives parser.now.operators) E.Error.Error E.State.Inspector) }
+    ensures { ReadsByChoice (syntax_of (P.meaning parser.now.atom) (R.syntax parser.now.operators) E.Error.Error E.State.Inspector) }
 {}
 
 /// What follows a value is read as by an ordered choice: of each postfix operator that is strong enough, of each infix
@@ -81,7 +83,7 @@ pub fn a_round_is_read_by_choice<
     P: Parser<'src, I, O, E>,
     R: Operators<'src, I, O, E>,
 >(parser: &Pratt<P, R>)
-    ensures { TurnsByChoice (syntax_of (P.meaning parser.now.atom) (R.number parser.now.operators) (R.stands parser.now.operators) (R.reads parser.now.operators) (R.gives parser.now.operators) E.Error.Error E.State.Inspector) }
+    ensures { TurnsByChoice (syntax_of (P.meaning parser.now.atom) (R.syntax parser.now.operators) E.Error.Error E.State.Inspector) }
 {}
 
 /// Where no operator is found in the text, an answer of an expression is that of its atom, with its value, its end, the errors
@@ -94,5 +96,5 @@ pub fn without_operators_an_expression_is_its_atom<
     P: Parser<'src, I, O, E>,
     R: Operators<'src, I, O, E>,
 >(parser: &Pratt<P, R>)
-    ensures { AloneIsAtom (syntax_of (P.meaning parser.now.atom) (R.number parser.now.operators) (R.stands parser.now.operators) (R.reads parser.now.operators) (R.gives parser.now.operators) E.Error.Error E.State.Inspector) 0 }
+    ensures { AloneIsAtom (syntax_of (P.meaning parser.now.atom) (R.syntax parser.now.operators) E.Error.Error E.State.Inspector) 0 }
 {}

@@ -120,13 +120,12 @@ impl<
 
     ghost ready = { λ p. All T.ready (L.items p.operators) };
 
-    ghost number = { λ p. length (L.items p.operators) };
-
-    ghost stands = { λ p. fixity_in T.stands (L.items p.operators) };
-
-    ghost reads = { λ p. reads_in T.reads (L.items p.operators) };
-
-    ghost gives = { λ p. gives_in T.gives (L.items p.operators) };
+    ghost syntax = { λ p. record {
+      number = length (L.items p.operators);
+      stands = fixity_in T.stands (L.items p.operators);
+      reads = reads_in T.reads (L.items p.operators);
+      gives = gives_in T.gives (L.items p.operators);
+    } };
 
     ghost steady = { λ p. All T.steady (L.items p.operators) };
 

@@ -3,7 +3,6 @@ ghost use Rattle.std.specs.Prelude.{◌≡◌, ◌≤◌, ◌∷◌, [], ◌++�
 ghost use Rattle.chumsky_input.specs.Held.{held, marks};
 ghost use Rattle.chumsky_folds.specs.Running.{InTokens, NotPast};
 ghost use Rattle.chumsky_pratt.specs.Climbing.{MayGo};
-ghost use Rattle.chumsky_pratt.specs.Doing.{syntax_of};
 ghost use Rattle.chumsky_pratt.specs.Kinds.{kind_of, last_waiting};
 
 use crate::kinds::{
@@ -40,9 +39,9 @@ where
     B: Drop,
     D: Way<'src, I, O, E, P, R, A, B>,
     requires kind { kind_of todo ≡ Kind.Begin }
-    requires may { MayGo I.Input E.Error.Error E.State.Inspector (syntax_of (P.meaning atom.now) (R.number operators.now) (R.stands operators.now) (R.reads operators.now) (R.gives operators.now) E.Error.Error E.State.Inspector) D.wanted D.shown D.found (reverse stack.now.items) inp.now todo }
+    requires may { MayGo I.Input E.Error.Error E.State.Inspector (P.meaning atom.now) (R.syntax operators.now) D.wanted D.shown D.found (reverse stack.now.items) inp.now todo }
     ensures is { todo ≡ Todo.Begin result }
-    ensures may { MayGo I.Input E.Error.Error E.State.Inspector (syntax_of (P.meaning atom.now) (R.number operators.now) (R.stands operators.now) (R.reads operators.now) (R.gives operators.now) E.Error.Error E.State.Inspector) D.wanted D.shown D.found (reverse stack.now.items) inp.now (Todo.Begin result) }
+    ensures may { MayGo I.Input E.Error.Error E.State.Inspector (P.meaning atom.now) (R.syntax operators.now) D.wanted D.shown D.found (reverse stack.now.items) inp.now (Todo.Begin result) }
 {
     beginning(todo)
 }
@@ -66,9 +65,9 @@ where
     B: Drop,
     D: Way<'src, I, O, E, P, R, A, B>,
     requires kind { kind_of todo ≡ Kind.Prefixes }
-    requires may { MayGo I.Input E.Error.Error E.State.Inspector (syntax_of (P.meaning atom.now) (R.number operators.now) (R.stands operators.now) (R.reads operators.now) (R.gives operators.now) E.Error.Error E.State.Inspector) D.wanted D.shown D.found (reverse stack.now.items) inp.now todo }
+    requires may { MayGo I.Input E.Error.Error E.State.Inspector (P.meaning atom.now) (R.syntax operators.now) D.wanted D.shown D.found (reverse stack.now.items) inp.now todo }
     ensures is { todo ≡ Todo.Prefixes result }
-    ensures may { MayGo I.Input E.Error.Error E.State.Inspector (syntax_of (P.meaning atom.now) (R.number operators.now) (R.stands operators.now) (R.reads operators.now) (R.gives operators.now) E.Error.Error E.State.Inspector) D.wanted D.shown D.found (reverse stack.now.items) inp.now (Todo.Prefixes result) }
+    ensures may { MayGo I.Input E.Error.Error E.State.Inspector (P.meaning atom.now) (R.syntax operators.now) D.wanted D.shown D.found (reverse stack.now.items) inp.now (Todo.Prefixes result) }
 {
     heading(todo)
 }
@@ -92,9 +91,9 @@ where
     B: Drop,
     D: Way<'src, I, O, E, P, R, A, B>,
     requires kind { kind_of todo ≡ Kind.Value }
-    requires may { MayGo I.Input E.Error.Error E.State.Inspector (syntax_of (P.meaning atom.now) (R.number operators.now) (R.stands operators.now) (R.reads operators.now) (R.gives operators.now) E.Error.Error E.State.Inspector) D.wanted D.shown D.found (reverse stack.now.items) inp.now todo }
+    requires may { MayGo I.Input E.Error.Error E.State.Inspector (P.meaning atom.now) (R.syntax operators.now) D.wanted D.shown D.found (reverse stack.now.items) inp.now todo }
     ensures is { todo ≡ Todo.Value result }
-    ensures may { MayGo I.Input E.Error.Error E.State.Inspector (syntax_of (P.meaning atom.now) (R.number operators.now) (R.stands operators.now) (R.reads operators.now) (R.gives operators.now) E.Error.Error E.State.Inspector) D.wanted D.shown D.found (reverse stack.now.items) inp.now (Todo.Value result) }
+    ensures may { MayGo I.Input E.Error.Error E.State.Inspector (P.meaning atom.now) (R.syntax operators.now) D.wanted D.shown D.found (reverse stack.now.items) inp.now (Todo.Value result) }
 {
     holding(todo)
 }
@@ -118,9 +117,9 @@ where
     B: Drop,
     D: Way<'src, I, O, E, P, R, A, B>,
     requires kind { kind_of todo ≡ Kind.Postfixes }
-    requires may { MayGo I.Input E.Error.Error E.State.Inspector (syntax_of (P.meaning atom.now) (R.number operators.now) (R.stands operators.now) (R.reads operators.now) (R.gives operators.now) E.Error.Error E.State.Inspector) D.wanted D.shown D.found (reverse stack.now.items) inp.now todo }
+    requires may { MayGo I.Input E.Error.Error E.State.Inspector (P.meaning atom.now) (R.syntax operators.now) D.wanted D.shown D.found (reverse stack.now.items) inp.now todo }
     ensures is { todo ≡ Todo.Postfixes result }
-    ensures may { MayGo I.Input E.Error.Error E.State.Inspector (syntax_of (P.meaning atom.now) (R.number operators.now) (R.stands operators.now) (R.reads operators.now) (R.gives operators.now) E.Error.Error E.State.Inspector) D.wanted D.shown D.found (reverse stack.now.items) inp.now (Todo.Postfixes result) }
+    ensures may { MayGo I.Input E.Error.Error E.State.Inspector (P.meaning atom.now) (R.syntax operators.now) D.wanted D.shown D.found (reverse stack.now.items) inp.now (Todo.Postfixes result) }
     ensures since { InTokens I.Input E.Error.Error E.State.Inspector result.level.start inp.now }
     ensures order { I.place result.level.start ≤ I.place result.before.cursor }
 {
@@ -146,9 +145,9 @@ where
     B: Drop,
     D: Way<'src, I, O, E, P, R, A, B>,
     requires kind { kind_of todo ≡ Kind.Infixes }
-    requires may { MayGo I.Input E.Error.Error E.State.Inspector (syntax_of (P.meaning atom.now) (R.number operators.now) (R.stands operators.now) (R.reads operators.now) (R.gives operators.now) E.Error.Error E.State.Inspector) D.wanted D.shown D.found (reverse stack.now.items) inp.now todo }
+    requires may { MayGo I.Input E.Error.Error E.State.Inspector (P.meaning atom.now) (R.syntax operators.now) D.wanted D.shown D.found (reverse stack.now.items) inp.now todo }
     ensures is { todo ≡ Todo.Infixes result }
-    ensures may { MayGo I.Input E.Error.Error E.State.Inspector (syntax_of (P.meaning atom.now) (R.number operators.now) (R.stands operators.now) (R.reads operators.now) (R.gives operators.now) E.Error.Error E.State.Inspector) D.wanted D.shown D.found (reverse stack.now.items) inp.now (Todo.Infixes result) }
+    ensures may { MayGo I.Input E.Error.Error E.State.Inspector (P.meaning atom.now) (R.syntax operators.now) D.wanted D.shown D.found (reverse stack.now.items) inp.now (Todo.Infixes result) }
 {
     chaining(todo)
 }
@@ -172,9 +171,9 @@ where
     B: Drop,
     D: Way<'src, I, O, E, P, R, A, B>,
     requires kind { kind_of todo ≡ Kind.Answer }
-    requires may { MayGo I.Input E.Error.Error E.State.Inspector (syntax_of (P.meaning atom.now) (R.number operators.now) (R.stands operators.now) (R.reads operators.now) (R.gives operators.now) E.Error.Error E.State.Inspector) D.wanted D.shown D.found (reverse stack.now.items) inp.now todo }
+    requires may { MayGo I.Input E.Error.Error E.State.Inspector (P.meaning atom.now) (R.syntax operators.now) D.wanted D.shown D.found (reverse stack.now.items) inp.now todo }
     ensures is { todo ≡ Todo.Answer result }
-    ensures may { MayGo I.Input E.Error.Error E.State.Inspector (syntax_of (P.meaning atom.now) (R.number operators.now) (R.stands operators.now) (R.reads operators.now) (R.gives operators.now) E.Error.Error E.State.Inspector) D.wanted D.shown D.found (reverse stack.now.items) inp.now (Todo.Answer result) }
+    ensures may { MayGo I.Input E.Error.Error E.State.Inspector (P.meaning atom.now) (R.syntax operators.now) D.wanted D.shown D.found (reverse stack.now.items) inp.now (Todo.Answer result) }
 {
     answered(todo)
 }
@@ -198,7 +197,7 @@ where
     B: Drop,
     D: Way<'src, I, O, E, P, R, A, B>,
     requires kind { last_waiting stack.old.items ≡ Some Waiting.Prefix }
-    requires may { MayGo I.Input E.Error.Error E.State.Inspector (syntax_of (P.meaning atom.now) (R.number operators.now) (R.stands operators.now) (R.reads operators.now) (R.gives operators.now) E.Error.Error E.State.Inspector) D.wanted D.shown D.found (reverse stack.old.items) inp.now (Todo.Answer answer.now) }
+    requires may { MayGo I.Input E.Error.Error E.State.Inspector (P.meaning atom.now) (R.syntax operators.now) D.wanted D.shown D.found (reverse stack.old.items) inp.now (Todo.Answer answer.now) }
     ensures is { stack.old.items ≡ stack.new.items ++ Frame.Before result ∷ [] }
     ensures tokens { (marks I.Input E.State.Inspector result.before).tokens ≡ (held I.Input E.Error.Error E.State.Inspector inp.now).tokens }
     ensures since { InTokens I.Input E.Error.Error E.State.Inspector result.level.start inp.now }
@@ -226,7 +225,7 @@ where
     B: Drop,
     D: Way<'src, I, O, E, P, R, A, B>,
     requires kind { last_waiting stack.old.items ≡ Some Waiting.Infix }
-    requires may { MayGo I.Input E.Error.Error E.State.Inspector (syntax_of (P.meaning atom.now) (R.number operators.now) (R.stands operators.now) (R.reads operators.now) (R.gives operators.now) E.Error.Error E.State.Inspector) D.wanted D.shown D.found (reverse stack.old.items) inp.now (Todo.Answer answer.now) }
+    requires may { MayGo I.Input E.Error.Error E.State.Inspector (P.meaning atom.now) (R.syntax operators.now) D.wanted D.shown D.found (reverse stack.old.items) inp.now (Todo.Answer answer.now) }
     ensures is { stack.old.items ≡ stack.new.items ++ Frame.Between result ∷ [] }
     ensures tokens { (marks I.Input E.State.Inspector result.before).tokens ≡ (held I.Input E.Error.Error E.State.Inspector inp.now).tokens }
     ensures since { InTokens I.Input E.Error.Error E.State.Inspector result.level.start inp.now }

@@ -35,11 +35,11 @@ impl<
 
     ghost ready = { λ p. P.ready p.atom × R.ready p.operators };
 
-    ghost meaning = { λ p. DoesExpression (P.meaning p.atom) (R.number p.operators) (R.stands p.operators) (R.reads p.operators) (R.gives p.operators) };
+    ghost meaning = { λ p. DoesExpression (P.meaning p.atom) (R.syntax p.operators) };
 
     ghost steady = { λ p. P.steady p.atom × R.steady p.operators };
 
-    ghost same = { λ p. SameExpression (P.same p.atom) (R.same p.operators) (R.gives p.operators E.State.Inspector) };
+    ghost same = { λ p. SameExpression (P.same p.atom) (R.same p.operators) ((R.syntax p.operators).gives E.State.Inspector) };
 
     ghost ends_after_start = { λ p. expression-end _ (P.ends_after_start p.atom) (R.ends_after_start p.operators) 0 };
 
@@ -92,5 +92,5 @@ pub fn pratt_is_steady<
 >(pratt: &Pratt<P, R>)
     ensures ready { P.ready pratt.now.atom → R.ready pratt.now.operators → ⟦<Pratt<P, R> as Parser<'src, I, O, E>>⟧.ready pratt.now }
     ensures steady { P.steady pratt.now.atom → R.steady pratt.now.operators → ⟦<Pratt<P, R> as Parser<'src, I, O, E>>⟧.steady pratt.now }
-    ensures same { (x y : O) → ⟦<Pratt<P, R> as Parser<'src, I, O, E>>⟧.same pratt.now x y → SameExpression (P.same pratt.now.atom) (R.same pratt.now.operators) (R.gives pratt.now.operators E.State.Inspector) x y }
+    ensures same { (x y : O) → ⟦<Pratt<P, R> as Parser<'src, I, O, E>>⟧.same pratt.now x y → SameExpression (P.same pratt.now.atom) (R.same pratt.now.operators) ((R.syntax pratt.now.operators).gives E.State.Inspector) x y }
 {}

@@ -21,22 +21,14 @@ pub trait HasFound {
 
 /// Some operators in a row, by their index.
 pub trait Operators<'src, I: Input<'src>, O, E: ParserExtra<I>>: HasFound {
-    ghost use Rattle.chumsky_input.specs.Words.{Does};
     ghost use Rattle.chumsky_input.specs.Outcome.{EndsAfterStart, Agreeing};
-    ghost use Rattle.chumsky_pratt.specs.declared.fixity.Fixity.{Fixity};
-    ghost use Rattle.chumsky_pratt.specs.declared.operands.Operands.{Operands};
-    ghost use Rattle.chumsky_parser.specs.Showing.{Makes, OnlyAnswers};
+    ghost use Rattle.chumsky_parser.specs.Showing.{OnlyAnswers};
+    ghost use Rattle.chumsky_pratt.specs.Operators.{OperatorSyntax};
 
     /// That their parsers may be run, and their folders called.
     ghost ready: { Self → Type 0 };
-    /// How many they are.
-    ghost number: { Self → ℕ };
-    /// How each stands.
-    ghost stands: { Self → ℕ → Fixity };
-    /// What reading each may do.
-    ghost reads: { Self → ℕ → Does I I.Token I.Span E.Error E.State E.State.Mark E.Context Self.Found };
-    /// What may be given for what was found, its operands and what is shown of the run, and the state that may be left.
-    ghost gives: { Self → Makes I I.Token I.Span E.State E.State.Mark E.Context (Self.Found × Operands O) O };
+    /// How many they are, how each stands, what reading each may do, and what may be given for it.
+    ghost syntax: { Self → OperatorSyntax I I.Token I.Span E.Error E.State E.State.Mark E.Context Self.Found O };
     /// That they answer alike each time.
     ghost steady: { Self → Type 0 };
     /// Which finds count as the same.
@@ -45,25 +37,25 @@ pub trait Operators<'src, I: Input<'src>, O, E: ParserExtra<I>>: HasFound {
     /// How many they are.
     fn count(&self) -> usize
         requires { ready self.now }
-        ensures { result ≡ number self.now };
+        ensures { result ≡ (syntax self.now).number };
 
     /// How one stands.
     fn fixity(&self, index: usize) -> Fixity
-        requires { index < number self.now }
-        ensures { result ≡ stands self.now index };
+        requires { index < (syntax self.now).number }
+        ensures { result ≡ (syntax self.now).stands index };
 
     /// Reads one.
     fn read_emit(&self, index: usize, inp: &mut InputRef<'src, '_, I, E>) -> PResult<Self::Found>
         requires ready { ready self.now }
-        requires there { index < number self.now }
-        ensures ran { Runs I.Input E.Error.Error E.State.Inspector (reads self.now index E.Error.Error E.State.Inspector) true inp.old inp.new (with_value result) }
+        requires there { index < (syntax self.now).number }
+        ensures ran { Runs I.Input E.Error.Error E.State.Inspector ((syntax self.now).reads index E.Error.Error E.State.Inspector) true inp.old inp.new (with_value result) }
         ensures lent { inp.new.state.ghost_name ≡ inp.old.state.ghost_name };
 
     /// Reads one, without its output.
     fn read_check(&self, index: usize, inp: &mut InputRef<'src, '_, I, E>) -> PResult<()>
         requires ready { ready self.now }
-        requires there { index < number self.now }
-        ensures ran { Runs I.Input E.Error.Error E.State.Inspector (reads self.now index E.Error.Error E.State.Inspector) false inp.old inp.new (without_value result) }
+        requires there { index < (syntax self.now).number }
+        ensures ran { Runs I.Input E.Error.Error E.State.Inspector ((syntax self.now).reads index E.Error.Error E.State.Inspector) false inp.old inp.new (without_value result) }
         ensures lent { inp.new.state.ghost_name ≡ inp.old.state.ghost_name };
 
     /// One value of what was found and its operands, shown what the run took since a cursor of its input.
@@ -77,18 +69,18 @@ pub trait Operators<'src, I: Input<'src>, O, E: ParserExtra<I>>: HasFound {
         requires ready { ready self.now }
         requires tokens { InTokens I.Input E.Error.Error E.State.Inspector since.now inp.old }
         requires order { NotPast I.Input E.Error.Error E.State.Inspector since.now inp.old }
-        ensures gives { AnswersSince I.Input E.Error.Error E.State.Inspector (gives self.now E.State.Inspector (found, operands)) since.now inp.old inp.new result }
+        ensures gives { AnswersSince I.Input E.Error.Error E.State.Inspector ((syntax self.now).gives E.State.Inspector (found, operands)) since.now inp.old inp.new result }
         ensures moves { OnlyState I.Input E.Error.Error E.State.Inspector inp.old inp.new }
         ensures lent { inp.new.state.ghost_name ≡ inp.old.state.ghost_name };
 
     /// No answer of reading one ends before its start.
-    ghost ends_after_start: { (p : Self) (i : ℕ) → EndsAfterStart (reads p i E.Error.Error E.State.Inspector) };
+    ghost ends_after_start: { (p : Self) (i : ℕ) → EndsAfterStart ((syntax p).reads i E.Error.Error E.State.Inspector) };
 
     /// Two answers of reading one of steady operators agree.
-    ghost agrees: { (p : Self) → steady p → (i : ℕ) → Agreeing (same p) (reads p i E.Error.Error E.State.Inspector) (reads p i E.Error.Error E.State.Inspector) };
+    ghost agrees: { (p : Self) → steady p → (i : ℕ) → Agreeing (same p) ((syntax p).reads i E.Error.Error E.State.Inspector) ((syntax p).reads i E.Error.Error E.State.Inspector) };
 
     /// Steady operators give one value for the same, and leave the state as it is.
-    ghost gives_one: { (p : Self) → steady p → OnlyAnswers (gives p E.State.Inspector) };
+    ghost gives_one: { (p : Self) → steady p → OnlyAnswers ((syntax p).gives E.State.Inspector) };
 }
 
 /// What is found of an operator or of others.
@@ -127,13 +119,12 @@ impl<'src, I: Input<'src>, O: Drop, E: ParserExtra<I>, T: Operator<'src, I, O, E
 > for LastOperator<T> {
     ghost ready = { λ p. T.ready p.operator };
 
-    ghost number = { λ _. 1 };
-
-    ghost stands = { λ p i. T.stands p.operator };
-
-    ghost reads = { λ p i. T.reads p.operator };
-
-    ghost gives = { λ p. T.gives p.operator };
+    ghost syntax = { λ p. record {
+      number = 1;
+      stands = λ i. T.stands p.operator;
+      reads = λ i. T.reads p.operator;
+      gives = T.gives p.operator;
+    } };
 
     ghost steady = { λ p. T.steady p.operator };
 
@@ -195,15 +186,14 @@ impl<
     ghost use Rattle.chumsky_pratt.specs.Operators.{fixity_and, GivesAnd, SameAnd, gives_and-one, reads-ends, reads-agree};
     ghost use Rattle.chumsky_pratt.specs.Doing.{reads_and};
 
-    ghost ready = { λ p. T.ready p.operator × R.ready p.others × (suc (R.number p.others) < 2 ^ 64) };
+    ghost ready = { λ p. T.ready p.operator × R.ready p.others × (suc (R.syntax p.others).number < 2 ^ 64) };
 
-    ghost number = { λ p. suc (R.number p.others) };
-
-    ghost stands = { λ p. fixity_and (T.stands p.operator) (R.stands p.others) };
-
-    ghost reads = { λ p. reads_and (T.reads p.operator) (R.reads p.others) };
-
-    ghost gives = { λ p states. GivesAnd (T.gives p.operator states) (R.gives p.others states) };
+    ghost syntax = { λ p. record {
+      number = suc (R.syntax p.others).number;
+      stands = fixity_and (T.stands p.operator) (R.syntax p.others).stands;
+      reads = reads_and (T.reads p.operator) (R.syntax p.others).reads;
+      gives = λ states. GivesAnd (T.gives p.operator states) ((R.syntax p.others).gives states);
+    } };
 
     ghost steady = { λ p. T.steady p.operator × R.steady p.others };
 
@@ -260,10 +250,10 @@ impl<
         since: &I::Cursor,
         inp: &mut InputRef<'src, '_, I, E>,
     ) -> O
-        requires ready { T.ready self.now.operator × R.ready self.now.others × (suc (R.number self.now.others) < 2 ^ 64) }
+        requires ready { T.ready self.now.operator × R.ready self.now.others × (suc (R.syntax self.now.others).number < 2 ^ 64) }
         requires tokens { InTokens I.Input E.Error.Error E.State.Inspector since.now inp.old }
         requires order { NotPast I.Input E.Error.Error E.State.Inspector since.now inp.old }
-        ensures gives { AnswersSince I.Input E.Error.Error E.State.Inspector (GivesAnd (T.gives self.now.operator E.State.Inspector) (R.gives self.now.others E.State.Inspector) (found, operands)) since.now inp.old inp.new result }
+        ensures gives { AnswersSince I.Input E.Error.Error E.State.Inspector (GivesAnd (T.gives self.now.operator E.State.Inspector) ((R.syntax self.now.others).gives E.State.Inspector) (found, operands)) since.now inp.old inp.new result }
         ensures moves { OnlyState I.Input E.Error.Error E.State.Inspector inp.old inp.new }
         ensures lent { inp.new.state.ghost_name ≡ inp.old.state.ghost_name }
     {
@@ -284,7 +274,7 @@ pub fn operators_are_steady<
     T: Operator<'src, I, O, E>,
     R: Operators<'src, I, O, E>,
 >(row: &OperatorAnd<T, R>, last: &LastOperator<T>)
-    ensures ready { T.ready row.now.operator → R.ready row.now.others → suc (R.number row.now.others) < 2 ^ 64 → ⟦<OperatorAnd<T, R> as Operators<'src, I, O, E>>⟧.ready row.now }
+    ensures ready { T.ready row.now.operator → R.ready row.now.others → suc (R.syntax row.now.others).number < 2 ^ 64 → ⟦<OperatorAnd<T, R> as Operators<'src, I, O, E>>⟧.ready row.now }
     ensures ready_last { T.ready last.now.operator → ⟦<LastOperator<T> as Operators<'src, I, O, E>>⟧.ready last.now }
     ensures steady { T.steady row.now.operator → R.steady row.now.others → ⟦<OperatorAnd<T, R> as Operators<'src, I, O, E>>⟧.steady row.now }
     ensures steady_last { T.steady last.now.operator → ⟦<LastOperator<T> as Operators<'src, I, O, E>>⟧.steady last.now }

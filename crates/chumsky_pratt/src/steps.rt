@@ -3,7 +3,6 @@ ghost use Rattle.std.specs.Prelude.{◌≡◌, ◌<◌, ◌≤◌, [], ◌∷◌
 ghost use Rattle.chumsky_input.specs.Held.{held, marks};
 ghost use Rattle.chumsky_folds.specs.Running.{InTokens, NotPast};
 ghost use Rattle.chumsky_pratt.specs.Climbing.{MayGo, GoesOn, WaitsFor};
-ghost use Rattle.chumsky_pratt.specs.Doing.{syntax_of};
 ghost use Rattle.chumsky_pratt.specs.Kinds.{answer_of};
 ghost use Rattle.chumsky_pratt.specs.Operators.{bound_by};
 ghost use Rattle.chumsky_pratt.specs.Showing.{TriesShown};
@@ -46,9 +45,9 @@ where
     B: Drop,
     D: Way<'src, I, O, E, P, R, A, B>,
     requires operators { R.ready operators.now }
-    requires there { index < R.number operators.now }
+    requires there { index < (R.syntax operators.now).number }
     requires tokens { (marks I.Input E.State.Inspector before.now).tokens ≡ (held I.Input E.Error.Error E.State.Inspector inp.old).tokens }
-    ensures tried { TriesShown I.Input E.Error.Error E.State.Inspector (R.reads operators.now index) D.wanted D.found before.now inp.old inp.new result }
+    ensures tried { TriesShown I.Input E.Error.Error E.State.Inspector ((R.syntax operators.now).reads index) D.wanted D.found before.now inp.old inp.new result }
     ensures tokens { (held I.Input E.Error.Error E.State.Inspector inp.new).tokens ≡ (held I.Input E.Error.Error E.State.Inspector inp.old).tokens }
     ensures lent { inp.new.state.ghost_name ≡ inp.old.state.ghost_name }
 {
@@ -82,9 +81,9 @@ where
     D: Way<'src, I, O, E, P, R, A, B>,
     requires atom { P.ready atom.now }
     requires operators { R.ready operators.now }
-    requires may { MayGo I.Input E.Error.Error E.State.Inspector (syntax_of (P.meaning atom.now) (R.number operators.now) (R.stands operators.now) (R.reads operators.now) (R.gives operators.now) E.Error.Error E.State.Inspector) D.wanted D.shown D.found (reverse stack.old.items) inp.old (Todo.Begin least) }
-    ensures goes { GoesOn I.Input E.Error.Error E.State.Inspector (syntax_of (P.meaning atom.now) (R.number operators.now) (R.stands operators.now) (R.reads operators.now) (R.gives operators.now) E.Error.Error E.State.Inspector) D.wanted D.shown D.found (reverse stack.old.items) inp.old (Todo.Begin least) (reverse stack.new.items) inp.new result }
-    ensures lighter { total (R.number operators.now) (length (I.cursor_tokens inp.old.cursor).list) I.Input stack.new.items inp.new.cursor result < total (R.number operators.now) (length (I.cursor_tokens inp.old.cursor).list) I.Input stack.old.items inp.old.cursor (Todo.Begin least) }
+    requires may { MayGo I.Input E.Error.Error E.State.Inspector (P.meaning atom.now) (R.syntax operators.now) D.wanted D.shown D.found (reverse stack.old.items) inp.old (Todo.Begin least) }
+    ensures goes { GoesOn I.Input E.Error.Error E.State.Inspector (P.meaning atom.now) (R.syntax operators.now) D.wanted D.shown D.found (reverse stack.old.items) inp.old (Todo.Begin least) (reverse stack.new.items) inp.new result }
+    ensures lighter { let weight = total (R.syntax operators.now).number (length (I.cursor_tokens inp.old.cursor).list) I.Input in weight stack.new.items inp.new.cursor result < weight stack.old.items inp.old.cursor (Todo.Begin least) }
     ensures lent { inp.new.state.ghost_name ≡ inp.old.state.ghost_name }
 {
     let start = inp.cursor;
@@ -118,9 +117,9 @@ where
     D: Way<'src, I, O, E, P, R, A, B>,
     requires atom { P.ready atom.now }
     requires operators { R.ready operators.now }
-    requires may { MayGo I.Input E.Error.Error E.State.Inspector (syntax_of (P.meaning atom.now) (R.number operators.now) (R.stands operators.now) (R.reads operators.now) (R.gives operators.now) E.Error.Error E.State.Inspector) D.wanted D.shown D.found (reverse stack.old.items) inp.old (Todo.Prefixes head) }
-    ensures goes { GoesOn I.Input E.Error.Error E.State.Inspector (syntax_of (P.meaning atom.now) (R.number operators.now) (R.stands operators.now) (R.reads operators.now) (R.gives operators.now) E.Error.Error E.State.Inspector) D.wanted D.shown D.found (reverse stack.old.items) inp.old (Todo.Prefixes head) (reverse stack.new.items) inp.new result }
-    ensures lighter { total (R.number operators.now) (length (I.cursor_tokens inp.old.cursor).list) I.Input stack.new.items inp.new.cursor result < total (R.number operators.now) (length (I.cursor_tokens inp.old.cursor).list) I.Input stack.old.items inp.old.cursor (Todo.Prefixes head) }
+    requires may { MayGo I.Input E.Error.Error E.State.Inspector (P.meaning atom.now) (R.syntax operators.now) D.wanted D.shown D.found (reverse stack.old.items) inp.old (Todo.Prefixes head) }
+    ensures goes { GoesOn I.Input E.Error.Error E.State.Inspector (P.meaning atom.now) (R.syntax operators.now) D.wanted D.shown D.found (reverse stack.old.items) inp.old (Todo.Prefixes head) (reverse stack.new.items) inp.new result }
+    ensures lighter { let weight = total (R.syntax operators.now).number (length (I.cursor_tokens inp.old.cursor).list) I.Input in weight stack.new.items inp.new.cursor result < weight stack.old.items inp.old.cursor (Todo.Prefixes head) }
     ensures lent { inp.new.state.ghost_name ≡ inp.old.state.ghost_name }
 {
     'tries: loop {
@@ -173,10 +172,10 @@ where
     D: Way<'src, I, O, E, P, R, A, B>,
     requires atom { P.ready atom.now }
     requires operators { R.ready operators.now }
-    requires may { MayGo I.Input E.Error.Error E.State.Inspector (syntax_of (P.meaning atom.now) (R.number operators.now) (R.stands operators.now) (R.reads operators.now) (R.gives operators.now) E.Error.Error E.State.Inspector) D.wanted D.shown D.found (reverse stack.old.items) inp.old (Todo.Prefixes head) }
-    requires last { head.next ≡ R.number operators.now }
-    ensures goes { GoesOn I.Input E.Error.Error E.State.Inspector (syntax_of (P.meaning atom.now) (R.number operators.now) (R.stands operators.now) (R.reads operators.now) (R.gives operators.now) E.Error.Error E.State.Inspector) D.wanted D.shown D.found (reverse stack.old.items) inp.old (Todo.Prefixes head) (reverse stack.new.items) inp.new result }
-    ensures lighter { total (R.number operators.now) (length (I.cursor_tokens inp.old.cursor).list) I.Input stack.new.items inp.new.cursor result < total (R.number operators.now) (length (I.cursor_tokens inp.old.cursor).list) I.Input stack.old.items inp.old.cursor (Todo.Prefixes head) }
+    requires may { MayGo I.Input E.Error.Error E.State.Inspector (P.meaning atom.now) (R.syntax operators.now) D.wanted D.shown D.found (reverse stack.old.items) inp.old (Todo.Prefixes head) }
+    requires last { head.next ≡ (R.syntax operators.now).number }
+    ensures goes { GoesOn I.Input E.Error.Error E.State.Inspector (P.meaning atom.now) (R.syntax operators.now) D.wanted D.shown D.found (reverse stack.old.items) inp.old (Todo.Prefixes head) (reverse stack.new.items) inp.new result }
+    ensures lighter { let weight = total (R.syntax operators.now).number (length (I.cursor_tokens inp.old.cursor).list) I.Input in weight stack.new.items inp.new.cursor result < weight stack.old.items inp.old.cursor (Todo.Prefixes head) }
     ensures lent { inp.new.state.ghost_name ≡ inp.old.state.ghost_name }
 {
     match way.atom(atom, inp) {
@@ -224,9 +223,9 @@ where
     D: Way<'src, I, O, E, P, R, A, B>,
     requires atom { P.ready atom.now }
     requires operators { R.ready operators.now }
-    requires may { MayGo I.Input E.Error.Error E.State.Inspector (syntax_of (P.meaning atom.now) (R.number operators.now) (R.stands operators.now) (R.reads operators.now) (R.gives operators.now) E.Error.Error E.State.Inspector) D.wanted D.shown D.found (reverse stack.old.items) inp.old (Todo.Value p) }
-    ensures goes { GoesOn I.Input E.Error.Error E.State.Inspector (syntax_of (P.meaning atom.now) (R.number operators.now) (R.stands operators.now) (R.reads operators.now) (R.gives operators.now) E.Error.Error E.State.Inspector) D.wanted D.shown D.found (reverse stack.old.items) inp.old (Todo.Value p) (reverse stack.new.items) inp.new result }
-    ensures lighter { total (R.number operators.now) (length (I.cursor_tokens inp.old.cursor).list) I.Input stack.new.items inp.new.cursor result < total (R.number operators.now) (length (I.cursor_tokens inp.old.cursor).list) I.Input stack.old.items inp.old.cursor (Todo.Value p) }
+    requires may { MayGo I.Input E.Error.Error E.State.Inspector (P.meaning atom.now) (R.syntax operators.now) D.wanted D.shown D.found (reverse stack.old.items) inp.old (Todo.Value p) }
+    ensures goes { GoesOn I.Input E.Error.Error E.State.Inspector (P.meaning atom.now) (R.syntax operators.now) D.wanted D.shown D.found (reverse stack.old.items) inp.old (Todo.Value p) (reverse stack.new.items) inp.new result }
+    ensures lighter { let weight = total (R.syntax operators.now).number (length (I.cursor_tokens inp.old.cursor).list) I.Input in weight stack.new.items inp.new.cursor result < weight stack.old.items inp.old.cursor (Todo.Value p) }
     ensures lent { inp.new.state.ghost_name ≡ inp.old.state.ghost_name }
 {
     let Holding {
@@ -266,11 +265,11 @@ where
     D: Way<'src, I, O, E, P, R, A, B>,
     requires atom { P.ready atom.now }
     requires operators { R.ready operators.now }
-    requires may { MayGo I.Input E.Error.Error E.State.Inspector (syntax_of (P.meaning atom.now) (R.number operators.now) (R.stands operators.now) (R.reads operators.now) (R.gives operators.now) E.Error.Error E.State.Inspector) D.wanted D.shown D.found (reverse stack.old.items) inp.old (Todo.Postfixes turn) }
+    requires may { MayGo I.Input E.Error.Error E.State.Inspector (P.meaning atom.now) (R.syntax operators.now) D.wanted D.shown D.found (reverse stack.old.items) inp.old (Todo.Postfixes turn) }
     requires since { InTokens I.Input E.Error.Error E.State.Inspector turn.level.start inp.old }
     requires order { I.place turn.level.start ≤ I.place turn.before.cursor }
-    ensures goes { GoesOn I.Input E.Error.Error E.State.Inspector (syntax_of (P.meaning atom.now) (R.number operators.now) (R.stands operators.now) (R.reads operators.now) (R.gives operators.now) E.Error.Error E.State.Inspector) D.wanted D.shown D.found (reverse stack.old.items) inp.old (Todo.Postfixes turn) (reverse stack.new.items) inp.new result }
-    ensures lighter { total (R.number operators.now) (length (I.cursor_tokens inp.old.cursor).list) I.Input stack.new.items inp.new.cursor result < total (R.number operators.now) (length (I.cursor_tokens inp.old.cursor).list) I.Input stack.old.items inp.old.cursor (Todo.Postfixes turn) }
+    ensures goes { GoesOn I.Input E.Error.Error E.State.Inspector (P.meaning atom.now) (R.syntax operators.now) D.wanted D.shown D.found (reverse stack.old.items) inp.old (Todo.Postfixes turn) (reverse stack.new.items) inp.new result }
+    ensures lighter { let weight = total (R.syntax operators.now).number (length (I.cursor_tokens inp.old.cursor).list) I.Input in weight stack.new.items inp.new.cursor result < weight stack.old.items inp.old.cursor (Todo.Postfixes turn) }
     ensures lent { inp.new.state.ghost_name ≡ inp.old.state.ghost_name }
 {
     'tries: loop {
@@ -336,9 +335,9 @@ where
     D: Way<'src, I, O, E, P, R, A, B>,
     requires atom { P.ready atom.now }
     requires operators { R.ready operators.now }
-    requires may { MayGo I.Input E.Error.Error E.State.Inspector (syntax_of (P.meaning atom.now) (R.number operators.now) (R.stands operators.now) (R.reads operators.now) (R.gives operators.now) E.Error.Error E.State.Inspector) D.wanted D.shown D.found (reverse stack.old.items) inp.old (Todo.Infixes turn) }
-    ensures goes { GoesOn I.Input E.Error.Error E.State.Inspector (syntax_of (P.meaning atom.now) (R.number operators.now) (R.stands operators.now) (R.reads operators.now) (R.gives operators.now) E.Error.Error E.State.Inspector) D.wanted D.shown D.found (reverse stack.old.items) inp.old (Todo.Infixes turn) (reverse stack.new.items) inp.new result }
-    ensures lighter { total (R.number operators.now) (length (I.cursor_tokens inp.old.cursor).list) I.Input stack.new.items inp.new.cursor result < total (R.number operators.now) (length (I.cursor_tokens inp.old.cursor).list) I.Input stack.old.items inp.old.cursor (Todo.Infixes turn) }
+    requires may { MayGo I.Input E.Error.Error E.State.Inspector (P.meaning atom.now) (R.syntax operators.now) D.wanted D.shown D.found (reverse stack.old.items) inp.old (Todo.Infixes turn) }
+    ensures goes { GoesOn I.Input E.Error.Error E.State.Inspector (P.meaning atom.now) (R.syntax operators.now) D.wanted D.shown D.found (reverse stack.old.items) inp.old (Todo.Infixes turn) (reverse stack.new.items) inp.new result }
+    ensures lighter { let weight = total (R.syntax operators.now).number (length (I.cursor_tokens inp.old.cursor).list) I.Input in weight stack.new.items inp.new.cursor result < weight stack.old.items inp.old.cursor (Todo.Infixes turn) }
     ensures lent { inp.new.state.ghost_name ≡ inp.old.state.ghost_name }
 {
     'tries: loop {
@@ -403,9 +402,10 @@ where
     D: Way<'src, I, O, E, P, R, A, B>,
     requires atom { P.ready atom.now }
     requires operators { R.ready operators.now }
-    requires may { MayGo I.Input E.Error.Error E.State.Inspector (syntax_of (P.meaning atom.now) (R.number operators.now) (R.stands operators.now) (R.reads operators.now) (R.gives operators.now) E.Error.Error E.State.Inspector) D.wanted D.shown D.found (reverse stack.old.items) inp.old (Todo.Answer answer) }
-    ensures goes { IfOk result (λ next. GoesOn I.Input E.Error.Error E.State.Inspector (syntax_of (P.meaning atom.now) (R.number operators.now) (R.stands operators.now) (R.reads operators.now) (R.gives operators.now) E.Error.Error E.State.Inspector) D.wanted D.shown D.found (reverse stack.old.items) inp.old (Todo.Answer answer) (reverse stack.new.items) inp.new next) }
-    ensures lighter { IfOk result (λ next. total (R.number operators.now) (length (I.cursor_tokens inp.old.cursor).list) I.Input stack.new.items inp.new.cursor next < total (R.number operators.now) (length (I.cursor_tokens inp.old.cursor).list) I.Input stack.old.items inp.old.cursor (Todo.Answer answer)) }
+    requires may { MayGo I.Input E.Error.Error E.State.Inspector (P.meaning atom.now) (R.syntax operators.now) D.wanted D.shown D.found (reverse stack.old.items) inp.old (Todo.Answer answer) }
+    ensures goes { IfOk result (GoesOn I.Input E.Error.Error E.State.Inspector (P.meaning atom.now) (R.syntax operators.now) D.wanted D.shown D.found (reverse stack.old.items) inp.old (Todo.Answer answer) (reverse stack.new.items) inp.new) }
+    ensures lighter { let weight = total (R.syntax operators.now).number (length (I.cursor_tokens inp.old.cursor).list) I.Input in
+        IfOk result (λ next. weight stack.new.items inp.new.cursor next < weight stack.old.items inp.old.cursor (Todo.Answer answer)) }
     ensures ends { IfErr result (λ r. (Some answer ≡ Some r) × (stack.old.items ≡ []) × (held I.Input E.Error.Error E.State.Inspector inp.new ≡ held I.Input E.Error.Error E.State.Inspector inp.old)) }
     ensures lent { inp.new.state.ghost_name ≡ inp.old.state.ghost_name }
 {
@@ -446,8 +446,10 @@ where
     requires tokens { (marks I.Input E.State.Inspector p.before).tokens ≡ (held I.Input E.Error.Error E.State.Inspector inp.old).tokens }
     requires since { InTokens I.Input E.Error.Error E.State.Inspector p.level.start inp.old }
     requires order { IfOk answer (λ _. NotPast I.Input E.Error.Error E.State.Inspector p.level.start inp.old) }
-    ensures goes { GoesOn I.Input E.Error.Error E.State.Inspector (syntax_of (P.meaning atom.now) (R.number operators.now) (R.stands operators.now) (R.reads operators.now) (R.gives operators.now) E.Error.Error E.State.Inspector) D.wanted D.shown D.found (Frame.Before p ∷ reverse stack.old.items) inp.old (Todo.Answer answer) (reverse stack.new.items) inp.new result }
-    ensures lighter { total (R.number operators.now) (length (I.cursor_tokens inp.old.cursor).list) I.Input stack.new.items inp.new.cursor result < weights (R.number operators.now) (length (I.cursor_tokens inp.old.cursor).list) I.Input (Frame.Before p ∷ stack.old.items) }
+    ensures goes { GoesOn I.Input E.Error.Error E.State.Inspector (P.meaning atom.now) (R.syntax operators.now) D.wanted D.shown D.found
+        (Frame.Before p ∷ reverse stack.old.items) inp.old (Todo.Answer answer) (reverse stack.new.items) inp.new result }
+    ensures lighter { total (R.syntax operators.now).number (length (I.cursor_tokens inp.old.cursor).list) I.Input stack.new.items inp.new.cursor result
+        < weights (R.syntax operators.now).number (length (I.cursor_tokens inp.old.cursor).list) I.Input (Frame.Before p ∷ stack.old.items) }
     ensures lent { inp.new.state.ghost_name ≡ inp.old.state.ghost_name }
 {
     let PrefixFrame {
@@ -507,8 +509,10 @@ where
     requires tokens { (marks I.Input E.State.Inspector p.before).tokens ≡ (held I.Input E.Error.Error E.State.Inspector inp.old).tokens }
     requires since { InTokens I.Input E.Error.Error E.State.Inspector p.level.start inp.old }
     requires order { I.place p.level.start ≤ I.place p.before.cursor }
-    ensures goes { GoesOn I.Input E.Error.Error E.State.Inspector (syntax_of (P.meaning atom.now) (R.number operators.now) (R.stands operators.now) (R.reads operators.now) (R.gives operators.now) E.Error.Error E.State.Inspector) D.wanted D.shown D.found (Frame.Between p ∷ reverse stack.old.items) inp.old (Todo.Answer answer) (reverse stack.new.items) inp.new result }
-    ensures lighter { total (R.number operators.now) (length (I.cursor_tokens inp.old.cursor).list) I.Input stack.new.items inp.new.cursor result < weights (R.number operators.now) (length (I.cursor_tokens inp.old.cursor).list) I.Input (Frame.Between p ∷ stack.old.items) }
+    ensures goes { GoesOn I.Input E.Error.Error E.State.Inspector (P.meaning atom.now) (R.syntax operators.now) D.wanted D.shown D.found
+        (Frame.Between p ∷ reverse stack.old.items) inp.old (Todo.Answer answer) (reverse stack.new.items) inp.new result }
+    ensures lighter { total (R.syntax operators.now).number (length (I.cursor_tokens inp.old.cursor).list) I.Input stack.new.items inp.new.cursor result
+        < weights (R.syntax operators.now).number (length (I.cursor_tokens inp.old.cursor).list) I.Input (Frame.Between p ∷ stack.old.items) }
     ensures lent { inp.new.state.ghost_name ≡ inp.old.state.ghost_name }
 {
     let InfixFrame {
@@ -572,9 +576,10 @@ where
     D: Way<'src, I, O, E, P, R, A, B>,
     requires atom { P.ready atom.now }
     requires operators { R.ready operators.now }
-    requires may { MayGo I.Input E.Error.Error E.State.Inspector (syntax_of (P.meaning atom.now) (R.number operators.now) (R.stands operators.now) (R.reads operators.now) (R.gives operators.now) E.Error.Error E.State.Inspector) D.wanted D.shown D.found (reverse stack.old.items) inp.old todo }
-    ensures goes { IfOk result (λ next. GoesOn I.Input E.Error.Error E.State.Inspector (syntax_of (P.meaning atom.now) (R.number operators.now) (R.stands operators.now) (R.reads operators.now) (R.gives operators.now) E.Error.Error E.State.Inspector) D.wanted D.shown D.found (reverse stack.old.items) inp.old todo (reverse stack.new.items) inp.new next) }
-    ensures lighter { IfOk result (λ next. total (R.number operators.now) (length (I.cursor_tokens inp.old.cursor).list) I.Input stack.new.items inp.new.cursor next < total (R.number operators.now) (length (I.cursor_tokens inp.old.cursor).list) I.Input stack.old.items inp.old.cursor todo) }
+    requires may { MayGo I.Input E.Error.Error E.State.Inspector (P.meaning atom.now) (R.syntax operators.now) D.wanted D.shown D.found (reverse stack.old.items) inp.old todo }
+    ensures goes { IfOk result (GoesOn I.Input E.Error.Error E.State.Inspector (P.meaning atom.now) (R.syntax operators.now) D.wanted D.shown D.found (reverse stack.old.items) inp.old todo (reverse stack.new.items) inp.new) }
+    ensures lighter { let weight = total (R.syntax operators.now).number (length (I.cursor_tokens inp.old.cursor).list) I.Input in
+        IfOk result (λ next. weight stack.new.items inp.new.cursor next < weight stack.old.items inp.old.cursor todo) }
     ensures ends { IfErr result (λ r. (answer_of todo ≡ Some r) × (stack.old.items ≡ []) × (held I.Input E.Error.Error E.State.Inspector inp.new ≡ held I.Input E.Error.Error E.State.Inspector inp.old)) }
     ensures lent { inp.new.state.ghost_name ≡ inp.old.state.ghost_name }
 {
