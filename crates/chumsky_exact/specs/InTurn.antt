@@ -1,5 +1,5 @@
 -- Parts of a text one after another, however their parser nests them.
--- Main words: InTurn, The, Is, Tree, Words, Turn. Main laws: in_turn, out_of_turn, as_defined, as_parsed. Read first: Words.antt of chumsky_parser.
+-- Main words: InTurn, The, Is, IfAny, Tree, Words, Turn. Main laws: in_turn, out_of_turn, as_defined, as_parsed. Read first: Words.antt of chumsky_parser.
 use Rattle.std.proofs.Common.{◌≡◌, List, [], ◌∷◌, ◌++◌, append_assoc, refl, sym, ◌∙◌, ap, subst}
 use Rattle.std.proofs.lemmas.List.{append-nil}
 use Rattle.std.specs.Prelude.{⊤}
@@ -26,6 +26,11 @@ Is text w = w ≡ text
 
 abbrev pub The : {Tok : Type 0} → (List Tok → Type 0) → List Tok → List Tok → Type 0
 The P text w = P w × (w ≡ text)
+
+-- nothing, for no values; and else a text that opens, and then these
+abbrev pub IfAny : {Tok V : Type 0} → List Tok → (List Tok → List V → Type 0) → List V → List Tok → Type 0
+IfAny opening are [] w = w ≡ []
+IfAny opening are (v ∷ vs) w = Joined (Is opening) (λ u. are u (v ∷ vs)) w
 
 -- how a parser nests its parts: one, a sequence and then another, or at the end one that looks ahead and takes nothing
 pub data Tree (A : Type 1) : Type 1 where

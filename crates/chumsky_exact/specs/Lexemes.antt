@@ -1,36 +1,41 @@
 -- Pieces that text parsers take: runs, names, numbers, fixed text, and what looks ahead; and what a word of one, with its slice, says.
--- Main words: run, lexeme, blanks, name, number, picked, fixed, before_one; sliced_name, sliced_number, spelled, picked_field, the, the_number, spells, field_picked. Read first: Pieces.antt.
-use Rattle.std.proofs.Common.{◌≡◌, ℕ, ◌<◌, ◌≤◌, ◌^◌, Bool, true, false, cond, nat_eq, nat_le, ◌&&◌, ◌||◌, List, [], ◌∷◌, ◌++◌, refl, sym, ◌∙◌, ap, subst, arith}
+-- Main words: run, lexeme, some, blanks, name, number, such, picked, tested, fixed, before_one; sliced_is, sliced_name, sliced_number, spelled, picked_field, the, the_number, spells, field_picked.
+-- Read first: Pieces.antt.
+use Rattle.std.proofs.Common.{◌≡◌, ℕ, ◌<◌, ◌≤◌, ◌^◌, Bool, true, false, cond, nat_eq, nat_le, ◌&&◌, ◌||◌, Option, List, [], ◌∷◌, ◌++◌, refl, sym, ◌∙◌, ap, subst, arith}
 use Rattle.std.specs.Prelude.{⊤, not, ◌==◌}
 use Rattle.std.specs.Borrow.{Bor}
 use Rattle.std.specs.Char.{is_digit, digit_value}
-use Rattle.std.specs.Str.{encode_utf8_all}
+use Rattle.std.specs.Str.{encode_utf8_all, IsAscii}
 use Rattle.std.proofs.lemmas.Bool.Decides.{nat_tests}
 use Rattle.std.proofs.lemmas.List.{append_cancel_left}
+use Rattle.std.proofs.lemmas.Str.{encodes-IsAscii}
+use Rattle.std.proofs.lemmas.Str.Ascii.{IsAscii-nil, IsAscii-cons}
 use Rattle.std.proofs.lemmas.Str.Parse.{digit_from_value}
 use Rattle.chumsky_parser.specs.Ending.{At, Nowhere, DoesNotEnd}
+use Rattle.chumsky_parser.specs.ProgressLaws.{never}
 use Rattle.chumsky_parser.specs.Slices.{IsSliceOf}
 use Rattle.chumsky_parser.specs.Words.{AllPass, StopsAt}
-use Rattle.chumsky_judge.specs.Picked.{IsPick}
+use Rattle.chumsky_judge.specs.Looking.{not_ends}
+use Rattle.chumsky_judge.specs.Picked.{IsPick, picked_ends}
+use Rattle.chumsky_judge.specs.Tested.{passing}
 use Rattle.chumsky_primitive.specs.Just.{has_members}
 use Rattle.chumsky_primitive.specs.Literals.{equals-same, same-equals}
 use Rattle.chumsky_primitive.specs.OneOf.{among, outside}
-use Rattle.chumsky_primitive.specs.PrimitiveLanguage.{Equals, one_ends}
+use Rattle.chumsky_primitive.specs.PrimitiveLanguage.{Equals, one_ends, literal_ends}
 use Rattle.chumsky_text.specs.Decimals.{IsInt, IsDecimal, TextSlice, fixed_of, int-decimal, decimal-int, numeral-bytes, slice-bytes}
 use Rattle.chumsky_text.specs.Names.{IsName, begins_name, in_name, name-slice}
-use Rattle.chumsky_text.specs.TextLanguage.{IsWord, StopsAll}
+use Rattle.chumsky_text.specs.TextLanguage.{IsWord, StopsAll, run_ends, begun_ends, word_front}
 use Rattle.chumsky_exact.specs.Fields.{IsField, Picked, Picks, field, picks}
 use Rattle.chumsky_exact.specs.InTurn.{Turn, Is, The}
-use Rattle.chumsky_exact.specs.Pieces.{Piece, BeginsIn, run-once}
-use Rattle.chumsky_exact.specs.Ranges.{Ranges, within, AllBut, Only, barred}
+use Rattle.chumsky_exact.specs.Pieces.{Piece, BeginsIn, none_after, run-once}
+use Rattle.chumsky_exact.specs.Ranges.{Ranges, within, AllBut, Only, barred, weaker}
+
+pub stops_by : (test other : ℕ → Bool) → ((c : ℕ) → test c ≡ true → other c ≡ true) → (rest : List ℕ) → StopsAt other rest → StopsAt test rest
+stops_by test other h [] s = tt
+stops_by test other h (c ∷ cs) s = weaker test other c (h c) s
 
 pub stops_in : (test : ℕ → Bool) (rs : Ranges) → ((c : ℕ) → test c ≡ true → within rs c ≡ true) → (rest : List ℕ) → StopsAt (within rs) rest → StopsAt test rest
-stops_in test rs h [] s = tt
-stops_in test rs h (c ∷ cs) s = by_test (test c) refl
-  where
-    by_test : (b : Bool) → test c ≡ b → test c ≡ false
-    by_test true e = let i = h c e in absurd (cc (i, s))
-    by_test false e = e
+stops_in test rs h rest s = stops_by test (within rs) h rest s
 
 pub anything : (rest : List ℕ) → StopsAt (within []) rest
 anything [] = tt
@@ -46,14 +51,18 @@ module _ (test : ℕ → Bool) (rs : Ranges) (are_in : (c : ℕ) → test c ≡ 
   run = record {
     word = AllPass test;
     follow = StopsAt test;
+    ends = run_ends test;
     empty = true;
     begins = rs;
     begun = run_begins;
+    fails = λ e rest s. never (sym e);
     next = AllBut rs;
     fits = stops_in test rs are_in;
     leaves_over = AllBut [];
     left = λ rest f. anything rest;
     once = λ w v x y p q s t e. run-once test w v x y p q (stops_in test rs are_in x s) (stops_in test rs are_in y t) e;
+    uncut = ⊤;
+    is_uncut = tt;
   }
 
 module _ (begins : ℕ → Bool) (goes_on : ℕ → ℕ → Bool) (bs rs : Ranges) (begin_in : (c : ℕ) → begins c ≡ true → within bs c ≡ true)
@@ -61,6 +70,10 @@ module _ (begins : ℕ → Bool) (goes_on : ℕ → ℕ → Bool) (bs rs : Range
   pub lexeme_begins : (w : List ℕ) → IsWord begins goes_on w → BeginsIn false bs w
   lexeme_begins [] h = absurd h
   lexeme_begins (c ∷ cs) h = begin_in c h.0
+
+  pub lexeme_fails : (rest : List ℕ) → StopsAt (within bs) rest → DoesNotEnd (begun_ends begins (word_front goes_on) (λ w. true) rest)
+  lexeme_fails [] s = tt
+  lexeme_fails (c ∷ cs) s = let n : begins c ≡ false = stops_in begins bs begin_in (c ∷ cs) s in rw n tt
 
   pub lexeme_once : (w v x y : List ℕ) → IsWord begins goes_on w → IsWord begins goes_on v → StopsAt (within rs) x → StopsAt (within rs) y → w ++ x ≡ v ++ y → (w ≡ v) × (x ≡ y)
   lexeme_once [] v x y p q s t e = absurd p
@@ -78,15 +91,28 @@ module _ (begins : ℕ → Bool) (goes_on : ℕ → ℕ → Bool) (bs rs : Range
   lexeme = record {
     word = IsWord begins goes_on;
     follow = StopsAll goes_on;
+    ends = begun_ends begins (word_front goes_on) (λ w. true);
     empty = false;
     begins = bs;
     begun = lexeme_begins;
+    fails = λ e. lexeme_fails;
     next = AllBut rs;
     fits = λ rest s t. stops_in (goes_on t) rs (go_on_in t) rest s;
     leaves_over = AllBut [];
     left = λ rest f. anything rest;
     once = lexeme_once;
+    uncut = ⊤;
+    is_uncut = tt;
   }
+
+-- characters that pass a test, one at least
+abbrev pub AreSome : (ℕ → Bool) → List ℕ → Type 0
+AreSome test = IsWord test (λ t. test)
+
+module _ (test : ℕ → Bool) (rs : Ranges) (are_in : (c : ℕ) → test c ≡ true → within rs c ≡ true) (are_all : (c : ℕ) → within rs c ≡ true → test c ≡ true) where
+  -- such characters, where just these pass; so it is known that none comes after them
+  abbrev pub some : Piece
+  some = record (lexeme test (λ t. test) rs rs are_in (λ t. are_in)) { leaves_over = AllBut rs; left = λ rest f. stops_by (within rs) test are_all rest (f 0) }
 
 -- spaces and tabs, as `text::inline_whitespace()` takes them
 abbrev pub is_blank : ℕ → Bool
@@ -131,16 +157,26 @@ goes_on_in t c e = by_zero (nat_eq t 48) e
 abbrev pub number : Piece
 number = lexeme (λ t. is_digit t 10) (λ t c. cond (nat_eq t 48) false (is_digit c 10)) ((48, 57) ∷ []) ((48, 57) ∷ []) digit_in goes_on_in
 
--- a piece of whose words more is known
-abbrev pub such : (List ℕ → Type 0) → Piece → Piece
-such P p = record p { word = λ w. p.word w × P w; begun = λ w h. p.begun w h.0; once = λ w v x y h k s t e. p.once w v x y h.0 k.0 s t e }
+-- a piece of whose words more is known, by what is picked of them
+abbrev pub such : {U : Type 0} → (List ℕ → Type 0) → (List ℕ → Option U) → Piece → Piece
+such P picks p = record p {
+  word = λ w. p.word w × P w;
+  ends = picked_ends picks p.ends;
+  begun = λ w h. p.begun w h.0;
+  fails = λ e rest s. none_after _ (p.ends rest) (p.fails e rest s);
+  once = λ w v x y h k s t e. p.once w v x y h.0 k.0 s t e;
+}
+
+-- the words of a piece that pass a test, as `test_by` takes them
+abbrev pub tested : (List ℕ → Bool) → Piece → Piece
+tested tests p = such (λ w. tests w ≡ true) (passing tests) p
 
 -- so many digits that make a number within bounds, as `text::digits(10).pick_by(Fixed { .. })` takes them
 abbrev pub digits : Piece
 digits = lexeme (λ t. is_digit t 10) (λ t c. is_digit c 10) ((48, 57) ∷ []) ((48, 57) ∷ []) digit_in (λ t. digit_in)
 
 abbrev pub picked : ℕ → ℕ → ℕ → Piece
-picked so_many least most = such (λ w. IsPick (fixed_of so_many least most (encode_utf8_all w))) digits
+picked so_many least most = let picks = λ (w : List ℕ). fixed_of so_many least most (encode_utf8_all w) in such (λ w. IsPick (picks w)) picks digits
 
 -- just these characters
 abbrev pub only : List ℕ → Ranges
@@ -160,6 +196,14 @@ fixed_begins [] (t ∷ ts) e = absurd e
 fixed_begins (m ∷ ms) [] e = absurd e
 fixed_begins (m ∷ ms) (t ∷ ts) e = same_within m t e.0
 
+other_than : (m t : ℕ) → within ((m, m) ∷ []) t ≡ false → nat_eq m t ≡ false
+other_than m t e = grind (arith, nat_tests)
+
+pub fixed_fails : (text : List ℕ) → not (has_members text) ≡ false → (rest : List ℕ) → StopsAt (within (first_of text)) rest → DoesNotEnd (literal_ends nat_eq text rest)
+fixed_fails [] e rest s = absurd (cc e)
+fixed_fails (m ∷ ms) e [] s = tt
+fixed_fails (m ∷ ms) e (t ∷ ts) s = let n = other_than m t s in rw n tt
+
 pub fixed_once : (text w v x y : List ℕ) → Equals nat_eq text w → Equals nat_eq text v → w ++ x ≡ v ++ y → (w ≡ v) × (x ≡ y)
 fixed_once text w v x y p q e =
     let a : w ≡ v = equals-same text w p ∙ sym (equals-same text v q) in
@@ -169,14 +213,18 @@ abbrev pub fixed : List ℕ → Piece
 fixed text = record {
   word = Equals nat_eq text;
   follow = λ rest. ⊤;
+  ends = literal_ends nat_eq text;
   empty = not (has_members text);
   begins = first_of text;
   begun = fixed_begins text;
+  fails = fixed_fails text;
   next = AllBut [];
   fits = λ rest s. tt;
   leaves_over = AllBut [];
   left = λ rest f. anything rest;
   once = λ w v x y p q s t e. fixed_once text w v x y p q e;
+  uncut = ⊤;
+  is_uncut = tt;
 }
 
 equal_between : (m c : ℕ) → nat_eq m c ≡ true → (nat_le m c && nat_le c m) ≡ true
@@ -216,17 +264,33 @@ abbrev pub before_one : List ℕ → Piece
 before_one ms = record {
   word = λ w. w ≡ [];
   follow = λ rest. DoesNotEnd (one_ends (outside nat_eq ms) rest);
+  ends = not_ends (one_ends (outside nat_eq ms));
   empty = true;
   begins = [];
   begun = nothing_begins;
+  fails = λ e rest s. never (sym e);
   next = Only (only ms);
   fits = ends_by ms;
   leaves_over = Only (only ms);
   left = by_ends ms;
   once = λ w v x y p q s t e. nothing_once w v x y p q e;
+  uncut = ⊤;
+  is_uncut = tt;
 }
 
--- what a word says with its slice: a name, a number; and fixed text
+-- the bytes of characters of ASCII are these
+passes_ascii : (test : ℕ → Bool) → ((c : ℕ) → test c ≡ true → c < 128) → (w : List ℕ) → AllPass test w → IsAscii w
+passes_ascii test below [] h = IsAscii-nil
+passes_ascii test below (c ∷ cs) h = IsAscii-cons c cs (below c h.0) (passes_ascii test below cs h.1)
+
+pub some-bytes : (test : ℕ → Bool) → ((c : ℕ) → test c ≡ true → c < 128) → (w : List ℕ) → AreSome test w → encode_utf8_all w ≡ w
+some-bytes test below [] h = absurd h
+some-bytes test below (c ∷ cs) h = encodes-IsAscii (c ∷ cs) (passes_ascii test below (c ∷ cs) h)
+
+-- what a word says with its slice: one whose bytes are its characters; a name, a number; and fixed text
+pub sliced_is : (P : List ℕ → Type 0) → ((w : List ℕ) → P w → encode_utf8_all w ≡ w) → (s : Bor (List ℕ)) (w : List ℕ) → P w × IsSliceOf (TextSlice (λ t. t.now)) w s → The P s.now w
+sliced_is P bytes s w h = (h.0, sym (slice-bytes (λ t. t.now) w s h.1 ∙ bytes w h.0))
+
 pub sliced_name_is : (s : Bor (List ℕ)) (w : List ℕ) → IsName w × IsSliceOf (TextSlice (λ t. t.now)) w s → The IsName s.now w
 sliced_name_is s w h = (h.0, sym (name-slice (λ t. t.now) w s h.0 h.1))
 

@@ -1,3 +1,4 @@
+pub mod Builders
 pub mod ByCalls
 pub mod Capped
 pub mod Contexts
@@ -12,18 +13,18 @@ pub mod Pieces
 pub mod Quiet
 pub mod Ranges
 pub mod Rendered
-pub mod RenderedOnce
 pub mod ReadBack
 pub mod SoMany
 pub mod Table
 pub mod TableLaws
 pub mod Answered
 pub mod Chosen
-pub mod Collected
+pub mod Composed
 pub mod Lists
 pub mod Members
 pub mod Numerals
 pub mod Parts
+pub mod Separated
 pub mod Sets
 pub mod Deep
 pub mod Taken

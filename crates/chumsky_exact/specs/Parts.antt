@@ -1,13 +1,10 @@
 -- Parts of a text, one after another: how they are put together, what stands before fixed text, and which tokens end a part.
--- Main laws: joined, one, one-is, before, within, between, stops-at; int-lacks. Read first: Words.antt of chumsky_parser.
+-- Main laws: joined, one, one-is, before, within, between, stops-at, never_goes_on. Read first: Words.antt of chumsky_parser.
 use Rattle.std.proofs.Common.{◌≡◌, ℕ, Bool, true, false, cond, nat_eq, List, [], ◌∷◌, ◌++◌, refl, sym, ◌∙◌, ap, subst}
 use Rattle.std.specs.Prelude.{⊤}
-use Rattle.std.specs.Char.{is_digit}
 use Rattle.chumsky_parser.specs.Words.{Joined, IsOne, StopsAt}
 use Rattle.chumsky_primitive.specs.Literals.{equals-same, same-equals}
 use Rattle.chumsky_primitive.specs.PrimitiveLanguage.{Equals}
-use Rattle.chumsky_text.specs.Decimals.{IsInt}
-use Rattle.chumsky_exact.specs.RenderedOnce.{Lacks, pass-lacks}
 
 -- a word with P, and after it one with Q
 pub joined : {Tok : Type 0} {P Q : List Tok → Type 0} (a b : List Tok) → P a → Q b → Joined P Q (a ++ b)
@@ -41,12 +38,3 @@ stops-at goes_on s h w rest e t = let same : w ≡ s = equals-same s w e in rw s
 pub never_goes_on : (z : Bool) → cond z false false ≡ false
 never_goes_on true = refl
 never_goes_on false = refl
-
--- what is no digit is not in a number
-pub int-lacks : (t : ℕ) (w : List ℕ) → is_digit t 10 ≡ false → IsInt w → Lacks t w
-int-lacks t [] n h = absurd h
-int-lacks t (c ∷ cs) n h = (λ e. (let p : is_digit c 10 ≡ true = h.0 in absurd (cc (e, p, n))), pass-lacks t (λ d. cond (nat_eq c 48) false (is_digit d 10)) cs (by_zero (nat_eq c 48)) h.1)
-  where
-    by_zero : (z : Bool) → cond z false (is_digit t 10) ≡ false
-    by_zero true = refl
-    by_zero false = n

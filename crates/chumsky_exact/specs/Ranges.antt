@@ -1,6 +1,6 @@
 -- Sets of characters as ranges, so that it is computed which of them may come next.
--- Main words: within, Limit, barred, lets, implied. Main laws: lets-all, implied-stops. Read first: Words.antt of chumsky_parser.
-use Rattle.std.proofs.Common.{◌≡◌, ℕ, Bool, true, false, nat_lt, nat_le, ◌&&◌, ◌||◌, List, [], ◌∷◌, ◌++◌, refl, ap, arith, inl, inr}
+-- Main words: within, Limit, barred, lets, implied, but, also. Main laws: lets-all, implied-stops, but-stops, also-stops. Read first: Words.antt of chumsky_parser.
+use Rattle.std.proofs.Common.{◌≡◌, ℕ, Bool, true, false, nat_lt, nat_le, ◌&&◌, ◌||◌, List, [], ◌∷◌, ◌++◌, cond, refl, ap, arith, inl, inr}
 use Rattle.std.specs.Prelude.{◌⊎◌, not}
 use Rattle.std.proofs.lemmas.Bool.Decides.{nat_tests}
 use Rattle.chumsky_parser.specs.ProgressLaws.{both-true}
@@ -144,3 +144,60 @@ limits (Only rs) (Only qs) c e n = ap not (within-covered qs rs c e (not_false (
 pub implied-stops : (l m : Limit) → implied l m ≡ true → (rest : List ℕ) → StopsAt (barred m) rest → StopsAt (barred l) rest
 implied-stops l m e [] s = tt
 implied-stops l m e (c ∷ cs) s = limits l m c e s
+
+-- those of some ranges that have no character in common with others
+abbrev pub clear_of : Ranges → Ranges → Ranges
+clear_of [] qs = []
+clear_of (r ∷ rs) qs = cond (range_apart r qs) (r ∷ []) [] ++ clear_of rs qs
+
+-- a limit, and none of these either; of a limit to some, those that have nothing in common with these
+abbrev pub but : Limit → Ranges → Limit
+but (AllBut rs) qs = AllBut (rs ++ qs)
+but (Only rs) qs = Only (clear_of rs qs)
+
+-- what is known where none of these comes either: a limit to some stays as it is
+abbrev pub also : Limit → Ranges → Limit
+also (AllBut rs) qs = AllBut (rs ++ qs)
+also (Only rs) qs = Only rs
+
+both_false : (a b : Bool) → (a || b) ≡ false → (a ≡ false) × (b ≡ false)
+both_false true b e = absurd (cc e)
+both_false false b e = (refl, e)
+
+within-neither : (rs qs : Ranges) (c : ℕ) → within (rs ++ qs) c ≡ false → (within rs c ≡ false) × (within qs c ≡ false)
+within-neither [] qs c h = (refl, h)
+within-neither (r ∷ rs) qs c h =
+    let p = both_false (between r c) (within (rs ++ qs) c) h in
+    let q = within-neither rs qs c p.1 in
+    (neither (between r c) (within rs c) p.0 q.0, q.1)
+
+within-none : (rs qs : Ranges) (c : ℕ) → within rs c ≡ false → within qs c ≡ false → within (rs ++ qs) c ≡ false
+within-none [] qs c h k = k
+within-none (r ∷ rs) qs c h k = let p = both_false (between r c) (within rs c) h in neither (between r c) (within (rs ++ qs) c) p.0 (within-none rs qs c p.1 k)
+
+clear_of-first : (r : ℕ × ℕ) (rs qs : Ranges) (c : ℕ) → (within (clear_of rs qs) c ≡ true → (within rs c ≡ true) × (within qs c ≡ false))
+    → (b : Bool) → range_apart r qs ≡ b → within (cond b (r ∷ []) [] ++ clear_of rs qs) c ≡ true → (within (r ∷ rs) c ≡ true) × (within qs c ≡ false)
+clear_of-first r rs qs c more true e h = elim (either (between r c) (within (clear_of rs qs) c) h) [
+  | inl i ↦ (first_true (between r c) (within rs c) i, outside_all r qs c e i)
+  | inr i ↦ let k = more i in (second_true (between r c) (within rs c) k.0, k.1)
+]
+clear_of-first r rs qs c more false e h = let k = more h in (second_true (between r c) (within rs c) k.0, k.1)
+
+clear_of-in : (rs qs : Ranges) (c : ℕ) → within (clear_of rs qs) c ≡ true → (within rs c ≡ true) × (within qs c ≡ false)
+clear_of-in [] qs c h = absurd (cc h)
+clear_of-in (r ∷ rs) qs c h = clear_of-first r rs qs c (clear_of-in rs qs c) (range_apart r qs) refl h
+
+but-keeps : (l : Limit) (qs : Ranges) (c : ℕ) → barred (but l qs) c ≡ false → (barred l c ≡ false) × (within qs c ≡ false)
+but-keeps (AllBut rs) qs c h = within-neither rs qs c h
+but-keeps (Only rs) qs c h = let i = clear_of-in rs qs c (not_false (within (clear_of rs qs) c) h) in (ap not i.0, i.1)
+
+-- where a limit is kept and none of these comes, each is so
+pub but-stops : (l : Limit) (qs : Ranges) (rest : List ℕ) → StopsAt (barred (but l qs)) rest → StopsAt (barred l) rest × StopsAt (within qs) rest
+but-stops l qs [] s = (tt, tt)
+but-stops l qs (c ∷ cs) s = but-keeps l qs c s
+
+-- and where each is so, both are known
+pub also-stops : (l : Limit) (qs : Ranges) (rest : List ℕ) → StopsAt (barred l) rest → StopsAt (within qs) rest → StopsAt (barred (also l qs)) rest
+also-stops l qs [] s t = tt
+also-stops (AllBut rs) qs (c ∷ cs) s t = within-none rs qs c s t
+also-stops (Only rs) qs (c ∷ cs) s t = s

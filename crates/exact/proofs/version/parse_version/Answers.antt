@@ -1,54 +1,53 @@
-use Rattle.std.proofs.Common.{◌∙◌, ap, refl}
+use Rattle.std.proofs.Common.{◌≡◌, [], refl, sym, subst, ◌∙◌}
 use Rattle.std.specs.Str.{chars}
-use Rattle.chumsky_judge.specs.Tested.{passing}
-use Rattle.exact.specs.Version.{IsVersion, parts_of}
-use Rattle.exact.specs.VersionLaws.{fits_pre_release, built, version-sound, version-complete, version-once, number-dot, identifier-dot, core-follows, pre_release-follows, read-by_words}
+use Rattle.chumsky_judge.specs.Tested.{tested_language}
+use Rattle.chumsky_exact.specs.Builders.{
+  then_is,
+  ignore_then_is,
+  then_ignore_is,
+  or_not_is,
+  collect_is,
+  separated_is,
+  just_is,
+  int_is,
+  of_then,
+  of_ignore_then,
+  of_then_ignore,
+  of_or_not,
+  of_collect,
+  of_just,
+  of_int,
+  word_language_of,
+}
+use Rattle.chumsky_exact.specs.Pieces.{unambiguous, fits_of}
+use Rattle.chumsky_exact.specs.ReadBack.{exact-and_back}
+use Rattle.exact.specs.Version.{in_identifier, IsVersion, parts_of}
+use Rattle.exact.specs.VersionLaws.{fits_pre_release, version, version-sound, version-complete, version-once}
 use Rattle.exact.proofs.version.parse_version.Goals as goal
 
 pub returns : goal.returns
 returns c =
     let cs = chars c.args.text.now in
-    let m = c.map_by.ensures.parser in
     let v = c.then-version.ensures in
     let w = c.then-2.ensures in
     let n = c.then-core.ensures in
     let d = c.then_ignore-2.ensures in
     let t = c.then.ensures in
     let f = c.then_ignore.ensures in
-    let p = c.separated_by.ensures in
-    let q = c.separated_by-2.ensures in
+    let l = c.separated_by.ensures in
+    let k = c.separated_by-2.ensures in
     let i = c.ignore_then-pre_release.ensures in
     let j = c.ignore_then-build.ensures in
-    let core = ap (λ x. x.first.first) m ∙ ap (λ x. x.first) v.first ∙ w.first in
-    let radix3 = ap (λ x. x.second.kind.radix) core ∙ ap (λ x. x.kind.radix) n.second ∙ c.int-3.ensures in
-    let two = ap (λ x. x.first) core ∙ n.first in
-    let dot2 = ap (λ x. x.second.seq) two ∙ ap (λ x. x.seq) d.second ∙ c.just-2.ensures in
-    let minor = ap (λ x. x.first) two ∙ d.first in
-    let radix2 = ap (λ x. x.second.kind.radix) minor ∙ ap (λ x. x.kind.radix) t.second ∙ c.int-2.ensures in
-    let one = ap (λ x. x.first) minor ∙ t.first in
-    let dot1 = ap (λ x. x.second.seq) one ∙ ap (λ x. x.seq) f.second ∙ c.just.ensures in
-    let radix1 = ap (λ x. x.first.kind.radix) one ∙ ap (λ x. x.kind.radix) f.first ∙ c.int.ensures in
-    let pre = ap (λ x. x.first.second.parser) m ∙ ap (λ x. x.second.parser) v.first ∙ ap (λ x. x.parser) w.second ∙ c.or_not.ensures.parser in
-    let minus = ap (λ x. x.first.seq) pre ∙ ap (λ x. x.seq) i.first ∙ c.just-4.ensures in
-    let list = ap (λ x. x.second.parser) pre ∙ ap (λ x. x.parser) i.second ∙ c.collect.ensures.parser ∙ c.at_least-pre_identifiers.ensures in
-    let point = ap (λ x. x.separator.seq) list ∙ ap (λ x. x.seq) p.separator ∙ c.just-3.ensures in
-    let leading = ap (λ x. x.allow_leading) list ∙ p.leading in
-    let build = ap (λ x. x.second.parser) m ∙ ap (λ x. x.parser) v.second ∙ c.or_not-2.ensures.parser in
-    let plus = ap (λ x. x.first.seq) build ∙ ap (λ x. x.seq) j.first ∙ c.just-6.ensures in
-    let items = ap (λ x. x.second.parser) build ∙ ap (λ x. x.parser) j.second ∙ c.collect-2.ensures.parser ∙ c.at_least-build_identifiers.ensures in
-    let other = ap (λ x. x.separator.seq) items ∙ ap (λ x. x.seq) q.separator ∙ c.just-5.ensures in
-    let other_leading = ap (λ x. x.allow_leading) items ∙ q.leading in
-    let b = built radix1 radix2 radix3 dot1 dot2 minus plus
-    point (ap (λ x. x.at_least) list) (ap (λ x. x.at_most) list ∙ p.at_most) leading (ap (λ x. x.allow_trailing) list ∙ p.trailing)
-    other (ap (λ x. x.at_least) items) (ap (λ x. x.at_most) items ∙ q.at_most) other_leading (ap (λ x. x.allow_trailing) items ∙ q.trailing) in
-    let r = read-by_words parts_of IsVersion (c.parse.ensures.3.reads refl) refl (
-      (
-        ((((tt, tt, λ u rest h g. number-dot radix1 dot1 u rest h), tt, λ u rest h g. tt), tt, λ u rest h g. number-dot radix2 dot2 u rest h), tt, λ u rest h g. tt),
-        (tt, (tt, tt, λ u rest h g. identifier-dot point u rest h, λ u rest h g. tt, λ z. absurd (cc (z, leading))), λ u rest h g. tt),
-        λ u rest h g. core-follows radix3 minus u rest h (g.0.0 0),
-      ),
-      (tt, (tt, tt, λ u rest h g. identifier-dot other u rest h, λ u rest h g. tt, λ z. absurd (cc (z, other_leading))), λ u rest h g. tt),
-      λ u rest h g. pre_release-follows point other minus plus (passing fits_pre_release) _ u rest h (g.0.0 0) g.0.2,
-    ) ((λ x. tt, tt, tt, tt), tt)
-    (λ x u s. version-sound _ b cs x s) (version-once cs) (λ x i. version-complete _ b cs x i) in
+    let minor : c.then.result ≡ _ = then_is (t.first ∙ then_ignore_is (f.first ∙ int_is c.int.ensures) (f.second ∙ just_is c.just.ensures)) (t.second ∙ int_is c.int-2.ensures) in
+    let core : c.then-core.result ≡ _ = then_is (n.first ∙ then_ignore_is (d.first ∙ minor) (d.second ∙ just_is c.just-2.ensures)) (n.second ∙ int_is c.int-3.ensures) in
+    let ids : c.at_least-pre_identifiers.result ≡ _ = c.at_least-pre_identifiers.ensures ∙ separated_is l.parser (l.separator ∙ just_is c.just-3.ensures) l.at_most l.leading l.trailing in
+    let others : c.at_least-build_identifiers.result ≡ _ = c.at_least-build_identifiers.ensures ∙ separated_is k.parser (k.separator ∙ just_is c.just-5.ensures) k.at_most k.leading k.trailing in
+    let pre : c.or_not.result ≡ _ = or_not_is (c.or_not.ensures.parser ∙ ignore_then_is (i.first ∙ just_is c.just-4.ensures) (i.second ∙ collect_is (c.collect.ensures.parser ∙ ids))) in
+    let build : c.or_not-2.result ≡ _ = or_not_is (c.or_not-2.ensures.parser ∙ ignore_then_is (j.first ∙ just_is c.just-6.ensures) (j.second ∙ collect_is (c.collect-2.ensures.parser ∙ others))) in
+    let whole = c.map_by.ensures.parser ∙ then_is (v.first ∙ then_is (w.first ∙ core) (w.second ∙ pre)) (v.second ∙ build) in
+    let once = subst (λ p. (of_then (of_then (of_then (of_then_ignore (of_then (of_then_ignore of_int of_just) of_int) of_just) of_int)
+    (of_or_not (of_ignore_then of_just (of_collect (λ q. tested_language fits_pre_release (word_language_of in_identifier)) of_just))))
+    (of_or_not (of_ignore_then of_just (of_collect (λ q. word_language_of in_identifier) of_just))) p).unambiguous) (sym whole) (unambiguous version refl) in
+    let r = exact-and_back parts_of IsVersion (c.parse.ensures.3.reads refl) refl once (fits_of version [] tt)
+    (λ x u h. version-sound cs x (rw whole at h)) (version-once cs) (λ x h. rw whole (version-complete cs x h)) in
     record { exact = r.0; read_back = r.1 }
