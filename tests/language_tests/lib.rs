@@ -5,6 +5,8 @@
 mod arithmetic_answers;
 #[cfg(test)]
 mod exact_answers;
+#[cfg(test)]
+mod exact_csv;
 mod exact_json;
 #[cfg(test)]
 mod exact_expressions;

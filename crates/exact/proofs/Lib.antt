@@ -1,3 +1,4 @@
+pub mod CsvLemmas
 pub mod JsonPickLemmas
 pub mod JsonPrintLemmas
 pub mod OwnedLemmas

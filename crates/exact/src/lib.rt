@@ -3,6 +3,7 @@
 
 pub mod access;
 pub mod bits;
+pub mod csv;
 pub mod date;
 pub mod expressions;
 pub mod json;
@@ -13,6 +14,7 @@ pub mod level;
 pub mod method;
 pub mod nested;
 pub mod number;
+pub mod one_or_more;
 pub mod owned;
 pub mod pairs;
 pub mod print_expression;
