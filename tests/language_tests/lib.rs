@@ -4,6 +4,8 @@
 #[cfg(test)]
 mod arithmetic_answers;
 #[cfg(test)]
+mod csv_printed;
+#[cfg(test)]
 mod exact_answers;
 #[cfg(test)]
 mod exact_csv;

@@ -7,9 +7,9 @@ use Rattle.std.specs.declared.vec.Vec.{Vec}
 use Rattle.chumsky_parser.specs.Words.{AllPass}
 use Rattle.exact.specs.Divided.{Divided}
 
--- what may stand in a field without quotes: no comma (44), no quote (34), and neither CR (13) nor LF (10)
-abbrev pub is_plain : ℕ → Bool
-is_plain c = not ((c == 44) || (c == 34) || (c == 13) || (c == 10))
+-- what may stand in a field without quotes, which the RFC calls TEXTDATA, here beyond ASCII too: no comma (44), no quote (34), and neither CR (13) nor LF (10)
+abbrev pub is_text_data : ℕ → Bool
+is_text_data c = not ((c == 44) || (c == 34) || (c == 13) || (c == 10))
 
 -- a text in which each quote is written twice
 abbrev pub doubled : List ℕ → List ℕ
@@ -18,7 +18,7 @@ doubled (c ∷ cs) = cond (c == 34) (34 ∷ 34 ∷ doubled cs) (c ∷ doubled cs
 
 -- a field is written as it is, if all that stands in it may; or else, as any may, between quotes, with its own quotes written twice
 abbrev pub IsCsvField : List ℕ → List ℕ → Type 0
-IsCsvField w field = ((w ≡ field) × AllPass is_plain field) ⊎ (w ≡ 34 ∷ (doubled field ++ 34 ∷ []))
+IsCsvField w field = ((w ≡ field) × AllPass is_text_data field) ⊎ (w ≡ 34 ∷ (doubled field ++ 34 ∷ []))
 
 -- a comma
 abbrev pub IsComma : List ℕ → Type 0

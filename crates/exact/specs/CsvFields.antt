@@ -1,5 +1,5 @@
 -- What the parsers of fields may do, and their languages.
--- Main words: quoted_meaning, quoted_language, plain_meaning, plain_language. Main laws: quoted-lawful, plain-lawful. Laws of words: CsvLaws.antt. Read first: Lawful.antt of chumsky_descent.
+-- Main words: quoted_meaning, quoted_language, unquoted_meaning, unquoted_language. Main laws: quoted-lawful, unquoted-lawful. Laws of words: CsvLaws.antt. Read first: Lawful.antt of chumsky_descent.
 use Rattle.std.specs.Prelude.{◌≡◌, ℕ, nat_eq, Some, None, false, List, [], ◌∷◌, ⊤, String, string_bytes}
 use Rattle.std.specs.Str.{encode_utf8_all}
 use Rattle.std.specs.declared.alloc.Global.{Global}
@@ -38,8 +38,8 @@ HoldsChars cs s = string_bytes s ≡ encode_utf8_all cs
 abbrev pub field_ends : List ℕ
 field_ends = 44 ∷ 13 ∷ 10 ∷ []
 
-abbrev pub not_plain : List ℕ
-not_plain = 44 ∷ 34 ∷ 13 ∷ 10 ∷ []
+abbrev pub specials : List ℕ
+specials = 44 ∷ 34 ∷ 13 ∷ 10 ∷ []
 
 module _ {I Sp Cu Er St Mk Cx : Type 0} (source : input_trait.Ghosts I Cu ℕ Sp) (errors : error_trait.Ghosts Er I ℕ Sp) (states : inspector_trait.Ghosts St I Mk ℕ Sp) where
   -- a quote, and one character that is none of some
@@ -65,8 +65,8 @@ module _ {I Sp Cu Er St Mk Cx : Type 0} (source : input_trait.Ghosts I Cu ℕ Sp
   abbrev pub quoted_meaning : Meaning ℕ Cx states.Seen errors.Seen (String Global)
   quoted_meaning = Between MeansQuote (MeansMany MeansPiece) (IgnoringSecond MeansQuote MeansFieldEnd)
 
-  abbrev pub plain_meaning : Meaning ℕ Cx states.Seen errors.Seen (String Global)
-  plain_meaning = IgnoringSecond (MeansMany (MeansOther not_plain)) MeansFieldEnd
+  abbrev pub unquoted_meaning : Meaning ℕ Cx states.Seen errors.Seen (String Global)
+  unquoted_meaning = IgnoringSecond (MeansMany (MeansOther specials)) MeansFieldEnd
 
 -- the same of languages
 abbrev pub quote : Language ℕ ℕ
@@ -87,8 +87,8 @@ piece = or_language (other_than (34 ∷ [])) (ignore_then_language quote quote)
 abbrev pub quoted_language : Language ℕ (String Global)
 quoted_language = between_language quote (many piece) (then_ignore_language quote field_end)
 
-abbrev pub plain_language : Language ℕ (String Global)
-plain_language = then_ignore_language (many (other_than not_plain)) field_end
+abbrev pub unquoted_language : Language ℕ (String Global)
+unquoted_language = then_ignore_language (many (other_than specials)) field_end
 
 module _ {I Sp Cu Er St Mk Cx : Type 0} (source : input_trait.Ghosts I Cu ℕ Sp) (errors : error_trait.Ghosts Er I ℕ Sp) (states : inspector_trait.Ghosts St I Mk ℕ Sp) where
   -- each part is lawful
@@ -115,5 +115,5 @@ module _ {I Sp Cu Er St Mk Cx : Type 0} (source : input_trait.Ghosts I Cu ℕ Sp
   pub quoted-lawful : IsLawful (quoted_meaning source errors states) quoted_language
   quoted-lawful = between-lawful quote-lawful (repeated-lawful (or-lawful (other-lawful (34 ∷ [])) (ignore_then-lawful quote-lawful quote-lawful))) (then_ignore-lawful quote-lawful field_end-lawful)
 
-  pub plain-lawful : IsLawful (plain_meaning source errors states) plain_language
-  plain-lawful = then_ignore-lawful (repeated-lawful (other-lawful not_plain)) field_end-lawful
+  pub unquoted-lawful : IsLawful (unquoted_meaning source errors states) unquoted_language
+  unquoted-lawful = then_ignore-lawful (repeated-lawful (other-lawful specials)) field_end-lawful

@@ -21,13 +21,13 @@ use Rattle.chumsky_primitive.specs.PrimitiveLanguage.{Equals, one_ends, literal_
 use Rattle.chumsky_combinator.specs.OptionalLanguage.{or_not_language}
 use Rattle.chumsky_items.specs.ListWords.{RepeatedWord, RepeatedEnd}
 use Rattle.chumsky.specs.Accepted.{IsExactly, Exactly}
-use Rattle.exact.specs.Csv.{is_plain, doubled, IsCsvField, IsComma, is_line_end, IsLineEnd, IsRecord, AreRecords, without_line_end, field_of, record_of, records_of, HoldsCsv}
-use Rattle.exact.specs.CsvFields.{HoldsChars, field_ends, not_plain, other_than, piece, quoted_language, plain_language}
+use Rattle.exact.specs.Csv.{is_text_data, doubled, IsCsvField, IsComma, is_line_end, IsLineEnd, IsRecord, AreRecords, without_line_end, field_of, record_of, records_of, HoldsCsv}
+use Rattle.exact.specs.CsvFields.{HoldsChars, field_ends, specials, other_than, piece, quoted_language, unquoted_language}
 use Rattle.exact.specs.DividedLaws.{divided_language, divided-sound, divided-complete, divided-unambiguous}
 
 -- a field, a comma and the end of a line, a record, and all records, as they are parsed
 abbrev pub field_language : Language ℕ (String Global)
-field_language = or_language quoted_language plain_language
+field_language = or_language quoted_language unquoted_language
 
 abbrev pub character : ℕ → Language ℕ ℕ
 character c = literal_language nat_eq (c ∷ []) (λ d. d ≡ c) ⊤
@@ -80,32 +80,32 @@ quoted-sound w s j =
     both w (34 ∷ []) (doubled (field_of s) ++ 34 ∷ []) j (equals-same (34 ∷ []) j.first j.is_first) (both j.second (doubled (field_of s)) (34 ∷ []) k a b)
 
 -- what is none of the four may stand in a field without quotes, and the other way round
-plain-is : (c : ℕ) → outside nat_eq not_plain c ≡ true → is_plain c ≡ true
-plain-is c e = grind (arith, nat_tests)
+text_data-is : (c : ℕ) → outside nat_eq specials c ≡ true → is_text_data c ≡ true
+text_data-is c e = grind (arith, nat_tests)
 
-is-plain : (c : ℕ) → is_plain c ≡ true → outside nat_eq not_plain c ≡ true
-is-plain c e = grind (arith, nat_tests)
+is-text_data : (c : ℕ) → is_text_data c ≡ true → outside nat_eq specials c ≡ true
+is-text_data c e = grind (arith, nat_tests)
 
-plain_from : (k : ℕ) (cs w : List ℕ) → ListFrom (λ k u c. RepeatedWord None (λ t. (other_than not_plain).stands_for t c) k u) (RepeatedEnd 0 None) k cs w → (w ≡ cs) × AllPass is_plain cs
-plain_from k [] w l = (l.1, tt)
-plain_from k (c ∷ cs) w l =
+text_data_from : (k : ℕ) (cs w : List ℕ) → ListFrom (λ k u c. RepeatedWord None (λ t. (other_than specials).stands_for t c) k u) (RepeatedEnd 0 None) k cs w → (w ≡ cs) × AllPass is_text_data cs
+text_data_from k [] w l = (l.1, tt)
+text_data_from k (c ∷ cs) w l =
     let i = l.is_first.1 in
-    let r = plain_from (suc k) cs l.second l.is_second in
+    let r = text_data_from (suc k) cs l.second l.is_second in
     let e : l.first ≡ c ∷ [] = cc (i.all, i.is) in
-    let p : outside nat_eq not_plain c ≡ true = ap (outside nat_eq not_plain) i.is ∙ i.passes in
-    (l.all ∙ ap (λ z. z ++ l.second) e ∙ ap (λ z. c ∷ z) r.0, (plain-is c p, r.1))
+    let p : outside nat_eq specials c ≡ true = ap (outside nat_eq specials) i.is ∙ i.passes in
+    (l.all ∙ ap (λ z. z ++ l.second) e ∙ ap (λ z. c ∷ z) r.0, (text_data-is c p, r.1))
 
-plain-sound : (w : List ℕ) (s : String Global) → plain_language.stands_for w s → (w ≡ field_of s) × AllPass is_plain (field_of s)
-plain-sound w s j =
+unquoted-sound : (w : List ℕ) (s : String Global) → unquoted_language.stands_for w s → (w ≡ field_of s) × AllPass is_text_data (field_of s)
+unquoted-sound w s j =
     let h = j.is_first in
-    let r = plain_from 0 h.items j.first h.is in
+    let r = text_data_from 0 h.items j.first h.is in
     let e : h.items ≡ field_of s = held-chars h.items s h.held in
     let a : w ≡ j.first = j.all ∙ ap (λ z. j.first ++ z) j.is_second ∙ append-nil j.first in
-    (a ∙ r.0 ∙ e, subst (AllPass is_plain) e r.1)
+    (a ∙ r.0 ∙ e, subst (AllPass is_text_data) e r.1)
 
 field-sound : (w : List ℕ) (s : String Global) → field_language.stands_for w s → IsCsvField w (field_of s)
 field-sound w s (inl j) = inr (quoted-sound w s j)
-field-sound w s (inr j) = inl (plain-sound w s j)
+field-sound w s (inr j) = inl (unquoted-sound w s j)
 
 -- and each field is a word
 abbrev Pieces : ℕ → List ℕ → Type 0
@@ -134,17 +134,17 @@ pieces_of : (k : ℕ) (cs : List ℕ) → Pieces k (doubled cs)
 pieces_of k [] = record { items = []; are = (omega arith, refl) }
 pieces_of k (c ∷ cs) = one_more k c cs (pieces_of (suc k) cs)
 
-plain_of : (k : ℕ) (cs : List ℕ) → AllPass is_plain cs → IsListFrom (RepeatedWord None (IsOne (outside nat_eq not_plain) (λ t. ⊤))) (RepeatedEnd 0 None) k cs
-plain_of k [] h = record { items = []; are = (omega arith, refl) }
-plain_of k (c ∷ cs) h =
-    let r = plain_of (suc k) cs h.1 in
-    let i : IsOne (outside nat_eq not_plain) (λ t. ⊤) (c ∷ []) = record { token = c; all = refl; passes = is-plain c h.0; is = tt } in
+text_data_of : (k : ℕ) (cs : List ℕ) → AllPass is_text_data cs → IsListFrom (RepeatedWord None (IsOne (outside nat_eq specials) (λ t. ⊤))) (RepeatedEnd 0 None) k cs
+text_data_of k [] h = record { items = []; are = (omega arith, refl) }
+text_data_of k (c ∷ cs) h =
+    let r = text_data_of (suc k) cs h.1 in
+    let i : IsOne (outside nat_eq specials) (λ t. ⊤) (c ∷ []) = record { token = c; all = refl; passes = is-text_data c h.0; is = tt } in
     record { items = (c ∷ []) ∷ r.items; are = record { first = c ∷ []; second = cs; all = refl; is_first = (tt, i); is_second = r.are } }
 
 field-complete : (w field : List ℕ) → IsCsvField w field → field_language.word w
 field-complete w field (inl h) =
-    let j : plain_language.word field = record { first = field; second = []; all = sym (append-nil field); is_first = plain_of 0 field h.1; is_second = refl } in
-    inr (subst (λ z. plain_language.word z) (sym h.0) j)
+    let j : unquoted_language.word field = record { first = field; second = []; all = sym (append-nil field); is_first = text_data_of 0 field h.1; is_second = refl } in
+    inr (subst (λ z. unquoted_language.word z) (sym h.0) j)
 field-complete w field (inr e) = inl (subst (λ z. quoted_language.word z) (sym e) (record {
   first = 34 ∷ [];
   second = doubled field ++ 34 ∷ [];
@@ -175,13 +175,13 @@ no_quote (c ∷ cs) m = by_quote (nat_eq 34 c) refl
     by_quote true e = let p : outside nat_eq field_ends c ≡ true = grind (arith, nat_tests) in absurd (no_other (outside nat_eq field_ends c) cs p m)
     by_quote false e = refl
 
-no_plain : (rest : List ℕ) → MayEnd rest → DoesNotEnd (one_ends (outside nat_eq not_plain) rest)
-no_plain [] m = tt
-no_plain (c ∷ cs) m = by_plain (outside nat_eq not_plain c) refl
+no_text_data : (rest : List ℕ) → MayEnd rest → DoesNotEnd (one_ends (outside nat_eq specials) rest)
+no_text_data [] m = tt
+no_text_data (c ∷ cs) m = by_text_data (outside nat_eq specials c) refl
   where
-    by_plain : (b : Bool) → outside nat_eq not_plain c ≡ b → DoesNotEnd (cond b (At cs) Nowhere)
-    by_plain true e = let p : outside nat_eq field_ends c ≡ true = grind (arith, nat_tests) in absurd (no_other (outside nat_eq field_ends c) cs p m)
-    by_plain false e = tt
+    by_text_data : (b : Bool) → outside nat_eq specials c ≡ b → DoesNotEnd (cond b (At cs) Nowhere)
+    by_text_data true e = let p : outside nat_eq field_ends c ≡ true = grind (arith, nat_tests) in absurd (no_other (outside nat_eq field_ends c) cs p m)
+    by_text_data false e = tt
 
 no_piece : (rest : List ℕ) → MayEnd rest → DoesNotEnd (piece.ends (34 ∷ rest))
 no_piece rest m = let e = no_quote rest m in rw e tt
@@ -197,20 +197,20 @@ two_quotes w rest j =
     subst (λ z. DoesNotEnd (one_ends (outside nat_eq (34 ∷ [])) (z ++ rest))) (sym e) tt
 
 -- so a field without quotes is none in quotes
-no_opening : (c : ℕ) (cs : List ℕ) → outside nat_eq not_plain c ≡ true → literal_ends nat_eq (34 ∷ []) (c ∷ cs) ≡ Nowhere
+no_opening : (c : ℕ) (cs : List ℕ) → outside nat_eq specials c ≡ true → literal_ends nat_eq (34 ∷ []) (c ∷ cs) ≡ Nowhere
 no_opening c cs p = let n : nat_eq 34 c ≡ false = grind (arith, nat_tests) in rw n refl
 
-abbrev ArePlain : List (List ℕ) → List ℕ → Type 0
-ArePlain = ListFrom (λ k u (v : List ℕ). RepeatedWord None (IsOne (outside nat_eq not_plain) (λ t. ⊤)) k u) (RepeatedEnd 0 None) 0
+abbrev AreTextData : List (List ℕ) → List ℕ → Type 0
+AreTextData = ListFrom (λ k u (v : List ℕ). RepeatedWord None (IsOne (outside nat_eq specials) (λ t. ⊤)) k u) (RepeatedEnd 0 None) 0
 
-not_begun : (w rest : List ℕ) (items : List (List ℕ)) → ArePlain items w → MayEnd rest → literal_ends nat_eq (34 ∷ []) (w ++ rest) ≡ Nowhere
+not_begun : (w rest : List ℕ) (items : List (List ℕ)) → AreTextData items w → MayEnd rest → literal_ends nat_eq (34 ∷ []) (w ++ rest) ≡ Nowhere
 not_begun w rest [] l m = let e : w ≡ [] = l.1 in ap (λ z. literal_ends nat_eq (34 ∷ []) (z ++ rest)) e ∙ no_quote rest m
 not_begun w rest (v ∷ vs) l m =
     let i = l.is_first.1 in
     let e : w ≡ i.token ∷ l.second = l.all ∙ ap (λ z. z ++ l.second) i.all in
     ap (λ z. literal_ends nat_eq (34 ∷ []) (z ++ rest)) e ∙ no_opening i.token (l.second ++ rest) i.passes
 
-quoted_fails : (w rest : List ℕ) → plain_language.word w → MayEnd rest → DoesNotEnd (quoted_language.ends (w ++ rest))
+quoted_fails : (w rest : List ℕ) → unquoted_language.word w → MayEnd rest → DoesNotEnd (quoted_language.ends (w ++ rest))
 quoted_fails w rest j m =
     let e : w ≡ j.first = j.all ∙ ap (λ z. j.first ++ z) j.is_second ∙ append-nil j.first in
     let n : literal_ends nat_eq (34 ∷ []) (w ++ rest) ≡ Nowhere = ap (λ z. literal_ends nat_eq (34 ∷ []) (z ++ rest)) e ∙ not_begun j.first rest j.is_first.items j.is_first.are m in
@@ -227,7 +227,7 @@ field-unambiguous = (
     ),
     λ w rest j f. tt,
   ),
-  ((tt, λ w rest i f. tt), tt, λ w rest e m. (tt, inr (subst (λ z. DoesNotEnd (one_ends (outside nat_eq not_plain) (z ++ rest))) (sym e) (no_plain rest m)))),
+  ((tt, λ w rest i f. tt), tt, λ w rest e m. (tt, inr (subst (λ z. DoesNotEnd (one_ends (outside nat_eq specials) (z ++ rest))) (sym e) (no_text_data rest m)))),
   λ w rest j m. quoted_fails w rest j m,
 )
 

@@ -10,7 +10,7 @@ use Rattle.chumsky_parser.specs.Words.{AllPass, StopsAt}
 use Rattle.chumsky_parser.specs.declared.result.ParseResult.{ParseResult}
 use Rattle.chumsky.specs.Accepted.{AnswersText, Exactly}
 use Rattle.chumsky_exact.specs.ReadBack.{GivesBack, exact-and_back}
-use Rattle.exact.specs.Csv.{is_plain, doubled, IsCsvField, IsComma, IsLineEnd, IsRecord, AreRecords, IsCsv, without_line_end, records_of, HoldsCsv}
+use Rattle.exact.specs.Csv.{is_text_data, doubled, IsCsvField, IsComma, IsLineEnd, IsRecord, AreRecords, IsCsv, without_line_end, records_of, HoldsCsv}
 use Rattle.exact.specs.CsvLaws.{csv_language, csv-sound, csv-complete, csv-unambiguous, line_end-is, trimmed-exact}
 use Rattle.exact.specs.Divided.{Divided, one_value, more_values}
 use Rattle.exact.specs.JsonNumbersOnce.{front}
@@ -51,9 +51,9 @@ EndsField = StopsAt goes_on
 abbrev EndsRecord : List ℕ → Type 0
 EndsRecord = StopsAt goes_on_record
 
-stops-plain : (x : List ℕ) → EndsField x → StopsAt is_plain x
-stops-plain [] s = tt
-stops-plain (c ∷ cs) s = let e : goes_on c ≡ false = s in grind (arith, nat_tests)
+stops-text_data : (x : List ℕ) → EndsField x → StopsAt is_text_data x
+stops-text_data [] s = tt
+stops-text_data (c ∷ cs) s = let e : goes_on c ≡ false = s in grind (arith, nat_tests)
 
 no_quote : (x : List ℕ) → EndsField (34 ∷ x) → ⊥
 no_quote x s = absurd (cc s)
@@ -89,9 +89,9 @@ doubled-once (c ∷ cs) (d ∷ ds) x y s t e = by_quotes (c == 34) (d == 34) ref
         (cc (k, l), r.1)
 
 -- no field without quotes begins with one
-no_plain_quote : (f x y : List ℕ) → AllPass is_plain f → EndsField x → f ++ x ≡ 34 ∷ y → ⊥
-no_plain_quote [] x y h s e = no_quote y (subst EndsField e s)
-no_plain_quote (c ∷ cs) x y h s e = let z : c ≡ 34 = cc e in let p : is_plain 34 ≡ true = ap is_plain (sym z) ∙ h.0 in absurd (cc p)
+no_text_data_quote : (f x y : List ℕ) → AllPass is_text_data f → EndsField x → f ++ x ≡ 34 ∷ y → ⊥
+no_text_data_quote [] x y h s e = no_quote y (subst EndsField e s)
+no_text_data_quote (c ∷ cs) x y h s e = let z : c ≡ 34 = cc e in let p : is_text_data 34 ≡ true = ap is_text_data (sym z) ∙ h.0 in absurd (cc p)
 
 after_quote : (f x : List ℕ) → (34 ∷ (doubled f ++ 34 ∷ [])) ++ x ≡ 34 ∷ (doubled f ++ (34 ∷ x))
 after_quote f x = ap (λ z. 34 ∷ z) (append_assoc (doubled f) (34 ∷ []) x)
@@ -99,11 +99,11 @@ after_quote f x = ap (λ z. 34 ∷ z) (append_assoc (doubled f) (34 ∷ []) x)
 field-once : (w u x y f g : List ℕ) → IsCsvField w f → IsCsvField u g → EndsField x → EndsField y → w ++ x ≡ u ++ y → (f ≡ g) × (x ≡ y)
 field-once w u x y f g (inl i) (inl j) s t e =
     let h : f ++ x ≡ g ++ y = ap (λ z. z ++ x) (sym i.0) ∙ e ∙ ap (λ z. z ++ y) j.0 in
-    front is_plain f g x y i.1 j.1 (stops-plain x s) (stops-plain y t) h
+    front is_text_data f g x y i.1 j.1 (stops-text_data x s) (stops-text_data y t) h
 field-once w u x y f g (inl i) (inr j) s t e =
-    absurd (no_plain_quote f x _ i.1 s (ap (λ z. z ++ x) (sym i.0) ∙ e ∙ ap (λ z. z ++ y) j ∙ after_quote g y))
+    absurd (no_text_data_quote f x _ i.1 s (ap (λ z. z ++ x) (sym i.0) ∙ e ∙ ap (λ z. z ++ y) j ∙ after_quote g y))
 field-once w u x y f g (inr i) (inl j) s t e =
-    absurd (no_plain_quote g y _ j.1 t (ap (λ z. z ++ y) (sym j.0) ∙ sym e ∙ ap (λ z. z ++ x) i ∙ after_quote f x))
+    absurd (no_text_data_quote g y _ j.1 t (ap (λ z. z ++ y) (sym j.0) ∙ sym e ∙ ap (λ z. z ++ x) i ∙ after_quote f x))
 field-once w u x y f g (inr i) (inr j) s t e =
     let a : 34 ∷ (doubled f ++ (34 ∷ x)) ≡ 34 ∷ (doubled g ++ (34 ∷ y)) = sym (after_quote f x) ∙ ap (λ z. z ++ x) (sym i) ∙ e ∙ ap (λ z. z ++ y) j ∙ after_quote g y in
     doubled-once f g x y s t (cc a)

@@ -6,6 +6,7 @@ pub mod Csv
 pub mod CsvFields
 pub mod CsvLaws
 pub mod CsvOnceLaws
+pub mod CsvWritten
 pub mod Date
 pub mod Divided
 pub mod DividedLaws

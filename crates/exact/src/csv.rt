@@ -40,7 +40,7 @@ pub type QuotedParser<'src> = DelimitedBy<
 >;
 
 /// The parser of a field without quotes.
-pub type PlainParser<'src> = ThenIgnore<
+pub type UnquotedParser<'src> = ThenIgnore<
     Collect<
         Repeated<NoneOf<[char; 4], &'src str, EmptyText>, char, &'src str, EmptyText>,
         char,
@@ -68,14 +68,14 @@ fn quoted_parser<'src>() -> QuotedParser<'src>
 }
 
 /// The parser of a field without quotes.
-fn plain_parser<'src>() -> PlainParser<'src>
-    ensures plain { result.first.parser.parser.seq ≡ 44 ∷ 34 ∷ 13 ∷ 10 ∷ [] }
+fn unquoted_parser<'src>() -> UnquotedParser<'src>
+    ensures text_data { result.first.parser.parser.seq ≡ 44 ∷ 34 ∷ 13 ∷ 10 ∷ [] }
     ensures at_least { result.first.parser.at_least ≡ 0 }
     ensures at_most { result.first.parser.at_most ≡ None }
     ensures end { result.second.parser.seq ≡ 44 ∷ 13 ∷ 10 ∷ [] }
 {
-    let plain = none_of([',', '"', '\r', '\n']).repeated();
-    plain
+    let text_data = none_of([',', '"', '\r', '\n']).repeated();
+    text_data
         .collect::<String>()
         .then_ignore(none_of([',', '\r', '\n']).not())
 }
@@ -117,36 +117,36 @@ impl<'src> Parser<'src, &'src str, String, EmptyText> for Quoted {
 
 /// A field without quotes.
 #[derive(Clone, Copy, Drop)]
-pub struct Plain;
+pub struct Unquoted;
 
-impl<'src> IsParser<&'src str, String, EmptyText> for Plain {}
+impl<'src> IsParser<&'src str, String, EmptyText> for Unquoted {}
 
-impl<'src> Parser<'src, &'src str, String, EmptyText> for Plain {
+impl<'src> Parser<'src, &'src str, String, EmptyText> for Unquoted {
     ghost use Rattle.std.specs.Prelude.{⊤};
-    ghost use Rattle.exact.specs.CsvFields.{plain_meaning, plain_language, plain-lawful};
+    ghost use Rattle.exact.specs.CsvFields.{unquoted_meaning, unquoted_language, unquoted-lawful};
 
     ghost ready = { λ _. ⊤ };
 
-    ghost meaning = { λ _ errors states. plain_meaning ⟦<&'src str as Input<'src>>⟧ errors states };
+    ghost meaning = { λ _ errors states. unquoted_meaning ⟦<&'src str as Input<'src>>⟧ errors states };
 
     ghost steady = { λ _. ⊥ };
 
     ghost same = { λ _ _ _. ⊤ };
 
-    ghost language = { λ _. plain_language };
+    ghost language = { λ _. unquoted_language };
 
-    ghost ends_after_start = { λ _. (plain-lawful ⟦<&'src str as Input<'src>>⟧ ⟦<EmptyErr as Error<&'src str>>⟧ ⟦<() as Inspector<&'src str>>⟧).ends };
+    ghost ends_after_start = { λ _. (unquoted-lawful ⟦<&'src str as Input<'src>>⟧ ⟦<EmptyErr as Error<&'src str>>⟧ ⟦<() as Inspector<&'src str>>⟧).ends };
 
     ghost agrees = { λ _ never. absurd never };
 
-    ghost accepts = { λ _. (plain-lawful ⟦<&'src str as Input<'src>>⟧ ⟦<EmptyErr as Error<&'src str>>⟧ ⟦<() as Inspector<&'src str>>⟧).accepts };
+    ghost accepts = { λ _. (unquoted-lawful ⟦<&'src str as Input<'src>>⟧ ⟦<EmptyErr as Error<&'src str>>⟧ ⟦<() as Inspector<&'src str>>⟧).accepts };
 
     fn go_emit(&self, inp: &mut TextRef<'src, '_, EmptyText>) -> PResult<String> {
-        plain_parser().go_emit(inp)
+        unquoted_parser().go_emit(inp)
     }
 
     fn go_check(&self, inp: &mut TextRef<'src, '_, EmptyText>) -> PResult<()> {
-        plain_parser().go_check(inp)
+        unquoted_parser().go_check(inp)
     }
 }
 
@@ -175,7 +175,7 @@ pub fn parse_csv(alloc: Global, text: &str) -> Result<ParseResult<Vec<Vec<String
     ensures read_back { (records : List (List (List ℕ))) → IsCsv (chars text.now) records → GivesBack records_of records result }
 {
     let record = OneOrMore {
-        item: Quoted.or(Plain),
+        item: Quoted.or(Unquoted),
         separator: just(','),
         of: PhantomData,
     };

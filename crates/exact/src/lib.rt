@@ -17,6 +17,7 @@ pub mod number;
 pub mod one_or_more;
 pub mod owned;
 pub mod pairs;
+pub mod print_csv;
 pub mod print_expression;
 pub mod print_json;
 pub mod print_pairs;

@@ -1,12 +1,12 @@
-use Rattle.exact.proofs.csv.plain_parser.Goals as goal
+use Rattle.exact.proofs.csv.unquoted_parser.Goals as goal
 
 pub returns : goal.returns
 returns c =
     let t = c.then_ignore.ensures in
     let k = c.collect.ensures.parser in
-    let r = c.repeated-plain.ensures in
+    let r = c.repeated-text_data.ensures in
     record {
-      plain = rw (t.first, k, r.parser) c.none_of.ensures;
+      text_data = rw (t.first, k, r.parser) c.none_of.ensures;
       at_least = rw (t.first, k) r.at_least;
       at_most = rw (t.first, k) r.at_most;
       end = rw (t.second, c.not.ensures.parser) c.none_of-2.ensures;
