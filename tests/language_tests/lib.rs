@@ -4,7 +4,11 @@
 #[cfg(test)]
 mod arithmetic_answers;
 #[cfg(test)]
+mod csv_printed;
+#[cfg(test)]
 mod exact_answers;
+#[cfg(test)]
+mod exact_csv;
 mod exact_json;
 #[cfg(test)]
 mod exact_expressions;

@@ -1,3 +1,5 @@
+pub mod CsvLemmas
+pub mod CsvPrintLemmas
 pub mod JsonPickLemmas
 pub mod JsonPrintLemmas
 pub mod OwnedLemmas

@@ -2,7 +2,14 @@ pub mod Access
 pub mod AtomLaws
 pub mod Bits
 pub mod BitsLaws
+pub mod Csv
+pub mod CsvFields
+pub mod CsvLaws
+pub mod CsvOnceLaws
+pub mod CsvWritten
 pub mod Date
+pub mod Divided
+pub mod DividedLaws
 pub mod Expressions
 pub mod ExpressionsLaws
 pub mod ExpressionsLevelsLaws

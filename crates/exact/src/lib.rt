@@ -3,6 +3,7 @@
 
 pub mod access;
 pub mod bits;
+pub mod csv;
 pub mod date;
 pub mod expressions;
 pub mod json;
@@ -13,8 +14,10 @@ pub mod level;
 pub mod method;
 pub mod nested;
 pub mod number;
+pub mod one_or_more;
 pub mod owned;
 pub mod pairs;
+pub mod print_csv;
 pub mod print_expression;
 pub mod print_json;
 pub mod print_pairs;
