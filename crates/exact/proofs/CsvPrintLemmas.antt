@@ -12,7 +12,8 @@ of-map says text [] = refl
 of-map says text (v ∷ vs) = ap (λ z. text (says v) ++ z) (of-map says text vs)
 
 -- the first of some fields was printed, and then the rest
-pub fields_printed : (all rest : List (String Global)) (first : String Global) (old mid new : List ℕ) → all ≡ first ∷ rest → mid ≡ old ++ field_text (field_of first) → new ≡ mid ++ flat_map (λ f. led_text (field_of f)) rest
+pub fields_printed : (all rest : List (String Global)) (first : String Global) (old mid new : List ℕ) → all ≡ first ∷ rest → mid ≡ old ++ field_text (field_of first)
+    → new ≡ mid ++ flat_map (λ f. led_text (field_of f)) rest
     → new ≡ old ++ record_text (map field_of all)
 fields_printed all rest first old mid new e p q =
     let more : List ℕ = flat_map led_text (map field_of rest) in

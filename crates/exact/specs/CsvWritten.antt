@@ -65,7 +65,8 @@ some-written : (fields : List (List ℕ)) → 0 < length fields → IsRecord (re
 some-written [] l = absurd (omega (arith, l))
 some-written (f ∷ fs) l = record-written f fs
 
-records-written : (fields : List (List ℕ)) (more : List (List (List ℕ))) → OfEach (λ r. 0 < length r) (fields ∷ more) → (w : List ℕ) × (csv_text (fields ∷ more) ≡ w ++ 13 ∷ 10 ∷ []) × AreRecords w (fields ∷ more)
+records-written : (fields : List (List ℕ)) (more : List (List (List ℕ))) → OfEach (λ r. 0 < length r) (fields ∷ more)
+    → (w : List ℕ) × (csv_text (fields ∷ more) ≡ w ++ 13 ∷ 10 ∷ []) × AreRecords w (fields ∷ more)
 records-written r [] h = (record_text r, append-nil (line_text r), one_value (some-written r h.0))
 records-written r (q ∷ qs) h =
     let k = records-written q qs h.1 in
