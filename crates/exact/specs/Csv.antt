@@ -46,7 +46,7 @@ abbrev pub without_line_end : List ℕ → List ℕ
 without_line_end [] = []
 without_line_end (c ∷ cs) = cond (is_line_end (c ∷ cs)) [] (c ∷ without_line_end cs)
 
--- a text is these records: the last one may be ended, too
+-- a text is these records, of which the last may be ended or not: a line end at the end of the text ends it, and begins no other
 abbrev pub IsCsv : List ℕ → List (List (List ℕ)) → Type 0
 IsCsv cs records = AreRecords (without_line_end cs) records
 
