@@ -23,17 +23,18 @@ where
     P: Parser<'src, I, O, E>,
     R: KnownOperators<'src, I, O, E>,
 {
-    ghost use Rattle.chumsky_pratt.specs.ExpressionLaws.{expression-end, expression-agree};
+    ghost use Rattle.chumsky_pratt.specs.Doing.{DoesExpression};
+    ghost use Rattle.chumsky_pratt.specs.ExpressionLaws.{SameExpression, expression-end, expression-agree};
     ghost use Rattle.chumsky_exact.specs.Precedence.{precedence_language};
     ghost use Rattle.chumsky_exact.specs.PrecedenceLaws.{precedence-accepts};
 
-    ghost ready = { λ p. ⟦<Pratt<P, R> as Parser<'src, I, O, E>>⟧.ready p.parts };
+    ghost ready = { λ p. P.ready p.parts.atom × R.Operators.ready p.parts.operators };
 
-    ghost meaning = { λ p. ⟦<Pratt<P, R> as Parser<'src, I, O, E>>⟧.meaning p.parts };
+    ghost meaning = { λ p. DoesExpression (P.meaning p.parts.atom) (R.Operators.syntax p.parts.operators) };
 
-    ghost steady = { λ p. ⟦<Pratt<P, R> as Parser<'src, I, O, E>>⟧.steady p.parts };
+    ghost steady = { λ p. P.steady p.parts.atom × R.Operators.steady p.parts.operators };
 
-    ghost same = { λ p. ⟦<Pratt<P, R> as Parser<'src, I, O, E>>⟧.same p.parts };
+    ghost same = { λ p. SameExpression (P.same p.parts.atom) (R.Operators.same p.parts.operators) ((R.Operators.syntax p.parts.operators).gives E.State.Inspector) };
 
     ghost language = { λ p. precedence_language (R.Operators.syntax p.parts.operators).number (R.Operators.syntax p.parts.operators).stands (P.language p.parts.atom) (R.languages p.parts.operators) };
 
