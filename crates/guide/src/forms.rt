@@ -1,5 +1,5 @@
 //! Forms that the check takes: a parser in two places, a part that is handed a value, and outputs that borrow from the text.
-use chumsky::combinator::{Mapper, Part, part_of, run_part};
+use chumsky::combinator::{Part, part_of, run_part};
 use chumsky::extra::RichText;
 use chumsky::input::TextRef;
 use chumsky::prelude::*;
@@ -39,33 +39,13 @@ pub enum Word<'text> {
     Name(&'text str),
 }
 
-/// Makes a number of its text.
-#[derive(Clone, Copy)]
-struct ToNumber;
-
-impl<'text> Mapper<&'text str, Word<'text>> for ToNumber {
-    fn apply(&self, text: &'text str) -> Word<'text> {
-        Word::Number(text)
-    }
-}
-
-/// Makes a name of its text.
-#[derive(Clone, Copy)]
-struct ToName;
-
-impl<'text> Mapper<&'text str, Word<'text>> for ToName {
-    fn apply(&self, text: &'text str) -> Word<'text> {
-        Word::Name(text)
-    }
-}
-
 /// The number or the name that a text is.
 pub fn word_of<'text>(
     alloc: Global,
     text: &'text str,
 ) -> Result<ParseResult<Word<'text>, Rich<char>>, Stop> {
-    let number = text::int::<_, RichText>(10).map_by(ToNumber);
-    let name = text::ascii::ident().map_by(ToName);
+    let number = text::int::<_, RichText>(10).map(Word::Number);
+    let name = text::ascii::ident().map(Word::Name);
     number.or(name).parse(alloc, text)
 }
 
