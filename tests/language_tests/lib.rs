@@ -1,5 +1,5 @@
-//! Languages of real size, run on texts: sums with their overflows, JSON, which is held against the toolchain's `serde_json`, and
-//! s-expressions. A second language of s-expressions has its grammar here, and isn't proved.
+//! Languages of real size, run on texts: sums with their overflows, JSON, which is held against the toolchain's `serde_json`,
+//! formulas, and s-expressions. A second language of s-expressions has its grammar here, and isn't proved.
 
 #[cfg(test)]
 mod arithmetic_answers;
@@ -22,6 +22,8 @@ mod exact_sums;
 mod exact_versions;
 #[cfg(test)]
 mod expressions;
+#[cfg(test)]
+mod formulas;
 #[cfg(test)]
 mod json_answers;
 #[cfg(test)]

@@ -1,0 +1,3 @@
+pub mod Formula
+pub mod FormulaLaws
+pub mod FormulaParser
