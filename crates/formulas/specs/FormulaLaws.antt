@@ -70,6 +70,7 @@ GivesOne = GivesInfix (λ a f b v. v ≡ (a || b))
 abbrev pub operators : OperatorLanguages ℕ Bool
 operators = and_languages (operator_language (character 33) GivesNot) (and_languages (operator_language (character 38) GivesBoth) (last_languages (operator_language (character 124) GivesOne)))
 
+-- a tree is written so, with this value
 abbrev Value : OperatorTree → List ℕ → Bool → Type 0
 Value = TreeValue truth operators.operator
 
@@ -118,6 +119,7 @@ binds-no_sum (Infixed l zero r) b = tt
 binds-no_sum (Infixed l (suc zero) r) b = tt
 binds-no_sum (Infixed l (suc (suc i)) r) b = let k = b.2 in cc k
 
+-- a tree whose last operator is no `|` is written as a product
 product-sound : (least : ℕ) (t : OperatorTree) (w : List ℕ) (v : Bool) → Binds 3 stands least t → NoSum t → Value t w v → IsProduct w v
 product-sound least Atom w v b n x = one_part (part-sound 6 refl refl Atom w v b x)
 product-sound least (Prefixed i t) w v b n x = one_part (part-sound 6 refl refl (Prefixed i t) w v b x)
@@ -155,6 +157,7 @@ record WrittenSo (w : List ℕ) (least : ℕ → Type 0) : Type 0 where
   pub before_and : YieldsTo 3 stands tree (Infix 4 5 true)
   pub before_or : YieldsTo 3 stands tree (Infix 2 3 true)
 
+-- the tree of a part, which stands in each expression
 part-tree : {w : List ℕ} {v : Bool} → IsPart w v → WrittenSo w (λ n. ⊤)
 part-tree is_true = record { tree = Atom; binds = λ n l. tt; written = inl (same-equals (codes "t")); before_and = tt; before_or = tt }
 part-tree is_false = record { tree = Atom; binds = λ n l. tt; written = inr (same-equals (codes "f")); before_and = tt; before_or = tt }
@@ -168,6 +171,7 @@ part-tree (is_not {w} i) =
       before_or = (refl, t.before_or);
     }
 
+-- that of a product, which stands where an `&` may
 product-tree : {w : List ℕ} {v : Bool} → IsProduct w v → WrittenSo w (λ n. nat_le n 4 ≡ true)
 product-tree (one_part i) = let t = part-tree i in record { tree = t.tree; binds = λ n l. t.binds n tt; written = t.written; before_and = t.before_and; before_or = t.before_or }
 product-tree (is_and {u} {w} i k) =
@@ -188,13 +192,14 @@ product-tree (is_and {u} {w} i k) =
       before_or = (refl, r.before_or);
     }
 
--- the tree of a formula
+-- a tree that is written so, of any power
 record IsTreeOf (w : List ℕ) : Type 0 where
   pub tree : OperatorTree
   pub binds : Binds 3 stands 0 tree
   pub written : TreeWord truth operators.operator tree w
   pub before_or : YieldsTo 3 stands tree (Infix 2 3 true)
 
+-- that of a formula
 formula-tree : {w : List ℕ} {v : Bool} → IsFormula w v → IsTreeOf w
 formula-tree (one_product i) = let t = product-tree i in record { tree = t.tree; binds = t.binds 0 refl; written = t.written; before_or = t.before_or }
 formula-tree (is_or {u} {w} i k) =
@@ -263,11 +268,13 @@ formula-apart = record {
   after_postfix = after_postfix;
 }
 
+-- at the end of the text is no operator
 nothing_there : (i : ℕ) → i < 3 → HasBefore (stands i) → DoesNotEnd ((operators.operator i).ends [])
 nothing_there zero l b = absurd b
 nothing_there (suc zero) l b = tt
 nothing_there (suc (suc i)) l b = tt
 
+-- and none stands after its operand
 no_postfix : (i : ℕ) → i < 3 → IsPostfix (stands i) → (operators.operator i).follow []
 no_postfix zero l p = absurd p
 no_postfix (suc zero) l p = absurd p
@@ -280,6 +287,7 @@ formula-ends = record { atom = (tt, tt); postfix = no_postfix; none = nothing_th
 unfoldable pub formula_language : Language ℕ Bool
 formula_language = precedence_language 3 stands truth operators
 
+-- that is said
 pub formula-said : formula_language.said ≡ true
 unfolding formula_language
 formula-said = refl

@@ -20,7 +20,7 @@ use Rattle.chumsky_pratt.specs.ExpressionLaws.{expression-end}
 use Rattle.chumsky_exact.specs.Operating.{Operates}
 use Rattle.chumsky_exact.specs.OperatingLaws.{operator-operates, last-operates, row-operates}
 use Rattle.chumsky_exact.specs.PrecedenceLaws.{precedence-accepts}
-use Rattle.formulas.specs.FormulaLaws.{stands, character, value, truth, GivesNot, GivesBoth, GivesOne, operators, formula_language}
+use Rattle.formulas.specs.FormulaLaws.{stands, character, truth, GivesNot, GivesBoth, GivesOne, operators, formula_language}
 
 module _ {I Sp Cu Er St Mk Cx : Type 0} (source : input_trait.Ghosts I Cu ℕ Sp) (errors : error_trait.Ghosts Er I ℕ Sp) (states : inspector_trait.Ghosts St I Mk ℕ Sp) where
   -- one character; and one with a value
