@@ -1,12 +1,12 @@
 -- The language of a call under a depth: under none it refuses each text, and else it is what the body makes of that under one less.
 -- Main words: call_language, language_of, IsIntended. Main laws: does_call-accepts, call-is_intended. Read first: Calls.antt, Kept.antt.
-use Rattle.std.proofs.Common.{◌≡◌, ℕ, zero, suc, ◌<◌, true, Some, List, refl, arith, inr, subst}
+use Rattle.std.proofs.Common.{◌≡◌, ℕ, zero, suc, ◌<◌, true, Some, List, refl, arith, inr}
 use Rattle.std.specs.Prelude.{⊤}
 use Rattle.chumsky_input.specs.declared.stop.Stop.TheVariants.{TooDeep}
-use Rattle.chumsky_input.specs.Outcome.{Meaning, Beginning, Outcome, Halt}
+use Rattle.chumsky_input.specs.Outcome.{Meaning, Halt}
 use Rattle.chumsky_combinator.specs.Part.{Onward}
 use Rattle.chumsky_parser.specs.Ending.{Ending, Refused, Answers, DoesNotEnd}
-use Rattle.chumsky_parser.specs.Language.{Language, Described, Accepts, IsBelow, unsaid, of_unsaid}
+use Rattle.chumsky_parser.specs.Language.{Language, Accepts, IsBelow, unsaid, of_unsaid}
 use Rattle.chumsky_parser.specs.LanguageLaws.{fewer-accepts}
 use Rattle.chumsky_descent.specs.CallLaws.{exact-ends, exact-agrees}
 use Rattle.chumsky_descent.specs.Calls.{IsTooDeep, AreCalls, KeepsLaws, Intended, Said, Nothing, Means, Steady, Exact, Together, DoesCall}

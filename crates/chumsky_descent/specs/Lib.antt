@@ -6,3 +6,4 @@ pub mod TogetherKept
 pub mod Lawful
 pub mod Body
 pub mod Exactly
+pub mod OperatorsLawful

@@ -1,11 +1,6 @@
 pub mod Builders
 pub mod ByCalls
 pub mod Capped
-pub mod Climb
-pub mod ClimbLaws
-pub mod ClimbedReads
-pub mod ClimbedTrees
-pub mod ClimbsWhole
 pub mod Contexts
 pub mod ContextsLaws
 pub mod Fields
@@ -14,12 +9,7 @@ pub mod Lexemes
 pub mod Lines
 pub mod Nested
 pub mod NestedLaws
-pub mod Operating
-pub mod OperatingLaws
-pub mod OperatorTrees
 pub mod Pieces
-pub mod Precedence
-pub mod PrecedenceLaws
 pub mod Quiet
 pub mod Ranges
 pub mod Rendered

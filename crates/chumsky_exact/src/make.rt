@@ -1,9 +1,8 @@
-//! What makes a length with what it stands before, a head with what stands under it, so many items, operators by precedence, and a
-//! parser over the whole of an input that another one gives.
+//! What makes a length with what it stands before, a head with what stands under it, so many items, and a parser over the whole of an
+//! input that another one gives.
 ghost use Rattle.std.specs.Prelude.{◌≡◌};
 
 use crate::nested::{Counted, Nested};
-use crate::precedence::Precedence;
 use crate::prefixed::{Headed, Prefixed};
 use crate::so_many::SoMany;
 use chumsky_context::ignore_with_ctx::IgnoreWithCtx;
@@ -13,8 +12,6 @@ use chumsky_input::extra::{Full, ParserExtra};
 use chumsky_input::input::{Input, Tokens};
 use chumsky_input::inspector::Inspector;
 use chumsky_parser::parser::IsParser;
-use chumsky_pratt::pratt::Pratt;
-use chumsky_pratt::rows::IntoRow;
 use std::marker::PhantomData;
 
 /// Runs `length`, and then `then` with its output as the context, and gives the output of `then`, as
@@ -65,23 +62,6 @@ where
             parser: head,
             then,
             of: PhantomData,
-        },
-    }
-}
-
-/// Reads an expression as `atom.pratt(operators)` does: outputs of `atom` with operators before, after and between them, which bind by
-/// their powers. It is known which texts it accepts, and with which values, where that is so of `atom` and of each operator, and each
-/// takes a token wherever it succeeds: of a tuple of one to eight operators, made by `infix_by`, `prefix_by` and `postfix_by` where
-/// values are to be known. With these `precedence(digit, (prefix_by(3, just('-'), Minus), infix_by(left(1), just('+'), Plus)))` on
-/// `-1+2` gives `1`, as its tree has it, where the minus binds first.
-pub fn precedence<P, T: IntoRow>(atom: P, operators: T) -> Precedence<P, T::Row>
-    ensures atom { result.parts.atom ≡ atom }
-    ensures operators { T.row_is operators result.parts.operators }
-{
-    Precedence {
-        parts: Pratt {
-            atom,
-            operators: operators.into_row(),
         },
     }
 }

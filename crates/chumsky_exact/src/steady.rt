@@ -1,15 +1,12 @@
-//! When a length with what it stands before, a head with what stands under it, so many items, operators by precedence, a parser that
-//! gives an input whose tokens can be counted, and one over the whole of such an input are ready, and when they are steady, each the contract of a function that
+//! When a length with what it stands before, a head with what stands under it, so many items, a parser that gives an input whose tokens
+//! can be counted, and one over the whole of such an input are ready, and when they are steady, each the contract of a function that
 //! does nothing: where their parts are. And what is known of two outputs that count as the same.
 ghost use Rattle.chumsky_context.specs.Under.{SameAreEqual};
 ghost use Rattle.chumsky_context.specs.Within.{SameOverBoth};
 ghost use Rattle.chumsky_items.specs.Consumers.{SameContents};
-ghost use Rattle.chumsky_pratt.specs.ExpressionLaws.{SameExpression};
 
 use crate::context::{DecidedByWord, ParserUnder};
 use crate::nested::{Counted, Nested};
-use crate::operators::KnownOperators;
-use crate::precedence::Precedence;
 use crate::prefixed::{Headed, Prefixed};
 use crate::so_many::{HowMany, SoMany};
 use chumsky_input::error::Error;
@@ -63,21 +60,6 @@ where
     ensures ready { P.ready so_many.now.item → ⟦<SoMany<P, O, C> as Parser<'src, I, C, E>>⟧.ready so_many.now }
     ensures steady { P.steady so_many.now.item → ⟦<SoMany<P, O, C> as Parser<'src, I, C, E>>⟧.steady so_many.now }
     ensures same { (x y : C) → ⟦<SoMany<P, O, C> as Parser<'src, I, C, E>>⟧.same so_many.now x y → SameContents (P.same so_many.now.item) C.holds x y }
-{}
-
-/// `precedence` is ready and steady where its atom and its operators are. Two outputs are the same where they are built alike, from
-/// atoms that are the same, by operators that are.
-pub fn precedence_is_steady<'src, I, O, E, P, R>(precedence: &Precedence<P, R>)
-where
-    I: Input<'src>,
-    O: Drop,
-    E: ParserExtra<I>,
-    P: Parser<'src, I, O, E>,
-    R: KnownOperators<'src, I, O, E>,
-    ensures ready { let p = precedence.now.parts in P.ready p.atom → R.ready p.operators → ⟦<Precedence<P, R> as Parser<'src, I, O, E>>⟧.ready precedence.now }
-    ensures steady { let p = precedence.now.parts in P.steady p.atom → R.steady p.operators → ⟦<Precedence<P, R> as Parser<'src, I, O, E>>⟧.steady precedence.now }
-    ensures same { let p = precedence.now.parts in (x y : O) → ⟦<Precedence<P, R> as Parser<'src, I, O, E>>⟧.same precedence.now x y
-        → SameExpression (P.same p.atom) (R.same p.operators) ((R.syntax p.operators).gives E.State.Inspector) x y }
 {}
 
 /// A parser that gives an input whose tokens can be counted is steady where the one in it is. Its outputs that are the same are so to

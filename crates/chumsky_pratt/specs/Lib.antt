@@ -15,3 +15,14 @@ pub mod ChoicesLaws
 pub mod Alone
 pub mod AloneLaws
 pub mod ExpressionMoves
+pub mod OperatorTrees
+pub mod Operating
+pub mod OperatingLaws
+pub mod TreeClimb
+pub mod TreeClimbLaws
+pub mod ClimbedTrees
+pub mod ClimbedReads
+pub mod ClimbsWhole
+pub mod PrecedenceLanguage
+pub mod PrecedenceLanguageLaws
+pub mod ListedLanguage

@@ -117,6 +117,7 @@ impl<
     L: AsSlice<T>,
 > Operators<'src, I, O, E> for OperatorList<T, L> {
     ghost use Rattle.chumsky_pratt.specs.Listed.{SameIn, reads_in-ends, reads_in-agree, gives_in-one};
+    ghost use Rattle.chumsky_pratt.specs.ListedLanguage.{list_languages, list-operates};
 
     ghost ready = { λ p. All T.ready (L.items p.operators) };
 
@@ -131,11 +132,15 @@ impl<
 
     ghost same = { λ p. SameIn T.same (L.items p.operators) };
 
+    ghost languages = { λ p. list_languages T.language (L.items p.operators) };
+
     ghost ends_after_start = { λ p. reads_in-ends _ T.ends_after_start (L.items p.operators) };
 
     ghost agrees = { λ p s. reads_in-agree _ T.steady T.same T.agrees (L.items p.operators) s };
 
     ghost gives_one = { λ p s. gives_in-one _ T.steady T.gives_one (L.items p.operators) s };
+
+    ghost each_operates = { λ p. list-operates T.operates (L.items p.operators) };
 
     #[inline]
     fn count(&self) -> usize {

@@ -70,6 +70,8 @@ impl<
 > Operator<'src, I, O, E> for PrefixWith<P, F, O, W> {
     ghost use Rattle.chumsky_parser.specs.Showing.{OnlyAnswers};
     ghost use Rattle.chumsky_pratt.specs.Operators.{prefix_fixity, GivesPrefixWith};
+    ghost use Rattle.chumsky_pratt.specs.Operating.{shown_language};
+    ghost use Rattle.chumsky_pratt.specs.OperatingLaws.{shown-operates};
 
     ghost ready = { λ p. P.ready p.parser × F.callable p.folder };
 
@@ -83,11 +85,15 @@ impl<
 
     ghost same = { λ p. P.same p.parser };
 
+    ghost language = { λ p. shown_language (P.language p.parser) (GivesPrefixWith (F.gives p.folder E.State.Inspector)) };
+
     ghost ends_after_start = { λ p. P.ends_after_start p.parser };
 
     ghost agrees = { λ p s. P.agrees p.parser s.0 };
 
     ghost gives_one = { λ p s. s.1 };
+
+    ghost operates = { λ p. shown-operates _ (P.accepts p.parser) };
 
     #[inline]
     fn fixity(&self) -> Fixity {
@@ -139,6 +145,8 @@ impl<
 > Operator<'src, I, O, E> for PostfixWith<P, F, O, W> {
     ghost use Rattle.chumsky_parser.specs.Showing.{OnlyAnswers};
     ghost use Rattle.chumsky_pratt.specs.Operators.{postfix_fixity, GivesPostfixWith};
+    ghost use Rattle.chumsky_pratt.specs.Operating.{shown_language};
+    ghost use Rattle.chumsky_pratt.specs.OperatingLaws.{shown-operates};
 
     ghost ready = { λ p. P.ready p.parser × F.callable p.folder };
 
@@ -152,11 +160,15 @@ impl<
 
     ghost same = { λ p. P.same p.parser };
 
+    ghost language = { λ p. shown_language (P.language p.parser) (GivesPostfixWith (F.gives p.folder E.State.Inspector)) };
+
     ghost ends_after_start = { λ p. P.ends_after_start p.parser };
 
     ghost agrees = { λ p s. P.agrees p.parser s.0 };
 
     ghost gives_one = { λ p s. s.1 };
+
+    ghost operates = { λ p. shown-operates _ (P.accepts p.parser) };
 
     #[inline]
     fn fixity(&self) -> Fixity {
@@ -208,6 +220,8 @@ impl<
 > Operator<'src, I, O, E> for InfixWith<P, F, O, W> {
     ghost use Rattle.chumsky_parser.specs.Showing.{OnlyAnswers};
     ghost use Rattle.chumsky_pratt.specs.Operators.{infix_fixity, GivesInfixWith};
+    ghost use Rattle.chumsky_pratt.specs.Operating.{shown_language};
+    ghost use Rattle.chumsky_pratt.specs.OperatingLaws.{shown-operates};
 
     ghost ready = { λ p. P.ready p.parser × F.callable p.folder };
 
@@ -221,11 +235,15 @@ impl<
 
     ghost same = { λ p. P.same p.parser };
 
+    ghost language = { λ p. shown_language (P.language p.parser) (GivesInfixWith (F.gives p.folder E.State.Inspector)) };
+
     ghost ends_after_start = { λ p. P.ends_after_start p.parser };
 
     ghost agrees = { λ p s. P.agrees p.parser s.0 };
 
     ghost gives_one = { λ p s. s.1 };
+
+    ghost operates = { λ p. shown-operates _ (P.accepts p.parser) };
 
     #[inline]
     fn fixity(&self) -> Fixity {

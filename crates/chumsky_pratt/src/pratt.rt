@@ -29,9 +29,10 @@ impl<
     P: Parser<'src, I, O, E>,
     R: Operators<'src, I, O, E>,
 > Parser<'src, I, O, E> for Pratt<P, R> {
-    ghost use Rattle.chumsky_parser.specs.Language.{of_unsaid};
     ghost use Rattle.chumsky_pratt.specs.Doing.{DoesExpression};
     ghost use Rattle.chumsky_pratt.specs.ExpressionLaws.{SameExpression, expression-end, expression-agree};
+    ghost use Rattle.chumsky_pratt.specs.PrecedenceLanguage.{precedence_language};
+    ghost use Rattle.chumsky_pratt.specs.PrecedenceLanguageLaws.{precedence-accepts};
 
     ghost ready = { λ p. P.ready p.atom × R.ready p.operators };
 
@@ -41,11 +42,13 @@ impl<
 
     ghost same = { λ p. SameExpression (P.same p.atom) (R.same p.operators) ((R.syntax p.operators).gives E.State.Inspector) };
 
+    ghost language = { λ p. precedence_language (R.syntax p.operators).number (R.syntax p.operators).stands (P.language p.atom) (R.languages p.operators) };
+
     ghost ends_after_start = { λ p. expression-end _ (P.ends_after_start p.atom) (R.ends_after_start p.operators) 0 };
 
     ghost agrees = { λ p s. expression-agree _ (P.same p.atom) (R.same p.operators) (R.gives_one p.operators s.1) (P.agrees p.atom s.0) (R.agrees p.operators s.1) 0 };
 
-    ghost accepts = { λ _. of_unsaid };
+    ghost accepts = { λ p. precedence-accepts (P.ends_after_start p.atom) (R.ends_after_start p.operators) (P.accepts p.atom) (R.each_operates p.operators) };
 
     #[inline]
     fn go_emit(&self, inp: &mut InputRef<'src, '_, I, E>) -> PResult<O> {

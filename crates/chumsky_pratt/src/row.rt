@@ -24,6 +24,7 @@ pub trait Operators<'src, I: Input<'src>, O, E: ParserExtra<I>>: HasFound {
     ghost use Rattle.chumsky_input.specs.Outcome.{EndsAfterStart, Agreeing};
     ghost use Rattle.chumsky_parser.specs.Showing.{OnlyAnswers};
     ghost use Rattle.chumsky_pratt.specs.Operators.{OperatorSyntax};
+    ghost use Rattle.chumsky_pratt.specs.Operating.{OperatorLanguages, OperateAs, unsaid_languages};
 
     /// That their parsers may be run, and their folders called.
     ghost ready: { Self → Type 0 };
@@ -33,6 +34,8 @@ pub trait Operators<'src, I: Input<'src>, O, E: ParserExtra<I>>: HasFound {
     ghost steady: { Self → Type 0 };
     /// Which finds count as the same.
     ghost same: { Self → Self.Found → Self.Found → Type 0 };
+    /// The language of each; by default nothing is said.
+    ghost languages: { Self → OperatorLanguages I.Token O } = { λ _. unsaid_languages };
 
     /// How many they are.
     fn count(&self) -> usize
@@ -81,6 +84,9 @@ pub trait Operators<'src, I: Input<'src>, O, E: ParserExtra<I>>: HasFound {
 
     /// Steady operators give one value for the same, and leave the state as it is.
     ghost gives_one: { (p : Self) → steady p → OnlyAnswers ((syntax p).gives E.State.Inspector) };
+
+    /// What is said of each holds.
+    ghost each_operates: { (p : Self) → OperateAs (λ i. (syntax p).reads i E.Error.Error E.State.Inspector) ((syntax p).gives E.State.Inspector) (languages p) };
 }
 
 /// What is found of an operator or of others.
@@ -117,6 +123,9 @@ impl<'src, I: Input<'src>, O: Drop, E: ParserExtra<I>, T: Operator<'src, I, O, E
     O,
     E,
 > for LastOperator<T> {
+    ghost use Rattle.chumsky_pratt.specs.Operating.{last_languages};
+    ghost use Rattle.chumsky_pratt.specs.OperatingLaws.{last-operates};
+
     ghost ready = { λ p. T.ready p.operator };
 
     ghost syntax = { λ p. record {
@@ -130,11 +139,15 @@ impl<'src, I: Input<'src>, O: Drop, E: ParserExtra<I>, T: Operator<'src, I, O, E
 
     ghost same = { λ p. T.same p.operator };
 
+    ghost languages = { λ p. last_languages (T.language p.operator) };
+
     ghost ends_after_start = { λ p i. T.ends_after_start p.operator };
 
     ghost agrees = { λ p s i. T.agrees p.operator s };
 
     ghost gives_one = { λ p s. T.gives_one p.operator s };
+
+    ghost each_operates = { λ p. last-operates (T.operates p.operator) };
 
     #[inline]
     fn count(&self) -> usize {
@@ -185,6 +198,8 @@ impl<
 > Operators<'src, I, O, E> for OperatorAnd<T, R> {
     ghost use Rattle.chumsky_pratt.specs.Operators.{fixity_and, GivesAnd, SameAnd, gives_and-one, reads-ends, reads-agree};
     ghost use Rattle.chumsky_pratt.specs.Doing.{reads_and};
+    ghost use Rattle.chumsky_pratt.specs.Operating.{and_languages};
+    ghost use Rattle.chumsky_pratt.specs.OperatingLaws.{row-operates};
 
     ghost ready = { λ p. T.ready p.operator × R.ready p.others × (suc (R.syntax p.others).number < 2 ^ 64) };
 
@@ -199,11 +214,15 @@ impl<
 
     ghost same = { λ p. SameAnd (T.same p.operator) (R.same p.others) };
 
+    ghost languages = { λ p. and_languages (T.language p.operator) (R.languages p.others) };
+
     ghost ends_after_start = { λ p. reads-ends _ _ (T.ends_after_start p.operator) (R.ends_after_start p.others) };
 
     ghost agrees = { λ p s. reads-agree (T.same p.operator) (R.same p.others) _ _ (T.agrees p.operator s.0) (R.agrees p.others s.1) };
 
     ghost gives_one = { λ p s. gives_and-one _ _ (T.gives_one p.operator s.0) (R.gives_one p.others s.1) };
+
+    ghost each_operates = { λ p. row-operates (T.operates p.operator) (R.each_operates p.others) };
 
     #[inline]
     fn count(&self) -> usize {

@@ -1,14 +1,14 @@
 -- The language of expressions by precedence: the words of trees that are as the powers of their operators have it, with their values.
--- Main word: precedence_language. Laws: PrecedenceLaws.antt. Read first: OperatorTrees.antt, Climb.antt, Operating.antt.
+-- Main word: precedence_language. Laws: PrecedenceLanguageLaws.antt. Read first: OperatorTrees.antt, TreeClimb.antt, Operating.antt.
 use Rattle.std.specs.Prelude.{◌≡◌, ℕ, zero, suc, ◌<◌, ◌&&◌, Option, None, List}
 use Rattle.chumsky_parser.specs.ChoiceLanguage.{FailsOn}
 use Rattle.chumsky_parser.specs.Ending.{Ender, Ends, DoesNotEnd}
 use Rattle.chumsky_parser.specs.Language.{Language, Begins, sooner}
 use Rattle.chumsky_parser.specs.SequenceLanguage.{MayFollow}
 use Rattle.chumsky_pratt.specs.declared.fixity.Fixity.{Fixity}
-use Rattle.chumsky_exact.specs.OperatorTrees.{OperatorTree, IsPrefix, IsPostfix, HasBefore, HasAfter, SameSide, Binds, TreeWord, TreeValue}
-use Rattle.chumsky_exact.specs.Climb.{climbed, left_after}
-use Rattle.chumsky_exact.specs.Operating.{OperatorLanguages}
+use Rattle.chumsky_pratt.specs.OperatorTrees.{OperatorTree, IsPrefix, IsPostfix, HasBefore, HasAfter, SameSide, Binds, TreeWord, TreeValue}
+use Rattle.chumsky_pratt.specs.TreeClimb.{climbed, left_after}
+use Rattle.chumsky_pratt.specs.Operating.{OperatorLanguages}
 
 -- the smallest of so many such numbers, from an index on
 abbrev pub soonest : (ℕ → Option ℕ) → ℕ → ℕ → Option ℕ
@@ -51,8 +51,8 @@ module _ {Tok V : Type 0} (number : ℕ) (stands : ℕ → Fixity) (A : Language
     pub postfix : (i : ℕ) → i < number → IsPostfix (stands i) → (row.operator i).follow rest
     pub none : (i : ℕ) → i < number → HasBefore (stands i) → DoesNotEnd ((row.operator i).ends rest)
 
-  -- the words of trees, with their values
-  abbrev pub precedence_language : Language Tok V
+  -- the words of trees, with their values; it is closed to the check, where a parser of it is run, and opened by `unfolding`
+  unfoldable pub precedence_language : Language Tok V
   precedence_language = record {
     said = A.said && (A.moves && row.said);
     ends = precedence_ends;

@@ -1,5 +1,5 @@
 -- A run of an expression ends where the climb does, with a value that the tree has which is read.
--- Main law: expression-reads. Read first: Expression.antt, Climb.antt, ClimbLaws.antt, Operating.antt.
+-- Main law: expression-reads. Read first: Expression.antt, TreeClimb.antt, TreeClimbLaws.antt, Operating.antt.
 use Rattle.std.proofs.lemmas.Bool.Decides.{nat_tests}
 use Rattle.std.proofs.Common.{◌≡◌, ℕ, zero, suc, ◌≤◌, ◌<◌, nat_le, nat_lt, ◌&&◌, Bool, true, false, Option, Some, None, List, length, drop, refl, sym, ◌∙◌, ap, subst, arith, length-drop, ◌⊎◌, inl, inr}
 use Rattle.chumsky_input.specs.Extra.{Shown}
@@ -43,11 +43,11 @@ use Rattle.chumsky_pratt.specs.Expression.{
   Expression,
 }
 use Rattle.chumsky_pratt.specs.Operators.{bound_by}
-use Rattle.chumsky_exact.specs.OperatorTrees.{OperatorTree, Atom, Prefixed, Postfixed, Infixed, is_tried, bound_of, TreeValue}
-use Rattle.chumsky_exact.specs.Climb.{first_attempt, where_tried, climb_before, climb_after, climb_between, climb_step, go_on, climbed, climb_operand, left_after}
-use Rattle.chumsky_exact.specs.ClimbLaws.{and_then-at, step-at, climbed-on, climbed_step-shorter, operand-shorter}
-use Rattle.chumsky_exact.specs.ClimbedTrees.{begins-joined}
-use Rattle.chumsky_exact.specs.Operating.{GivesWithin, Operates}
+use Rattle.chumsky_pratt.specs.OperatorTrees.{OperatorTree, Atom, Prefixed, Postfixed, Infixed, is_tried, bound_of, TreeValue}
+use Rattle.chumsky_pratt.specs.TreeClimb.{first_attempt, where_tried, climb_before, climb_after, climb_between, climb_step, go_on, climbed, climb_operand, left_after}
+use Rattle.chumsky_pratt.specs.TreeClimbLaws.{and_then-at, step-at, climbed-on, climbed_step-shorter, operand-shorter}
+use Rattle.chumsky_pratt.specs.ClimbedTrees.{begins-joined}
+use Rattle.chumsky_pratt.specs.Operating.{GivesWithin, Operates}
 
 -- the tokens that are left
 abbrev rest_of : {Tok Cx St : Type 0} → Beginning Tok Cx St → List Tok

@@ -1,12 +1,12 @@
 -- Each word of a tree is taken whole, where the words of its atoms and operators tell one another apart, and what follows may.
--- Main law: tree-taken. Read first: Precedence.antt, ClimbLaws.antt.
+-- Main law: tree-taken. Read first: PrecedenceLanguage.antt, TreeClimbLaws.antt.
 use Rattle.std.proofs.Common.{◌≡◌, ℕ, zero, suc, ◌+◌, ◌≤◌, ◌<◌, nat_lt, Bool, true, false, Option, Some, None, List, ◌++◌, refl, sym, ◌∙◌, ap, subst, append_assoc, arith, ◌⊎◌, inl, inr}
 use Rattle.std.proofs.lemmas.Bool.Decides.{nat_tests}
 use Rattle.chumsky_parser.specs.Ending.{Ending, At, Nowhere, Refused, Ender, and_then, or_else, EndsOrRefused, DoesNotEnd}
 use Rattle.chumsky_parser.specs.Language.{Language, TakesEach, EndsFurther}
 use Rattle.chumsky_pratt.specs.declared.fixity.Fixity.{Fixity}
 use Rattle.chumsky_pratt.specs.declared.fixity.Fixity.TheVariants.{Prefix, Postfix, Infix}
-use Rattle.chumsky_exact.specs.OperatorTrees.{
+use Rattle.chumsky_pratt.specs.OperatorTrees.{
   OperatorTree,
   Atom,
   Prefixed,
@@ -25,10 +25,10 @@ use Rattle.chumsky_exact.specs.OperatorTrees.{
   Binds,
   TreeWord,
 }
-use Rattle.chumsky_exact.specs.Climb.{first_attempt, where_tried, climb_before, climb_after, climb_between, climb_step, go_on, climbed, climb_operand}
-use Rattle.chumsky_exact.specs.ClimbLaws.{climbed-on}
-use Rattle.chumsky_exact.specs.Operating.{OperatorLanguages}
-use Rattle.chumsky_exact.specs.Precedence.{MayOpen, TellApart, FollowsAll, OfTree, precedence_ends}
+use Rattle.chumsky_pratt.specs.TreeClimb.{first_attempt, where_tried, climb_before, climb_after, climb_between, climb_step, go_on, climbed, climb_operand}
+use Rattle.chumsky_pratt.specs.TreeClimbLaws.{climbed-on}
+use Rattle.chumsky_pratt.specs.Operating.{OperatorLanguages}
+use Rattle.chumsky_pratt.specs.PrecedenceLanguage.{MayOpen, TellApart, FollowsAll, OfTree, precedence_ends}
 
 -- two numbers are the same, or not
 same_or_not : (k i : ℕ) → (k ≡ i) ⊎ (k ≡ i → ⊥)

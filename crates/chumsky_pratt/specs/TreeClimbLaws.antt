@@ -1,13 +1,13 @@
 -- What is known of climbs: each step takes a token, and so it doesn't matter by how many a climb goes.
--- Main laws: step-at, step-further, climbed-on, operand-shorter, climbed_step-shorter. Read first: Climb.antt.
+-- Main laws: step-at, step-further, climbed-on, operand-shorter, climbed_step-shorter. Read first: TreeClimb.antt.
 use Rattle.std.proofs.lemmas.Bool.Decides.{nat_tests}
 use Rattle.std.proofs.Common.{◌≡◌, ℕ, zero, suc, ◌+◌, ◌≤◌, nat_le, ◌<◌, Bool, true, false, Option, Some, None, List, length, refl, sym, ◌∙◌, ap, subst, arith, ◌⊎◌, inl, inr}
 use Rattle.chumsky_parser.specs.Ending.{Ending, At, Nowhere, Refused, Ender, and_then, or_else}
 use Rattle.chumsky_parser.specs.Language.{EndsFurther}
 use Rattle.chumsky_pratt.specs.declared.fixity.Fixity.{Fixity}
 use Rattle.chumsky_pratt.specs.declared.fixity.Fixity.TheVariants.{Prefix, Postfix, Infix}
-use Rattle.chumsky_exact.specs.OperatorTrees.{OperatorTree, Atom, Prefixed, Postfixed, Infixed, is_tried, power_after, IsPrefix, IsPostfix, IsInfix, bound_of}
-use Rattle.chumsky_exact.specs.Climb.{first_attempt, where_tried, climb_before, climb_after, climb_between, climb_step, go_on, climb, climbed, climb_operand}
+use Rattle.chumsky_pratt.specs.OperatorTrees.{OperatorTree, Atom, Prefixed, Postfixed, Infixed, is_tried, power_after, IsPrefix, IsPostfix, IsInfix, bound_of}
+use Rattle.chumsky_pratt.specs.TreeClimb.{first_attempt, where_tried, climb_before, climb_after, climb_between, climb_step, go_on, climb, climbed, climb_operand}
 
 -- where one thing and then another ended
 pub record Both {X Y : Type 0} (x : Ending X) (k : X → Ending Y) (z : Y) : Type 0 where

@@ -1,5 +1,5 @@
 -- What is said of expressions by precedence holds, since it does of their atom and of their operators.
--- Main law: precedence-accepts. Read first: Precedence.antt, ClimbedTrees.antt, ClimbedReads.antt.
+-- Main laws: precedence-accepts, precedence-said. Read first: PrecedenceLanguage.antt, ClimbedTrees.antt, ClimbedReads.antt.
 use Rattle.std.proofs.Common.{◌≡◌, ℕ, zero, suc, ◌+◌, ◌≤◌, ◌<◌, ◌&&◌, Bool, true, false, Option, Some, None, List, length, refl, sym, ◌∙◌, subst, arith, ◌⊎◌, inl, inr}
 use Rattle.std.proofs.lemmas.Bool.Decides.{nat_tests}
 use Rattle.std.specs.Prelude.{nat_le}
@@ -12,14 +12,14 @@ use Rattle.chumsky_pratt.specs.declared.fixity.Fixity.{Fixity}
 use Rattle.chumsky_pratt.specs.declared.fixity.Fixity.TheVariants.{Prefix, Postfix, Infix}
 use Rattle.chumsky_pratt.specs.Expression.{Syntax, Expression}
 use Rattle.chumsky_pratt.specs.ExpressionMoves.{expression-move}
-use Rattle.chumsky_exact.specs.OperatorTrees.{OperatorTree, Atom, Prefixed, Postfixed, Infixed, is_tried, bound_of, TreeWord, TreeValue}
-use Rattle.chumsky_exact.specs.Climb.{first_attempt, where_tried, climb_before, climb_after, climb_between, climb_step, go_on, climbed, climb_operand}
-use Rattle.chumsky_exact.specs.ClimbLaws.{and_then-at, first-refused, climbed-on, climbed_step-shorter, operand-shorter}
-use Rattle.chumsky_exact.specs.ClimbedTrees.{climbed-tree}
-use Rattle.chumsky_exact.specs.ClimbedReads.{expression-reads}
-use Rattle.chumsky_exact.specs.ClimbsWhole.{tree-taken}
-use Rattle.chumsky_exact.specs.Operating.{Operates, OperatorLanguages}
-use Rattle.chumsky_exact.specs.Precedence.{soonest, OfTree, precedence_language}
+use Rattle.chumsky_pratt.specs.OperatorTrees.{OperatorTree, Atom, Prefixed, Postfixed, Infixed, is_tried, bound_of, TreeWord, TreeValue}
+use Rattle.chumsky_pratt.specs.TreeClimb.{first_attempt, where_tried, climb_before, climb_after, climb_between, climb_step, go_on, climbed, climb_operand}
+use Rattle.chumsky_pratt.specs.TreeClimbLaws.{and_then-at, first-refused, climbed-on, climbed_step-shorter, operand-shorter}
+use Rattle.chumsky_pratt.specs.ClimbedTrees.{climbed-tree}
+use Rattle.chumsky_pratt.specs.ClimbedReads.{expression-reads}
+use Rattle.chumsky_pratt.specs.ClimbsWhole.{tree-taken}
+use Rattle.chumsky_pratt.specs.Operating.{OperatorLanguages, OperateAs}
+use Rattle.chumsky_pratt.specs.PrecedenceLanguage.{soonest, OfTree, precedence_language}
 
 soonest-below : (f : ℕ → Option ℕ) (count i j k : ℕ) → IsBelow (soonest f count i) k → i ≤ j → j < i + count → IsBelow (f j) k
 soonest-below f zero i j k b l m = absurd (omega (arith, l, m))
@@ -126,10 +126,17 @@ module _ {Tok : Type 0} (number : ℕ) (stands : ℕ → Fixity) (atom : Ender T
             still_refused ts q.0.1 k (climbed-refused n least (Some q.0.0) q.0.1 (omega (arith, l, k)) q.2)
       ]
 
+-- it is said where the languages of the atom and of the operators are, and the atom takes a token
+pub precedence-said : {Tok V : Type 0} (number : ℕ) (stands : ℕ → Fixity) (A : Language Tok V) (row : OperatorLanguages Tok V)
+    → A.said ≡ true → A.moves ≡ true → row.said ≡ true → (precedence_language number stands A row).said ≡ true
+unfolding precedence_language
+precedence-said number stands A row e m r = rw (e, m, r) refl
+
 module _ {Tok Cx St Mk Er F V : Type 0} {s : Syntax Tok Cx St Mk Er F V} {A : Language Tok V} {row : OperatorLanguages Tok V} where
   -- expressions of any power
   pub precedence-accepts : {spare : Type 0} → EndsAfterStart s.atom → ((i : ℕ) → EndsAfterStart (s.reads i)) → Accepts s.atom A spare
-      → (row.said ≡ true → (i : ℕ) → Operates (s.reads i) s.gives (row.operator i)) → Accepts (Expression s 0) (precedence_language s.number s.stands A row) spare
+      → OperateAs s.reads s.gives row → Accepts (Expression s 0) (precedence_language s.number s.stands A row) spare
+  unfolding precedence_language
   precedence-accepts atom_ends reads_end h k = record {
     described = λ e.
         let t = both-true A.said (A.moves && row.said) e in

@@ -1,5 +1,5 @@
 -- The tree of an expression is as the powers of its operators have it, and the tokens that were taken are how it is written.
--- Main law: climbed-tree. Read first: Climb.antt, ClimbLaws.antt.
+-- Main law: climbed-tree. Read first: TreeClimb.antt, TreeClimbLaws.antt.
 use Rattle.std.proofs.Common.{◌≡◌, ℕ, zero, suc, ◌<◌, Bool, true, false, Option, Some, None, List, ◌++◌, length, refl, sym, ◌∙◌, ap, subst, append_assoc, arith, ◌⊎◌, inl, inr}
 use Rattle.std.specs.Prelude.{⊤}
 use Rattle.chumsky_parser.specs.Ending.{Ending, At, Nowhere, Ender, and_then}
@@ -8,9 +8,9 @@ use Rattle.chumsky_parser.specs.Words.{Joined}
 use Rattle.chumsky_pratt.specs.declared.fixity.Fixity.{Fixity}
 use Rattle.chumsky_pratt.specs.declared.fixity.Fixity.TheVariants.{Prefix, Postfix, Infix}
 use Rattle.chumsky_pratt.specs.declared.operands.Operands.{Operands}
-use Rattle.chumsky_exact.specs.OperatorTrees.{OperatorTree, Atom, Prefixed, Postfixed, Infixed, is_tried, power_after, bound_of, YieldsTo, Binds, TreeWord}
-use Rattle.chumsky_exact.specs.Climb.{first_attempt, where_tried, climb_after, climb_between, climb_step, climbed, climb_operand}
-use Rattle.chumsky_exact.specs.ClimbLaws.{IsAfter, IsBetween, step-at, first-fails, go_on-at, climbed-on, climbed_step-shorter}
+use Rattle.chumsky_pratt.specs.OperatorTrees.{OperatorTree, Atom, Prefixed, Postfixed, Infixed, is_tried, power_after, bound_of, YieldsTo, Binds, TreeWord}
+use Rattle.chumsky_pratt.specs.TreeClimb.{first_attempt, where_tried, climb_after, climb_between, climb_step, climbed, climb_operand}
+use Rattle.chumsky_pratt.specs.TreeClimbLaws.{IsAfter, IsBetween, step-at, first-fails, go_on-at, climbed-on, climbed_step-shorter}
 
 -- one word, and then another
 pub begins-joined : {Tok : Type 0} (P Q : List Tok → Type 0) (ts mid rest : List Tok) → Begins P ts mid → Begins Q mid rest → Begins (Joined P Q) ts rest

@@ -1,10 +1,10 @@
 -- Where an expression ends, and which tree it has: operators are tried in order, from an atom or an operator before it on.
--- Main words: climb_step, climb, climbed. Laws: ClimbLaws.antt. Read first: OperatorTrees.antt.
+-- Main words: climb_step, climb, climbed. Laws: TreeClimbLaws.antt. Read first: OperatorTrees.antt.
 use Rattle.std.specs.Prelude.{ℕ, zero, suc, Bool, true, false, Option, Some, None, List, length}
 use Rattle.chumsky_parser.specs.Ending.{Ending, At, Nowhere, Refused, Ender, and_then, or_else}
 use Rattle.chumsky_pratt.specs.declared.fixity.Fixity.{Fixity}
 use Rattle.chumsky_pratt.specs.declared.fixity.Fixity.TheVariants.{Prefix, Postfix, Infix}
-use Rattle.chumsky_exact.specs.OperatorTrees.{OperatorTree, Atom, Prefixed, Postfixed, Infixed, is_tried, bound_of}
+use Rattle.chumsky_pratt.specs.OperatorTrees.{OperatorTree, Atom, Prefixed, Postfixed, Infixed, is_tried, bound_of}
 
 -- the first of so many attempts, from an index on, that doesn't fail; else this
 abbrev pub first_attempt : {X : Type 0} → (ℕ → Ending X) → ℕ → ℕ → Ending X → Ending X
