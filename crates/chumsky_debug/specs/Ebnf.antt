@@ -14,7 +14,7 @@ use Rattle.chumsky_debug.specs.Lines.{has_line}
 abbrev pub level_of : NodeKind → ℕ
 level_of (Leaf n) = 4
 level_of (Rule r) = 4
-level_of (Then a b) = 1
+level_of (Then a b f) = 1
 level_of (Choice v) = 0
 level_of (Repeated a least most) = 3
 level_of (SeparatedBy a b cfg) = 1
@@ -94,7 +94,7 @@ module _ (part : ℕ → ℕ → List ℕ) where
   abbrev pub open_text : DebugInfo → ℕ → NodeKind → List ℕ
   open_text info level (Leaf n) = leaf_name info n
   open_text info level (Rule r) = rule_name info r
-  open_text info level (Then a b) = part 1 a ++ (codes " " ++ part 1 b)
+  open_text info level (Then a b f) = part 1 a ++ (codes " " ++ part 1 b)
   open_text info level (Choice v) = choice_text v.items
   open_text info level (Repeated a least most) = part 4 a ++ times_text (least_of least most) most
   open_text info level (SeparatedBy a b cfg) = list_text a b cfg

@@ -10,7 +10,7 @@ abbrev pub called : (ℕ → Bool) → Option NodeKind → Bool
 called part None = false
 called part (Some (Leaf n)) = true
 called part (Some (Rule r)) = true
-called part (Some (Then a b)) = false
+called part (Some (Then a b f)) = false
 called part (Some (Choice v)) = false
 called part (Some (Repeated a least most)) = false
 called part (Some (SeparatedBy a b cfg)) = false
@@ -34,7 +34,7 @@ count_of n m = if m == n then 1 else 0
 abbrev pub places_in : ℕ → NodeKind → ℕ
 places_in n (Leaf m) = 0
 places_in n (Rule r) = 0
-places_in n (Then a b) = count_of n a + count_of n b
+places_in n (Then a b f) = count_of n a + count_of n b
 places_in n (Choice v) = sum_by (count_of n) v.items
 places_in n (Repeated a least most) = count_of n a
 places_in n (SeparatedBy a b cfg) = (count_of n a + count_of n a) + (count_of n b + count_of n b)

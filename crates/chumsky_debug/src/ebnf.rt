@@ -106,7 +106,7 @@ fn level_of(kind: &NodeKind) -> usize
 {
     match kind {
         NodeKind::Choice(_) => ALTERNATIVES,
-        NodeKind::Then(_, _) => SEQUENCE,
+        NodeKind::Then(_, _, _) => SEQUENCE,
         NodeKind::SeparatedBy(_, _, _) => SEQUENCE,
         NodeKind::AndIs(_, _) => SEQUENCE,
         NodeKind::Not(_) => PREFIXED,
@@ -205,7 +205,7 @@ fn write_kind<W: fmt::Write>(
     match kind {
         NodeKind::Leaf(leaf) => write!(f, "{}", leaf_name(info, *leaf)),
         NodeKind::Rule(rule) => write!(f, "{}", rule_name(info, rule.number())),
-        NodeKind::Then(a, b) => {
+        NodeKind::Then(a, b, _) => {
             write_at(f, info, bound, *a, SEQUENCE)?;
             write!(f, " ")?;
             write_at(f, info, bound, *b, SEQUENCE)

@@ -93,7 +93,7 @@ fn places_in(kind: &NodeKind, node: usize) -> usize
     match kind {
         NodeKind::Leaf(_) => 0,
         NodeKind::Rule(_) => 0,
-        NodeKind::Then(a, b) => is_node(*a, node) + is_node(*b, node),
+        NodeKind::Then(a, b, _) => is_node(*a, node) + is_node(*b, node),
         NodeKind::Choice(v) => among(v, node),
         NodeKind::Repeated(a, _, _) => is_node(*a, node),
         NodeKind::SeparatedBy(a, b, _) => (2 * is_node(*a, node) + 2 * is_node(*b, node)).min(2),

@@ -166,7 +166,7 @@ impl RailroadSvg<'_> {
                     }
                 )
             }
-            NodeKind::Then(a, b) => {
+            NodeKind::Then(a, b, _) => {
                 let right = self.size(*a).width;
                 write!(f, "{}{}", on_line(*a, 0), on_line(*b, right))
             }

@@ -53,7 +53,7 @@ fn size_of(info: DebugInfo<'_>, kind: &NodeKind, sizes: &[Size]) -> Size {
     match kind {
         NodeKind::Leaf(leaf) => box_size(leaf_name(info, *leaf)),
         NodeKind::Rule(rule) => box_size(rule_name(info, rule.number())),
-        NodeKind::Then(a, b) => beside(node_size(sizes, *a), node_size(sizes, *b)),
+        NodeKind::Then(a, b, _) => beside(node_size(sizes, *a), node_size(sizes, *b)),
         NodeKind::Choice(parts) => choice_size(parts, sizes),
         NodeKind::Repeated(a, at_least, at_most) => {
             repeated_size(node_size(sizes, *a), *at_least, *at_most)

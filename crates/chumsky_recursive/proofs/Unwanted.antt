@@ -265,7 +265,7 @@ module _ {I Tok Sp Cu Er St Mk Cx V : Type 0} (source : input_trait.Ghosts I Cu 
       kind-unwanted : (k : NodeKind) → GivesOnlyWanted (kind_means source errors states a call part last k)
       kind-unwanted (Leaf n) = leaf n
       kind-unwanted (Rule r) = hc r
-      kind-unwanted (Then x z) = chained-unwanted (part x) _ (hp x) (λ u e. chained-unwanted (last z) _ (hl z) (λ w _. made-unwanted a.pairs (both u w) (both_none u w e)))
+      kind-unwanted (Then x z f) = chained-unwanted (part x) _ (hp x) (λ u e. chained-unwanted (last z) _ (hl z) (λ w _. made-unwanted (a.pairs f) (both u w) (both_none u w e)))
       kind-unwanted (Choice c) = among-unwanted part hp c.items
       kind-unwanted (Repeated x least most) = listed-unwanted (Repeats states.mark states.back states.takes_no_memory (part x) false least most) a.lists
       kind-unwanted (SeparatedBy x z cfg) = listed-unwanted (Separates states.mark states.back states.takes_no_memory (part z) (part x) (bounds_of cfg)) a.lists
@@ -345,13 +345,13 @@ module _ {I Tok Sp Cu Er St Mk Cx V : Type 0} (source : input_trait.Ghosts I Cu 
       (made_of_none errors.merged errors.takes_no_memory wanted w (a.maps f) None new refl) ran
 
   -- and of the second of `then`, after a first that gave no value
-  pub joins_nothing : (v : Option V) → is_some v ≡ wanted
+  pub joins_nothing : (f : ℕ) (v : Option V) → is_some v ≡ wanted
       → Ran errors.merged errors.takes_no_memory (last_means source errors states a g more n) wanted old new r
       → Ran errors.merged errors.takes_no_memory
-      (Chained (last_means source errors states a g more n) (λ x. Made a.pairs (both v x))) wanted old new r
-  joins_nothing v there ran =
+      (Chained (last_means source errors states a g more n) (λ x. Made (a.pairs f) (both v x))) wanted old new r
+  joins_nothing f v there ran =
       makes_nothing errors.merged errors.takes_no_memory wanted w (last_means source errors states a g more n)
-      (λ x. Made a.pairs (both v x)) old new r (part-unwanted source errors states a leaf g more n)
-      (made_of_none errors.merged errors.takes_no_memory wanted w a.pairs (both v None) new
+      (λ x. Made (a.pairs f) (both v x)) old new r (part-unwanted source errors states a leaf g more n)
+      (made_of_none errors.merged errors.takes_no_memory wanted w (a.pairs f) (both v None) new
       (both_none v None (not_there v (there ∙ w))))
       ran

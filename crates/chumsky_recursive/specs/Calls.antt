@@ -4,7 +4,7 @@ use Rattle.std.specs.Prelude.{◌≡◌, ℕ, List, [], Option, Some, None, ⊤}
 
 -- of which value functions it is said that they are never refused for memory: of each mapper by its number
 pub record TakesNoMemory : Type 1 where
-  pub pair : Type 0
+  pub pair : ℕ → Type 0
   pub option : Type 0
   pub unit : Type 0
   pub map : ℕ → Type 0
@@ -13,11 +13,11 @@ pub record TakesNoMemory : Type 1 where
 
 -- it is said of none
 abbrev pub of_none : TakesNoMemory
-of_none = record { pair = ⊥; option = ⊥; unit = ⊥; map = λ _. ⊥; list = ⊥; try_map = λ _. ⊥ }
+of_none = record { pair = λ _. ⊥; option = ⊥; unit = ⊥; map = λ _. ⊥; list = ⊥; try_map = λ _. ⊥ }
 
 -- it is said of all
 abbrev pub of_all : TakesNoMemory
-of_all = record { pair = ⊤; option = ⊤; unit = ⊤; map = λ _. ⊤; list = ⊤; try_map = λ _. ⊤ }
+of_all = record { pair = λ _. ⊤; option = ⊤; unit = ⊤; map = λ _. ⊤; list = ⊤; try_map = λ _. ⊤ }
 
 module _ {V W : Type 0} (safe : Type 0) (gives : V → W → Type 0) where
   -- of a value comes one that is given; or none, out of memory, unless that is safe

@@ -27,7 +27,7 @@ use Rattle.chumsky_recursive.specs.Refused.{LeafHalts}
 abbrev pub DoesNotWait : (ℕ → Bool) → NodeKind → Type 0
 DoesNotWait leaf (Leaf x) = ⊤
 DoesNotWait leaf (Rule r) = ⊤
-DoesNotWait leaf (Then x z) = (leaf x ≡ true) × (leaf z ≡ true)
+DoesNotWait leaf (Then x z f) = (leaf x ≡ true) × (leaf z ≡ true)
 DoesNotWait leaf (Choice v) = has_others v.items ≡ false
 DoesNotWait leaf (Map x f) = leaf x ≡ true
 DoesNotWait leaf (Repeated x least most) = ⊥
@@ -42,10 +42,10 @@ DoesNotWait leaf (TryMap x f) = ⊥
 abbrev pub NeverWaits : Tables → Type 0
 NeverWaits g = (n : ℕ) (k : NodeKind) → IsNode g n k → DoesNotWait (is_leaf g.nodes) k
 
--- a node of these rules is `then`, and it is not said that the value of two takes no memory; or it is `map`, and it is not said of
--- its mapper
+-- a node of these rules is `then`, and it is not said that its function of two values takes no memory; or it is `map`, and it is not
+-- said of its mapper
 pub record CallsAsk (g : Tables) (quiet : TakesNoMemory) : Type 0 where
-  pub cases : ((n : ℕ) × (x : ℕ) × (z : ℕ) × IsNode g n (Then x z) × (quiet.pair → ⊥)) ⊎ ((n : ℕ) × (x : ℕ) × (f : ℕ) × IsNode g n (Map x f) × (quiet.map f → ⊥))
+  pub cases : ((n : ℕ) × (x : ℕ) × (z : ℕ) × (f : ℕ) × IsNode g n (Then x z f) × (quiet.pair f → ⊥)) ⊎ ((n : ℕ) × (x : ℕ) × (f : ℕ) × IsNode g n (Map x f) × (quiet.map f → ⊥))
 
 yes_memory : {V Er St : Type 0} (o : Outcome V Er St) (v : Option V) → o.verdict ≡ Yes v → o.verdict ≡ Halt Memory → ⊥
 yes_memory o v e h = cc
@@ -94,7 +94,7 @@ module _ {Tok Cx St Er V W : Type 0} (gives : V → Option W → Type 0) where
 module _ {I Tok Sp Cu Er St Mk Cx V : Type 0} (source : input_trait.Ghosts I Cu Tok Sp)
     (errors : error_trait.Ghosts Er I Tok Sp) (states : inspector_trait.Ghosts St I Mk Tok Sp)
     (a : Acts Tok Cx states.Seen errors.Seen V) (g : Tables) (never : NeverWaits g) (quiet : TakesNoMemory)
-    (pairs : (v : V × V) → a.pairs v None → quiet.pair → ⊥)
+    (pairs : (f : ℕ) (v : V × V) → a.pairs f v None → quiet.pair f → ⊥)
     (maps : (f : ℕ) (v : V) → a.maps f v None → quiet.map f → ⊥)
     (within : (n : ℕ) → SucceedsBy Reach Reach-refl Reach-trans (a.leaf n)) where
   -- a leaf of these rules is refused for memory on these tokens, or an error takes memory, or a value that is wanted does
@@ -116,12 +116,12 @@ module _ {I Tok Sp Cu Er St Mk Cx V : Type 0} (source : input_trait.Ghosts I Cu 
       among-asks (n ∷ x ∷ xs) f b o w m h = absurd (cc)
 
       -- a pair of two parts that nobody waits for
-      then-asks : (n x z : ℕ) → IsNode g n (Then x z) → OnlyIfAsked (Chained (part x) (λ v. Chained (part z) (λ w. Made a.pairs (both v w))))
-      then-asks n x z is b o w m h =
+      then-asks : (n x z t : ℕ) → IsNode g n (Then x z t) → OnlyIfAsked (Chained (part x) (λ v. Chained (part z) (λ w. Made (a.pairs t) (both v w))))
+      then-asks n x z t is b o w m h =
           chained-asks (Asks b.tokens b.wanted) (part x) _ b (λ p k y. hp x b p w k y)
           (λ p v k y q l f.
           chained-asks (Asks b.tokens b.wanted) (part z) _ (from b p) (λ r c d. hp z (from b p) r ((gp x b p k v y).1 w) c d)
-          (λ r u c d e i j. let asks = made-asks a.pairs (both v u) (from (from b p) r) e i j in inr (inr (asks.0, record { cases = inl (n, x, z, is, pairs asks.1 asks.2) })))
+          (λ r u c d e i j. let asks = made-asks (a.pairs t) (both v u) (from (from b p) r) e i j in inr (inr (asks.0, record { cases = inl (n, x, z, t, is, pairs t asks.1 asks.2) })))
           q l f)
           o m h
 
@@ -139,16 +139,16 @@ module _ {I Tok Sp Cu Er St Mk Cx V : Type 0} (source : input_trait.Ghosts I Cu 
       kind-asks n (Leaf x) is f b o w m h = inl (record { number = x; node = n; is = is; begun = b; on = refl; there = w; out = o; meant = m; halts = h })
       kind-asks n (Rule r) is f b o w m h = hc r b o w m h
       kind-asks n (Choice v) is f b o w m h = among-asks v.items f b o w m h
-      kind-asks n (Then x z) is f b o w m h =
+      kind-asks n (Then x z t) is f b o w m h =
           let first =
           subst
           (λ (y : Meaning Tok Cx states.Seen errors.Seen V). Chained y
-          (λ v. Chained (waited_if for_a_value (not (is_leaf g.nodes z)) (part z)) (λ u. Made a.pairs (both v u)))
+          (λ v. Chained (waited_if for_a_value (not (is_leaf g.nodes z)) (part z)) (λ u. Made (a.pairs t) (both v u)))
           b o)
           (leaf_alone in_each_run (part x) (is_leaf g.nodes x) f.0) m in
-          then-asks n x z is b o w
+          then-asks n x z t is b o w
           (subst
-          (λ (y : Meaning Tok Cx states.Seen errors.Seen V). Chained (part x) (λ v. Chained y (λ u. Made a.pairs (both v u))) b o)
+          (λ (y : Meaning Tok Cx states.Seen errors.Seen V). Chained (part x) (λ v. Chained y (λ u. Made (a.pairs t) (both v u))) b o)
           (leaf_alone for_a_value (part z) (is_leaf g.nodes z) f.1) first)
           h
       kind-asks n (Map x t) is f b o w m h =

@@ -9,7 +9,7 @@ returns g c =
     let now = c.args.grammar.now.actions.now in
     λ b o there m h.
     elim (call-asks _ _ _ _ c.args.grammar.now.rules.rules.now c.requires.never (g.A.Actions.takes_no_memory now)
-    (λ v k. k) (λ f v k. k) (λ n. in_place-goes _ (laws.leaves_end_after_start now n)) c.args.grammar.now.limit
+    (λ f v k. k) (λ f v k. k) (λ n. in_place-goes _ (laws.leaves_end_after_start now n)) c.args.grammar.now.limit
     c.args.grammar.now.rules.start b o there m h) [
       | inl l ↦ inl (in_place-halts _ _ _ _ l)
       | inr e ↦ inr e
