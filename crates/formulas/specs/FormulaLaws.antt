@@ -1,6 +1,6 @@
 -- What is read by precedence are just the formulas.
--- Main words: truth, operators, formula_language. Main law: formula-exactly. Read first: Formula.antt; Precedence.antt of chumsky_exact.
-use Rattle.std.proofs.Common.{◌≡◌, ℕ, zero, suc, ◌<◌, Bool, true, false, ◌&&◌, ◌||◌, nat_eq, nat_le, List, [], ◌∷◌, ◌++◌, refl, arith, inl, inr}
+-- Main words: truth, operators, formulas_of. Main law: formula-exactly. Read first: Formula.antt; PrecedenceLanguage.antt of chumsky_pratt.
+use Rattle.std.proofs.Common.{◌≡◌, ℕ, zero, suc, ◌<◌, Bool, true, false, ◌&&◌, ◌||◌, nat_eq, nat_le, List, [], ◌∷◌, ◌++◌, refl, subst, arith, inl, inr}
 use Rattle.std.specs.Prelude.{not, codes, ⊤, Some, Result}
 use Rattle.std.proofs.lemmas.Bool.Decides.{nat_tests}
 use Rattle.chumsky_input.specs.declared.stop.Stop.{Stop}
@@ -17,10 +17,12 @@ use Rattle.chumsky.specs.AcceptedLaws.{exactly-by_words}
 use Rattle.chumsky_pratt.specs.declared.fixity.Fixity.{Fixity}
 use Rattle.chumsky_pratt.specs.declared.fixity.Fixity.TheVariants.{Prefix, Infix}
 use Rattle.chumsky_pratt.specs.declared.operands.Operands.{Operands}
-use Rattle.chumsky_pratt.specs.Operators.{fixity_and, GivesPrefix, GivesInfix}
-use Rattle.chumsky_exact.specs.OperatorTrees.{IsPrefix, IsPostfix, HasBefore, HasAfter, SameSide, OperatorTree, Atom, Prefixed, Postfixed, Infixed, bound_of, YieldsTo, Binds, TreeWord, TreeValue}
-use Rattle.chumsky_exact.specs.Operating.{OperatorLanguages, operator_language, last_languages, and_languages}
-use Rattle.chumsky_exact.specs.Precedence.{MayOpen, OfTree, TellApart, FollowsAll, precedence_language}
+use Rattle.chumsky_pratt.specs.declared.fixity.Associativity.{Associativity}
+use Rattle.chumsky_pratt.specs.declared.fixity.Associativity.TheVariants.{Left}
+use Rattle.chumsky_pratt.specs.Operators.{prefix_fixity, infix_fixity, fixity_and, GivesPrefix, GivesInfix}
+use Rattle.chumsky_pratt.specs.OperatorTrees.{IsPrefix, IsPostfix, HasBefore, HasAfter, SameSide, OperatorTree, Atom, Prefixed, Postfixed, Infixed, bound_of, YieldsTo, Binds, TreeWord, TreeValue}
+use Rattle.chumsky_pratt.specs.Operating.{OperatorLanguages, operator_language, last_languages, and_languages}
+use Rattle.chumsky_pratt.specs.PrecedenceLanguage.{MayOpen, OfTree, TellApart, FollowsAll, precedence_language}
 use Rattle.formulas.specs.Formula.{IsPart, is_true, is_false, is_not, IsProduct, one_part, is_and, IsFormula, one_product, is_or}
 
 -- how `!`, `&` and `|` stand
@@ -283,16 +285,35 @@ no_postfix (suc (suc i)) l p = absurd p
 pub formula-ends : FollowsAll 3 stands truth operators []
 formula-ends = record { atom = (tt, tt); postfix = no_postfix; none = nothing_there }
 
--- what is read by precedence
-unfoldable pub formula_language : Language ℕ Bool
-formula_language = precedence_language 3 stands truth operators
+-- what a parser of formulas is given: its characters, the values of the first two, and how its operators stand
+pub record Given : Type 0 where
+  pub t : ℕ
+  pub f : ℕ
+  pub opposite : ℕ
+  pub both : ℕ
+  pub one : ℕ
+  pub holds : Bool
+  pub fails : Bool
+  pub power : ℕ
+  pub both_stand : Associativity
+  pub one_stands : Associativity
 
--- that is said
-pub formula-said : formula_language.said ≡ true
-unfolding formula_language
-formula-said = refl
+-- that of this one
+abbrev pub given : Given
+given = record { t = 116; f = 102; opposite = 33; both = 38; one = 124; holds = true; fails = false; power = 3; both_stand = Left 2; one_stands = Left 1 }
 
--- its output is just what a formula comes to
-pub formula-exactly : {Er : Type 0} {ts : List ℕ} {spare : Type 0} {result : Result (ParseResult Bool Er) Stop} → AnswersText Some formula_language ts spare result → Exactly IsFormula ts result
-unfolding formula_language
-formula-exactly {Er} {ts} {spare} {result} a = exactly-by_words IsFormula a refl formula-apart formula-ends (λ v w s. formula-sound 0 s.tree ts v s.binds s.is) (λ v i. formula-word ts v i)
+-- what is read by precedence, of what is given
+abbrev pub formulas_of : Given → Language ℕ Bool
+formulas_of g =
+    precedence_language 3 (fixity_and (prefix_fixity g.power) (fixity_and (infix_fixity g.both_stand) (λ i. infix_fixity g.one_stands)))
+    (or_language (value g.t g.holds) (value g.f g.fails))
+    (and_languages (operator_language (character g.opposite) GivesNot) (and_languages (operator_language (character g.both) GivesBoth) (last_languages (operator_language (character g.one) GivesOne))))
+
+module _ {Er : Type 0} {ts : List ℕ} {spare : Type 0} {result : Result (ParseResult Bool Er) Stop} where
+  formula_exactly : AnswersText Some (precedence_language 3 stands truth operators) ts spare result → Exactly IsFormula ts result
+  unfolding precedence_language
+  formula_exactly a = exactly-by_words IsFormula a refl formula-apart formula-ends (λ v w s. formula-sound 0 s.tree ts v s.binds s.is) (λ v i. formula-word ts v i)
+
+  -- its output is just what a formula comes to
+  pub formula-exactly : (g : Given) → g ≡ given → AnswersText Some (formulas_of g) ts spare result → Exactly IsFormula ts result
+  formula-exactly g e a = formula_exactly (subst (λ h. AnswersText Some (formulas_of h) ts spare result) e a)

@@ -1,3 +1,2 @@
 pub mod Formula
 pub mod FormulaLaws
-pub mod FormulaParser
