@@ -12,10 +12,11 @@ pub trait SimpleValues<S: Drop, R> {
     /// The value of nothing: of a part that has none, and of one that is absent.
     fn unit(&self, alloc: Global) -> Result<Self::Value, AllocError>;
 
-    /// The value of two parts.
+    /// The value of two parts, by the function of this number: that of `then_by`, and 0 of `then`.
     fn pair(
         &self,
         alloc: Global,
+        number: usize,
         a: Self::Value,
         b: Self::Value,
     ) -> Result<Self::Value, AllocError>;
@@ -52,8 +53,14 @@ pub struct Simply<W>(pub W);
 impl<S: Drop, R, W: SimpleValues<S, R>> Values<S, R> for Simply<W> {
     type Value = W::Value;
 
-    fn pair(&self, alloc: Global, a: W::Value, b: W::Value) -> Result<W::Value, AllocError> {
-        self.0.pair(alloc, a, b)
+    fn pair(
+        &self,
+        alloc: Global,
+        number: usize,
+        a: W::Value,
+        b: W::Value,
+    ) -> Result<W::Value, AllocError> {
+        self.0.pair(alloc, number, a, b)
     }
 
     fn option(&self, alloc: Global, v: Option<W::Value>) -> Result<W::Value, AllocError>

@@ -10,7 +10,7 @@ use Rattle.chumsky_grammars.specs.Expression.{Expression, Leaf, Call, Then, Map,
 abbrev pub kind_expression : (ℕ → Expression) → NodeKind → Expression
 kind_expression part (kind.Leaf n) = Leaf n
 kind_expression part (kind.Rule r) = Call r
-kind_expression part (kind.Then n m) = Then (part n) (part m)
+kind_expression part (kind.Then n m f) = Then (part n) (part m) f
 kind_expression part (kind.Choice v) = choice_of (map part v.items)
 kind_expression part (kind.Repeated n least most) = Repeated (part n) least most
 kind_expression part (kind.SeparatedBy n m config) = Separated (part n) (part m) config

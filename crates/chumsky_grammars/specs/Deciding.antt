@@ -11,7 +11,7 @@ use Rattle.chumsky_grammars.specs.RuleLanguage.{Makes, expression_language, rule
 abbrev pub tried_parts : Expression → List (ℕ × Expression)
 tried_parts (Leaf n) = []
 tried_parts (Call r) = []
-tried_parts (Then e f) = tried_parts e ++ tried_parts f
+tried_parts (Then e f n) = tried_parts e ++ tried_parts f
 tried_parts (Or e f) = tried_parts e ++ tried_parts f
 tried_parts Fail = []
 tried_parts (Map e f) = tried_parts e

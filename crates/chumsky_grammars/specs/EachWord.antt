@@ -24,7 +24,7 @@ module _ {V : Type 0} (makes : Makes ℕ V) (leaves : List (BuiltLeaf V)) where
     abbrev pub Apart : Expression → (List ℕ → V → Type 0) → Type 0
     Apart (Leaf n) P = LeafApart leaves n P
     Apart (Call r) P = (w : List ℕ) (v : V) → So r w v → P w v
-    Apart (Then e f) P = Apart e (λ u x. Apart f (λ w y. (v : V) → makes.pair (x, y) v → P (u ++ w) v))
+    Apart (Then e f n) P = Apart e (λ u x. Apart f (λ w y. (v : V) → makes.pair n (x, y) v → P (u ++ w) v))
     Apart (Or e f) P = Apart e P × Apart f P
     Apart (Map e f) P = Apart e (λ w x. (v : V) → makes.map f x v → P w v)
     Apart (Optional e) P = ((v : V) → makes.option None v → P [] v) × Apart e (λ w x. (v : V) → makes.option (Some x) v → P w v)
@@ -36,10 +36,10 @@ module _ {V : Type 0} (makes : Makes ℕ V) (leaves : List (BuiltLeaf V)) where
     pub each-apart : ((r : ℕ) → Each (call r) (So r)) → (e : Expression) (P : List ℕ → V → Type 0) → Apart e P → Each (of e) P
     each-apart d (Leaf n) P h w v s = leaf-apart leaves n P h w v s
     each-apart d (Call r) P h w v s = h w v (d r w v s)
-    each-apart d (Then e f) P h w v s =
+    each-apart d (Then e f n) P h w v s =
         let j = s.1 in
-        let first = each-apart d e (λ u x. Apart f (λ w y. (v : V) → makes.pair (x, y) v → P (u ++ w) v)) h j.first s.0.0 j.is_first in
-        subst (λ z. P z v) (sym j.all) (each-apart d f (λ w y. (v : V) → makes.pair (s.0.0, y) v → P (j.first ++ w) v) first j.second s.0.1 j.is_second v s.2)
+        let first = each-apart d e (λ u x. Apart f (λ w y. (v : V) → makes.pair n (x, y) v → P (u ++ w) v)) h j.first s.0.0 j.is_first in
+        subst (λ z. P z v) (sym j.all) (each-apart d f (λ w y. (v : V) → makes.pair n (s.0.0, y) v → P (j.first ++ w) v) first j.second s.0.1 j.is_second v s.2)
     each-apart d (Or e f) P h w v (inl s) = each-apart d e P h.0 w v s
     each-apart d (Or e f) P h w v (inr s) = each-apart d f P h.1 w v s
     each-apart d (Map e f) P h w v s = each-apart d e (λ w x. (v : V) → makes.map f x v → P w v) h w s.0 s.1 v s.2

@@ -8,8 +8,8 @@ pub data Expression : Type 0 where
   Leaf : ℕ → Expression
   -- a call of a rule, by its number
   Call : ℕ → Expression
-  -- one after another
-  Then : Expression → Expression → Expression
+  -- one after another, with the value that the function of this number makes of theirs
+  Then : Expression → Expression → ℕ → Expression
   -- the second where the first fails
   Or : Expression → Expression → Expression
   -- a failure on each text

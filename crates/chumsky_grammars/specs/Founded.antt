@@ -15,7 +15,7 @@ module _ (c : Claims) where
   abbrev pub may_stay : Expression → Bool
   may_stay (Leaf n) = c.leaf_stays n
   may_stay (Call r) = c.rule_stays r
-  may_stay (Then e f) = may_stay e && may_stay f
+  may_stay (Then e f n) = may_stay e && may_stay f
   may_stay (Or e f) = may_stay e || may_stay f
   may_stay Fail = false
   may_stay (Map e f) = may_stay e
@@ -32,7 +32,7 @@ module _ (c : Claims) where
   abbrev pub calls_below : ℕ → Expression → Bool
   calls_below rank (Leaf n) = true
   calls_below rank (Call r) = nat_lt (c.rank r) rank
-  calls_below rank (Then e f) = calls_below rank e && (not (may_stay e) || calls_below rank f)
+  calls_below rank (Then e f n) = calls_below rank e && (not (may_stay e) || calls_below rank f)
   calls_below rank (Or e f) = calls_below rank e && calls_below rank f
   calls_below rank Fail = true
   calls_below rank (Map e f) = calls_below rank e
@@ -51,7 +51,7 @@ module _ (c : Claims) where
     abbrev pub goes_on : Expression → Bool
     goes_on (Leaf n) = true
     goes_on (Call r) = nat_lt r c.count
-    goes_on (Then e f) = goes_on e && goes_on f
+    goes_on (Then e f n) = goes_on e && goes_on f
     goes_on (Or e f) = goes_on e && goes_on f
     goes_on Fail = true
     goes_on (Map e f) = goes_on e

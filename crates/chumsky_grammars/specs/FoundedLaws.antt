@@ -63,7 +63,7 @@ module _ {Tok V : Type 0} (c : Claims) (makes : Makes Tok V) (leaf : ℕ → Lan
     expression_moves : (e : Expression) → goes_on c picked e ≡ true → may_stay c e ≡ false → (of e).moves ≡ true
     expression_moves (Leaf n) g m = leaf_moves n m
     expression_moves (Call r) g m = call_moves r (less r c.count g) m
-    expression_moves (Then e f) g m =
+    expression_moves (Then e f n) g m =
         let h = both-true (goes_on c picked e) (goes_on c picked f) g in
         elim (one_false (may_stay c e) (may_stay c f) m) [
           | inl y ↦ rw (expression_moves e h.0 y) refl
@@ -88,7 +88,7 @@ module _ {Tok V : Type 0} (c : Claims) (makes : Makes Tok V) (leaf : ℕ → Lan
     expression_said : (e : Expression) → goes_on c picked e ≡ true → (of e).said ≡ true
     expression_said (Leaf n) g = leaf_said n
     expression_said (Call r) g = call_said r (less r c.count g)
-    expression_said (Then e f) g = let h = both-true (goes_on c picked e) (goes_on c picked f) g in rw (expression_said e h.0, expression_said f h.1) refl
+    expression_said (Then e f n) g = let h = both-true (goes_on c picked e) (goes_on c picked f) g in rw (expression_said e h.0, expression_said f h.1) refl
     expression_said (Or e f) g = let h = both-true (goes_on c picked e) (goes_on c picked f) g in rw (expression_said e h.0, expression_said f h.1) refl
     expression_said Fail g = refl
     expression_said (Map e f) g = expression_said e g
@@ -123,9 +123,9 @@ module _ {Tok V : Type 0} (c : Claims) (makes : Makes Tok V) (leaf : ℕ → Lan
       at_most e k (inr a) = a.0
 
       -- and of one after a part that may have taken nothing
-      next : (e f : Expression) (k : ℕ) → Allowed (Then e f) k → goes_on c picked e ≡ true → (of e).moves ≡ false → Allowed f k
-      next e f k (inl l) g m = inl l
-      next e f k (inr a) g m =
+      next : (e f : Expression) (n k : ℕ) → Allowed (Then e f n) k → goes_on c picked e ≡ true → (of e).moves ≡ false → Allowed f k
+      next e f n k (inl l) g m = inl l
+      next e f n k (inr a) g m =
           let b = both-true (calls_below c rank e) (not (may_stay c e) || calls_below c rank f) a.1 in
           elim (either-true (not (may_stay c e)) (calls_below c rank f) b.1) [
             | inl y ↦ absurd (cc (expression_moves e g (not_true (may_stay c e) y), m))
@@ -136,12 +136,12 @@ module _ {Tok V : Type 0} (c : Claims) (makes : Makes Tok V) (leaf : ℕ → Lan
       below (Leaf n) g k a = rw (leaf_decided n) tt
       below (Call r) g k (inl l) = shorter r k (less r c.count g) l
       below (Call r) g k (inr a) = lower r k (less r c.count g) a.0 (less (c.rank r) rank a.1)
-      below (Then e f) g k a =
+      below (Then e f n) g k a =
           let h = both-true (goes_on c picked e) (goes_on c picked f) g in
-          let q = at_most (Then e f) k a in
+          let q = at_most (Then e f n) k a in
           both-below (of e).refused_from (later (of f).refused_from (of e).moves) k
-          (below e h.0 k (part (Then e f) e k a (λ b. (both-true (calls_below c rank e) (not (may_stay c e) || calls_below c rank f) b).0)))
-          (after (of f).refused_from k (of e).moves (λ j l. below f h.1 j (inl (omega (arith, l, q)))) (λ m. below f h.1 k (next e f k a h.0 m)))
+          (below e h.0 k (part (Then e f n) e k a (λ b. (both-true (calls_below c rank e) (not (may_stay c e) || calls_below c rank f) b).0)))
+          (after (of f).refused_from k (of e).moves (λ j l. below f h.1 j (inl (omega (arith, l, q)))) (λ m. below f h.1 k (next e f n k a h.0 m)))
       below (Or e f) g k a =
           let h = both-true (goes_on c picked e) (goes_on c picked f) g in
           both-below (of e).refused_from (of f).refused_from k (below e h.0 k (part (Or e f) e k a (λ b. (both-true (calls_below c rank e) (calls_below c rank f) b).0)))

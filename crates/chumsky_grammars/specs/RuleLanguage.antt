@@ -16,10 +16,10 @@ use Rattle.chumsky_judge.specs.JudgedLanguage.{not_language, and_is_language, re
 use Rattle.chumsky_recursive.specs.Means.{AreThose, bounds_of}
 use Rattle.chumsky_grammars.specs.Expression.{Expression, Leaf, Call, Then, Or, Fail, Map, TryMap, Optional, Repeated, Separated, Not, And, Ahead, Unsaid}
 
--- what may be made of two values, of a value by the mapper of a number, of one that may be absent, of none, and of those of a list;
+-- what may be made of two values by the function of a number, of a value by the mapper of one, of one that may be absent, of none, and of those of a list;
 -- and what the mapper of a number that may refuse makes of a word, if anything, where that is said
 pub record Makes (Tok V : Type 0) : Type 1 where
-  pub pair : V × V → V → Type 0
+  pub pair : ℕ → V × V → V → Type 0
   pub map : ℕ → V → V → Type 0
   pub option : Option V → V → Type 0
   pub unit : V → Type 0
@@ -44,7 +44,7 @@ module _ {Tok V : Type 0} (makes : Makes Tok V) (leaf call : ℕ → Language To
   abbrev pub expression_language : Expression → Language Tok V
   expression_language (Leaf n) = in_memory (leaf n)
   expression_language (Call r) = call r
-  expression_language (Then e f) = made_language makes.pair (then_language (expression_language e) (expression_language f))
+  expression_language (Then e f n) = made_language (makes.pair n) (then_language (expression_language e) (expression_language f))
   expression_language (Or e f) = or_language (expression_language e) (expression_language f)
   expression_language Fail = in_memory no_language
   expression_language (Map e f) = made_language (makes.map f) (expression_language e)

@@ -43,7 +43,7 @@ use Rattle.chumsky_grammars.specs.MadeLanguages.{in_memory-accepts, waited-accep
 abbrev pub makes_of : {Tok Cx St Er V : Type 0} → Acts Tok Cx St Er V → Option (ℕ → List Tok → Option V) → Makes Tok V
 makes_of a picks =
     record {
-      pair = λ p v. a.pairs p (Some v);
+      pair = λ f p v. a.pairs f p (Some v);
       map = λ f v w. a.maps f v (Some w);
       option = λ o v. a.options o (Some v);
       unit = λ v. a.units tt (Some v);
@@ -65,7 +65,7 @@ module _ {Tok V : Type 0} (makes : Makes Tok V) (leaf : ℕ → Language Tok V) 
     takes_memory : (e : Expression) → (expression_language makes leaf called e).takes_no_memory → ⊥
     takes_memory (Leaf n) t = t
     takes_memory (Call r) t = in_calls r t
-    takes_memory (Then e f) t = t
+    takes_memory (Then e f n) t = t
     takes_memory (Or e f) t = takes_memory e t.0
     takes_memory Fail t = t
     takes_memory (Map e f) t = t
@@ -161,9 +161,9 @@ module _ {I Tok Sp Cu Er St Mk Cx V : Type 0} (source : input_trait.Ghosts I Cu 
         kind_accepts : (k : NodeKind) → Decides (kind_expression sub k) → IsOf (kind_expression sub k) (kind_means source errors states a call part last k)
         kind_accepts (kind.Leaf n) d = in_memory-accepts (a.leaf n) (leaves n)
         kind_accepts (kind.Rule r) d = calls r
-        kind_accepts (kind.Then n m) d =
-            let t = two_parts n m (Then (sub n) (sub m)) refl d in
-            pair-accepts (part n) (last m) a.pairs (part_ends n) (last_ends m) (parts n t.0) (lasts m t.1)
+        kind_accepts (kind.Then n m f) d =
+            let t = two_parts n m (Then (sub n) (sub m) f) refl d in
+            pair-accepts (part n) (last m) (a.pairs f) (part_ends n) (last_ends m) (parts n t.0) (lasts m t.1)
         kind_accepts (kind.Choice v) d = choice_accepts v.items d
         kind_accepts (kind.Map n f) d = made-accepts (a.maps f) (last n) (lasts n d)
         kind_accepts (kind.Repeated n least most) d =
