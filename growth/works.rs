@@ -142,7 +142,13 @@ impl SimpleValues<SimpleSpan, EmptyErr> for Pairs {
         Ok(0)
     }
 
-    fn pair(&self, _alloc: Global, a: usize, b: usize) -> Result<usize, AllocError> {
+    fn pair(
+        &self,
+        _alloc: Global,
+        _number: usize,
+        a: usize,
+        b: usize,
+    ) -> Result<usize, AllocError> {
         Ok(a.wrapping_add(b))
     }
 

@@ -15,7 +15,7 @@ struct Counts;
 impl Values<SimpleSpan, EmptyErr> for Counts {
     type Value = u64;
 
-    fn pair(&self, _alloc: Global, a: u64, b: u64) -> Result<u64, AllocError> {
+    fn pair(&self, _alloc: Global, _number: usize, a: u64, b: u64) -> Result<u64, AllocError> {
         Ok(a.wrapping_add(b))
     }
 

@@ -225,7 +225,13 @@ impl Values<SimpleSpan, EmptyErr> for Trees {
     type Value = Value;
 
     /// Of a mark and a value the value, and of a name and a value the member.
-    fn pair(&self, _alloc: Global, first: Value, second: Value) -> Result<Value, AllocError> {
+    fn pair(
+        &self,
+        _alloc: Global,
+        _number: usize,
+        first: Value,
+        second: Value,
+    ) -> Result<Value, AllocError> {
         match (first, second) {
             (Value::Mark, inside) => Ok(inside),
             (Value::Tree(Tree::Text(name)), Value::Tree(value)) => Ok(Value::Member(name, value)),

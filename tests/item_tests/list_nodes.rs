@@ -13,7 +13,13 @@ struct Counts;
 impl<T> Values<SimpleSpan, Rich<T>> for Counts {
     type Value = usize;
 
-    fn pair(&self, _alloc: Global, first: usize, _second: usize) -> Result<usize, AllocError> {
+    fn pair(
+        &self,
+        _alloc: Global,
+        _number: usize,
+        first: usize,
+        _second: usize,
+    ) -> Result<usize, AllocError> {
         Ok(first)
     }
 

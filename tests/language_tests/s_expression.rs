@@ -127,7 +127,13 @@ struct Expressions;
 impl Values<SimpleSpan, Rich<char>> for Expressions {
     type Value = Value;
 
-    fn pair(&self, _alloc: Global, first: Value, second: Value) -> Result<Value, AllocError> {
+    fn pair(
+        &self,
+        _alloc: Global,
+        _number: usize,
+        first: Value,
+        second: Value,
+    ) -> Result<Value, AllocError> {
         Ok(first.or(second))
     }
 

@@ -59,7 +59,13 @@ pub struct Counts;
 impl Values<SimpleSpan, Rich<char>> for Counts {
     type Value = usize;
 
-    fn pair(&self, _alloc: Global, a: usize, b: usize) -> Result<usize, AllocError> {
+    fn pair(
+        &self,
+        _alloc: Global,
+        _number: usize,
+        a: usize,
+        b: usize,
+    ) -> Result<usize, AllocError> {
         Ok(a + b)
     }
 

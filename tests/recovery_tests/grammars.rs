@@ -14,7 +14,13 @@ struct Depths;
 impl Values<SimpleSpan, Rich<char>> for Depths {
     type Value = usize;
 
-    fn pair(&self, _alloc: Global, a: usize, b: usize) -> Result<usize, AllocError> {
+    fn pair(
+        &self,
+        _alloc: Global,
+        _number: usize,
+        a: usize,
+        b: usize,
+    ) -> Result<usize, AllocError> {
         Ok(a.max(b))
     }
 

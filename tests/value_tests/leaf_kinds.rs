@@ -19,7 +19,13 @@ impl SimpleValues<SimpleSpan, Rich<char>> for Sums {
         Ok(0)
     }
 
-    fn pair(&self, _alloc: Global, a: usize, b: usize) -> Result<usize, AllocError> {
+    fn pair(
+        &self,
+        _alloc: Global,
+        _number: usize,
+        a: usize,
+        b: usize,
+    ) -> Result<usize, AllocError> {
         Ok(a.wrapping_add(b))
     }
 

@@ -35,7 +35,7 @@ impl Counting {
 impl Values<SimpleSpan, Rich<char>> for Counting {
     type Value = ();
 
-    fn pair(&self, _alloc: Global, _a: (), _b: ()) -> Result<(), AllocError> {
+    fn pair(&self, _alloc: Global, _number: usize, _a: (), _b: ()) -> Result<(), AllocError> {
         self.count(0);
         Ok(())
     }

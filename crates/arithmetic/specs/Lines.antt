@@ -102,16 +102,16 @@ IsLine w v = (x : Option ℤ) × (ss : Vec Signed Global) × (v ≡ piece.Line x
 
 -- what may follow a part
 abbrev pub steps_expression : Expression
-steps_expression = Optional (Then (Leaf 1) (Call 0))
+steps_expression = Optional (Then (Leaf 1) (Call 0) 0)
 
 -- number / "(" S ")"
 abbrev pub part_expression : Expression
-part_expression = Or (Leaf 0) (Then (Leaf 2) (Then (Call 0) (Leaf 3)))
+part_expression = Or (Leaf 0) (Then (Leaf 2) (Then (Call 0) (Leaf 3) 0) 0)
 
 -- "-" S
 abbrev pub negative_expression : Expression
-negative_expression = Then (Map (Leaf 4) 0) (Call 0)
+negative_expression = Then (Map (Leaf 4) 0) (Call 0) 0
 
 -- part ( sign S )? / "-" S
 abbrev pub sum_expression : Expression
-sum_expression = Or (Then part_expression steps_expression) negative_expression
+sum_expression = Or (Then part_expression steps_expression 0) negative_expression

@@ -265,7 +265,7 @@ abbrev pub leaves : List (BuiltLeaf Piece)
 leaves = leaves_by 10 (codes "+-*/%") (codes "(") (codes ")") (codes "-")
 
 abbrev pub sums : Makes ℕ Piece
-sums = record { pair = λ p v. IsPair p.0 p.1 v; map = λ f v w. w ≡ piece.Minus; option = λ o v. IsOption o v; unit = λ v. ⊤; list = λ vs v. ⊤; picks = None }
+sums = record { pair = λ _ p v. IsPair p.0 p.1 v; map = λ f v w. w ≡ piece.Minus; option = λ o v. IsOption o v; unit = λ v. ⊤; list = λ vs v. ⊤; picks = None }
 
 -- each word is a line, if those of calls are: first what may follow a part
 module _ (call : ℕ → Language ℕ Piece) where

@@ -117,7 +117,7 @@ module _ (n : ℕ) where
   read = expression_language sums (built leaves) (rule_language sums (built leaves) (sum_expression ∷ []) n)
 
   then-reads : (e f : Expression) {ts mid rest : List ℕ} {P Q : Piece → Type 0} → Reads (read e) ts mid P → Reads (read f) mid rest Q
-      → Reads (read (Then e f)) ts rest (λ v. (x : Piece) × (y : Piece) × P x × Q y × IsPair x y v)
+      → Reads (read (Then e f 0)) ts rest (λ v. (x : Piece) × (y : Piece) × P x × Q y × IsPair x y v)
   then-reads e f {ts} {mid} h k = record {
     ends = ap (and_then (read f).ends) h.ends ∙ k.ends;
     values = λ v m. (m.0.0, m.0.1, h.values m.0.0 m.1.0, k.values m.0.1 (ends_at ((read e).ends ts) mid (λ r. (read f).value r m.0.1) h.ends m.1.1), m.2);
@@ -214,8 +214,8 @@ module _ (n : ℕ) (deeper : ReadsLines n) where
       let opening : Reads (read n (Leaf 2)) ts (past_blanks us) (λ v. v ≡ piece.Mark 40) = leaf-reads (mark (codes "(")) (40 ∷ us) us q refl (λ v m. m.2 ∙ ap (λ d. piece.Mark d) m.1) in
       let inside : Reads (read n (Call 0)) (past_blanks us) (41 ∷ rest) (IsLineOf l.0 l.1) = deeper w l.0 l.1 l.2 b (past_blanks us) (41 ∷ rest) refl e in
       let closing : Reads (read n (Leaf 3)) (41 ∷ rest) (past_blanks rest) (λ v. ⊤) = leaf-reads (mark (codes ")")) (41 ∷ rest) rest refl refl (λ v m. tt) in
-      let all = then-reads n (Leaf 2) (Then (Call 0) (Leaf 3)) opening (then-reads n (Call 0) (Leaf 3) inside closing) in
-      or-second n (Leaf 0) (Then (Leaf 2) (Then (Call 0) (Leaf 3))) (padded-ends digits ts (40 ∷ us) Nowhere q refl)
+      let all = then-reads n (Leaf 2) (Then (Call 0) (Leaf 3) 0) opening (then-reads n (Call 0) (Leaf 3) inside closing) in
+      or-second n (Leaf 0) (Then (Leaf 2) (Then (Call 0) (Leaf 3) 0) 0) (padded-ends digits ts (40 ∷ us) Nowhere q refl)
       (weaker all (λ v k.
       let m = k.3 in
       let j = rw m.2.1 at m.4 in
@@ -225,9 +225,9 @@ module _ (n : ℕ) (deeper : ReadsLines n) where
 
   module _ (rest : List ℕ) (closes : Closes rest) where
     steps-read : {r : List ℕ} {ss : List Signed} → AreSteps r ss → length r ≤ n → Reads (read n steps_expression) (past_blanks (r ++ rest)) (past_blanks rest) (AreStepsOf ss)
-    steps-read none b = weaker (none-reads n (Then (Leaf 1) (Call 0)) (by_rest rest closes)) (λ v k. (k.0, k.1, ap reverse k.2))
+    steps-read none b = weaker (none-reads n (Then (Leaf 1) (Call 0) 0) (by_rest rest closes)) (λ v k. (k.0, k.1, ap reverse k.2))
       where
-        by_rest : (rest : List ℕ) → Closes rest → (read n (Then (Leaf 1) (Call 0))).ends (past_blanks rest) ≡ Nowhere
+        by_rest : (rest : List ℕ) → Closes rest → (read n (Then (Leaf 1) (Call 0) 0)).ends (past_blanks rest) ≡ Nowhere
         by_rest [] s = refl
         by_rest (c ∷ cs) s = rw s refl
     steps-read (step {p} {r} {x} {ss} c o i a) b =
@@ -236,7 +236,7 @@ module _ (n : ℕ) (deeper : ReadsLines n) where
         let q : past_blanks (past_blanks (c ∷ ts)) ≡ c ∷ ts = past_blanks-twice (c ∷ ts) ∙ past-none is_whitespace (c ∷ ts) (not_true (is_whitespace c) (sign-no_blank c o)) in
         let first : Reads (read n (Leaf 1)) (past_blanks (c ∷ ts)) (past_blanks ts) (λ v. v ≡ piece.Mark c) = leaf-reads signs (c ∷ ts) ts q (rw o refl) (λ v m. m.2 ∙ ap (λ d. piece.Mark d) m.1) in
         let second = deeper (p ++ r) x ss (record { part = p; rest = r; all = refl; is_part = i; are_steps = a }) (omega (arith, b)) (past_blanks ts) rest closes (past_blanks-twice ts) in
-        some-reads n (Then (Leaf 1) (Call 0))
+        some-reads n (Then (Leaf 1) (Call 0) 0)
         (weaker (then-reads n (Leaf 1) (Call 0) first second) (λ v k. let j = rw (k.2, k.3.1) at k.4 in (j.0, j.1, ap reverse j.2 ∙ (reverse-append k.3.0.items (s ∷ []) ∙ ap (λ z. s ∷ z) k.3.2))))
 
     -- steps after a part and blanks
@@ -246,7 +246,7 @@ module _ (n : ℕ) (deeper : ReadsLines n) where
         let e = past-these is_whitespace d (r ++ rest) k in
         let g : Reads (read n steps_expression) (past_blanks (d ++ (r ++ rest))) (past_blanks rest) (AreStepsOf ss) =
         subst (λ z. Reads (read n steps_expression) z (past_blanks rest) (AreStepsOf ss)) (sym e) (steps-read a b) in
-        or-first n (Then part_expression steps_expression) negative_expression
+        or-first n (Then part_expression steps_expression 0) negative_expression
         (weaker (then-reads n part_expression steps_expression h g) (λ v m. (m.3.0, rw (m.2, m.3.1) at m.4, m.3.2)))
 
     -- a part, blanks, and steps
@@ -257,18 +257,18 @@ module _ (n : ℕ) (deeper : ReadsLines n) where
         let j = numeral-digits w i in
         let s = blanks-stop d (r ++ rest) k (steps-stop a rest closes) in
         let e : past_blanks ts ≡ w ++ us = q ∙ past-none is_whitespace (w ++ us) (digits-begin w us j) in
-        after-part d k a (omega (arith, b)) (or-first n (Leaf 0) (Then (Leaf 2) (Then (Call 0) (Leaf 3))) (leaf-reads digits (w ++ us) us e (digits-taken w us j s) (digits-given w us x i f s)))
+        after-part d k a (omega (arith, b)) (or-first n (Leaf 0) (Then (Leaf 2) (Then (Call 0) (Leaf 3) 0) 0) (leaf-reads digits (w ++ us) us e (digits-taken w us j s) (digits-given w us x i f s)))
     part-read (negative {w} {x} {y} i f) d r {ss} k a b ts q =
         let us : List ℕ = d ++ (r ++ rest) in
         let l : Line (w ++ (d ++ r)) x ss = record { part = w ++ d; rest = r; all = sym (append_assoc w d r); is_part = before_blanks d k i; are_steps = a } in
         let few = length-append w (d ++ r) in
         let fewer = length-append d r in
         let e : w ++ us ≡ (w ++ (d ++ r)) ++ rest = sym (append_assoc w (d ++ r) rest ∙ ap (λ z. w ++ z) (append_assoc d r rest)) in
-        let none : (read n (Then part_expression steps_expression)).ends ts ≡ Nowhere = rw q refl in
+        let none : (read n (Then part_expression steps_expression 0)).ends ts ≡ Nowhere = rw q refl in
         let taken : Reads (read n (Leaf 4)) ts (past_blanks (w ++ us)) (λ v. ⊤) = leaf-reads (mark (codes "-")) (45 ∷ (w ++ us)) (w ++ us) q refl (λ v m. tt) in
         let first : Reads (read n (Map (Leaf 4) 0)) ts (past_blanks (w ++ us)) (λ v. v ≡ piece.Minus) = record { ends = taken.ends; values = λ v m. m.2 } in
         let second = deeper (w ++ (d ++ r)) x ss l (omega (arith, b, few, fewer)) (past_blanks (w ++ us)) rest closes (past_blanks-twice (w ++ us) ∙ ap past_blanks e) in
-        or-second n (Then part_expression steps_expression) negative_expression none
+        or-second n (Then part_expression steps_expression 0) negative_expression none
         (weaker (then-reads n (Map (Leaf 4) 0) (Call 0) first second) (λ v m.
         let j = rw (m.2, m.3.1) at m.4 in
         (m.3.0, j.1 ∙ ap (λ z. piece.Line z m.3.0) (negative-once x j.2 f), m.3.2)))

@@ -196,7 +196,7 @@ struct Pieces;
 impl Values<SimpleSpan, EmptyErr> for Pieces {
     type Value = Piece;
 
-    ghost pair_gives = { λ _ p v. IsPair p.0 p.1 v };
+    ghost pair_gives = { λ _ _ p v. IsPair p.0 p.1 v };
 
     ghost option_gives = { λ _ o v. IsOption o v };
 
@@ -204,7 +204,13 @@ impl Values<SimpleSpan, EmptyErr> for Pieces {
 
     /// Steps of a sign and a line, a line of a part and steps, or of a minus and a line; a part of a line and a bracket, and what is
     /// after a bracket.
-    fn pair(&self, _alloc: Global, first: Piece, second: Piece) -> Result<Piece, AllocError> {
+    fn pair(
+        &self,
+        _alloc: Global,
+        _number: usize,
+        first: Piece,
+        second: Piece,
+    ) -> Result<Piece, AllocError> {
         match (first, second) {
             (Piece::Mark(sign), Piece::Line(number, steps)) => {
                 extended(steps, Signed { sign, number })

@@ -127,7 +127,13 @@ impl SimpleValues<SimpleSpan, Rich<char>> for Arithmetic {
 
     /// A step of a sign and a number, a chain of a number and steps; of a bracket and what is after it the latter, and what
     /// is before a bracket.
-    fn pair(&self, _alloc: Global, first: Value, second: Value) -> Result<Value, AllocError>
+    fn pair(
+        &self,
+        _alloc: Global,
+        _number: usize,
+        first: Value,
+        second: Value,
+    ) -> Result<Value, AllocError>
         ensures { IfOk result (λ made. made ≡ paired first (out-Value first) (out-Value second)) }
     {
         match (first, second) {

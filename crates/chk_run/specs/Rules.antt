@@ -13,7 +13,7 @@ use Rattle.chumsky_recursive.specs.Unfounded.{AreFounded}
 
 -- the nodes of loops
 abbrev pub loops_nodes : Vec ℕ Global → List NodeKind
-loops_nodes v = kind.Leaf 0 ∷ kind.Leaf 1 ∷ kind.Rule 0 ∷ kind.Leaf 2 ∷ kind.Then 2 3 ∷ kind.Then 1 4 ∷ kind.Map 5 0 ∷ kind.Choice v ∷ kind.Repeated 7 0 None ∷ []
+loops_nodes v = kind.Leaf 0 ∷ kind.Leaf 1 ∷ kind.Rule 0 ∷ kind.Leaf 2 ∷ kind.Then 2 3 0 ∷ kind.Then 1 4 0 ∷ kind.Map 5 0 ∷ kind.Choice v ∷ kind.Repeated 7 0 None ∷ []
 
 abbrev pub HasLoops : List NodeKind → ℕ → Type 0
 HasLoops nodes n = (v : Vec ℕ Global) × (v.items ≡ 0 ∷ 6 ∷ []) × (nodes ≡ loops_nodes v) × (n ≡ 8)
@@ -27,10 +27,10 @@ abbrev pub first_nodes : List NodeKind
 first_nodes = kind.Leaf 1 ∷ kind.TryMap 0 0 ∷ kind.Leaf 0 ∷ []
 
 abbrev pub list_nodes : List NodeKind
-list_nodes = kind.Leaf 4 ∷ kind.Rule 1 ∷ kind.Map 4 1 ∷ kind.Leaf 5 ∷ kind.SeparatedBy 5 6 values_config ∷ kind.Leaf 6 ∷ kind.Then 7 8 ∷ kind.Then 3 9 ∷ kind.Map 10 2 ∷ []
+list_nodes = kind.Leaf 4 ∷ kind.Rule 1 ∷ kind.Map 4 1 ∷ kind.Leaf 5 ∷ kind.SeparatedBy 5 6 values_config ∷ kind.Leaf 6 ∷ kind.Then 7 8 0 ∷ kind.Then 3 9 0 ∷ kind.Map 10 2 ∷ []
 
 abbrev pub setting_nodes : List NodeKind
-setting_nodes = kind.Leaf 0 ∷ kind.Map 13 0 ∷ kind.Leaf 2 ∷ kind.Rule 1 ∷ kind.Leaf 3 ∷ kind.Then 16 17 ∷ kind.Then 15 18 ∷ kind.Then 14 19 ∷ kind.Repeated 20 0 None ∷ []
+setting_nodes = kind.Leaf 0 ∷ kind.Map 13 0 ∷ kind.Leaf 2 ∷ kind.Rule 1 ∷ kind.Leaf 3 ∷ kind.Then 16 17 0 ∷ kind.Then 15 18 0 ∷ kind.Then 14 19 0 ∷ kind.Repeated 20 0 None ∷ []
 
 abbrev pub settings_nodes : Vec ℕ Global → List NodeKind
 settings_nodes v = first_nodes ++ (list_nodes ++ (kind.Choice v ∷ setting_nodes))

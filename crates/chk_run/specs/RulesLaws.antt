@@ -43,14 +43,14 @@ module _ (g : Tables) (leaves : List Bool) where
 
   -- so does one of the two parts of a sequence
   abbrev PartTakes : NodeKind → Type 0
-  PartTakes (Then a b) = Takes a ⊎ Takes b
+  PartTakes (Then a b f) = Takes a ⊎ Takes b
   PartTakes k = ⊤
 
   pub takes : (n : ℕ) (k : NodeKind) → IsNode g n k → (IsEmptyAlone leaves k → ⊥) → ((m : ℕ) → IsEmptyWith g k m → Takes m) → PartTakes k → Takes n
   takes x k is no_alone no_part one (alone n l i e) = let same : l ≡ k = cc (i, is) in no_alone (subst (λ q. IsEmptyAlone leaves q) same e)
   takes x k is no_alone no_part one (with_part n m l i w e) = let same : l ≡ k = cc (i, is) in no_part m (subst (λ q. IsEmptyWith g q m) same w) e
-  takes x k is no_alone no_part one (with_both n a b i e f) =
-      let same : k ≡ Then a b = cc (i, is) in
+  takes x k is no_alone no_part one (with_both n a b l i e f) =
+      let same : k ≡ Then a b l = cc (i, is) in
       let either : Takes a ⊎ Takes b = subst (λ q. PartTakes q) same one in
       elim either [ inl t ↦ t e | inr t ↦ t f ]
 
@@ -100,11 +100,11 @@ module _ (g : Tables) (leaves : List Bool) where
   try_calls : (n a f : ℕ) → IsNode g n (TryMap a f) → Calls a → Calls n
   try_calls n a f is c = calls_none n (TryMap a f) is tt (λ p w. subst (λ q. Calls q) (sym w) c)
 
-  then_takes : (n a b : ℕ) → IsNode g n (Then a b) → Takes a → Takes n
-  then_takes n a b is t = takes n (Then a b) is (λ e. e) (λ p w. absurd w) (inl t)
+  then_takes : (n a b f : ℕ) → IsNode g n (Then a b f) → Takes a → Takes n
+  then_takes n a b f is t = takes n (Then a b f) is (λ e. e) (λ p w. absurd w) (inl t)
 
-  then_calls : (n a b : ℕ) → IsNode g n (Then a b) → Takes a → Calls a → Calls n
-  then_calls n a b is t c = calls_none n (Then a b) is tt (λ p w. elim w [ inl e ↦ subst (λ q. Calls q) (sym e) c | inr e ↦ absurd (t e.1) ])
+  then_calls : (n a b f : ℕ) → IsNode g n (Then a b f) → Takes a → Calls a → Calls n
+  then_calls n a b f is t c = calls_none n (Then a b f) is tt (λ p w. elim w [ inl e ↦ subst (λ q. Calls q) (sym e) c | inr e ↦ absurd (t e.1) ])
 
   choice_takes : (n : ℕ) (v : Vec ℕ Global) (ns : List ℕ) → IsNode g n (Choice v) → v.items ≡ ns → AllByRecursion Takes ns → Takes n
   choice_takes n v ns is items all = takes n (Choice v) is (λ e. e) (λ p w. contained Takes v.items (subst (λ xs. AllByRecursion Takes xs) (sym items) all) p w.0 w.1 w.2) tt
@@ -160,10 +160,10 @@ module _ (v : Vec ℕ Global) (items : v.items ≡ 0 ∷ 6 ∷ []) where
   loops_founded : (leaves : List Bool) → ((n : ℕ) → IsMarked leaves n → ⊥) → AreFounded loops_made leaves
   loops_founded leaves none =
       let takes_1 = leaf_takes loops_made leaves none 1 1 refl in
-      let takes_5 = then_takes loops_made leaves 5 1 4 refl takes_1 in
+      let takes_5 = then_takes loops_made leaves 5 1 4 0 refl takes_1 in
       let takes_6 = map_takes loops_made leaves 6 5 0 refl takes_5 in
       let takes_7 = choice_takes loops_made leaves 7 v (0 ∷ 6 ∷ []) refl items (leaf_takes loops_made leaves none 0 0 refl, (takes_6, tt)) in
-      let calls_5 = then_calls loops_made leaves 5 1 4 refl takes_1 (leaf_calls loops_made leaves 1 1 refl) in
+      let calls_5 = then_calls loops_made leaves 5 1 4 0 refl takes_1 (leaf_calls loops_made leaves 1 1 refl) in
       let calls_6 = map_calls loops_made leaves 6 5 0 refl calls_5 in
       let calls_7 = choice_calls loops_made leaves 7 v (0 ∷ 6 ∷ []) refl items (leaf_calls loops_made leaves 0 0 refl, (calls_6, tt)) in
       let calls_8 = repeated_calls loops_made leaves 8 7 0 None refl calls_7 in
@@ -194,14 +194,14 @@ module _ (v : Vec ℕ Global) (items : v.items ≡ 1 ∷ 2 ∷ 11 ∷ []) where
   settings_founded : (leaves : List Bool) → ((n : ℕ) → IsMarked leaves n → ⊥) → AreFounded settings_made leaves
   settings_founded leaves none =
       let takes_14 = map_takes settings_made leaves 14 13 0 refl (leaf_takes settings_made leaves none 13 0 refl) in
-      let takes_20 = then_takes settings_made leaves 20 14 19 refl takes_14 in
+      let takes_20 = then_takes settings_made leaves 20 14 19 0 refl takes_14 in
       let takes_3 = leaf_takes settings_made leaves none 3 4 refl in
       let takes_6 = leaf_takes settings_made leaves none 6 5 refl in
       let calls_14 = map_calls settings_made leaves 14 13 0 refl (leaf_calls settings_made leaves 13 0 refl) in
-      let calls_20 = then_calls settings_made leaves 20 14 19 refl takes_14 calls_14 in
+      let calls_20 = then_calls settings_made leaves 20 14 19 0 refl takes_14 calls_14 in
       let calls_21 = repeated_calls settings_made leaves 21 20 0 None refl calls_20 in
       let calls_1 = try_calls settings_made leaves 1 0 0 refl (leaf_calls settings_made leaves 0 1 refl) in
-      let calls_10 = then_calls settings_made leaves 10 3 9 refl takes_3 (leaf_calls settings_made leaves 3 4 refl) in
+      let calls_10 = then_calls settings_made leaves 10 3 9 0 refl takes_3 (leaf_calls settings_made leaves 3 4 refl) in
       let calls_11 = map_calls settings_made leaves 11 10 2 refl calls_10 in
       let calls_12 = choice_calls settings_made leaves 12 v (1 ∷ 2 ∷ 11 ∷ []) refl items (calls_1, (leaf_calls settings_made leaves 2 0 refl, (calls_11, tt))) in
       are_founded settings_made leaves (

@@ -31,7 +31,13 @@ struct Pairs;
 impl Values<SimpleSpan, Rich<char>> for Pairs {
     type Value = usize;
 
-    fn pair(&self, _alloc: Global, a: usize, b: usize) -> Result<usize, AllocError> {
+    fn pair(
+        &self,
+        _alloc: Global,
+        _number: usize,
+        a: usize,
+        b: usize,
+    ) -> Result<usize, AllocError> {
         Ok(a.saturating_add(b))
     }
 

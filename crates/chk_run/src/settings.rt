@@ -64,7 +64,7 @@ struct Texts<'src> {
 impl<'src> Values<SimpleSpan, Rich<char>> for Texts<'src> {
     type Value = Text<'src>;
 
-    ghost pair_gives = { λ _ p text. text_bytes text ≡ text_bytes p.0 ++ text_bytes p.1 };
+    ghost pair_gives = { λ _ _ p text. text_bytes text ≡ text_bytes p.0 ++ text_bytes p.1 };
 
     ghost map_gives = { λ _ mapper value text. Printed mapper (text_bytes value) (text_bytes text) };
 
@@ -75,6 +75,7 @@ impl<'src> Values<SimpleSpan, Rich<char>> for Texts<'src> {
     fn pair(
         &self,
         alloc: Global,
+        _number: usize,
         first: Text<'src>,
         second: Text<'src>,
     ) -> Result<Text<'src>, AllocError> {

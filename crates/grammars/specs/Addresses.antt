@@ -26,4 +26,4 @@ byte = TryMap (Leaf 0) 0
 
 -- N ("." N) ("." N) ("." N)
 abbrev pub address_expression : Expression
-address_expression = Then (Then (Then byte (Then (Leaf 1) byte)) (Then (Leaf 1) byte)) (Then (Leaf 1) byte)
+address_expression = Then (Then (Then byte (Then (Leaf 1) byte 0) 0) (Then (Leaf 1) byte 0) 0) (Then (Leaf 1) byte 0) 0

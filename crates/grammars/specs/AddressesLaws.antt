@@ -27,7 +27,7 @@ use Rattle.grammars.specs.Addresses.IsAddress.{four}
 
 -- an address of one number more, which may refuse numbers
 abbrev pub addresses : Makes ℕ ℕ
-addresses = record { pair = λ p v. p.0 * 256 + p.1 < 2 ^ 32 → v ≡ p.0 * 256 + p.1; map = λ f v w. ⊤; option = λ o v. ⊤; unit = λ v. ⊤; list = λ vs v. ⊤; picks = Some (λ f. byte_of) }
+addresses = record { pair = λ _ p v. p.0 * 256 + p.1 < 2 ^ 32 → v ≡ p.0 * 256 + p.1; map = λ f v w. ⊤; option = λ o v. ⊤; unit = λ v. ⊤; list = λ vs v. ⊤; picks = Some (λ f. byte_of) }
 
 -- digits go on with a number, unless it is a zero
 abbrev goes_on : ℕ → ℕ → Bool

@@ -10,4 +10,4 @@ pub data IsBalanced : List ℕ → ℕ → Type 0 where
 
 -- ( "(" B ")" B )?
 abbrev pub brackets : Expression
-brackets = Optional (Then (Map (Then (Leaf 0) (Then (Call 0) (Leaf 1))) 0) (Call 0))
+brackets = Optional (Then (Map (Then (Leaf 0) (Then (Call 0) (Leaf 1) 0) 0) 0) (Call 0) 0)

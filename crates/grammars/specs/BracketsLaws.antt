@@ -16,7 +16,7 @@ leaves = just_to 40 0 ∷ just_to 41 0 ∷ []
 
 -- the depth of two parts is the greater, of a pair one more than what is in it, and of nothing 0
 abbrev pub depths : Makes ℕ ℕ
-depths = record { pair = λ p v. v ≡ max p.0 p.1; map = λ f v w. w ≡ min (v + 1) (2 ^ 64 - 1); option = λ o v. v ≡ unwrap_or o 0; unit = λ v. ⊤; list = λ vs v. ⊤; picks = None }
+depths = record { pair = λ _ p v. v ≡ max p.0 p.1; map = λ f v w. w ≡ min (v + 1) (2 ^ 64 - 1); option = λ o v. v ≡ unwrap_or o 0; unit = λ v. ⊤; list = λ vs v. ⊤; picks = None }
 
 -- a text is balanced, no deeper than long, and the value is its depth, or the greatest number
 abbrev pub IsMeasured : List ℕ → ℕ → Type 0

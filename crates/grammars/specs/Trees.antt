@@ -36,4 +36,4 @@ plain = record { at_least = 0; at_most = None; allow_leading = false; allow_trai
 
 -- digit / "[" (T ("," T)*)? "]"
 abbrev pub tree_expression : Expression
-tree_expression = Or (Leaf 0) (Then (Leaf 1) (Then (Separated (Call 0) (Leaf 2) plain) (Leaf 3)))
+tree_expression = Or (Leaf 0) (Then (Leaf 1) (Then (Separated (Call 0) (Leaf 2) plain) (Leaf 3) 0) 0)

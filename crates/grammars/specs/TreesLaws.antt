@@ -23,7 +23,7 @@ leaves = map (λ set. one_of_by set (λ c. tree.Digit c)) (codes "0123456789" �
 
 -- of two parts a list is kept, and a list holds its items
 abbrev pub trees : Makes ℕ Tree
-trees = record { pair = λ p v. v ≡ kept p.0 p.1; map = λ f v w. ⊤; option = λ o v. ⊤; unit = λ v. ⊤; list = HoldsItems; picks = None }
+trees = record { pair = λ _ p v. v ≡ kept p.0 p.1; map = λ f v w. ⊤; option = λ o v. ⊤; unit = λ v. ⊤; list = HoldsItems; picks = None }
 
 -- a list of these, in brackets, is a tree
 abbrev Bracketed : List ℕ → List Tree → Type 0

@@ -46,12 +46,12 @@ struct Addresses;
 impl Values<SimpleSpan, EmptyErr> for Addresses {
     type Value = u32;
 
-    ghost pair_gives = { λ _ p v. p.0 * 256 + p.1 < 2 ^ 32 → v ≡ p.0 * 256 + p.1 };
+    ghost pair_gives = { λ _ _ p v. p.0 * 256 + p.1 < 2 ^ 32 → v ≡ p.0 * 256 + p.1 };
 
     ghost try_gives = { λ _ _ number _ r. result_ok r ≡ below 8 number };
 
     /// The address of one number more.
-    fn pair(&self, _alloc: Global, a: u32, b: u32) -> Result<u32, AllocError> {
+    fn pair(&self, _alloc: Global, _number: usize, a: u32, b: u32) -> Result<u32, AllocError> {
         Ok(a.saturating_mul(256).saturating_add(b))
     }
 

@@ -25,14 +25,20 @@ struct Depths;
 impl Values<SimpleSpan, EmptyErr> for Depths {
     type Value = usize;
 
-    ghost pair_gives = { λ _ p v. v ≡ max p.0 p.1 };
+    ghost pair_gives = { λ _ _ p v. v ≡ max p.0 p.1 };
 
     ghost option_gives = { λ _ o v. v ≡ unwrap_or o 0 };
 
     ghost map_gives = { λ _ _ v w. w ≡ min (v + 1) (2 ^ 64 - 1) };
 
     /// The greater of two.
-    fn pair(&self, _alloc: Global, a: usize, b: usize) -> Result<usize, AllocError> {
+    fn pair(
+        &self,
+        _alloc: Global,
+        _number: usize,
+        a: usize,
+        b: usize,
+    ) -> Result<usize, AllocError> {
         Ok(a.max(b))
     }
 

@@ -59,12 +59,12 @@ struct Trees;
 impl Values<SimpleSpan, EmptyErr> for Trees {
     type Value = Tree;
 
-    ghost pair_gives = { λ _ p v. v ≡ kept p.0 p.1 };
+    ghost pair_gives = { λ _ _ p v. v ≡ kept p.0 p.1 };
 
     ghost list_gives = { λ _ items v. HoldsItems items v };
 
     /// The first, if it is a list, and else the second.
-    fn pair(&self, _alloc: Global, a: Tree, b: Tree) -> Result<Tree, AllocError> {
+    fn pair(&self, _alloc: Global, _number: usize, a: Tree, b: Tree) -> Result<Tree, AllocError> {
         match a {
             Tree::Digit(_) => Ok(b),
             Tree::List(trees) => Ok(Tree::List(trees)),

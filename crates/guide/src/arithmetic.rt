@@ -17,6 +17,11 @@ const OPENING: usize = 3;
 
 const CLOSING: usize = 4;
 
+/// What is made of two values, by number: the first, which a bracket follows; or the second, which a bracket precedes.
+const CLOSED: usize = 0;
+
+const OPENED: usize = 1;
+
 /// The mappers, by number: what the numbers of a list come to.
 const ADDED: usize = 0;
 
@@ -37,7 +42,7 @@ fn number(n: u64) -> Amount {
     }
 }
 
-/// Values are amounts, where signs and brackets count nothing. What is more than a `u64` holds is its greatest number.
+/// Values are amounts, and signs and brackets count nothing. What is more than a `u64` holds is its greatest number.
 #[derive(Drop)]
 struct Amounts;
 
@@ -48,8 +53,18 @@ impl SimpleValues<SimpleSpan, Rich<char>> for Amounts {
         Ok(number(0))
     }
 
-    fn pair(&self, _alloc: Global, a: Amount, b: Amount) -> Result<Amount, AllocError> {
-        Ok(number(a.added.saturating_add(b.added)))
+    fn pair(
+        &self,
+        _alloc: Global,
+        number: usize,
+        first: Amount,
+        second: Amount,
+    ) -> Result<Amount, AllocError> {
+        if number == OPENED {
+            Ok(second)
+        } else {
+            Ok(first)
+        }
     }
 
     fn list(&self, _alloc: Global, amounts: Vec<Amount>) -> Result<Amount, AllocError> {
@@ -86,8 +101,8 @@ fn expression(rules: &mut Rules) -> Result<Recursive, RecursiveError> {
         let opening = rules.leaf(OPENING)?;
         let inside = rules.rule(expression)?;
         let closing = rules.leaf(CLOSING)?;
-        let closed = rules.then(inside, closing)?;
-        let in_brackets = rules.then(opening, closed)?;
+        let closed = rules.then_by(inside, closing, CLOSED)?;
+        let in_brackets = rules.then_by(opening, closed, OPENED)?;
         let atom = rules.choice(&[digit, in_brackets])?;
 
         let times = rules.leaf(TIMES)?;

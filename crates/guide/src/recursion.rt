@@ -11,7 +11,13 @@ const OPENING: usize = 0;
 
 const CLOSING: usize = 1;
 
-/// Values are depths: of several parts the greatest, of nothing none, and a pair of brackets is one deeper than what it
+/// What is made of two values, by number: the first, which a bracket follows; or one more than the second, which a bracket
+/// precedes.
+const CLOSED: usize = 0;
+
+const OPENED: usize = 1;
+
+/// Values are depths: of several pairs of brackets the greatest, of nothing none, and a pair is one deeper than what it
 /// holds.
 #[derive(Drop)]
 struct Depths;
@@ -23,8 +29,18 @@ impl SimpleValues<SimpleSpan, Rich<char>> for Depths {
         Ok(0)
     }
 
-    fn pair(&self, _alloc: Global, a: usize, b: usize) -> Result<usize, AllocError> {
-        Ok(a.max(b))
+    fn pair(
+        &self,
+        _alloc: Global,
+        number: usize,
+        first: usize,
+        second: usize,
+    ) -> Result<usize, AllocError> {
+        if number == OPENED {
+            Ok(second.saturating_add(1))
+        } else {
+            Ok(first)
+        }
     }
 
     fn list(&self, _alloc: Global, depths: Vec<usize>) -> Result<usize, AllocError> {
@@ -34,10 +50,6 @@ impl SimpleValues<SimpleSpan, Rich<char>> for Depths {
         }
         Ok(deepest)
     }
-
-    fn map(&self, _alloc: Global, _mapper: usize, inside: usize) -> Result<usize, AllocError> {
-        Ok(inside.saturating_add(1))
-    }
 }
 
 /// Any number of brackets, one after another and within one another.
@@ -46,10 +58,9 @@ fn brackets(rules: &mut Rules) -> Result<Recursive, RecursiveError> {
         let opening = rules.leaf(OPENING)?;
         let inside = rules.rule(brackets)?;
         let closing = rules.leaf(CLOSING)?;
-        let closed = rules.then(inside, closing)?;
-        let opened = rules.then(opening, closed)?;
-        let pair = rules.map(opened, 0)?;
-        rules.repeated(pair, 0, None)
+        let closed = rules.then_by(inside, closing, CLOSED)?;
+        let opened = rules.then_by(opening, closed, OPENED)?;
+        rules.repeated(opened, 0, None)
     })
 }
 
