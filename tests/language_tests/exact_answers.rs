@@ -10,6 +10,7 @@ use exact::number::parse_number;
 use exact::pairs::parse_pairs;
 use exact::print_pairs::print_pairs;
 use exact::quoted::{Token, parse_quoted_number};
+use exact::switch::{Key, Setting, Switch, parse_switch};
 use exact::trees::{Tree, parse_tree};
 use std::alloc::{AllocError, Global};
 use std::test::Fail;
@@ -53,6 +54,28 @@ fn eight_texts_are_methods_and_no_other_is(rt: HostRuntime) -> Result<(), Fail> 
     }
     for text in ["", "G", "get", "PU", "PUTS", "POSTS", "PATCH", "GET ", " GET", "GETHEAD", "TRACK"] {
         let parsed = parse_method(alloc, text)?;
+        assert_eq!(rt; parsed.into_output(), None, "{text}");
+    }
+    Ok(())
+}
+
+#[test]
+fn each_of_three_keys_is_on_or_off(rt: HostRuntime) -> Result<(), Fail> {
+    let alloc = rt.alloc();
+    let accepted = [
+        ("volume=on", Key::Volume, Switch::On),
+        ("volume=off", Key::Volume, Switch::Off),
+        ("light=on", Key::Light, Switch::On),
+        ("light=off", Key::Light, Switch::Off),
+        ("alarm=on", Key::Alarm, Switch::On),
+        ("alarm=off", Key::Alarm, Switch::Off),
+    ];
+    for (text, key, switch) in accepted {
+        let parsed = parse_switch(alloc, text)?;
+        assert_eq!(rt; parsed.into_output(), Some(Setting { key, switch }), "{text}");
+    }
+    for text in ["", "volume", "volume=", "volume=o", "volumes=on", "light:on", "light=on ", "on=alarm", "alarm=offon"] {
+        let parsed = parse_switch(alloc, text)?;
         assert_eq!(rt; parsed.into_output(), None, "{text}");
     }
     Ok(())
