@@ -2,7 +2,7 @@
 use chumsky::Stop;
 use exact::access::{Content, Purpose, parse_access};
 use exact::bits::parse_bits;
-use exact::date::parse_date;
+use exact::date::{Date, parse_date};
 use exact::level::{Level, parse_level};
 use exact::method::{Method, parse_method};
 use exact::nested::parse_nested;
@@ -174,14 +174,14 @@ fn bits_are_read_and_no_other_text_is(rt: HostRuntime) -> Result<(), Fail> {
 fn dates_are_read_and_no_other_text_is(rt: HostRuntime) -> Result<(), Fail> {
     let alloc = rt.alloc();
     let accepted = [
-        ("2026-11-27", ((2026, 11), 27)),
-        ("0000-01-01", ((0, 1), 1)),
-        ("9999-12-31", ((9999, 12), 31)),
-        ("2026-02-31", ((2026, 2), 31)),
+        ("2026-11-27", 2026, 11, 27),
+        ("0000-01-01", 0, 1, 1),
+        ("9999-12-31", 9999, 12, 31),
+        ("2026-02-31", 2026, 2, 31),
     ];
-    for (text, date) in accepted {
+    for (text, year, month, day) in accepted {
         let parsed = parse_date(alloc, text)?;
-        assert_eq!(rt; parsed.into_output(), Some(date), "{text}");
+        assert_eq!(rt; parsed.into_output(), Some(Date { year, month, day }), "{text}");
     }
     for text in ["", "2026-13-01", "2026-00-01", "2026-1-01", "2026-01-32", "2026-01-00", "02026-01-01", "2026-01-011", "2026/01/01", "+026-01-01", "2026-01-01 "] {
         let parsed = parse_date(alloc, text)?;
