@@ -2,7 +2,7 @@
 use chumsky::Stop;
 use exact::access::{Content, Purpose, parse_access};
 use exact::bits::parse_bits;
-use exact::date::parse_date;
+use exact::date::{Date, parse_date};
 use exact::level::{Level, parse_level};
 use exact::method::{Method, parse_method};
 use exact::nested::parse_nested;
@@ -10,6 +10,7 @@ use exact::number::parse_number;
 use exact::pairs::parse_pairs;
 use exact::print_pairs::print_pairs;
 use exact::quoted::{Token, parse_quoted_number};
+use exact::switch::{Key, Setting, Switch, parse_switch};
 use exact::trees::{Tree, parse_tree};
 use std::alloc::{AllocError, Global};
 use std::test::Fail;
@@ -53,6 +54,28 @@ fn eight_texts_are_methods_and_no_other_is(rt: HostRuntime) -> Result<(), Fail> 
     }
     for text in ["", "G", "get", "PU", "PUTS", "POSTS", "PATCH", "GET ", " GET", "GETHEAD", "TRACK"] {
         let parsed = parse_method(alloc, text)?;
+        assert_eq!(rt; parsed.into_output(), None, "{text}");
+    }
+    Ok(())
+}
+
+#[test]
+fn each_of_three_keys_is_on_or_off(rt: HostRuntime) -> Result<(), Fail> {
+    let alloc = rt.alloc();
+    let accepted = [
+        ("volume=on", Key::Volume, Switch::On),
+        ("volume=off", Key::Volume, Switch::Off),
+        ("light=on", Key::Light, Switch::On),
+        ("light=off", Key::Light, Switch::Off),
+        ("alarm=on", Key::Alarm, Switch::On),
+        ("alarm=off", Key::Alarm, Switch::Off),
+    ];
+    for (text, key, switch) in accepted {
+        let parsed = parse_switch(alloc, text)?;
+        assert_eq!(rt; parsed.into_output(), Some(Setting { key, switch }), "{text}");
+    }
+    for text in ["", "volume", "volume=", "volume=o", "volumes=on", "light:on", "light=on ", "on=alarm", "alarm=offon"] {
+        let parsed = parse_switch(alloc, text)?;
         assert_eq!(rt; parsed.into_output(), None, "{text}");
     }
     Ok(())
@@ -151,14 +174,14 @@ fn bits_are_read_and_no_other_text_is(rt: HostRuntime) -> Result<(), Fail> {
 fn dates_are_read_and_no_other_text_is(rt: HostRuntime) -> Result<(), Fail> {
     let alloc = rt.alloc();
     let accepted = [
-        ("2026-11-27", ((2026, 11), 27)),
-        ("0000-01-01", ((0, 1), 1)),
-        ("9999-12-31", ((9999, 12), 31)),
-        ("2026-02-31", ((2026, 2), 31)),
+        ("2026-11-27", 2026, 11, 27),
+        ("0000-01-01", 0, 1, 1),
+        ("9999-12-31", 9999, 12, 31),
+        ("2026-02-31", 2026, 2, 31),
     ];
-    for (text, date) in accepted {
+    for (text, year, month, day) in accepted {
         let parsed = parse_date(alloc, text)?;
-        assert_eq!(rt; parsed.into_output(), Some(date), "{text}");
+        assert_eq!(rt; parsed.into_output(), Some(Date { year, month, day }), "{text}");
     }
     for text in ["", "2026-13-01", "2026-00-01", "2026-1-01", "2026-01-32", "2026-01-00", "02026-01-01", "2026-01-011", "2026/01/01", "+026-01-01", "2026-01-01 "] {
         let parsed = parse_date(alloc, text)?;

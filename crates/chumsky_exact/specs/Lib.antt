@@ -26,5 +26,6 @@ pub mod Numerals
 pub mod Parts
 pub mod Separated
 pub mod Sets
+pub mod TablesInTurn
 pub mod Deep
 pub mod Taken

@@ -3,7 +3,12 @@
 use Rattle.std.specs.Prelude.{ℕ, List, [], ◌∷◌, codes}
 use Rattle.chumsky_exact.specs.Fields.{IsField}
 use Rattle.chumsky_exact.specs.InTurn.{InTurn, Is}
+use Rattle.exact.specs.declared.date.Date.{Date}
 
 -- a year of four digits, a month and a day of two, with a dash between each two
-abbrev pub IsDate : List ℕ → (ℕ × ℕ) × ℕ → Type 0
-IsDate text date = InTurn ((λ w. IsField 4 0 9999 w date.0.0) ∷ Is (codes "-") ∷ (λ w. IsField 2 1 12 w date.0.1) ∷ Is (codes "-") ∷ (λ w. IsField 2 1 31 w date.1) ∷ []) text
+abbrev pub IsDate : List ℕ → Date → Type 0
+IsDate text date = InTurn ((λ w. IsField 4 0 9999 w date.year) ∷ Is (codes "-") ∷ (λ w. IsField 2 1 12 w date.month) ∷ Is (codes "-") ∷ (λ w. IsField 2 1 31 w date.day) ∷ []) text
+
+-- a date of its numbers
+abbrev pub date_of : (ℕ × ℕ) × ℕ → Date
+date_of numbers = record { year = numbers.0.0; month = numbers.0.1; day = numbers.1 }

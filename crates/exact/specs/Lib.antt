@@ -42,6 +42,7 @@ pub mod Pairs
 pub mod PairsLaws
 pub mod Quoted
 pub mod QuotedLaws
+pub mod Switch
 pub mod Trees
 pub mod TreesLaws
 pub mod TreesLevelsLaws

@@ -4,17 +4,39 @@ ghost use Rattle.chumsky.specs.Accepted.{Exactly, NeverRefuses};
 ghost use Rattle.exact.specs.Date.{IsDate};
 
 use chumsky::Stop;
+use chumsky::combinator::Mapper;
 use chumsky::extra::EmptyText;
 use chumsky::prelude::*;
 use chumsky::text::Fixed;
 use std::alloc::Global;
 
-/// Year, month and day of a text such as `2026-11-27`, where the month is from 1 to 12 and the day from 1 to 31; of any
-/// other text there is no output. A run over a date is never refused.
-pub fn parse_date(
-    alloc: Global,
-    text: &str,
-) -> Result<ParseResult<((u32, u32), u32), EmptyErr>, Stop>
+/// A day of a month of a year.
+#[derive(Clone, Copy, Debug, PartialEq)]
+pub struct Date {
+    pub year: u32,
+    pub month: u32,
+    pub day: u32,
+}
+
+/// Makes a date of its numbers.
+#[derive(Clone, Copy, Drop)]
+pub struct ToDate;
+
+impl Mapper<((u32, u32), u32), Date> for ToDate {
+    ghost use Rattle.std.specs.Prelude.{◌≡◌};
+    ghost use Rattle.exact.specs.Date.{date_of};
+
+    ghost gives = { λ _ numbers date. date ≡ date_of numbers };
+
+    fn apply(&self, numbers: ((u32, u32), u32)) -> Date {
+        let ((year, month), day) = numbers;
+        Date { year, month, day }
+    }
+}
+
+/// The date that a text such as `2026-11-27` is, where the month is from 1 to 12 and the day from 1 to 31; of any other text
+/// there is no output. A run over a date is never refused.
+pub fn parse_date(alloc: Global, text: &str) -> Result<ParseResult<Date, EmptyErr>, Stop>
     ensures exact { Exactly IsDate (chars text.now) result }
     ensures answered { NeverRefuses IsDate (chars text.now) result }
 {
@@ -38,5 +60,5 @@ pub fn parse_date(
         .then(month)
         .then_ignore(just("-"))
         .then(day);
-    date.parse(alloc, text)
+    date.map_by(ToDate).parse(alloc, text)
 }

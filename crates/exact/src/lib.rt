@@ -23,5 +23,6 @@ pub mod print_json;
 pub mod print_pairs;
 pub mod quoted;
 pub mod rows;
+pub mod switch;
 pub mod trees;
 pub mod version;
