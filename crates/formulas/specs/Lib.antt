@@ -1,2 +1,5 @@
 pub mod Formula
+pub mod FormulaTrees
 pub mod FormulaLaws
+pub mod Nested
+pub mod NestedLaws
