@@ -67,5 +67,9 @@ fn formulas_with_more_brackets_than_the_limit_are_refused(rt: HostRuntime) -> Re
     assert_eq!(rt; parsed.into_output(), Some(true));
     assert_eq!(rt; parse_nested_formula(alloc, "((t))", 2).err(), Some(Stop::TooDeep));
     assert_eq!(rt; parse_nested_formula(alloc, "t", 0).err(), Some(Stop::TooDeep));
+    let parsed = parse_nested_formula(alloc, "t&!f&t|f|t&t&!!t", 1)?;
+    assert_eq!(rt; parsed.into_output(), Some(true));
+    let parsed = parse_nested_formula(alloc, "(t)&(t)&(t|f)", 2)?;
+    assert_eq!(rt; parsed.into_output(), Some(true));
     Ok(())
 }

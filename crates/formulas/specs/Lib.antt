@@ -3,3 +3,4 @@ pub mod FormulaTrees
 pub mod FormulaLaws
 pub mod Nested
 pub mod NestedLaws
+pub mod RefusedLaws

@@ -1,6 +1,6 @@
 -- Formulas with brackets: the language of the function that reads them.
--- Main words: IsNestedPart, IsNestedProduct, IsNestedFormula, nested_formulas. Laws: NestedLaws.antt. Read first: Formula.antt.
-use Rattle.std.specs.Prelude.{ℕ, Bool, true, false, ◌&&◌, ◌||◌, not, nat_eq, List, ◌++◌, codes}
+-- Main words: IsNestedPart, IsNestedProduct, IsNestedFormula, opened, nested_formulas. Laws: NestedLaws.antt, RefusedLaws.antt. Read first: Formula.antt.
+use Rattle.std.specs.Prelude.{ℕ, suc, Bool, true, false, ◌&&◌, ◌||◌, not, nat_eq, cond, List, [], ◌∷◌, ◌++◌, codes}
 use Rattle.chumsky_parser.specs.Words.{StopsAt}
 use Rattle.chumsky_descent.specs.Calls.{Intended}
 
@@ -21,6 +21,11 @@ mutual
   pub data IsNestedFormula : List ℕ → Bool → Type 0 where
     one_product : {w : List ℕ} {a : Bool} → IsNestedProduct w a → IsNestedFormula w a
     is_or : {u w : List ℕ} {a b : Bool} → IsNestedFormula u a → IsNestedProduct w b → IsNestedFormula (u ++ (codes "|" ++ w)) (a || b)
+
+-- how many brackets open in a text
+abbrev pub opened : List ℕ → ℕ
+opened [] = 0
+opened (c ∷ cs) = cond (nat_eq 40 c) (suc (opened cs)) (opened cs)
 
 -- an `&` or an `|`, which go on with a formula
 abbrev pub goes_on : ℕ → Bool

@@ -45,6 +45,10 @@ use denote.Builtin.{unit}
 abbrev pub grammar : Language ℕ Bool → Language ℕ Bool
 grammar = grammar_of (λ call. (ghosts unit call no_dict).body tt)
 
+-- a `t`, an `f`, or what a call takes in brackets
+abbrev pub atoms_of : Language ℕ Bool → Language ℕ Bool
+atoms_of call = or_language truth (between_language (character 40) call (character 41))
+
 nested : AreFormulas IsNestedPart IsNestedPart IsNestedProduct IsNestedFormula
 nested = record {
   atom = λ w a i. i;
@@ -68,9 +72,8 @@ module _ (call : Language ℕ Bool) (depth : ℕ) (i : IsIntended nested_formula
   abbrev brackets : Language ℕ Bool
   brackets = between_language (character 40) call (character 41)
 
-  -- a `t`, an `f`, or what a call takes in brackets
   abbrev atoms : Language ℕ Bool
-  atoms = or_language truth brackets
+  atoms = atoms_of call
 
   -- each is a part
   atom_part : (w : List ℕ) (v : Bool) → atoms.stands_for w v → IsNestedPart w v

@@ -1,9 +1,9 @@
 //! Formulas with brackets, by operators in a function that calls itself.
-ghost use Rattle.std.specs.Prelude.{◌≡◌, ◌≤◌, true, false, length};
+ghost use Rattle.std.specs.Prelude.{◌≡◌, ◌≤◌, true, false};
 ghost use Rattle.std.specs.Str.{chars};
 ghost use Rattle.chumsky.specs.Accepted.{ExactlyUnless};
 ghost use Rattle.chumsky_pratt.specs.declared.fixity.Associativity.TheVariants.{Left};
-ghost use Rattle.formulas.specs.Nested.{IsNestedFormula};
+ghost use Rattle.formulas.specs.Nested.{IsNestedFormula, opened};
 
 use crate::{Both, OneOfBoth, Opposite};
 use chumsky::combinator::{DelimitedBy, Or, To, run_part};
@@ -126,13 +126,13 @@ fn any_formula<'src>(
 }
 
 /// What a formula with brackets comes to, as `!(t|f)&t`, in which a `!` binds before an `&`, and that before an `|`. Of any other
-/// text there is no output. A run is refused for memory; or with `TooDeep`, only of a text of `limit` characters or more.
+/// text there is no output. A run is refused for memory; or with `TooDeep`, only of a text in which `limit` brackets open or more.
 pub fn parse_nested_formula(
     alloc: Global,
     text: &str,
     limit: usize,
 ) -> Result<ParseResult<bool, EmptyErr>, Stop>
-    ensures { ExactlyUnless IsNestedFormula (chars text.now) (limit ≤ length (chars text.now)) result }
+    ensures { ExactlyUnless IsNestedFormula (chars text.now) (limit ≤ opened (chars text.now)) result }
 {
     recursive_as::<OfFormula, _, _, _, EmptyText>(any_formula, limit).parse(alloc, text)
 }
