@@ -1,4 +1,6 @@
 //! Formulas that are read exactly.
+use chumsky::Stop;
+use formulas::nested::parse_nested_formula;
 use formulas::parse_formula;
 use std::alloc::{AllocError, Global};
 use std::test::Fail;
@@ -28,5 +30,46 @@ fn formulas_bind_as_their_operators_do(rt: HostRuntime) -> Result<(), Fail> {
         let parsed = parse_formula(alloc, text)?;
         assert_eq!(rt; parsed.into_output(), None, "{text}");
     }
+    Ok(())
+}
+
+#[test]
+fn formulas_with_brackets_bind_as_these_say(rt: HostRuntime) -> Result<(), Fail> {
+    let alloc = rt.alloc();
+    let accepted = [
+        ("t", true),
+        ("t|f&f", true),
+        ("(t|f)&f", false),
+        ("!(t|f)&t", false),
+        ("!(t&f)|f", true),
+        ("(f)", false),
+        ("((t))", true),
+        ("!(!(t))", true),
+        ("(f|t)&(t|f)", true),
+        ("t&(f|(t&!f))", true),
+        ("(!t&f)|!(f|f)", true),
+    ];
+    for (text, value) in accepted {
+        let parsed = parse_nested_formula(alloc, text, 4)?;
+        assert_eq!(rt; parsed.into_output(), Some(value), "{text}");
+    }
+    for text in ["", "(", ")", "()", "(t", "t)", "(t)(f)", "t(f)", "(t)t", "(t|)", "!()", "((t)", "(t))", "[t]"] {
+        let parsed = parse_nested_formula(alloc, text, 9)?;
+        assert_eq!(rt; parsed.into_output(), None, "{text}");
+    }
+    Ok(())
+}
+
+#[test]
+fn formulas_with_more_brackets_than_the_limit_are_refused(rt: HostRuntime) -> Result<(), Fail> {
+    let alloc = rt.alloc();
+    let parsed = parse_nested_formula(alloc, "((t))", 3)?;
+    assert_eq!(rt; parsed.into_output(), Some(true));
+    assert_eq!(rt; parse_nested_formula(alloc, "((t))", 2).err(), Some(Stop::TooDeep));
+    assert_eq!(rt; parse_nested_formula(alloc, "t", 0).err(), Some(Stop::TooDeep));
+    let parsed = parse_nested_formula(alloc, "t&!f&t|f|t&t&!!t", 1)?;
+    assert_eq!(rt; parsed.into_output(), Some(true));
+    let parsed = parse_nested_formula(alloc, "(t)&(t)&(t|f)", 2)?;
+    assert_eq!(rt; parsed.into_output(), Some(true));
     Ok(())
 }

@@ -1,5 +1,8 @@
-//! Formulas of `t` and `f`, by operators of three powers, whose contract says exactly which texts are accepted.
+//! Formulas of `t` and `f`, by operators of three powers, without brackets and with them, whose contracts say exactly which texts are
+//! accepted.
 #![tactic(auto)]
+
+pub mod nested;
 
 ghost use Rattle.std.specs.Prelude.{◌≡◌};
 ghost use Rattle.std.specs.Str.{chars};
