@@ -37,5 +37,6 @@ returns c =
     let whole = c.map_by.ensures.parser ∙ then_is (d.first ∙ then_ignore_is (b.first ∙ months) (b.second ∙ just_is c.just-2.ensures)) (d.second ∙ day) in
     let a = rw whole at (c.parse.ensures.3.reads refl) in
     let once = unambiguous (nested (picked 4 0 9999) (fixed (codes "-")) (picked 2 1 12) (picked 2 1 31)) refl in
-    let both = answers-by_words IsDate a (search rules) (search rules) refl once (λ t. tt) (λ v w s. subst (IsDate (chars c.args.text.now)) (sym s.2) (as_defined (heard s.0) _ s.1)) (λ v i. as_parsed (told v) _ i) in
+    let both = answers-by_words IsDate a (search rules) (search rules) refl once (λ t. tt)
+    (λ v w s. subst (IsDate (chars c.args.text.now)) (sym s.2) (as_defined (heard s.0) _ s.1)) (λ v i. as_parsed (told v) _ i) in
     record { exact = both.0; answered = both.1 }
