@@ -81,7 +81,8 @@ impl<'src> Recursion<'src, &'src str, bool, EmptyText> for OfFormula {
 
     ghost says = { λ errors states. exactly (λ call. (ghosts unit call no_dict).body tt) errors states nested_formulas
         (λ call l h. pratt-lawful
-        (or-lawful (or-lawful (to-lawful (just-lawful (codes "t") _ _ _ _ _ _)) (to-lawful (just-lawful (codes "f") _ _ _ _ _ _))) (between-lawful (just-lawful (codes "(") _ _ _ _ _ _) h (just-lawful (codes ")") _ _ _ _ _ _)))
+        (or-lawful (or-lawful (to-lawful (just-lawful (codes "t") _ _ _ _ _ _)) (to-lawful (just-lawful (codes "f") _ _ _ _ _ _)))
+        (between-lawful (just-lawful (codes "(") _ _ _ _ _ _) h (just-lawful (codes ")") _ _ _ _ _ _)))
         (and-lawful (prefix-lawful (just-lawful (codes "!") _ _ _ _ _ _) (λ w a z u m n. m ∙ sym n))
         (and-lawful (infix-lawful (just-lawful (codes "&") _ _ _ _ _ _) (λ a w b z u m n. m ∙ sym n))
         (last-lawful (infix-lawful (just-lawful (codes "|") _ _ _ _ _ _) (λ a w b z u m n. m ∙ sym n)))))) };
