@@ -32,8 +32,8 @@ pub trait Part<'src, I: Input<'src>, O, E: ParserExtra<I>> {
         ensures lent { inp.new.state.ghost_name ≡ inp.old.state.ghost_name };
 }
 
-/// Runs a parser as the body of a part, for its output where one is wanted. No failure is lost: a part keeps the furthest
-/// one as the parser in it does.
+/// Runs a parser as the body of a part, for its output where one is wanted: `run_part(&hour, wanted, inp)` ends the body.
+/// No failure is lost: a part keeps the furthest one as the parser in it does.
 #[inline(always)]
 pub fn run_part<'src, I: Input<'src>, O, E: ParserExtra<I>, P: Parser<'src, I, O, E>>(
     parser: &P,
@@ -66,7 +66,7 @@ pub struct OfPart<P> {
     pub part: P,
 }
 
-/// A part of a grammar as a parser.
+/// A part of a grammar as a parser: `part_of(Hour).then_ignore(just(':'))`, where the type `Hour` has an impl of `Part`.
 #[inline]
 pub fn part_of<P>(part: P) -> OfPart<P>
     ensures { result.part ≡ part }

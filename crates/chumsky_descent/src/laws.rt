@@ -11,7 +11,7 @@ use chumsky_input::stop::PResult;
 use chumsky_parser::parser::Parser;
 
 /// `recursive_as::<R, ..>(f, depth)` is ready where the function may be called, and does what is said of it. It is steady where its
-/// marker says `Steady`, and of what it is made of no more is asked.
+/// marker says `Steady`, `Together` or `exactly`, and of what it is made of no more is asked.
 pub fn recursive_is_steady<'src, F, R, I, O, E>(called: &Called<F, R, I, O, E>)
 where
     I: Input<'src>,

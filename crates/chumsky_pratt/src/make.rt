@@ -70,7 +70,7 @@ pub fn prefix_by<P, F: PrefixFolder<O, W>, O, W>(
     }
 }
 
-/// As `postfix`, by a value of a type with an impl of `PostfixFolder`, likewise.
+/// As `postfix`, by a value of a type with an impl of `PostfixFolder`, likewise: `postfix_by(4, just('!'), Factorial)`.
 #[inline]
 pub fn postfix_by<P, F: PostfixFolder<O, W>, O, W>(
     power: u16,
@@ -89,7 +89,7 @@ pub fn postfix_by<P, F: PostfixFolder<O, W>, O, W>(
     }
 }
 
-/// As `infix`, by a value of a type with an impl of `InfixFolder`, likewise.
+/// As `infix`, by a value of a type with an impl of `InfixFolder`, likewise: `infix_by(left(1), just('+'), Saturating)`.
 #[inline]
 pub fn infix_by<P, F: InfixFolder<O, W>, O, W>(
     associativity: Associativity,

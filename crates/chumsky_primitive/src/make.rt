@@ -18,26 +18,28 @@ use chumsky_input::map_extra::MapExtra;
 use chumsky_input::stop::Failure;
 use std::marker::PhantomData;
 
-/// Takes one token, whichever it is; fails at the end of input.
+/// Takes one token, whichever it is, and gives it: `any()` gives `'a'` of `a`. It fails at the end of input.
 #[inline]
 pub fn any<I, E>() -> Any<I, E> {
     Any { of: PhantomData }
 }
 
-/// Takes one token, whichever it is, and gives a reference to it where it lies in the input; fails at the end of input.
+/// Takes one token, whichever it is, and gives a reference to it where it lies in the input: over a slice `any_ref()` gives
+/// `&7` of `[7]`. It fails at the end of input.
 #[inline]
 pub fn any_ref<I, E>() -> AnyRef<I, E> {
     AnyRef { of: PhantomData }
 }
 
-/// Says yes at the end of input, and fails at any token. `parse` and `check` run it after the parser.
+/// Says yes at the end of input, and fails at any token: `just('a').or_not().then_ignore(end())` fails on `b`, at 0..1.
+/// `parse` and `check` run it after the parser.
 #[inline]
 pub fn end<I, E>() -> End<I, E> {
     End { of: PhantomData }
 }
 
-/// Takes the members of a sequence, one after another, and gives the sequence. Where a member isn't there the error is
-/// at that place, and the cursor goes back to it.
+/// Takes the members of a sequence, one after another, and gives the sequence: `just("let")` gives `"let"` of `let`. Where
+/// a member isn't there the error is at that place, and the cursor goes back to it: on `lex` a `t` was expected at 2..3.
 #[inline]
 pub fn just<T, I, E>(seq: T) -> Just<T, I, E>
     ensures { result.seq ≡ seq }
@@ -48,7 +50,7 @@ pub fn just<T, I, E>(seq: T) -> Just<T, I, E>
     }
 }
 
-/// Says yes everywhere, and takes nothing.
+/// Says yes everywhere, and takes nothing: `just("a").ignored().or(empty())` always succeeds.
 #[inline]
 pub fn empty<I, E>() -> Empty<I, E> {
     Empty { of: PhantomData }
@@ -80,7 +82,8 @@ pub fn none_of<S, I, E>(seq: S) -> NoneOf<S, I, E>
 
 /// Takes one token that the closure answers `Some` to, and gives what is in the `Some`; fails at any other token, and at
 /// the end of input. The closure is given the token by value and an extra over it, and is called with and without an
-/// output wanted; what it writes to the state stands where it answers `Some`. See the macro `select!`.
+/// output wanted; what it writes to the state stands where it answers `Some`. `select(|c: char, _| c.to_digit(10))` gives 7
+/// of `7`. See the macro `select!`.
 #[inline]
 pub fn select<'src, F, I, O, E>(filter: F) -> Select<F, I, O, E>
 where
@@ -141,8 +144,8 @@ where
     }
 }
 
-/// The same with a value of a type with an impl of `Reader`. The parser's type can then be written down, its output may name
-/// a lifetime, and what is read is known where the parser is run.
+/// `custom` with a value of a type with an impl of `Reader`, as `custom_by(TwoTokens)`. The parser's type can then be written
+/// down, its output may name a lifetime, and what is read is known where the parser is run.
 #[inline]
 pub fn custom_by<'src, F, I, O, E>(reader: F) -> Custom<F, I, O, E>
 where
