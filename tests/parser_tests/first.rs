@@ -1,8 +1,9 @@
-//! A choice between texts, an empty text, offsets of characters, a mapper.
+//! A choice between texts, an empty text, offsets of characters, a mapper, and the examples of primitives.
 use answers::asserts::assert_answers;
 use answers::extras::{Own, Quiet};
 use answers::leaves::{just_char, just_text};
 use chumsky::prelude::*;
+use chumsky::primitive::select;
 
 #[test]
 fn the_furthest_failures_are_merged_in_order(rt: HostRuntime) {
@@ -40,4 +41,32 @@ fn a_mapper_makes_the_output(rt: HostRuntime) {
     let number = any::<_, Quiet>().map(|c| c as u32).then(end());
     let rows = [("é", "ok (233, ())"), ("ab", "error")];
     assert_answers(&rt, &number, &rows);
+}
+
+#[test]
+fn primitives_answer_as_their_examples_say(rt: HostRuntime) {
+    let rows = [("a", "ok 'a'"), ("", "error 0..0 expected any found end")];
+    assert_answers(&rt, &any::<&str, Own>(), &rows);
+    let rows = [
+        ("let", "ok \"let\""),
+        ("lex", "error 2..3 expected 't' found 'x'"),
+    ];
+    assert_answers(&rt, &just_text("let"), &rows);
+    let rows = [
+        ("a", "ok Some('a')"),
+        ("b", "error 0..1 expected 'a', end of input found 'b'"),
+    ];
+    assert_answers(&rt, &just_char('a').or_not().then_ignore(end()), &rows);
+    let rows = [
+        ("a", "ok ()"),
+        ("", "ok ()"),
+        ("b", "error 0..1 expected 'a', end of input found 'b'"),
+    ];
+    assert_answers(&rt, &just_text("a").ignored().or(empty()), &rows);
+    let digit = select::<_, &str, _, Own>(|c: char, _| c.to_digit(10));
+    let rows = [
+        ("7", "ok 7"),
+        ("x", "error 0..1 expected something else found 'x'"),
+    ];
+    assert_answers(&rt, &digit, &rows);
 }

@@ -70,7 +70,7 @@ pub fn prefix_by<P, F: PrefixFolder<O, W>, O, W>(
     }
 }
 
-/// As `postfix`, by a value of a type with an impl of `PostfixFolder`, likewise: `postfix_by(4, just('!'), Factorial)`.
+/// As `postfix`, by a value of a type with an impl of `PostfixFolder`, likewise: `postfix_by(3, just('!'), Hundreds)`.
 #[inline]
 pub fn postfix_by<P, F: PostfixFolder<O, W>, O, W>(
     power: u16,

@@ -13,7 +13,7 @@ pub struct Place {
     pub column: usize,
 }
 
-/// The place of a byte offset: of `place_of("a\nbc", 3)` the line is 2 and the column 2. An offset past the end stands for
+/// The place of a byte offset: of `place_of("ab\nc", 4)` the line is 2 and the column 2. An offset past the end stands for
 /// the end.
 pub fn place_of(text: &str, offset: usize) -> Place
     ensures line { result.line ≡ line_number text.now offset }
