@@ -19,6 +19,8 @@ mod exact_strings;
 #[cfg(test)]
 mod exact_sums;
 #[cfg(test)]
+mod exact_timestamps;
+#[cfg(test)]
 mod exact_versions;
 #[cfg(test)]
 mod expressions;

@@ -43,6 +43,9 @@ pub mod PairsLaws
 pub mod Quoted
 pub mod QuotedLaws
 pub mod Switch
+pub mod ThreeFields
+pub mod Timestamp
+pub mod TimestampLaws
 pub mod Trees
 pub mod TreesLaws
 pub mod TreesLevelsLaws
