@@ -187,7 +187,8 @@ moment_parts date mark clock fraction offset = Then (Then (Then (Then (Part date
 
 abbrev moment_heard : ((Date × Clock) × Option (Bor (List ℕ))) × Offset → Tree (Turn ℕ)
 moment_heard read =
-    moment_parts (same (λ w. IsDate w read.0.0.0)) (same (IsLetter (codes "T") (codes "t"))) (same (λ w. IsClock w read.0.0.1)) (same (λ w. IsFraction w read.0.1)) (same (λ w. IsOffset w read.1))
+    moment_parts (same (λ w. IsDate w read.0.0.0)) (same (IsLetter (codes "T") (codes "t")))
+    (same (λ w. IsClock w read.0.0.1)) (same (λ w. IsFraction w read.0.1)) (same (λ w. IsOffset w read.1))
 
 pub moment-is : (read : ((Date × Clock) × Option (Bor (List ℕ))) × Offset) (w : List ℕ) → Words from_of (moment_heard read) w → IsTimestamp w (timestamp_of read)
 moment-is read = as_defined (moment_heard read)
