@@ -159,7 +159,8 @@ letter_ends = either_ends (literal_ends nat_eq (codes "Z")) (literal_ends nat_eq
 pub no_letter : {Q : List ℕ → Type 0} (w rest : List ℕ) → Joined (Equals nat_eq (codes "+")) Q w → DoesNotEnd (letter_ends (w ++ rest))
 no_letter w rest j = before-sign (λ ts. DoesNotEnd (letter_ends ts)) 43 (λ u. tt) w rest j
 
-pub no_plus : {Q : List ℕ → Type 0} (next : Ender ℕ) (w rest : List ℕ) → Joined (Equals nat_eq (codes "-")) Q w → DoesNotEnd (either_ends letter_ends (then_ends (literal_ends nat_eq (codes "+")) next) (w ++ rest))
+pub no_plus : {Q : List ℕ → Type 0} (next : Ender ℕ) (w rest : List ℕ) → Joined (Equals nat_eq (codes "-")) Q w
+    → DoesNotEnd (either_ends letter_ends (then_ends (literal_ends nat_eq (codes "+")) next) (w ++ rest))
 no_plus next w rest j = before-sign (λ ts. DoesNotEnd (either_ends letter_ends (then_ends (literal_ends nat_eq (codes "+")) next) ts)) 45 (λ u. tt) w rest j
 
 -- what follows each part of a moment may follow it
