@@ -177,6 +177,7 @@ pub mod combinator {
     pub use chumsky_context::try_iter_configure::TryIterConfigure;
     pub use chumsky_context::with_ctx::WithCtx;
     pub use chumsky_context::with_state::WithState;
+    pub use chumsky_descent::exact_part::{ExactPart, OfExactPart, exact_part};
     pub use chumsky_flatten::flatten::Flatten;
     pub use chumsky_flatten::into_iter::IntoIter;
     pub use chumsky_folds::enumerate::Enumerate;
@@ -383,7 +384,7 @@ pub mod laws {
         pub use chumsky_context::try_iter_configure::try_configure_is_steady;
         pub use chumsky_context::with_ctx::with_ctx_is_steady;
         pub use chumsky_context::with_state::with_state_is_steady;
-        pub use chumsky_descent::laws::recursive_is_steady;
+        pub use chumsky_descent::laws::{exact_part_is_steady, recursive_is_steady};
         pub use chumsky_flatten::flatten::flatten_is_steady;
         pub use chumsky_flatten::into_iter::into_iter_is_steady;
         pub use chumsky_folds::enumerate::enumerate_is_steady;

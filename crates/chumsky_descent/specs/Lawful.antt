@@ -75,7 +75,7 @@ use Rattle.chumsky_judge.specs.Tried.{ByPick, SamePick, SameFilterMapped, Filter
 use Rattle.chumsky_judge.specs.TriedLaws.{picks-alike}
 use Rattle.chumsky_judge.specs.Vetted.{Vetted}
 use Rattle.chumsky_judge.specs.VettedLaws.{vetted-ends, vetted-agrees}
-use Rattle.chumsky_text.specs.Decimals.{unsigned_of, TextSlice, slice-bytes, unsigned-by_word}
+use Rattle.chumsky_text.specs.Decimals.{unsigned_of, fixed_of, TextSlice, slice-bytes}
 use Rattle.chumsky_text.specs.TextLanguage.{word_language, run_language, keyword_language, newline_language, padded_language}
 use Rattle.chumsky_text.specs.TextLanguageLaws.{word-accepts, run-accepts, keyword-accepts, newline-accepts, padded-accepts}
 use Rattle.chumsky_text.specs.TextRun.{MeansWord, MeansRun, MeansKeyword, MeansNewline, MeansPadded}
@@ -371,6 +371,21 @@ same_pick (Some w) = tt
 same_pick None = tt
 
 module _ {I Sp Cu Er St Mk Cx : Type 0} {source : input_trait.Ghosts I Cu ℕ Sp} {errors : error_trait.Ghosts Er I ℕ Sp} {states : inspector_trait.Ghosts St I Mk ℕ Sp} where
+  -- a run of characters by a picker that decides by its bytes
+  pub bytes-lawful : {W : Type 0} (picks : List ℕ → Option W) {begins : ℕ → Bool} {goes_on : ℕ → ℕ → Bool} {what : List (Wanted ℕ)} {rest_what : ℕ → List (Wanted ℕ)}
+      → Lawful (errors.takes_no_memory × states.takes_no_memory)
+      (Vetted errors.merged errors.takes_no_memory
+      (ByPick source errors (λ (text : Bor (List ℕ)) picked. picked ≡ picks text.now))
+      (MeansWord {Cx = Cx} source (TextSlice (λ s. s.now)) errors states begins goes_on what rest_what))
+      (picked_language (λ w. picks (encode_utf8_all w)) (word_language {V = Bor (List ℕ)} (TextSlice (λ s. s.now)) begins goes_on))
+  bytes-lawful picks {begins} {goes_on} {what} {rest_what} =
+      let SameText : Bor (List ℕ) → Bor (List ℕ) → Type 0 = λ v w. v.now ≡ w.now in
+      pick-lawful SameText
+      (word-agrees source (TextSlice (λ s. s.now)) errors states SameText (λ ts i j v w e d. e ∙ sym d) begins goes_on what rest_what)
+      (λ v w x y e g h. subst (SamePick (λ _ _. ⊤) x) (g ∙ ap picks e ∙ sym h) (same_pick x))
+      (λ w v x s g. g ∙ ap picks (slice-bytes (λ t. t.now) w v s.1))
+      word-lawful
+
   -- `text::int(10).pick_by(text::decimal::<u32>())`, of 32 bits, and its kin
   pub decimal-lawful : (bits : ℕ) {begins : ℕ → Bool} {goes_on : ℕ → ℕ → Bool} {what : List (Wanted ℕ)} {rest_what : ℕ → List (Wanted ℕ)}
       → Lawful (errors.takes_no_memory × states.takes_no_memory)
@@ -378,10 +393,13 @@ module _ {I Sp Cu Er St Mk Cx : Type 0} {source : input_trait.Ghosts I Cu ℕ Sp
       (ByPick source errors (λ (digits : Bor (List ℕ)) picked. picked ≡ unsigned_of bits digits.now))
       (MeansWord {Cx = Cx} source (TextSlice (λ s. s.now)) errors states begins goes_on what rest_what))
       (picked_language (λ w. unsigned_of bits (encode_utf8_all w)) (word_language {V = Bor (List ℕ)} (TextSlice (λ s. s.now)) begins goes_on))
-  decimal-lawful bits {begins} {goes_on} {what} {rest_what} =
-      let SameText : Bor (List ℕ) → Bor (List ℕ) → Type 0 = λ v w. v.now ≡ w.now in
-      pick-lawful SameText
-      (word-agrees source (TextSlice (λ s. s.now)) errors states SameText (λ ts i j v w e d. e ∙ sym d) begins goes_on what rest_what)
-      (λ v w x y e g h. subst (SamePick (λ _ _. ⊤) x) (g ∙ ap (unsigned_of bits) e ∙ sym h) (same_pick x))
-      (λ w v x s g. unsigned-by_word bits w v.now x (slice-bytes (λ t. t.now) w v s.1) g)
-      word-lawful
+  decimal-lawful bits = bytes-lawful (unsigned_of bits)
+
+  -- `text::digits(10).pick_by(Fixed { digits, least, most })`
+  pub fixed-lawful : (digits least most : ℕ) {begins : ℕ → Bool} {goes_on : ℕ → ℕ → Bool} {what : List (Wanted ℕ)} {rest_what : ℕ → List (Wanted ℕ)}
+      → Lawful (errors.takes_no_memory × states.takes_no_memory)
+      (Vetted errors.merged errors.takes_no_memory
+      (ByPick source errors (λ (text : Bor (List ℕ)) picked. picked ≡ fixed_of digits least most text.now))
+      (MeansWord {Cx = Cx} source (TextSlice (λ s. s.now)) errors states begins goes_on what rest_what))
+      (picked_language (λ w. fixed_of digits least most (encode_utf8_all w)) (word_language {V = Bor (List ℕ)} (TextSlice (λ s. s.now)) begins goes_on))
+  fixed-lawful digits least most = bytes-lawful (fixed_of digits least most)

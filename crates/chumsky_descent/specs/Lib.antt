@@ -7,3 +7,4 @@ pub mod Lawful
 pub mod Body
 pub mod Exactly
 pub mod OperatorsLawful
+pub mod ExactPart

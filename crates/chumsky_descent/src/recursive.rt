@@ -148,7 +148,7 @@ pub fn recursive<F, I, O, E>(function: F, depth: usize) -> Called<F, Unsaid, I, 
     }
 }
 
-/// `recursive` of a function of which the marker `R` says what it means.
+/// `recursive` of a function of which the marker `R` says what it means: `recursive_as::<OfPairs, _, _, _, _>(pairs, depth)`.
 #[inline]
 pub fn recursive_as<R, F, I, O, E>(function: F, depth: usize) -> Called<F, R, I, O, E>
     ensures function { result.function ≡ function }

@@ -20,7 +20,8 @@ pub fn decimal<T>() -> DecimalOf<T> {
     DecimalOf { of: PhantomData }
 }
 
-/// What picks a number of just so many digits within bounds.
+/// What picks a number of just so many digits within bounds: `Fixed { digits: 2, least: 1, most: 12 }` picks 7 of `07`, and
+/// nothing of `7` and of `13`.
 #[derive(Clone, Copy)]
 pub struct Fixed {
     pub digits: usize,

@@ -8,7 +8,7 @@ use crate::number::{Digits, Int};
 use crate::space::{InlineWhitespace, LineEnd, Whitespace};
 use chumsky_input::util::Plain;
 
-/// A kind of tokens, and what is expected where one of it is wanted.
+/// A kind of tokens, and what is expected where one of it is wanted: `Digits { radix: 2 }` is one, for `run_of`.
 pub trait Kind<T> {
     /// That tokens may be tested.
     ghost fits: { Self → Type 0 };
@@ -28,7 +28,7 @@ pub trait Kind<T> {
         ensures { plain_wanted result ≡ wants self.now };
 }
 
-/// A kind of first tokens, and for each of these a kind of tokens that may follow it.
+/// A kind of first tokens, and for each of these a kind of tokens that may follow it: `AsciiIdent` is one, for `word_of`.
 pub trait Lexeme<T>: Kind<T> {
     type Rest: Kind<T> + Copy;
 
