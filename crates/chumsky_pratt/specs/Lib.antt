@@ -21,6 +21,7 @@ pub mod OperatingLaws
 pub mod TreeClimb
 pub mod TreeClimbLaws
 pub mod ClimbedTrees
+pub mod ClimbedRefused
 pub mod ClimbedReads
 pub mod ClimbsWhole
 pub mod PrecedenceLanguage
