@@ -26,4 +26,6 @@ pub mod ClimbedReads
 pub mod ClimbsWhole
 pub mod PrecedenceLanguage
 pub mod PrecedenceLanguageLaws
+pub mod Layers
+pub mod LayersLaws
 pub mod ListedLanguage
