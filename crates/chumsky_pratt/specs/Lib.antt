@@ -21,8 +21,11 @@ pub mod OperatingLaws
 pub mod TreeClimb
 pub mod TreeClimbLaws
 pub mod ClimbedTrees
+pub mod ClimbedRefused
 pub mod ClimbedReads
 pub mod ClimbsWhole
 pub mod PrecedenceLanguage
 pub mod PrecedenceLanguageLaws
+pub mod Layers
+pub mod LayersLaws
 pub mod ListedLanguage

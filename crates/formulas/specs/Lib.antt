@@ -1,6 +1,12 @@
 pub mod Formula
-pub mod FormulaTrees
+pub mod Signs
+pub mod Truth
+pub mod FormulaOperators
 pub mod FormulaLaws
 pub mod Nested
 pub mod NestedLaws
 pub mod RefusedLaws
+pub mod Primed
+pub mod PrimedLaws
+pub mod Ranked
+pub mod RankedLaws

@@ -1,8 +1,10 @@
-//! Formulas of `t` and `f`, by operators of three powers, without brackets and with them, whose contracts say exactly which texts are
-//! accepted.
+//! Formulas of `t` and `f`, by operators of three powers, without brackets and with them, by a postfix operator, and by a list of operators
+//! whose powers are chosen; their contracts say exactly which texts are accepted.
 #![tactic(auto)]
 
 pub mod nested;
+pub mod primed;
+pub mod ranked;
 
 ghost use Rattle.std.specs.Prelude.{◌≡◌};
 ghost use Rattle.std.specs.Str.{chars};

@@ -3,7 +3,7 @@ ghost use Rattle.std.specs.Prelude.{◌≡◌, ◌≤◌, true, false};
 ghost use Rattle.std.specs.Str.{chars};
 ghost use Rattle.chumsky.specs.Accepted.{ExactlyUnless};
 ghost use Rattle.chumsky_pratt.specs.declared.fixity.Associativity.TheVariants.{Left};
-ghost use Rattle.formulas.specs.Nested.{IsNestedFormula, opened};
+ghost use Rattle.formulas.specs.Formula.{IsNestedFormula, nesting};
 
 use crate::{Both, OneOfBoth, Opposite};
 use chumsky::combinator::{DelimitedBy, Or, To, run_part};
@@ -127,13 +127,14 @@ fn any_formula<'src>(
 }
 
 /// What a formula with brackets comes to, as `!(t|f)&t`, in which a `!` binds before an `&`, and that before an `|`. Of any other
-/// text there is no output. A run is refused for memory; or with `TooDeep`, only of a text in which `limit` brackets open or more.
+/// text there is no output. A run is refused for memory; or with `TooDeep`, only of a text whose brackets are nested so deep that
+/// somewhere `limit` are open at once, or more.
 pub fn parse_nested_formula(
     alloc: Global,
     text: &str,
     limit: usize,
 ) -> Result<ParseResult<bool, EmptyErr>, Stop>
-    ensures { ExactlyUnless IsNestedFormula (chars text.now) (limit ≤ opened (chars text.now)) result }
+    ensures { ExactlyUnless IsNestedFormula (chars text.now) (limit ≤ nesting (chars text.now)) result }
 {
     recursive_as::<OfFormula, _, _, _, EmptyText>(any_formula, limit).parse(alloc, text)
 }

@@ -13,13 +13,10 @@ returns c =
     let o = c.infix_by-2.ensures in
     let r = p.operators.others in
     formula-exactly (record {
-      t = p.atom.first.parser.seq;
-      f = p.atom.second.parser.seq;
+      atoms = record { t = p.atom.first.parser.seq; f = p.atom.second.parser.seq; holds = p.atom.first.value; fails = p.atom.second.value };
       opposite = p.operators.operator.parser.seq;
       both = r.operator.parser.seq;
       one = r.others.operator.parser.seq;
-      holds = p.atom.first.value;
-      fails = p.atom.second.value;
       power = p.operators.operator.power;
       both_stand = r.operator.associativity;
       one_stands = r.others.operator.associativity;
