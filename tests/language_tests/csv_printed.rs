@@ -16,11 +16,11 @@ fn fields_are_printed_between_quotes_where_they_need_them(rt: HostRuntime) {
     ];
     for (text, printed) in rows {
         let parsed = parse_csv(rt.alloc(), text).expect(&rt, "refused");
-        let records = parsed.into_output().expect(&rt, "no records");
+        let records = parsed.into_result().expect(&rt, "no records");
         let written = print_csv(rt.alloc(), &records).expect(&rt, "memory");
         assert_eq!(rt; written.as_str(), printed, "{text}");
         let again = parse_csv(rt.alloc(), written.as_str()).expect(&rt, "refused");
-        let others = again.into_output().expect(&rt, "not read back");
+        let others = again.into_result().expect(&rt, "not read back");
         assert!(rt; others == records, "{text}");
     }
 }

@@ -10,6 +10,7 @@ use exact::number::parse_number;
 use exact::pairs::parse_pairs;
 use exact::print_pairs::print_pairs;
 use exact::quoted::{Token, parse_quoted_number};
+use exact::rows::parse_rows;
 use exact::switch::{Key, Setting, Switch, parse_switch};
 use exact::trees::{Tree, parse_tree};
 use std::alloc::{AllocError, Global};
@@ -26,11 +27,11 @@ fn four_texts_are_levels_and_no_other_is(rt: HostRuntime) -> Result<(), Fail> {
     ];
     for (text, level) in accepted {
         let parsed = parse_level(alloc, text)?;
-        assert_eq!(rt; parsed.into_output(), Some(level), "{text}");
+        assert_eq!(rt; parsed.into_result(), Ok(level), "{text}");
     }
     for text in ["", "level=", "level=wart", "level=info ", " level=info", "level=infodebug"] {
         let parsed = parse_level(alloc, text)?;
-        assert_eq!(rt; parsed.into_output(), None, "{text}");
+        assert!(rt; parsed.has_errors() && !parsed.has_output(), "{text}");
     }
     Ok(())
 }
@@ -50,11 +51,11 @@ fn eight_texts_are_methods_and_no_other_is(rt: HostRuntime) -> Result<(), Fail> 
     ];
     for (text, method) in accepted {
         let parsed = parse_method(alloc, text)?;
-        assert_eq!(rt; parsed.into_output(), Some(method), "{text}");
+        assert_eq!(rt; parsed.into_result(), Ok(method), "{text}");
     }
     for text in ["", "G", "get", "PU", "PUTS", "POSTS", "PATCH", "GET ", " GET", "GETHEAD", "TRACK"] {
         let parsed = parse_method(alloc, text)?;
-        assert_eq!(rt; parsed.into_output(), None, "{text}");
+        assert!(rt; parsed.has_errors() && !parsed.has_output(), "{text}");
     }
     Ok(())
 }
@@ -72,11 +73,11 @@ fn each_of_three_keys_is_on_or_off(rt: HostRuntime) -> Result<(), Fail> {
     ];
     for (text, key, switch) in accepted {
         let parsed = parse_switch(alloc, text)?;
-        assert_eq!(rt; parsed.into_output(), Some(Setting { key, switch }), "{text}");
+        assert_eq!(rt; parsed.into_result(), Ok(Setting { key, switch }), "{text}");
     }
     for text in ["", "volume", "volume=", "volume=o", "volumes=on", "light:on", "light=on ", "on=alarm", "alarm=offon"] {
         let parsed = parse_switch(alloc, text)?;
-        assert_eq!(rt; parsed.into_output(), None, "{text}");
+        assert!(rt; parsed.has_errors() && !parsed.has_output(), "{text}");
     }
     Ok(())
 }
@@ -92,13 +93,13 @@ fn a_purpose_and_a_content_are_read_in_either_order(rt: HostRuntime) -> Result<(
     ];
     for (text, turned, access) in accepted {
         let parsed = parse_access(alloc, text)?;
-        assert_eq!(rt; parsed.into_output(), Some(access), "{text}");
+        assert_eq!(rt; parsed.into_result(), Ok(access), "{text}");
         let parsed = parse_access(alloc, turned)?;
-        assert_eq!(rt; parsed.into_output(), Some(access), "{turned}");
+        assert_eq!(rt; parsed.into_result(), Ok(access), "{turned}");
     }
     for text in ["", "r", "b", "rw", "tb", "rr", "bb", "rbt", "rbw", "brb", "r b", "rb ", " rb", "RB", "ab"] {
         let parsed = parse_access(alloc, text)?;
-        assert_eq!(rt; parsed.into_output(), None, "{text}");
+        assert!(rt; parsed.has_errors() && !parsed.has_output(), "{text}");
     }
     Ok(())
 }
@@ -108,13 +109,13 @@ fn pairs_within_one_another_are_read_under_a_limit_that_suffices(rt: HostRuntime
     let alloc = rt.alloc();
     for (text, limit) in [("[]", 2), ("[[]]", 3), ("[[[[]]]]", 5)] {
         let parsed = parse_nested(alloc, text, limit)?;
-        assert_eq!(rt; parsed.into_output(), Some(()), "{text}");
+        assert_eq!(rt; parsed.into_result(), Ok(()), "{text}");
         let refused = matches!(parse_nested(alloc, text, limit - 1), Err(Stop::TooDeep));
         assert!(rt; refused, "{text}");
     }
     for text in ["", "[", "]", "[]]", "[[]", "[][]", "[x]"] {
         let parsed = parse_nested(alloc, text, 10)?;
-        assert_eq!(rt; parsed.into_output(), None, "{text}");
+        assert!(rt; parsed.has_errors() && !parsed.has_output(), "{text}");
     }
     Ok(())
 }
@@ -124,11 +125,11 @@ fn decimals_below_two_to_the_thirty_two_are_numbers(rt: HostRuntime) -> Result<(
     let alloc = rt.alloc();
     for (text, number) in [("0", 0), ("42", 42), ("4294967295", 4294967295)] {
         let parsed = parse_number(alloc, text)?;
-        assert_eq!(rt; parsed.into_output(), Some(number), "{text}");
+        assert_eq!(rt; parsed.into_result(), Ok(number), "{text}");
     }
     for text in ["", "042", "4294967296", "4x", "-1", "99999999999999999999"] {
         let parsed = parse_number(alloc, text)?;
-        assert_eq!(rt; parsed.into_output(), None, "{text}");
+        assert!(rt; parsed.has_errors() && !parsed.has_output(), "{text}");
     }
     Ok(())
 }
@@ -138,19 +139,19 @@ fn a_number_is_read_within_a_token_in_quotes(rt: HostRuntime) -> Result<(), Fail
     let alloc = rt.alloc();
     for (text, number) in [("0", 0), ("42", 42), ("4294967295", 4294967295)] {
         let parsed = parse_quoted_number(alloc, &[Token::Quoted(text)])?;
-        assert_eq!(rt; parsed.into_output(), Some(number), "{text}");
+        assert_eq!(rt; parsed.into_result(), Ok(number), "{text}");
         let parsed = parse_quoted_number(alloc, &[Token::Name(text)])?;
-        assert_eq!(rt; parsed.into_output(), None, "{text}");
+        assert!(rt; parsed.has_errors() && !parsed.has_output(), "{text}");
         let parsed = parse_quoted_number(alloc, &[Token::Quoted(text), Token::Quoted(text)])?;
-        assert_eq!(rt; parsed.into_output(), None, "{text}");
+        assert!(rt; parsed.has_errors() && !parsed.has_output(), "{text}");
     }
     for text in ["", "042", "4294967296", "4x", "-1", " 1", "1 "] {
         let parsed = parse_quoted_number(alloc, &[Token::Quoted(text)])?;
-        assert_eq!(rt; parsed.into_output(), None, "{text}");
+        assert!(rt; parsed.has_errors() && !parsed.has_output(), "{text}");
     }
     for tokens in [&[] as &[Token], &[Token::Equals]] {
         let parsed = parse_quoted_number(alloc, tokens)?;
-        assert_eq!(rt; parsed.into_output(), None);
+        assert!(rt; parsed.has_errors() && !parsed.has_output());
     }
     Ok(())
 }
@@ -160,12 +161,35 @@ fn bits_are_read_and_no_other_text_is(rt: HostRuntime) -> Result<(), Fail> {
     let alloc = rt.alloc();
     for text in ["0", "1", "0110", "11111111"] {
         let parsed = parse_bits(alloc, text)?;
-        let bits = parsed.into_output().unwrap_or(Vec::new(alloc));
+        let bits = parsed.into_result().unwrap_or(Vec::new(alloc));
         assert!(rt; bits.iter().copied().eq(text.chars()), "{text}");
     }
     for text in ["", "2", "012", "01 ", " 01", "0x1", "٠"] {
         let parsed = parse_bits(alloc, text)?;
-        assert_eq!(rt; parsed.into_output(), None, "{text}");
+        assert!(rt; parsed.has_errors() && !parsed.has_output(), "{text}");
+    }
+    Ok(())
+}
+
+#[test]
+fn rows_have_a_bit_at_least_and_commas_between_them(rt: HostRuntime) -> Result<(), Fail> {
+    let alloc = rt.alloc();
+    let accepted: [(&str, &[&[char]]); 4] = [
+        ("", &[]),
+        ("0", &[&['0']]),
+        ("01,1", &[&['0', '1'], &['1']]),
+        ("1,10,0", &[&['1'], &['1', '0'], &['0']]),
+    ];
+    for (text, rows) in accepted {
+        let read = parse_rows(alloc, text)?.into_result().expect(&rt, "no rows");
+        assert_eq!(rt; read.len(), rows.len(), "{text}");
+        for (row, wanted) in read.iter().zip(rows) {
+            assert_eq!(rt; row.as_slice(), *wanted, "{text}");
+        }
+    }
+    for text in [",", "0,", ",0", "0,,1", "2", "01;1", "0 ", "0,1,x"] {
+        let parsed = parse_rows(alloc, text)?;
+        assert!(rt; parsed.has_errors() && !parsed.has_output(), "{text}");
     }
     Ok(())
 }
@@ -181,11 +205,11 @@ fn dates_are_read_and_no_other_text_is(rt: HostRuntime) -> Result<(), Fail> {
     ];
     for (text, year, month, day) in accepted {
         let parsed = parse_date(alloc, text)?;
-        assert_eq!(rt; parsed.into_output(), Some(Date { year, month, day }), "{text}");
+        assert_eq!(rt; parsed.into_result(), Ok(Date { year, month, day }), "{text}");
     }
     for text in ["", "2026-13-01", "2026-00-01", "2026-1-01", "2026-01-32", "2026-01-00", "02026-01-01", "2026-01-011", "2026/01/01", "+026-01-01", "2026-01-01 "] {
         let parsed = parse_date(alloc, text)?;
-        assert_eq!(rt; parsed.into_output(), None, "{text}");
+        assert!(rt; parsed.has_errors() && !parsed.has_output(), "{text}");
     }
     Ok(())
 }
@@ -207,7 +231,7 @@ fn pairs_of_names_and_numbers_are_read_a_line_each(rt: HostRuntime) -> Result<()
     ];
     for (text, pairs) in accepted {
         let parsed = parse_pairs(alloc, text)?;
-        let read = parsed.into_output();
+        let read = parsed.into_result().ok();
         assert!(rt; read.is_some_and(|read| read.as_slice() == pairs), "{text}");
     }
     for text in [
@@ -215,7 +239,7 @@ fn pairs_of_names_and_numbers_are_read_a_line_each(rt: HostRuntime) -> Result<()
         "a\u{A0}=1",
     ] {
         let parsed = parse_pairs(alloc, text)?;
-        assert!(rt; parsed.into_output().is_none(), "{text}");
+        assert!(rt; parsed.has_errors() && !parsed.has_output(), "{text}");
     }
     Ok(())
 }
@@ -231,8 +255,8 @@ fn pairs_are_printed_without_blanks(rt: HostRuntime) -> Result<(), Fail> {
     for (pairs, text) in printed {
         let written = print_pairs(alloc, pairs)?;
         assert_eq!(rt; written.as_str(), text);
-        let read = parse_pairs(alloc, written.as_str())?.into_output();
-        assert!(rt; read.is_some_and(|read| read.as_slice() == pairs), "{text}");
+        let read = parse_pairs(alloc, written.as_str())?.into_result();
+        assert!(rt; read.is_ok_and(|read| read.as_slice() == pairs), "{text}");
     }
     Ok(())
 }
@@ -258,7 +282,7 @@ fn lists_within_lists_are_read_and_no_other_text_is(rt: HostRuntime) -> Result<(
     let alloc = rt.alloc();
     for text in ["7", "0", "4294967295", "[]", "[1]", "[[]]", "[1,[2,30],[]]", "[[],[[]],[0,[10]]]", "[1,1,1,1,1,1,1,1]"] {
         let parsed = parse_tree(alloc, text, text.len() + 1)?;
-        let tree = parsed.into_output();
+        let tree = parsed.into_result().ok();
         assert!(rt; tree.is_some(), "{text}");
         if let Some(tree) = tree {
             assert_eq!(rt; written(alloc, &tree)?.as_str(), text);
@@ -266,7 +290,7 @@ fn lists_within_lists_are_read_and_no_other_text_is(rt: HostRuntime) -> Result<(
     }
     for text in ["", "x", "07", "4294967296", "[", "]", "[1", "1]", "[1,]", "[,1]", "[,]", "[1,,2]", "[1 ]", " 1", "1,2", "[1][2]", "[[1]", "[4294967296]", "[00]", "-1", "[٠]"] {
         let parsed = parse_tree(alloc, text, 100)?;
-        assert!(rt; parsed.into_output().is_none(), "{text}");
+        assert!(rt; parsed.has_errors() && !parsed.has_output(), "{text}");
     }
     Ok(())
 }
@@ -276,7 +300,7 @@ fn a_list_within_lists_is_refused_that_is_deeper_than_the_limit(rt: HostRuntime)
     let alloc = rt.alloc();
     for (text, calls) in [("7", 1), ("[]", 2), ("[[]]", 3), ("[7,[7]]", 3), ("[[[[]]]]", 5)] {
         let parsed = parse_tree(alloc, text, calls)?;
-        assert!(rt; parsed.into_output().is_some(), "{text}");
+        assert!(rt; parsed.into_result().is_ok(), "{text}");
         let refused = matches!(parse_tree(alloc, text, calls - 1), Err(Stop::TooDeep));
         assert!(rt; refused, "{text}");
     }
@@ -295,7 +319,7 @@ fn a_long_list_is_read_under_as_many_calls_as_its_levels_ask(rt: HostRuntime) ->
         }
         text.push_str("]")?;
         let parsed = parse_tree(alloc, text.as_str(), calls)?;
-        assert!(rt; parsed.into_output().is_some(), "{tree}");
+        assert!(rt; parsed.into_result().is_ok(), "{tree}");
         let refused = matches!(parse_tree(alloc, text.as_str(), calls - 1), Err(Stop::TooDeep));
         assert!(rt; refused, "{tree}");
     }

@@ -9,7 +9,7 @@ fn what_is_read_is_printed_as_it_was_written(rt: HostRuntime) -> Result<(), Fail
     let alloc = rt.alloc();
     for text in ["a", "_", "x1", "0", "42", "()", "(a)", "(())", "(() ())", "(add 1 (double x) ())", "(0 10 (99999999999999999999))", "((((deep))) (a b c))", "(if (is_zero n) 1 (times n (factorial (minus n 1))))"] {
         let parsed = parse_expression(alloc, text, text.len() + 1)?;
-        let expression = parsed.into_output();
+        let expression = parsed.into_result().ok();
         assert!(rt; expression.is_some(), "{text}");
         if let Some(expression) = expression {
             assert_eq!(rt; print_expression(alloc, &expression)?.as_str(), text);
@@ -28,7 +28,7 @@ fn each_name_number_and_list_stands_where_it_was_written(rt: HostRuntime) -> Res
     outer.push(Expression::Name("f"))?;
     outer.push(Expression::List(inner))?;
     outer.push(Expression::Number("1"))?;
-    assert!(rt; parsed.into_output().is_some_and(|read| read == Expression::List(outer)));
+    assert!(rt; parsed.into_result().is_ok_and(|read| read == Expression::List(outer)));
     Ok(())
 }
 
@@ -37,7 +37,7 @@ fn other_texts_are_no_expressions(rt: HostRuntime) -> Result<(), Fail> {
     let alloc = rt.alloc();
     for text in ["", " ", "01", "1x", "-1", "1.5", "(1 02)", "a ", " a", "a b", "a)", "(", ")", "(a", "( )", "(a )", "( a)", "(a  b)", "(a\tb)", "(a,b)", "[a]", "()()", "() ()", "(a)(b)", "(é)", "(a-b)", "((a)", "(a))"] {
         let parsed = parse_expression(alloc, text, 100)?;
-        assert!(rt; parsed.into_output().is_none(), "{text}");
+        assert!(rt; parsed.has_errors() && !parsed.has_output(), "{text}");
     }
     Ok(())
 }
@@ -47,7 +47,7 @@ fn an_expression_is_refused_that_is_deeper_than_the_limit(rt: HostRuntime) -> Re
     let alloc = rt.alloc();
     for (text, calls) in [("a", 1), ("()", 2), ("(a b c)", 2), ("(())", 3), ("(a (b) c)", 3), ("(((())))", 5)] {
         let parsed = parse_expression(alloc, text, calls)?;
-        assert!(rt; parsed.into_output().is_some(), "{text}");
+        assert!(rt; parsed.into_result().is_ok(), "{text}");
         let refused = matches!(parse_expression(alloc, text, calls - 1), Err(Stop::TooDeep));
         assert!(rt; refused, "{text}");
     }
@@ -66,7 +66,7 @@ fn a_long_list_of_expressions_is_read_under_as_many_calls_as_its_levels_ask(rt: 
         }
         text.push_str(")")?;
         let parsed = parse_expression(alloc, text.as_str(), calls)?;
-        assert!(rt; parsed.into_output().is_some(), "{expression}");
+        assert!(rt; parsed.into_result().is_ok(), "{expression}");
         let refused = matches!(parse_expression(alloc, text.as_str(), calls - 1), Err(Stop::TooDeep));
         assert!(rt; refused, "{expression}");
     }

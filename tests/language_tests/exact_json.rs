@@ -68,7 +68,7 @@ fn values_are_read_with_blanks_around_them(rt: HostRuntime) -> Result<(), Fail> 
     ];
     for (text, as_written) in rows {
         let parsed = parse_json(alloc, text, text.len() + 1)?;
-        let value = parsed.into_output();
+        let value = parsed.into_result().ok();
         assert!(rt; value.is_some(), "{text}");
         if let Some(value) = value {
             assert_eq!(rt; written(alloc, &value)?.as_str(), as_written, "{text}");
@@ -91,7 +91,7 @@ fn members_are_kept_in_their_order(rt: HostRuntime) -> Result<(), Fail> {
     ];
     for (text, as_written) in rows {
         let parsed = parse_json(alloc, text, text.len() + 1)?;
-        let value = parsed.into_output();
+        let value = parsed.into_result().ok();
         assert!(rt; value.is_some(), "{text}");
         if let Some(value) = value {
             assert_eq!(rt; written(alloc, &value)?.as_str(), as_written, "{text}");
@@ -113,7 +113,7 @@ fn strings_are_read_with_their_escapes(rt: HostRuntime) -> Result<(), Fail> {
     ];
     for (text, as_written) in rows {
         let parsed = parse_json(alloc, text, text.len() + 1)?;
-        let value = parsed.into_output();
+        let value = parsed.into_result().ok();
         assert!(rt; value.is_some(), "{text}");
         if let Some(value) = value {
             assert_eq!(rt; written(alloc, &value)?.as_str(), as_written, "{text}");
@@ -135,7 +135,7 @@ fn other_texts_are_no_values(rt: HostRuntime) -> Result<(), Fail> {
     ];
     for text in texts {
         let parsed = parse_json(alloc, text, 1_000)?;
-        assert!(rt; parsed.into_output().is_none(), "{text}");
+        assert!(rt; parsed.has_errors() && !parsed.has_output(), "{text}");
     }
     Ok(())
 }
@@ -150,10 +150,10 @@ fn other_texts_are_no_numbers(rt: HostRuntime) -> Result<(), Fail> {
     ];
     for text in texts {
         let parsed = parse_json(alloc, text, 1_000)?;
-        assert!(rt; parsed.into_output().is_none(), "{text}");
+        assert!(rt; parsed.has_errors() && !parsed.has_output(), "{text}");
         let listed = format!(in alloc; "[{text}]")?;
         let parsed = parse_json(alloc, listed.as_str(), 1_000)?;
-        assert!(rt; parsed.into_output().is_none(), "{listed}");
+        assert!(rt; parsed.has_errors() && !parsed.has_output(), "{listed}");
     }
     Ok(())
 }
@@ -169,7 +169,7 @@ fn other_texts_are_no_objects(rt: HostRuntime) -> Result<(), Fail> {
     ];
     for text in texts {
         let parsed = parse_json(alloc, text, 1_000)?;
-        assert!(rt; parsed.into_output().is_none(), "{text}");
+        assert!(rt; parsed.has_errors() && !parsed.has_output(), "{text}");
     }
     Ok(())
 }
@@ -184,10 +184,10 @@ fn other_texts_are_no_strings(rt: HostRuntime) -> Result<(), Fail> {
     ];
     for text in texts {
         let parsed = parse_json(alloc, text, 1_000)?;
-        assert!(rt; parsed.into_output().is_none(), "{text}");
+        assert!(rt; parsed.has_errors() && !parsed.has_output(), "{text}");
         let member = format!(in alloc; "{{{text}:1}}")?;
         let parsed = parse_json(alloc, member.as_str(), 1_000)?;
-        assert!(rt; parsed.into_output().is_none(), "{member}");
+        assert!(rt; parsed.has_errors() && !parsed.has_output(), "{member}");
     }
     Ok(())
 }
@@ -198,7 +198,7 @@ fn a_text_that_is_deeper_than_the_limit_is_refused(rt: HostRuntime) -> Result<()
     let rows = [("7", 1), ("[]", 2), ("{}", 1), ("[ [ ] ]", 3), ("[7,[7]]", 3), ("{\"a\":7}", 2), ("{\"a\":{}}", 2)];
     for (text, calls) in rows {
         let parsed = parse_json(alloc, text, calls)?;
-        assert!(rt; parsed.into_output().is_some(), "{text}");
+        assert!(rt; parsed.into_result().is_ok(), "{text}");
         let refused = matches!(parse_json(alloc, text, calls - 1), Err(Stop::TooDeep));
         assert!(rt; refused, "{text}");
     }
@@ -220,7 +220,7 @@ fn a_long_text_is_read_under_as_many_calls_as_its_levels_ask(rt: HostRuntime) ->
         }
         text.push_str(closing)?;
         let parsed = parse_json(alloc, text.as_str(), calls)?;
-        assert!(rt; parsed.into_output().is_some(), "{item}");
+        assert!(rt; parsed.into_result().is_ok(), "{item}");
         let refused = matches!(parse_json(alloc, text.as_str(), calls - 1), Err(Stop::TooDeep));
         assert!(rt; refused, "{item}");
     }

@@ -26,11 +26,11 @@ fn formulas_bind_as_their_operators_do(rt: HostRuntime) -> Result<(), Fail> {
     ];
     for (text, value) in accepted {
         let parsed = parse_formula(alloc, text)?;
-        assert_eq!(rt; parsed.into_output(), Some(value), "{text}");
+        assert_eq!(rt; parsed.into_result(), Ok(value), "{text}");
     }
     for text in ["", "!", "t!", "tt", "t&", "&t", "t&&t", "t|", "|", "t &f", "(t)", "T"] {
         let parsed = parse_formula(alloc, text)?;
-        assert_eq!(rt; parsed.into_output(), None, "{text}");
+        assert!(rt; parsed.has_errors() && !parsed.has_output(), "{text}");
     }
     Ok(())
 }
@@ -53,11 +53,11 @@ fn formulas_with_brackets_bind_as_these_say(rt: HostRuntime) -> Result<(), Fail>
     ];
     for (text, value) in accepted {
         let parsed = parse_nested_formula(alloc, text, 4)?;
-        assert_eq!(rt; parsed.into_output(), Some(value), "{text}");
+        assert_eq!(rt; parsed.into_result(), Ok(value), "{text}");
     }
     for text in ["", "(", ")", "()", "(t", "t)", "(t)(f)", "t(f)", "(t)t", "(t|)", "!()", "((t)", "(t))", "[t]"] {
         let parsed = parse_nested_formula(alloc, text, 9)?;
-        assert_eq!(rt; parsed.into_output(), None, "{text}");
+        assert!(rt; parsed.has_errors() && !parsed.has_output(), "{text}");
     }
     Ok(())
 }
@@ -66,13 +66,13 @@ fn formulas_with_brackets_bind_as_these_say(rt: HostRuntime) -> Result<(), Fail>
 fn formulas_with_more_brackets_than_the_limit_are_refused(rt: HostRuntime) -> Result<(), Fail> {
     let alloc = rt.alloc();
     let parsed = parse_nested_formula(alloc, "((t))", 3)?;
-    assert_eq!(rt; parsed.into_output(), Some(true));
+    assert_eq!(rt; parsed.into_result(), Ok(true));
     assert_eq!(rt; parse_nested_formula(alloc, "((t))", 2).err(), Some(Stop::TooDeep));
     assert_eq!(rt; parse_nested_formula(alloc, "t", 0).err(), Some(Stop::TooDeep));
     let parsed = parse_nested_formula(alloc, "t&!f&t|f|t&t&!!t", 1)?;
-    assert_eq!(rt; parsed.into_output(), Some(true));
+    assert_eq!(rt; parsed.into_result(), Ok(true));
     let parsed = parse_nested_formula(alloc, "(t)&(t)&(t|f)", 2)?;
-    assert_eq!(rt; parsed.into_output(), Some(true));
+    assert_eq!(rt; parsed.into_result(), Ok(true));
     assert_eq!(rt; parse_nested_formula(alloc, "t|((", 2).err(), Some(Stop::TooDeep));
     let parsed = parse_nested_formula(alloc, "(t)&(t", 2)?;
     assert_eq!(rt; parsed.into_output(), None);

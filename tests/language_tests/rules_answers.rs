@@ -20,6 +20,7 @@ fn brackets_tell_how_deep_they_go(rt: HostRuntime) -> Result<(), Fail> {
     ];
     for (text, depth) in rows {
         let parsed = parse_brackets(alloc, text)?;
+        assert_eq!(rt; parsed.has_errors(), depth.is_none(), "{text}");
         assert_eq!(rt; parsed.into_output(), depth, "{text}");
     }
     Ok(())
@@ -39,11 +40,11 @@ fn digits_in_lists_are_read(rt: HostRuntime) -> Result<(), Fail> {
     let inner = two(alloc, Tree::Digit('2'), empty)?;
     let outer = two(alloc, Tree::Digit('1'), Tree::List(inner))?;
     let parsed = parse_tree(alloc, "[1,[2,[]]]")?;
-    assert_eq!(rt; parsed.into_output(), Some(Tree::List(outer)));
-    assert_eq!(rt; parse_tree(alloc, "7")?.into_output(), Some(Tree::Digit('7')));
+    assert_eq!(rt; parsed.into_result(), Ok(Tree::List(outer)));
+    assert_eq!(rt; parse_tree(alloc, "7")?.into_result(), Ok(Tree::Digit('7')));
     for text in ["", "[", "]", "[1,]", "[,1]", "[1 ,2]", "12", "[1]2", "[[]", "a", ","] {
         let parsed = parse_tree(alloc, text)?;
-        assert_eq!(rt; parsed.into_output(), None, "{text}");
+        assert!(rt; parsed.has_errors() && !parsed.has_output(), "{text}");
     }
     Ok(())
 }
@@ -73,6 +74,7 @@ fn addresses_are_four_numbers_below_256(rt: HostRuntime) -> Result<(), Fail> {
     ];
     for (text, address) in rows {
         let parsed = parse_address(alloc, text)?;
+        assert_eq!(rt; parsed.has_errors(), address.is_none(), "{text}");
         assert_eq!(rt; parsed.into_output(), address, "{text}");
     }
     Ok(())

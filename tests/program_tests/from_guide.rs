@@ -69,6 +69,12 @@ fn each_line_that_is_wrong_is_told_in_one_run(rt: HostRuntime) {
              error 10..11 expected a name found ';'; \
              error 19..20 expected digit, newline, end of input found 'x'",
         ),
+        (
+            "x;Ada;1\r5;Di;7\r\n6;;8\r\n7;Ed;9\r\n",
+            "ok [Payment { id: 5, name: \"Di\", cents: 7 }, Payment { id: 7, name: \"Ed\", cents: 9 }]; \
+             error 0..1 expected a number found 'x'; \
+             error 18..19 expected a name found ';'",
+        ),
         ("", "ok []"),
     ];
     for (text, line) in rows {

@@ -2,8 +2,9 @@
 use answers::extras::Own;
 use answers::leaves::{any_char, just_char, just_text};
 use chumsky::Failure;
+use chumsky::extra::RichTokens;
 use chumsky::prelude::*;
-use chumsky::report::{ByteReport, LineIndex, Report, Source, place_of};
+use chumsky::report::{ByteReport, LineIndex, Report, Source, TokenReport, place_of};
 use std::alloc::{AllocError, AllocGlobal, Global};
 use std::fmt::Debug;
 use std::process::Abort;
@@ -491,6 +492,40 @@ fn bytes_are_reported_in_hexadecimal(rt: HostRuntime) {
     };
     let printed = format!(in rt.alloc(); "{report}").expect(&rt, "out of memory");
     assert_eq!(rt; printed.as_str(), "blob:26 (0x1a): no such block");
+}
+
+/// A token over some bytes of a text.
+fn token(inner: char, start: usize, end: usize) -> Spanned<char, SimpleSpan> {
+    Spanned {
+        inner,
+        span: SimpleSpan { start, end },
+    }
+}
+
+#[test]
+fn an_error_of_tokens_is_reported_in_the_text_that_they_were_read_from(rt: HostRuntime) {
+    let text = "let\nxx 7";
+    let tokens = [token('l', 0, 3), token('x', 4, 6), token('7', 7, 8)];
+    let end = SimpleSpan { start: 8, end: 8 };
+    let parser = just::<_, SpannedTokens<'_, char>, RichTokens<char>>('l')
+        .then(one_of(['a', 'b', 'c']));
+    let rows = [
+        (3, "input:2:1: expected 'a', 'b' or 'c', found 'x'\nxx 7\n^^"),
+        (1, "input:2:5: expected 'a', 'b' or 'c', found end of input\nxx 7\n    ^"),
+        (0, "input:2:5: expected 'l', found end of input\nxx 7\n    ^"),
+    ];
+    let lines = LineIndex::new(rt.alloc(), text).expect(&rt, "out of memory");
+    for (count, expected) in rows {
+        let read = split_spanned(&tokens[..count], end);
+        let parsed = parser.parse(rt.alloc(), read).ok().expect(&rt, "refused");
+        let error = &parsed.errors[0];
+        let report = TokenReport { name: "input", text, error };
+        let printed = format!(in rt.alloc(); "{report}").expect(&rt, "out of memory");
+        assert_eq!(rt; printed.as_str(), expected);
+        let report = TokenReport { name: "input", text: &lines, error };
+        let printed = format!(in rt.alloc(); "{report}").expect(&rt, "out of memory");
+        assert_eq!(rt; printed.as_str(), expected);
+    }
 }
 
 #[test]

@@ -3,7 +3,7 @@ ghost use Rattle.std.specs.Prelude.{◌≡◌, ℕ, ◌++◌, List, [], ◌∷�
 ghost use Rattle.std.specs.List.{list_all};
 ghost use Rattle.std.specs.Str.{chars};
 ghost use Rattle.exact.specs.Csv.{is_text_data, doubled, field_of, record_of, IsCsv};
-ghost use Rattle.exact.specs.CsvWritten.{quoted_text, field_text, led_text, record_text, line_text, AreWritable};
+ghost use Rattle.exact.specs.CsvWritten.{quoted_text, field_text, led_text, record_text, line_text, csv_text, AreWritable};
 
 use std::alloc::{AllocError, Global};
 
@@ -115,6 +115,7 @@ fn push_record(text: &mut String, fields: &Vec<String>) -> Result<(), AllocError
 /// there is one record at least, and one field at least in each, the text is of these records, and of no others: so `parse_csv` gives
 /// them back. They are so where they were read. The only error is want of memory.
 pub fn print_csv(alloc: Global, records: &[Vec<String>]) -> Result<String, AllocError>
+    ensures text { IfOk result (λ text. chars (string_bytes text) ≡ csv_text (map record_of records.now)) }
     ensures holds { AreWritable (map record_of records.now) → IfOk result (λ text. IsCsv (chars (string_bytes text)) (map record_of records.now)) }
     ensures once { AreWritable (map record_of records.now) → IfOk result (λ text. (others : List (List (List ℕ))) → IsCsv (chars (string_bytes text)) others → others ≡ map record_of records.now) }
     ensures again { (source : List ℕ) → IsCsv source (map record_of records.now) → IfOk result (λ text. IsCsv (chars (string_bytes text)) (map record_of records.now)) }

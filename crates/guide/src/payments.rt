@@ -55,7 +55,11 @@ pub fn parse_payments(
     alloc: Global,
     file: &str,
 ) -> Result<ParseResult<Vec<Payment>, Rich<char>>, Stop> {
-    let other = none_of("\n").repeated().at_least(1).map(|_| None);
+    let other = any()
+        .and_is(text::newline().not())
+        .repeated()
+        .at_least(1)
+        .map(|_| None);
     let line = part_of(OfLine).map(Some).recover_with(via_parser(other));
     line.or_not()
         .separated_by(text::newline())

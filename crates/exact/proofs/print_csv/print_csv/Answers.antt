@@ -18,4 +18,4 @@ returns c =
     let lines = c.loop-fields.invariant ∙ ap (flat_map (λ fields. line_text (record_of fields))) (take_all c.loop-fields.fields-index c.args.records.now c.loop-fields-test.false) in
     let whole : text ≡ csv_text records = lines ∙ of-map record_of line_text c.args.records.now in
     let is : AreWritable records → IsCsv text records = λ h. subst (λ z. IsCsv z records) (sym whole) (csv-written records h) in
-    record { holds = is; once = λ h others i. csv-once text others records i (is h); again = λ source i. is (written-again source records i) }
+    record { text = whole; holds = is; once = λ h others i. csv-once text others records i (is h); again = λ source i. is (written-again source records i) }

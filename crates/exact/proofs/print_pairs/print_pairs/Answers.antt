@@ -41,6 +41,7 @@ returns c =
     let whole : text ≡ flat_map f ps = c.loop-pair.invariant ∙ ap (flat_map f) (take_all c.loop-pair.pair-index ps c.loop-pair-test.false) in
     let is : OfEach IsPair (texts_of ps) → IsPairs text (texts_of ps) = λ h. subst (λ z. IsPairs z (texts_of ps)) (sym (whole ∙ in_bytes ps h)) (printed-is (texts_of ps) h) in
     record {
+      text = whole;
       holds = is;
       once = λ h others i. pairs-once text others (texts_of ps) i (is h);
       again = λ source i. is (lines-each IsPair line-pair i);
