@@ -88,7 +88,7 @@ fn each_item_that_is_wrong_is_told(rt: HostRuntime) {
 #[test]
 fn errors_of_both_stages_stand_in_the_order_of_the_text(rt: HostRuntime) {
     let rows = [
-        ("let = 1;\nlet a = $1 + 99999999999999999999999;\nb c;\n\"open\n(;\n1 /* x", "input:1:5: expected a name, found '='\nlet = 1;\n    ^\ninput:2:9: this character begins no token\nlet a = $1 + 99999999999999999999999;\n        ^\ninput:2:14: this number is too large\nlet a = $1 + 99999999999999999999999;\n             ^^^^^^^^^^^^^^^^^^^^^^^\ninput:3:3: expected an operator, ';', '}' or end of input, found 'a name'\nb c;\n  ^\ninput:4:1: this text isn't closed\n\"open\n^^^^^\ninput:5:2: expected an expression or ')', found ';'\n(;\n ^\ninput:6:3: this comment isn't closed\n1 /* x\n  ^^^^\nwrong@0..7\nlet 13..14 = (1@18..19 + 0@22..45)@18..45@9..45\nwrong@47..50\nwrong@52..59\n1@61..62\n"),
+        ("let = 1;\nlet a = $1 + 99999999999999999999999;\nb c;\n\"open\n(;\n1 /* x", "input:1:5: expected a name, found '='\nlet = 1;\n    ^\ninput:2:9: expected a token, found '$'\nlet a = $1 + 99999999999999999999999;\n        ^\ninput:2:14: this number is too large\nlet a = $1 + 99999999999999999999999;\n             ^^^^^^^^^^^^^^^^^^^^^^^\ninput:3:3: expected an operator, ';', '}' or end of input, found 'a name'\nb c;\n  ^\ninput:4:1: this text isn't closed\n\"open\n^^^^^\ninput:5:2: expected an expression or ')', found ';'\n(;\n ^\ninput:6:3: this comment isn't closed\n1 /* x\n  ^^^^\nwrong@0..7\nlet 13..14 = (1@18..19 + 0@22..45)@18..45@9..45\nwrong@47..50\nwrong@52..59\n1@61..62\n"),
     ];
     assert_lines(&rt, shown, &rows);
 }

@@ -1,7 +1,7 @@
 //! What JSON is, on texts whose answers are known from outside.
 use super::printed::{Refusal, assert_lines, nested, printed};
 use chumsky::Stop;
-use json_tree::{Json, JsonText, read_json, read_json_within};
+use json_tree::{Json, JsonText, read_json, read_json_within, recover_json};
 use std::alloc::{AllocError, Global};
 use std::test::Fail;
 
@@ -210,6 +210,92 @@ fn what_is_wrong_is_told_at_its_place(rt: HostRuntime) {
         ("[1.]", "input:1:4: expected digit, found ']'\n[1.]\n   ^\n"),
     ];
     assert_lines(&rt, in_line, &rows);
+}
+
+/// What is read around what is wrong, in one line, and then each error with its span.
+fn recovered(alloc: Global, text: &str) -> Result<String, AllocError> {
+    let Ok(parsed) = recover_json(alloc, text) else {
+        return String::from_str(alloc, "refused\n");
+    };
+    let mut all = String::new(alloc);
+    if let Some(json) = parsed.output() {
+        let json = JsonText {
+            json,
+            indented: false,
+        };
+        all.push_str(format!(in alloc; "{json}\n")?.as_str())?;
+    }
+    for error in parsed.errors.iter() {
+        let span = error.span();
+        all.push_str(format!(in alloc; "{}..{} {error}\n", span.start, span.end)?.as_str())?;
+    }
+    Ok(all)
+}
+
+#[test]
+fn each_item_and_each_member_that_is_wrong_is_told(rt: HostRuntime) {
+    let rows = [
+        ("[1, {\"a\": [null]}]", "[1,{\"a\":[null]}]\n"),
+        (
+            "[1, nul, 3, , tru]",
+            "[1,null,3,null,null]\n\
+             7..8 expected 'l', found ','\n\
+             12..13 expected a string, a number, 'n', 't', 'f', '[' or '{', found ','\n\
+             17..18 expected 'e', found ']'\n",
+        ),
+        (
+            "[1 2, 01, 4]",
+            "[null,null,4]\n\
+             3..4 expected ',' or ']', found '2'\n\
+             7..8 expected '.', 'e', 'E' or ',' or ']', found '1'\n",
+        ),
+        (
+            "[1, {\"a\" 1, \"b\": 2}, [2 3], {b: 4}, 5]",
+            "[1,{\"b\":2},[null],{},5]\n\
+             9..10 expected ':', found '1'\n\
+             24..25 expected ',' or ']', found '3'\n\
+             29..30 expected a string, found 'b'\n",
+        ),
+        (
+            "{\"a\": tru, \"b\": \"\\q\", \"c\": 2 \"d\": 3, \"e\": 4}",
+            "{\"e\":4}\n\
+             9..10 expected 'e', found ','\n\
+             18..19 expected an escape, found 'q'\n\
+             29..30 expected ',' or '}', found '\"'\n",
+        ),
+        (
+            "[1, nul, 3 4, {\"a\": 5, b: 6}]",
+            "[1,null,null,{\"a\":5}]\n\
+             7..8 expected 'l', found ','\n\
+             11..12 expected ',' or ']', found '4'\n\
+             23..24 expected a string, found 'b'\n",
+        ),
+        // What is wrong within an item that is wrong is told no more.
+        (
+            "[[nul, 1] 2, [[3, [nul] 6], 4], 5]",
+            "[null,[[3,null],4],5]\n\
+             10..11 expected ',' or ']', found '2'\n\
+             24..25 expected ',' or ']', found '6'\n",
+        ),
+        // A bracket or a quote in a string is none.
+        (
+            "{\"a\": [1,], \"b\": [\"], [\", 2 \"\\\"]\"]}",
+            "{\"b\":[\"], [\",null]}\n\
+             9..10 expected a string, a number, 'n', 't', 'f', '[' or '{', found ']'\n\
+             28..29 expected ',' or ']', found '\"'\n",
+        ),
+        // Where a bracket isn't closed, there is no value.
+        (
+            "[nul, 2",
+            "7..7 expected digit, '.', 'e', 'E', ',' or ']', found end of input\n",
+        ),
+        (
+            "[1, nul] 2",
+            "7..8 expected 'l', found ']'\n9..10 expected end of input, found '2'\n",
+        ),
+        ("nul", "3..3 expected 'l', found end of input\n"),
+    ];
+    assert_lines(&rt, recovered, &rows);
 }
 
 /// Lists and objects count alike.

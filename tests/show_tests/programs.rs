@@ -67,7 +67,7 @@ fn errors_are_reported_beside_the_output(rt: HostRuntime) {
         "input:1:1: expected whitespace, a comment, an atom, '(', '\\'' or end of input, found ')'\n)\n^\n";
     assert_ran(&rt, &FormatLisp, &[("", b")", 1, "", no_list)]);
     let of_both = "input:1:3: expected an operator, ';', '}' or end of input, found 'a name'\na b; 1 $+ 2\n  ^\n\
-                   input:1:8: this character begins no token\na b; 1 $+ 2\n       ^\n";
+                   input:1:8: expected a token, found '$'\na b; 1 $+ 2\n       ^\n";
     assert_ran(&rt, &FormatProgram, &[("", b"a b; 1 $+ 2", 1, "a b;\n(1 + 2);\n", of_both)]);
 }
 

@@ -130,16 +130,9 @@ impl<'src> Part<'src, &'src str, Option<Spanned<Token, SimpleSpan>>, RichText> f
         wanted: bool,
         inp: &mut TextRef<'src, '_, RichText>,
     ) -> PResult<Option<Option<Spanned<Token, SimpleSpan>>>> {
-        let token = part_of(AnyToken).spanned().map(Some);
-        let other = any().validate(|_, extra, emitter| {
-            emitter.emit_message(
-                extra.alloc(),
-                extra.span(),
-                "this character begins no token",
-            );
-            None
-        });
-        run_part(&token.or(other), wanted, inp)
+        let token = part_of(AnyToken).labelled("a token").spanned().map(Some);
+        let other = any().map(|_| None);
+        run_part(&token.recover_with(via_parser(other)), wanted, inp)
     }
 }
 

@@ -185,3 +185,55 @@ impl<'src> Part<'src, &'src str, char, RichText> for Mark {
         run_part(&just(self.0).padded_with(Space), wanted, inp)
     }
 }
+
+/// Looks whether an item ends here: before a comma, a closing bracket or the end of the text. Else it is told that a comma or this
+/// bracket was expected.
+#[derive(Clone, Copy)]
+pub struct ItemEnd(pub char);
+
+impl<'src> IsParser<&'src str, (), RichText> for ItemEnd {}
+
+impl<'src> Part<'src, &'src str, (), RichText> for ItemEnd {
+    fn run(&self, wanted: bool, inp: &mut TextRef<'src, '_, RichText>) -> PResult<Option<()>> {
+        let expected = if self.0 == ']' {
+            "',' or ']'"
+        } else {
+            "',' or '}'"
+        };
+        let end = none_of(",]}").not().labelled(expected);
+        run_part(&end, wanted, inp)
+    }
+}
+
+/// What stands between two quotes, whatever follows a backslash in it.
+#[derive(Clone, Copy)]
+struct AnyString;
+
+impl<'src> IsParser<&'src str, (), RichText> for AnyString {}
+
+impl<'src> Part<'src, &'src str, (), RichText> for AnyString {
+    fn run(&self, wanted: bool, inp: &mut TextRef<'src, '_, RichText>) -> PResult<Option<()>> {
+        let inside = none_of("\"\\").or(just('\\').ignore_then(any())).repeated();
+        let string = inside.delimited_by(just('"'), just('"'));
+        run_part(&string, wanted, inp)
+    }
+}
+
+/// An item that can't be read: what stands before a comma or a closing bracket, or nothing before a comma. Lists, objects and
+/// strings in it are taken whole; where one in it isn't closed, there is no such item, so that no text is gone through once for each
+/// of its brackets.
+#[derive(Clone, Copy)]
+pub struct WrongItem;
+
+impl<'src> IsParser<&'src str, (), RichText> for WrongItem {}
+
+impl<'src> Part<'src, &'src str, (), RichText> for WrongItem {
+    fn run(&self, wanted: bool, inp: &mut TextRef<'src, '_, RichText>) -> PResult<Option<()>> {
+        let list = nested_delimiters('[', ']', [('{', '}')], |_: SimpleSpan| ());
+        let object = nested_delimiters('{', '}', [('[', ']')], |_: SimpleSpan| ());
+        let other = none_of(",[]{}\"").ignored();
+        let one = choice((list, object, part_of(AnyString), other)).labelled("a value");
+        let wrong = one.repeated().at_least(1).or(just(',').rewind().ignored());
+        run_part(&wrong, wanted, inp)
+    }
+}

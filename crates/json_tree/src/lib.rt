@@ -1,7 +1,7 @@
 //! JSON to a tree, with errors for people, and the tree as text again.
 #![tactic(auto)]
 
-ghost use Rattle.std.specs.Prelude.{◌≡◌, ◌+◌, ◌-◌, ◌^◌, min, [], IfOk, IsTrue, is_some};
+ghost use Rattle.std.specs.Prelude.{◌≡◌, ◌+◌, ◌-◌, ◌^◌, min, [], IfOk, IsTrue, MatchOption, is_some};
 ghost use Rattle.std.specs.Str.{chars};
 ghost use Rattle.chumsky.specs.Accepted.{ExactlyUnless};
 ghost use Rattle.chumsky_exact.specs.Deep.{IsDeep};
@@ -11,7 +11,7 @@ ghost use Rattle.exact.specs.JsonLevels as json;
 pub mod leaves;
 pub mod tree;
 
-use crate::leaves::{Mark, Name, Scalar};
+use crate::leaves::{ItemEnd, Mark, Name, Scalar, WrongItem};
 pub use crate::tree::JsonText;
 use chumsky::combinator::{Part, part_of, run_part};
 use chumsky::extra::{ParserExtra, RichText};
@@ -23,8 +23,9 @@ use exact::json::parse_json;
 pub use exact::json_value::Json;
 use std::alloc::{AllocError, Global};
 
-/// A list, of the parser of its items. Like `run_object`, it stands apart from the functions that call each other, since in these
-/// each call is dear to check, and it is generic in the input and the extra, as a function that takes a parser over a text has to be.
+/// A list, of the parser of its items. Where one is wrong, its error is emitted, and `null` stands for it. Like `run_object`, it
+/// stands apart from the functions that call each other, since in these each call is dear to check, and it is generic in the input
+/// and the extra, as a function that takes a parser over a text has to be.
 fn run_list<'src, I, E, V>(
     value: V,
     wanted: bool,
@@ -36,17 +37,21 @@ where
     E: ParserExtra<I>,
     V: IsParser<I, Json, E> + Parser<'src, I, Json, E> + Drop,
     Mark: IsParser<I, char, E> + Part<'src, I, char, E>,
+    ItemEnd: IsParser<I, (), E> + Part<'src, I, (), E>,
+    WrongItem: IsParser<I, (), E> + Part<'src, I, (), E>,
     requires { V.ready value }
     ensures { ⟦<Unsaid as RunsUnder<'src, I, Json, E>>⟧.runs 0 wanted inp.old inp.new result }
 {
     let items = value
+        .then_ignore(part_of(ItemEnd(']')))
+        .recover_with(via_parser(part_of(WrongItem).map(|_| Json::Null)))
         .separated_by(part_of(Mark(',')))
         .collect::<Vec<_>>()
         .delimited_by(part_of(Mark('[')), part_of(Mark(']')));
     run_part(&items.map(Json::Array), wanted, inp)
 }
 
-/// An object, of the parser of its values.
+/// An object, of the parser of its values. Where a member is wrong, its error is emitted, and it is left out.
 fn run_object<'src, I, E, V>(
     value: V,
     wanted: bool,
@@ -59,12 +64,18 @@ where
     V: IsParser<I, Json, E> + Parser<'src, I, Json, E> + Drop,
     Name: IsParser<I, String, E> + Part<'src, I, String, E>,
     Mark: IsParser<I, char, E> + Part<'src, I, char, E>,
+    ItemEnd: IsParser<I, (), E> + Part<'src, I, (), E>,
+    WrongItem: IsParser<I, (), E> + Part<'src, I, (), E>,
     requires { V.ready value }
     ensures { ⟦<Unsaid as RunsUnder<'src, I, Json, E>>⟧.runs 0 wanted inp.old inp.new result }
 {
     let members = part_of(Name)
         .then(value)
+        .then_ignore(part_of(ItemEnd('}')))
+        .map(Some)
+        .recover_with(via_parser(part_of(WrongItem).map(|_| None)))
         .separated_by(part_of(Mark(',')))
+        .flatten()
         .collect::<Vec<_>>()
         .delimited_by(part_of(Mark('{')), part_of(Mark('}')));
     run_part(&members.map(Json::Object), wanted, inp)
@@ -149,26 +160,47 @@ pub fn read_json_within(
         }),
         None => Ok(ParseResult {
             output: None,
-            errors: errors_of(alloc, text, levels)?,
+            errors: read_around_errors(alloc, text, levels)?.into_errors(),
         }),
     }
 }
 
-/// What is wrong with a text: one error at least.
-fn errors_of(alloc: Global, text: &str, levels: usize) -> Result<Vec<Rich<char>>, AllocError>
-    ensures { IfOk result (λ errors. errors.items ≡ [] → ⊥) }
+/// Reads a value of which some may be wrong: `[1, nul, {"a": 2, b: 3}]` is `[1,null,{"a":2}]`, beside an error for each item and
+/// each member that can't be read. `null` stands for such an item, and such a member is left out. There is no value where a bracket
+/// or a quote isn't closed, where an item is missing before a closing bracket, and where the text goes on after the value.
+pub fn recover_json(alloc: Global, text: &str) -> Result<ParseResult<Json, Rich<char>>, Stop>
+    ensures right { IfOk result (λ parsed. (json : Json) → HoldsJson (chars text.now) json → parsed.errors.items ≡ []) }
+    ensures exact { IfOk result (λ parsed. parsed.errors.items ≡ [] → MatchOption parsed.output ⊥ (HoldsJson (chars text.now))) }
 {
-    let checked = recursive::<_, _, _, RichText>(value, calls(levels)).check(alloc, text);
-    let mut errors = match checked {
-        Ok(parsed) => parsed.into_errors(),
+    let parsed = parse_json(alloc, text, LEVELS + 1)?;
+    match parsed.into_output() {
+        Some(json) => Ok(ParseResult {
+            output: Some(json),
+            errors: Vec::new(alloc),
+        }),
+        None => Ok(read_around_errors(alloc, text, LEVELS)?),
+    }
+}
+
+/// What is read of a text that is not JSON, and what is wrong with it: one error at least.
+fn read_around_errors(
+    alloc: Global,
+    text: &str,
+    levels: usize,
+) -> Result<ParseResult<Json, Rich<char>>, AllocError>
+    ensures { IfOk result (λ parsed. parsed.errors.items ≡ [] → ⊥) }
+{
+    let parsed = recursive::<_, _, _, RichText>(value, calls(levels)).parse(alloc, text);
+    let (output, mut errors) = match parsed {
+        Ok(parsed) => parsed.into_output_errors(),
         Err(Stop::Memory) => return Err(AllocError),
-        Err(_) => Vec::new(alloc),
+        Err(_) => (None, Vec::new(alloc)),
     };
     if errors.is_empty() {
         let whole = SimpleSpan::from(0..text.len());
         errors.push(Rich::custom_in(alloc, whole, "this is not JSON")?)?;
     }
-    Ok(errors)
+    Ok(ParseResult { output, errors })
 }
 
 /// The errors of a text, without its value.
