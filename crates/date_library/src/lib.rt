@@ -2,6 +2,9 @@
 #![tactic(auto)]
 
 ghost use Rattle.std.specs.Prelude.{◌≡◌, ◌≤◌};
+ghost use Rattle.std.specs.Str.{IsUtf8, chars};
+ghost use Rattle.examples.specs.Date.{IsDate};
+ghost use Rattle.examples.specs.declared.date.Date.{Date};
 
 use examples::date::parse_date;
 use std::alloc::Global;
@@ -31,6 +34,11 @@ const NOTHING: ReadDate = ReadDate {
 /// A date, as `2026-11-23`, in UTF-8. What isn't said by the status is 0.
 #[unsafe(no_mangle)]
 pub extern "C" fn read_date(alloc: Global, bytes: &[u8]) -> ReadDate
+    ensures status { result.status ≤ 3 }
+    ensures date { result.status ≡ 0 → IsDate (chars bytes.now) (record { year = result.year; month = result.month; day = result.day }) }
+    ensures text { result.status ≡ 1 → IsUtf8 bytes.now }
+    ensures none { result.status ≡ 1 → (date : Date) → IsDate (chars bytes.now) date → ⊥ }
+    ensures other { result.status ≡ 2 → IsUtf8 bytes.now → ⊥ }
     ensures month { result.status ≡ 0 → (1 ≤ result.month) × (result.month ≤ 12) }
     ensures day { result.status ≡ 0 → (1 ≤ result.day) × (result.day ≤ 31) }
 {
