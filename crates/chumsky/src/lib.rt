@@ -384,7 +384,8 @@ pub mod laws {
         pub use chumsky_context::try_iter_configure::try_configure_is_steady;
         pub use chumsky_context::with_ctx::with_ctx_is_steady;
         pub use chumsky_context::with_state::with_state_is_steady;
-        pub use chumsky_descent::laws::{exact_part_is_steady, recursive_is_steady};
+        pub use chumsky_descent::laws::exact_part_is_steady;
+        pub use chumsky_descent::laws::recursive_is_steady;
         pub use chumsky_flatten::flatten::flatten_is_steady;
         pub use chumsky_flatten::into_iter::into_iter_is_steady;
         pub use chumsky_folds::enumerate::enumerate_is_steady;
