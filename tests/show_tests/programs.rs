@@ -60,9 +60,13 @@ fn what_is_accepted_is_printed(rt: HostRuntime) {
 fn errors_are_reported_beside_the_output(rt: HostRuntime) {
     let by_zero = "input:1:3: division by zero\n1 / 0\n  ^\n";
     assert_ran(&rt, &Calc, &[("", b"1 / 0", 1, "", by_zero)]);
-    let no_value =
-        "input:1:2: expected a string, a number, 'n', 't', 'f', '[', '{' or ']', found 'x'\n[x\n ^\n";
-    assert_ran(&rt, &FormatJson, &[("", b"[x", 1, "", no_value)]);
+    let no_value = "input:1:2: expected a string, a number, 'n', 't', 'f', '[' or '{', found 'x'\n[x]\n ^\n";
+    let not_closed = "input:1:3: expected a value, ',' or ']', found end of input\n[x\n  ^\n";
+    let rows: [(&str, &[u8], u8, &str, &str); 2] = [
+        ("", b"[x]", 1, "", no_value),
+        ("", b"[x", 1, "", not_closed),
+    ];
+    assert_ran(&rt, &FormatJson, &rows);
     let no_list =
         "input:1:1: expected whitespace, a comment, an atom, '(', '\\'' or end of input, found ')'\n)\n^\n";
     assert_ran(&rt, &FormatLisp, &[("", b")", 1, "", no_list)]);
