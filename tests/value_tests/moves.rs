@@ -320,7 +320,7 @@ fn an_expression_moves_where_its_atom_does(rt: HostRuntime) {
 #[test]
 fn what_goes_back_is_not_said_to_move(rt: HostRuntime) {
     let a = || just_char('a');
-    let letter = a();
+    let (letter, nothing) = (a(), end());
     let boxed = Box::new(rt.alloc(), a()).expect(&rt, "refused");
     let boxed_end = Box::new(rt.alloc(), end()).expect(&rt, "refused");
     let shared = Rc::new(rt.alloc(), a()).expect(&rt, "refused");
@@ -330,7 +330,8 @@ fn what_goes_back_is_not_said_to_move(rt: HostRuntime) {
             ("or_not", moves(a().or_not()), false),
             ("not", moves(a().not()), false),
             ("rewind", moves(a().rewind()), false),
-            ("by reference", moves(&letter), false),
+            ("by reference", moves(&letter), true),
+            ("by reference, none", moves(&nothing), false),
             ("in a box", moves(boxed), true),
             ("in a box, none", moves(boxed_end), false),
             ("in an Rc", moves(shared), true),

@@ -1,9 +1,11 @@
 //! A parser whose part may be absent.
+ghost use Rattle.std.specs.Prelude.{◌≡◌, false};
+
 use chumsky_input::extra::ParserExtra;
 use chumsky_input::input::Input;
 use chumsky_input::input_ref::InputRef;
 use chumsky_input::stop::{Fault, PResult};
-use chumsky_parser::moving::MayStay;
+use chumsky_parser::moving::Moving;
 use chumsky_parser::parser::{IsParser, Parser};
 
 /// A parser's output where it succeeds, and none where it fails. See `or_not`.
@@ -67,4 +69,19 @@ impl<'src, I: Input<'src>, O, E: ParserExtra<I>, A: Parser<'src, I, O, E>> Parse
     }
 }
 
-impl<A> MayStay for OrNot<A> {}
+impl<'src, I: Input<'src>, O, E: ParserExtra<I>, A: Parser<'src, I, O, E>> Moving<
+    'src,
+    I,
+    Option<O>,
+    E,
+> for OrNot<A> {
+    ghost use Rattle.chumsky_parser.specs.ProgressLaws.{never};
+
+    ghost moved = { λ _. never };
+
+    fn always_moves(&self) -> bool
+        ensures { result ≡ false }
+    {
+        false
+    }
+}

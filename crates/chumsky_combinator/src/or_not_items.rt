@@ -1,10 +1,13 @@
 //! A parser whose part may be absent, as items: one, or none.
+ghost use Rattle.std.specs.Prelude.{◌≡◌, false};
+
 use crate::or_not::OrNot;
 use chumsky_input::extra::ParserExtra;
 use chumsky_input::input::Input;
 use chumsky_input::input_ref::InputRef;
 use chumsky_input::stop::{Fault, PResult};
 use chumsky_parser::iter::{IsIterParser, IterParser, IterParserDebug, Iterates};
+use chumsky_parser::moving::MovingItems;
 use chumsky_parser::parser::{IsParser, Parser};
 
 impl<I, O, E, A: IsParser<I, O, E>> IsIterParser<I, O, E> for OrNot<A> {}
@@ -91,5 +94,22 @@ impl<'src, I: Input<'src>, O, E: ParserExtra<I>, A: Parser<'src, I, O, E>> IterP
                 Ok(None)
             }
         }
+    }
+}
+
+impl<'src, I: Input<'src>, O, E: ParserExtra<I>, A: Parser<'src, I, O, E>> MovingItems<
+    'src,
+    I,
+    O,
+    E,
+> for OrNot<A> {
+    ghost use Rattle.chumsky_parser.specs.ProgressLaws.{never};
+
+    ghost first_moved = { λ _. never };
+
+    fn first_always_moves(&self) -> bool
+        ensures { result ≡ false }
+    {
+        false
     }
 }

@@ -1,4 +1,5 @@
 //! `Configure`: a parser that is configured by the context.
+ghost use Rattle.std.specs.Prelude.{◌≡◌, false};
 ghost use Rattle.chumsky_context.specs.Configured.{Sets, IsDeterministic, SameByConfig};
 
 use crate::config::{ConfigParser, IsConfigParser};
@@ -7,7 +8,7 @@ use chumsky_input::extra::ParserExtra;
 use chumsky_input::input::Input;
 use chumsky_input::input_ref::InputRef;
 use chumsky_input::stop::PResult;
-use chumsky_parser::moving::MayStay;
+use chumsky_parser::moving::Moving;
 use chumsky_parser::parser::{IsParser, Parser};
 
 /// A parser that is configured by the context at each run, on both paths. See `configure`.
@@ -57,7 +58,23 @@ where
     }
 }
 
-impl<A, F> MayStay for Configure<A, F> {}
+impl<'src, I, O, E, A, F> Moving<'src, I, O, E> for Configure<A, F>
+where
+    I: Input<'src>,
+    E: ParserExtra<I>,
+    A: ConfigParser<'src, I, O, E>,
+    F: Configurer<A::Config, E::Context>,
+{
+    ghost use Rattle.chumsky_parser.specs.ProgressLaws.{never};
+
+    ghost moved = { λ _. never };
+
+    fn always_moves(&self) -> bool
+        ensures { result ≡ false }
+    {
+        false
+    }
+}
 
 /// `configure` is steady where its part is, and the configurer makes one configuration under one context. Its outputs that are
 /// the same are so to the part by some configuration.

@@ -1,5 +1,5 @@
 //! `Contextual`: a parser that the context can turn off.
-ghost use Rattle.std.specs.Prelude.{Bool};
+ghost use Rattle.std.specs.Prelude.{Bool, ◌≡◌, false};
 
 use crate::config::{ConfigParser, Configurable, IsConfigParser};
 use chumsky_input::extra::ParserExtra;
@@ -7,7 +7,7 @@ use chumsky_input::input::Input;
 use chumsky_input::input_ref::InputRef;
 use chumsky_input::stop::PResult;
 use chumsky_input::util::Plain;
-use chumsky_parser::moving::MayStay;
+use chumsky_parser::moving::Moving;
 use chumsky_parser::parser::{IsParser, Parser};
 
 /// A parser that a configuration can turn off. Where it is off it fails here, and expects nothing else. See `contextual`.
@@ -92,7 +92,18 @@ impl<'src, I: Input<'src>, O, E: ParserExtra<I>, A: Parser<'src, I, O, E>> Confi
     }
 }
 
-impl<A> MayStay for Contextual<A> {}
+impl<'src, I: Input<'src>, O, E: ParserExtra<I>, A: Parser<'src, I, O, E>> Moving<'src, I, O, E>
+    for Contextual<A> {
+    ghost use Rattle.chumsky_parser.specs.ProgressLaws.{never};
+
+    ghost moved = { λ _. never };
+
+    fn always_moves(&self) -> bool
+        ensures { result ≡ false }
+    {
+        false
+    }
+}
 
 /// `contextual` is steady where its part is, configured or not. Its outputs that are the same are so to the part.
 pub fn contextual_is_steady<'src, I, O, E, A>(parser: &Contextual<A>)

@@ -1,6 +1,6 @@
 //! `IgnoreWithCtx`: a parser, and another under its output, for the output of the second.
 ghost use Rattle.chumsky_context.specs.Under.{SameAreEqual};
-ghost use Rattle.std.specs.Prelude.{◌≡◌, ℕ};
+ghost use Rattle.std.specs.Prelude.{◌≡◌, ℕ, false};
 
 use crate::under::{check_under, emit_under};
 use chumsky_input::error::{EmptyErr, Error};
@@ -8,7 +8,7 @@ use chumsky_input::extra::{Err, Full, ParserExtra};
 use chumsky_input::input::Input;
 use chumsky_input::input_ref::InputRef;
 use chumsky_input::stop::PResult;
-use chumsky_parser::moving::MayStay;
+use chumsky_parser::moving::Moving;
 use chumsky_parser::parser::{IsParser, Parser};
 use chumsky_primitive::any::Any;
 use std::marker::PhantomData;
@@ -67,7 +67,26 @@ where
     }
 }
 
-impl<A, B, O, I, X> MayStay for IgnoreWithCtx<A, B, O, I, X> {}
+impl<'src, I, O, U, E, X, A, B> Moving<'src, I, U, E> for IgnoreWithCtx<A, B, O, I, X>
+where
+    I: Input<'src>,
+    I::Token: 'src,
+    O: Drop,
+    E: ParserExtra<I>,
+    A: Parser<'src, I, O, E>,
+    X: ParserExtra<I, Error = E::Error, State = E::State, Context = O>,
+    B: Parser<'src, I, U, X>,
+{
+    ghost use Rattle.chumsky_parser.specs.ProgressLaws.{never};
+
+    ghost moved = { λ _. never };
+
+    fn always_moves(&self) -> bool
+        ensures { result ≡ false }
+    {
+        false
+    }
+}
 
 /// `ignore_with_ctx` is steady where both parts are, and outputs of the first that are the same are equal. Its outputs that are
 /// the same are so to the second part.

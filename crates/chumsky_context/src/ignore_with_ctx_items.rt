@@ -1,4 +1,5 @@
 //! `IgnoreWithCtx` as a parser of items: those of its second part, under the output of the first.
+ghost use Rattle.std.specs.Prelude.{◌≡◌, false};
 ghost use Rattle.chumsky_context.specs.Under.{SameAreEqual};
 
 use crate::ignore_with_ctx::IgnoreWithCtx;
@@ -9,6 +10,7 @@ use chumsky_input::input::Input;
 use chumsky_input::input_ref::InputRef;
 use chumsky_input::stop::PResult;
 use chumsky_parser::iter::{IsIterParser, IterParser, IterParserDebug, Iterates};
+use chumsky_parser::moving::MovingItems;
 use chumsky_parser::parser::{IsParser, Parser};
 
 impl<I, O, U, E, X, A: IsParser<I, O, E>, B: IsIterParser<I, U, X>> IsIterParser<I, U, E>
@@ -78,6 +80,27 @@ where
         debug: IterParserDebug,
     ) -> PResult<Option<()>> {
         next_check_under::<I, U, E, X, B>(&self.then, &state.0, &mut state.1, debug, inp)
+    }
+}
+
+impl<'src, I, O, U, E, X, A, B> MovingItems<'src, I, U, E> for IgnoreWithCtx<A, B, O, I, X>
+where
+    I: Input<'src>,
+    I::Token: 'src,
+    O: Drop,
+    E: ParserExtra<I>,
+    A: Parser<'src, I, O, E>,
+    X: ParserExtra<I, Error = E::Error, State = E::State, Context = O>,
+    B: IterParser<'src, I, U, X>,
+{
+    ghost use Rattle.chumsky_parser.specs.ProgressLaws.{never};
+
+    ghost first_moved = { λ _. never };
+
+    fn first_always_moves(&self) -> bool
+        ensures { result ≡ false }
+    {
+        false
     }
 }
 

@@ -1,4 +1,5 @@
 //! `IterConfigure`: items that are configured by the context.
+ghost use Rattle.std.specs.Prelude.{◌≡◌, false};
 ghost use Rattle.chumsky_context.specs.Configured.{Sets, IsDeterministic};
 
 use crate::config::Configurable;
@@ -10,7 +11,7 @@ use chumsky_input::input_ref::InputRef;
 use chumsky_input::stop::PResult;
 use chumsky_items::pass::pass_all;
 use chumsky_parser::iter::{IsIterParser, IterParser, IterParserDebug, Iterates};
-use chumsky_parser::moving::MayStay;
+use chumsky_parser::moving::{Moving, MovingItems};
 use chumsky_parser::parser::{IsParser, Parser};
 use std::marker::PhantomData;
 
@@ -139,7 +140,42 @@ where
     }
 }
 
-impl<A, F, O> MayStay for IterConfigure<A, F, O> {}
+impl<'src, I, O, E, A, F> MovingItems<'src, I, O, E> for IterConfigure<A, F, O>
+where
+    I: Input<'src>,
+    E: ParserExtra<I>,
+    A: ConfigIterParser<'src, I, O, E>,
+    F: Configurer<A::Config, E::Context>,
+{
+    ghost use Rattle.chumsky_parser.specs.ProgressLaws.{never};
+
+    ghost first_moved = { λ _. never };
+
+    fn first_always_moves(&self) -> bool
+        ensures { result ≡ false }
+    {
+        false
+    }
+}
+
+impl<'src, I, O, E, A, F> Moving<'src, I, (), E> for IterConfigure<A, F, O>
+where
+    I: Input<'src>,
+    O: Drop,
+    E: ParserExtra<I>,
+    A: ConfigIterParser<'src, I, O, E>,
+    F: Configurer<A::Config, E::Context>,
+{
+    ghost use Rattle.chumsky_parser.specs.ProgressLaws.{never};
+
+    ghost moved = { λ _. never };
+
+    fn always_moves(&self) -> bool
+        ensures { result ≡ false }
+    {
+        false
+    }
+}
 
 /// Configured items are steady where the items are, and the configurer makes one configuration under one context. Items that are
 /// the same are so to the part.

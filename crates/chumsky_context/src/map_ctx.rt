@@ -1,5 +1,5 @@
 //! `MapCtx`: a parser under a context that is made of the run's.
-ghost use Rattle.std.specs.Prelude.{◌≡◌, ⊤};
+ghost use Rattle.std.specs.Prelude.{◌≡◌, ⊤, false};
 ghost use Rattle.std.specs.Fn.{FnReturnsAt};
 ghost use Rattle.chumsky_context.specs.Configured.{IsDeterministic};
 
@@ -9,7 +9,7 @@ use chumsky_input::extra::ParserExtra;
 use chumsky_input::input::{Input, Tokens};
 use chumsky_input::input_ref::InputRef;
 use chumsky_input::stop::PResult;
-use chumsky_parser::moving::MayStay;
+use chumsky_parser::moving::Moving;
 use chumsky_parser::parser::{IsParser, Parser};
 use std::marker::PhantomData;
 
@@ -134,7 +134,26 @@ where
     }
 }
 
-impl<A, X, F, I, E> MayStay for MapCtx<A, X, F, I, E> {}
+impl<'src, I, O, X, E, A, F> Moving<'src, I, O, E> for MapCtx<A, X, F, I, E>
+where
+    I: Input<'src>,
+    I::Token: 'src,
+    X: ParserExtra<I, Error = E::Error, State = E::State>,
+    X::Context: Drop,
+    E: ParserExtra<I>,
+    A: Parser<'src, I, O, X>,
+    F: ContextMapper<E::Context, X::Context>,
+{
+    ghost use Rattle.chumsky_parser.specs.ProgressLaws.{never};
+
+    ghost moved = { λ _. never };
+
+    fn always_moves(&self) -> bool
+        ensures { result ≡ false }
+    {
+        false
+    }
+}
 
 /// `map_ctx` is steady where its part is, and the mapper makes one context of one context.
 pub fn map_ctx_is_steady<'src, I, O, X, E, A, F>(parser: &MapCtx<A, X, F, I, E>)

@@ -1,6 +1,6 @@
 //! `NestedIn`: a parser over an input that another parser gives.
 ghost use Rattle.chumsky_context.specs.Within.{SteadyNested};
-ghost use Rattle.std.specs.Prelude.{◌≡◌, ℕ};
+ghost use Rattle.std.specs.Prelude.{◌≡◌, ℕ, false};
 
 use crate::within::{check_within, emit_within};
 use chumsky_input::error::Error;
@@ -11,7 +11,7 @@ use chumsky_input::inspector::Inspector;
 use chumsky_input::simple::Cheap;
 use chumsky_input::span::SimpleSpan;
 use chumsky_input::stop::PResult;
-use chumsky_parser::moving::MayStay;
+use chumsky_parser::moving::Moving;
 use chumsky_parser::parser::{IsParser, Parser};
 use chumsky_primitive::any::Any;
 use std::marker::PhantomData;
@@ -87,7 +87,32 @@ where
     }
 }
 
-impl<A, B, J, C, T, S, M> MayStay for NestedIn<A, B, J, C, T, S, M> {}
+impl<'src, I, J, U, E, A, B, C, T, S, M> Moving<'src, I, U, E> for NestedIn<A, B, J, C, T, S, M>
+where
+    I: Input<'src>,
+    I::Token: 'src,
+    J: Input<'src, Cursor = C, Token = T, Span = S>,
+    C: Copy,
+    T: Drop + 'src,
+    S: Drop,
+    U: Drop,
+    E: ParserExtra<I>,
+    E::Error: Error<J>,
+    E::State: Inspector<J, Mark = M>,
+    M: Drop,
+    A: Parser<'src, J, U, Full<E::Error, E::State, E::Context>>,
+    B: Parser<'src, I, J, E>,
+{
+    ghost use Rattle.chumsky_parser.specs.ProgressLaws.{never};
+
+    ghost moved = { λ _. never };
+
+    fn always_moves(&self) -> bool
+        ensures { result ≡ false }
+    {
+        false
+    }
+}
 
 /// `nested_in` is steady where both parts are, errors and states count as the same over both inputs alike, and outputs of the
 /// outer part that are the same have the same tokens. Its outputs that are the same are so to the inner part.

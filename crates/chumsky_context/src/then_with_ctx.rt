@@ -1,4 +1,5 @@
 //! `ThenWithCtx`: a parser, and another under its output, for both outputs.
+ghost use Rattle.std.specs.Prelude.{◌≡◌, false};
 ghost use Rattle.chumsky_context.specs.Under.{SameAreEqual};
 
 use crate::under::{check_under, emit_under};
@@ -7,7 +8,7 @@ use chumsky_input::extra::ParserExtra;
 use chumsky_input::input::Input;
 use chumsky_input::input_ref::InputRef;
 use chumsky_input::stop::PResult;
-use chumsky_parser::moving::MayStay;
+use chumsky_parser::moving::Moving;
 use chumsky_parser::parser::{IsParser, Parser};
 use std::marker::PhantomData;
 
@@ -67,7 +68,26 @@ where
     }
 }
 
-impl<A, B, O, I, X> MayStay for ThenWithCtx<A, B, O, I, X> {}
+impl<'src, I, O, U, E, X, A, B> Moving<'src, I, (O, U), E> for ThenWithCtx<A, B, O, I, X>
+where
+    I: Input<'src>,
+    I::Token: 'src,
+    O: Drop,
+    E: ParserExtra<I>,
+    A: Parser<'src, I, O, E>,
+    X: ParserExtra<I, Error = E::Error, State = E::State, Context = O>,
+    B: Parser<'src, I, U, X>,
+{
+    ghost use Rattle.chumsky_parser.specs.ProgressLaws.{never};
+
+    ghost moved = { λ _. never };
+
+    fn always_moves(&self) -> bool
+        ensures { result ≡ false }
+    {
+        false
+    }
+}
 
 /// `then_with_ctx` is steady where both parts are, and outputs of the first that are the same are equal. Its outputs that are
 /// the same are so, each, to its part.

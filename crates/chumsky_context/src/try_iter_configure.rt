@@ -1,4 +1,5 @@
 //! `TryIterConfigure`: items that are configured by the context, or refused.
+ghost use Rattle.std.specs.Prelude.{◌≡◌, false};
 ghost use Rattle.chumsky_context.specs.TriedItems.{TrySets, OneRuling};
 
 use crate::config::Configurable;
@@ -10,7 +11,7 @@ use chumsky_input::input_ref::InputRef;
 use chumsky_input::stop::PResult;
 use chumsky_items::pass::pass_all;
 use chumsky_parser::iter::{IsIterParser, IterParser, IterParserDebug, Iterates};
-use chumsky_parser::moving::MayStay;
+use chumsky_parser::moving::{Moving, MovingItems};
 use chumsky_parser::parser::{IsParser, Parser};
 use std::marker::PhantomData;
 
@@ -148,7 +149,42 @@ where
     }
 }
 
-impl<A, F, O> MayStay for TryIterConfigure<A, F, O> {}
+impl<'src, I, O, E, A, F> MovingItems<'src, I, O, E> for TryIterConfigure<A, F, O>
+where
+    I: Input<'src>,
+    E: ParserExtra<I>,
+    A: ConfigIterParser<'src, I, O, E>,
+    F: TryConfigurer<A::Config, E::Context, I::Span, E::Error>,
+{
+    ghost use Rattle.chumsky_parser.specs.ProgressLaws.{never};
+
+    ghost first_moved = { λ _. never };
+
+    fn first_always_moves(&self) -> bool
+        ensures { result ≡ false }
+    {
+        false
+    }
+}
+
+impl<'src, I, O, E, A, F> Moving<'src, I, (), E> for TryIterConfigure<A, F, O>
+where
+    I: Input<'src>,
+    O: Drop,
+    E: ParserExtra<I>,
+    A: ConfigIterParser<'src, I, O, E>,
+    F: TryConfigurer<A::Config, E::Context, I::Span, E::Error>,
+{
+    ghost use Rattle.chumsky_parser.specs.ProgressLaws.{never};
+
+    ghost moved = { λ _. never };
+
+    fn always_moves(&self) -> bool
+        ensures { result ≡ false }
+    {
+        false
+    }
+}
 
 /// `try_configure` is steady where its items are, and the configurer answers one context with one configuration, or with errors
 /// that count as one. Items that are the same are so to the part.

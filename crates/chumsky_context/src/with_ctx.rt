@@ -1,10 +1,12 @@
 //! `WithCtx`: a parser under a context of its own.
+ghost use Rattle.std.specs.Prelude.{◌≡◌, false};
+
 use crate::under::{check_under, emit_under};
 use chumsky_input::extra::{Full, ParserExtra};
 use chumsky_input::input::{Input, Tokens};
 use chumsky_input::input_ref::InputRef;
 use chumsky_input::stop::PResult;
-use chumsky_parser::moving::MayStay;
+use chumsky_parser::moving::Moving;
 use chumsky_parser::parser::{IsParser, Parser};
 
 /// A parser that runs under a context of its own, whatever that of the run is. See `with_ctx`.
@@ -59,7 +61,23 @@ where
     }
 }
 
-impl<A, X> MayStay for WithCtx<A, X> {}
+impl<'src, I, O, E, A, X> Moving<'src, I, O, E> for WithCtx<A, X>
+where
+    I: Input<'src>,
+    I::Token: 'src,
+    E: ParserExtra<I>,
+    A: Parser<'src, I, O, Full<E::Error, E::State, X>>,
+{
+    ghost use Rattle.chumsky_parser.specs.ProgressLaws.{never};
+
+    ghost moved = { λ _. never };
+
+    fn always_moves(&self) -> bool
+        ensures { result ≡ false }
+    {
+        false
+    }
+}
 
 /// `with_ctx` is steady where its part is. Its outputs that are the same are so to the part.
 pub fn with_ctx_is_steady<'src, I, O, E, A, X>(parser: &WithCtx<A, X>)

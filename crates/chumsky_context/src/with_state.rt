@@ -9,7 +9,7 @@ use chumsky_input::input::{Input, Tokens};
 use chumsky_input::input_ref::InputRef;
 use chumsky_input::inspector::Inspector;
 use chumsky_input::stop::PResult;
-use chumsky_parser::moving::MayStay;
+use chumsky_parser::moving::Moving;
 use chumsky_parser::parser::{IsParser, Parser};
 use std::marker::PhantomData;
 
@@ -141,7 +141,24 @@ where
     answer
 }
 
-impl<A, S, I> MayStay for WithState<A, S, I> {}
+impl<'src, I, O, E, A, S> Moving<'src, I, O, E> for WithState<A, S, I>
+where
+    I: Input<'src>,
+    I::Token: 'src,
+    E: ParserExtra<I>,
+    S: Inspector<I> + Clone + Drop,
+    A: Parser<'src, I, O, Full<E::Error, S, E::Context>>,
+{
+    ghost use Rattle.chumsky_parser.specs.ProgressLaws.{never};
+
+    ghost moved = { λ _. never };
+
+    fn always_moves(&self) -> bool
+        ensures { result ≡ false }
+    {
+        false
+    }
+}
 
 /// `with_state` is steady where its part is, and any two copies of the state count as the same.
 pub fn with_state_is_steady<'src, I, O, E, A, S>(parser: &WithState<A, S, I>)

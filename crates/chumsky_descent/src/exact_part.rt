@@ -1,5 +1,5 @@
 //! Parts of a grammar that say which texts they take.
-ghost use Rattle.std.specs.Prelude.{◌≡◌, IfOk, is_some, ⊤};
+ghost use Rattle.std.specs.Prelude.{◌≡◌, IfOk, is_some, ⊤, false};
 ghost use Rattle.chumsky_input.specs.Run.{Runs};
 ghost use Rattle.chumsky_combinator.specs.Part.{Onward};
 ghost use Rattle.chumsky_descent.specs.Lawful.{AnyTwo};
@@ -8,7 +8,7 @@ use chumsky_input::extra::ParserExtra;
 use chumsky_input::input::Input;
 use chumsky_input::input_ref::InputRef;
 use chumsky_input::stop::{Fault, PResult};
-use chumsky_parser::moving::MayStay;
+use chumsky_parser::moving::Moving;
 use chumsky_parser::parser::{IsParser, Parser};
 
 /// A part of a grammar, as `Part`, that also says which texts it takes, and with which values.
@@ -93,4 +93,19 @@ impl<'src, I: Input<'src>, O: Drop, E: ParserExtra<I>, P: ExactPart<'src, I, O, 
     }
 }
 
-impl<P> MayStay for OfExactPart<P> {}
+impl<'src, I: Input<'src>, O: Drop, E: ParserExtra<I>, P: ExactPart<'src, I, O, E>> Moving<
+    'src,
+    I,
+    O,
+    E,
+> for OfExactPart<P> {
+    ghost use Rattle.chumsky_parser.specs.ProgressLaws.{never};
+
+    ghost moved = { λ _. never };
+
+    fn always_moves(&self) -> bool
+        ensures { result ≡ false }
+    {
+        false
+    }
+}

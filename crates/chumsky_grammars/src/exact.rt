@@ -1,8 +1,8 @@
 //! A grammar by rules that has a language.
-ghost use Rattle.std.specs.Prelude.{◌≡◌, ℕ, List, Option, None};
+ghost use Rattle.std.specs.Prelude.{◌≡◌, ℕ, List, Option, None, false};
 
 use chumsky::IsParser;
-use chumsky::recursive::{Actions, Grammar, Leaves, MayStay, Moving, Values};
+use chumsky::recursive::{Actions, Grammar, Leaves, Moving, Values};
 use chumsky_input::extra::ParserExtra;
 use chumsky_input::input::Input;
 use chumsky_input::input_ref::InputRef;
@@ -62,9 +62,6 @@ impl<
     J: Judge<I::Token, W::Value>,
 > IsParser<I, W::Value, E> for ExactGrammar<Grammar<'r, Leaves<'a, P, W>>, J> {}
 
-/// It may be a leaf of another grammar, which takes it for a leaf that may succeed where it begins.
-impl<G, J> MayStay for ExactGrammar<G, J> {}
-
 impl<
     'src,
     'r,
@@ -111,5 +108,27 @@ impl<
     #[inline(always)]
     fn go_check(&self, inp: &mut InputRef<'src, '_, I, E>) -> PResult<()> {
         self.grammar.go_check(inp)
+    }
+}
+
+/// It may be a leaf of another grammar, which takes it for a leaf that may succeed where it begins.
+impl<
+    'src,
+    'r,
+    'a,
+    I: Input<'src>,
+    E: ParserExtra<I>,
+    W: Values<I::Span, E::Error>,
+    P: Moving<'src, I, W::Value, E>,
+    J: Judge<I::Token, W::Value>,
+> Moving<'src, I, W::Value, E> for ExactGrammar<Grammar<'r, Leaves<'a, P, W>>, J> {
+    ghost use Rattle.chumsky_parser.specs.ProgressLaws.{never};
+
+    ghost moved = { λ _. never };
+
+    fn always_moves(&self) -> bool
+        ensures { result ≡ false }
+    {
+        false
     }
 }

@@ -1,10 +1,12 @@
 //! A parser that is only looked at.
+ghost use Rattle.std.specs.Prelude.{◌≡◌, false};
+
 use crate::refuse::fail_as_one;
 use chumsky_input::extra::ParserExtra;
 use chumsky_input::input::Input;
 use chumsky_input::input_ref::InputRef;
 use chumsky_input::stop::{Fault, PResult};
-use chumsky_parser::moving::MayStay;
+use chumsky_parser::moving::Moving;
 use chumsky_parser::parser::{IsParser, Parser};
 
 /// A parser that stands at its start again where it succeeds. See `rewind`.
@@ -80,4 +82,19 @@ impl<'src, I: Input<'src>, O: Drop, E: ParserExtra<I>, A: Parser<'src, I, O, E>>
     }
 }
 
-impl<A> MayStay for Rewind<A> {}
+impl<'src, I: Input<'src>, O: Drop, E: ParserExtra<I>, A: Parser<'src, I, O, E>> Moving<
+    'src,
+    I,
+    O,
+    E,
+> for Rewind<A> {
+    ghost use Rattle.chumsky_parser.specs.ProgressLaws.{never};
+
+    ghost moved = { λ _. never };
+
+    fn always_moves(&self) -> bool
+        ensures { result ≡ false }
+    {
+        false
+    }
+}

@@ -106,6 +106,19 @@ impl<'src, I: Input<'src>, O, E: ParserExtra<I>, P: Parser<'src, I, O, E>> Parse
 }
 
 impl<'src, I: Input<'src>, O, E: ParserExtra<I>, P: Moving<'src, I, O, E>> Moving<'src, I, O, E>
+    for &P {
+    ghost moves = { λ p. P.moves p.now };
+
+    ghost moved = { λ p. P.moved p.now };
+
+    fn always_moves(&self) -> bool
+        ensures { result ≡ P.moves self.now.now }
+    {
+        P::always_moves(*self)
+    }
+}
+
+impl<'src, I: Input<'src>, O, E: ParserExtra<I>, P: Moving<'src, I, O, E>> Moving<'src, I, O, E>
     for Box<P> {
     ghost moves = { λ p. P.moves p.value };
 

@@ -9,7 +9,17 @@ use chumsky_input::input::Input;
 /// Whether a parser moves wherever it succeeds: `just("a")` does, and `just("a").or_not()` does not. Of one that answers no,
 /// nothing is known.
 ///
-/// A parser type of one's own that may be a leaf of a grammar says `impl MayStay for MyParser {}` and is done.
+/// A parser type of one's own that may be a leaf of a grammar, and says nothing, has an impl as this:
+///
+/// ```text
+/// impl<'src> Moving<'src, &'src str, char, RichText> for MyParser {
+///     ghost moved = { λ _ e. absurd (cc) };
+///
+///     fn always_moves(&self) -> bool {
+///         false
+///     }
+/// }
+/// ```
 pub trait Moving<'src, I: Input<'src>, O, E: ParserExtra<I>>: Parser<'src, I, O, E> {
     ghost use Rattle.chumsky_parser.specs.Progress.{Moves};
 
@@ -41,40 +51,6 @@ pub trait MovingItems<'src, I: Input<'src>, O, E: ParserExtra<I>>: IterParser<'s
     ghost first_moved: { (p : Self) → first_moves p ≡ true → (d : IterParserDebug) → ItemsMove (Self.begins p E.Error.Error E.State.Inspector) (λ s. Self.gives p d s E.Error.Error E.State.Inspector) };
 }
 
-/// Says of a type of one's own, a parser, a parser of items or a part of a grammar, that it may succeed where it begins:
-/// `impl MayStay for MyParser {}`.
+/// Says of a part of a grammar, or of the marker of a function that calls itself, that it may succeed where it begins:
+/// `impl MayStay for MyPart {}`.
 pub trait MayStay {}
-
-impl<'src, I: Input<'src>, O, E: ParserExtra<I>, P: MayStay + Parser<'src, I, O, E>> Moving<
-    'src,
-    I,
-    O,
-    E,
-> for P {
-    ghost use Rattle.chumsky_parser.specs.ProgressLaws.{never};
-
-    ghost moved = { λ _. never };
-
-    fn always_moves(&self) -> bool {
-        false
-    }
-}
-
-impl<
-    'src,
-    I: Input<'src>,
-    O,
-    E: ParserExtra<I>,
-    P: MayStay + IterParser<'src, I, O, E>,
-> MovingItems<'src, I, O, E> for P {
-    ghost use Rattle.chumsky_parser.specs.ProgressLaws.{never};
-
-    ghost first_moved = { λ _. never };
-
-    fn first_always_moves(&self) -> bool {
-        false
-    }
-}
-
-/// By reference nothing is said, since a reference to a type of one's own may be `MayStay` too.
-impl<P> MayStay for &P {}

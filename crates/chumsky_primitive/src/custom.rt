@@ -1,5 +1,5 @@
 //! A parser given by a reader, as by a closure.
-ghost use Rattle.std.specs.Prelude.{◌≡◌, Bool, ⊤};
+ghost use Rattle.std.specs.Prelude.{◌≡◌, Bool, ⊤, false};
 ghost use Rattle.chumsky_input.specs.Aside.{GoesForward};
 ghost use Rattle.chumsky_input.specs.Held.{held};
 ghost use Rattle.chumsky_input.specs.Run.{Runs};
@@ -12,7 +12,7 @@ use chumsky_input::input::Input;
 use chumsky_input::input_ref::InputRef;
 use chumsky_input::inspector::Inspector;
 use chumsky_input::stop::{Failure, Fault, PResult};
-use chumsky_parser::moving::MayStay;
+use chumsky_parser::moving::Moving;
 use chumsky_parser::parser::{IsParser, Parser};
 use std::marker::PhantomData;
 
@@ -156,7 +156,24 @@ where
     }
 }
 
-impl<F, I, O, E> MayStay for Custom<F, I, O, E> {}
+impl<'src, F, I, O, E> Moving<'src, I, O, E> for Custom<F, I, O, E>
+where
+    I: Input<'src>,
+    I::Token: 'src,
+    O: Drop,
+    E: ParserExtra<I>,
+    F: Reader<'src, I, O, E>,
+{
+    ghost use Rattle.chumsky_parser.specs.ProgressLaws.{never};
+
+    ghost moved = { λ _. never };
+
+    fn always_moves(&self) -> bool
+        ensures { result ≡ false }
+    {
+        false
+    }
+}
 
 /// `custom` and `custom_by` are steady where any two calls of the reader from one beginning end alike.
 pub fn custom_is_steady<'src, F, I, O, E>(parser: &Custom<F, I, O, E>)

@@ -1,9 +1,11 @@
 //! Nothing at all.
+ghost use Rattle.std.specs.Prelude.{◌≡◌, false};
+
 use chumsky_input::extra::ParserExtra;
 use chumsky_input::input::Input;
 use chumsky_input::input_ref::InputRef;
 use chumsky_input::stop::PResult;
-use chumsky_parser::moving::MayStay;
+use chumsky_parser::moving::Moving;
 use chumsky_parser::parser::{IsParser, Parser};
 use std::marker::PhantomData;
 
@@ -51,4 +53,14 @@ impl<'src, I: Input<'src>, E: ParserExtra<I>> Parser<'src, I, (), E> for Empty<I
     }
 }
 
-impl<I, E> MayStay for Empty<I, E> {}
+impl<'src, I: Input<'src>, E: ParserExtra<I>> Moving<'src, I, (), E> for Empty<I, E> {
+    ghost use Rattle.chumsky_parser.specs.ProgressLaws.{never};
+
+    ghost moved = { λ _. never };
+
+    fn always_moves(&self) -> bool
+        ensures { result ≡ false }
+    {
+        false
+    }
+}

@@ -1,4 +1,5 @@
 //! The end of input.
+ghost use Rattle.std.specs.Prelude.{◌≡◌, false};
 ghost use Rattle.chumsky_parser.specs.ByParts.{NeverOut};
 
 use crate::empty::Empty;
@@ -7,7 +8,7 @@ use chumsky_input::input::Input;
 use chumsky_input::input_ref::InputRef;
 use chumsky_input::stop::PResult;
 use chumsky_input::util::Plain;
-use chumsky_parser::moving::MayStay;
+use chumsky_parser::moving::Moving;
 use chumsky_parser::parser::{IsParser, Parser};
 use std::marker::PhantomData;
 
@@ -70,7 +71,17 @@ impl<'src, I: Input<'src>, E: ParserExtra<I>> Parser<'src, I, (), E> for End<I, 
     }
 }
 
-impl<I, E> MayStay for End<I, E> {}
+impl<'src, I: Input<'src>, E: ParserExtra<I>> Moving<'src, I, (), E> for End<I, E> {
+    ghost use Rattle.chumsky_parser.specs.ProgressLaws.{never};
+
+    ghost moved = { λ _. never };
+
+    fn always_moves(&self) -> bool
+        ensures { result ≡ false }
+    {
+        false
+    }
+}
 
 /// Never refused for memory, where errors and states take none: `end()` and `empty()`.
 pub fn end_is_never_out_of_memory<'src, I: Input<'src>, E: ParserExtra<I>>(

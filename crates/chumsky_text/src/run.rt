@@ -1,5 +1,5 @@
 //! The longest run of tokens of a kind.
-ghost use Rattle.std.specs.Prelude.{◌≡◌};
+ghost use Rattle.std.specs.Prelude.{◌≡◌, false};
 
 use crate::kind::Kind;
 use crate::skip::{end_run, skip_run};
@@ -7,7 +7,7 @@ use chumsky_input::extra::ParserExtra;
 use chumsky_input::input::SliceInput;
 use chumsky_input::input_ref::InputRef;
 use chumsky_input::stop::PResult;
-use chumsky_parser::moving::MayStay;
+use chumsky_parser::moving::Moving;
 use chumsky_parser::parser::{IsParser, Parser};
 use std::marker::PhantomData;
 
@@ -62,7 +62,18 @@ impl<'src, K: Kind<I::Token>, I: SliceInput<'src>, E: ParserExtra<I>> Parser<'sr
     }
 }
 
-impl<K, I, E> MayStay for Run<K, I, E> {}
+impl<'src, K: Kind<I::Token>, I: SliceInput<'src>, E: ParserExtra<I>> Moving<'src, I, I::Slice, E>
+    for Run<K, I, E> {
+    ghost use Rattle.chumsky_parser.specs.ProgressLaws.{never};
+
+    ghost moved = { λ _. never };
+
+    fn always_moves(&self) -> bool
+        ensures { result ≡ false }
+    {
+        false
+    }
+}
 
 /// `whitespace()` and its like are ready where tokens may be tested, and steady.
 pub fn run_is_steady<'src, K: Kind<I::Token>, I: SliceInput<'src>, E: ParserExtra<I>>(
