@@ -9,11 +9,14 @@ use chumsky_input::input::Input;
 /// Whether a parser moves wherever it succeeds: `just("a")` does, and `just("a").or_not()` does not. Of one that answers no,
 /// nothing is known.
 ///
-/// A parser type of one's own that may be a leaf of a grammar, and says nothing, has an impl as this:
+/// A parser type of one's own that is a leaf of a grammar, and says nothing, has an impl as this, in a crate that names
+/// `chumsky_parser` too:
 ///
 /// ```text
 /// impl<'src> Moving<'src, &'src str, char, RichText> for MyParser {
-///     ghost moved = { λ _ e. absurd (cc) };
+///     ghost use Rattle.chumsky_parser.specs.ProgressLaws.{never};
+///
+///     ghost moved = { λ _. never };
 ///
 ///     fn always_moves(&self) -> bool {
 ///         false
