@@ -109,16 +109,34 @@ fn leaves_of_four_kinds_are_one_type_in_balance(rt: HostRuntime) {
 }
 
 #[test]
-fn leaves_of_five_kinds_are_one_type_in_a_chain(rt: HostRuntime) {
+fn leaves_of_eight_kinds_are_one_type_in_a_chain(rt: HostRuntime) {
     let leaves = [
         Left(just('a').to(1usize)),
         Right(Left(just("bb").to(2usize))),
         Right(Right(Left(one_of("cd").to(3usize)))),
         Right(Right(Right(Left(just('e').ignored().to(4usize))))),
-        Right(Right(Right(Right(just('f').then(just('g')).to(5usize))))),
+        Right(Right(Right(Right(Left(just('f').then(just('g')).to(5usize)))))),
+        Right(Right(Right(Right(Right(Left(just('h').ignore_then(just('i')).to(6usize))))))),
+        Right(Right(Right(Right(Right(Right(Left(just(['j', 'k']).to(7usize)))))))),
+        Right(Right(Right(Right(Right(Right(Right(text::digits(10).to(8usize)))))))),
     ];
-    assert_eq!(rt; sum_of(rt.alloc(), &leaves, "abbcefg"), Some(15));
-    assert_eq!(rt; sum_of(rt.alloc(), &leaves, "abbcefgz"), None);
+    assert_eq!(rt; sum_of(rt.alloc(), &leaves, "abbcefghijk12"), Some(36));
+    assert_eq!(rt; sum_of(rt.alloc(), &leaves, "abbcefghijk12z"), None);
+}
+
+#[test]
+fn leaves_of_eight_kinds_are_refused_where_one_in_the_chain_may_be_empty(rt: HostRuntime) {
+    let leaves = [
+        Left(just('a').to(1usize)),
+        Right(Left(just("bb").to(2usize))),
+        Right(Right(Left(one_of("cd").to(3usize)))),
+        Right(Right(Right(Left(just('e').ignored().to(4usize))))),
+        Right(Right(Right(Right(Left(just('f').then(just('g')).to(5usize)))))),
+        Right(Right(Right(Right(Right(Left(just('h').ignore_then(just('i')).to(6usize))))))),
+        Right(Right(Right(Right(Right(Right(Left(just(['j', 'k']).to(7usize)))))))),
+        Right(Right(Right(Right(Right(Right(Right(just('l').or_not().to(8usize)))))))),
+    ];
+    assert_eq!(rt; sum_of(rt.alloc(), &leaves, "abb"), None);
 }
 
 #[test]
