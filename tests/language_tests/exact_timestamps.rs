@@ -1,6 +1,8 @@
 //! Moments as RFC 3339 has them.
-use exact::date::Date;
-use exact::timestamp::{Clock, Offset, parse_timestamp};
+use chumsky::combinator::exact_part;
+use chumsky::prelude::*;
+use exact::date::{Date, FullDate};
+use exact::timestamp::{Clock, Fraction, FromUtc, Offset, TimeMark, TimeOfDay, parse_timestamp};
 use std::test::Fail;
 
 #[test]
@@ -13,6 +15,7 @@ fn moments_are_read_part_by_part(rt: HostRuntime) -> Result<(), Fail> {
         ("1937-01-01T12:00:27.87+00:20", (1937, 1, 1), (12, 0, 27), Some("87"), Offset::Ahead(0, 20)),
         ("2026-12-01t00:00:00z", (2026, 12, 1), (0, 0, 0), None, Offset::Utc),
         ("0000-01-01T00:00:00-00:00", (0, 1, 1), (0, 0, 0), None, Offset::Behind(0, 0)),
+        ("2026-02-31T10:28:60Z", (2026, 2, 31), (10, 28, 60), None, Offset::Utc),
         ("9999-12-31T23:59:59.000000000000000000001+23:59", (9999, 12, 31), (23, 59, 59), Some("000000000000000000001"), Offset::Ahead(23, 59)),
     ];
     for (text, (year, month, day), (hour, minute, second), fraction, offset) in accepted {
@@ -39,6 +42,32 @@ fn no_other_text_is_a_moment(rt: HostRuntime) -> Result<(), Fail> {
     ] {
         let parsed = parse_timestamp(alloc, text)?;
         assert!(rt; parsed.into_output().is_none(), "{text}");
+    }
+    Ok(())
+}
+
+/// `check` runs each part without its value.
+#[test]
+fn parts_are_checked_as_they_are_read(rt: HostRuntime) -> Result<(), Fail> {
+    let alloc = rt.alloc();
+    let day = exact_part(FullDate).then_ignore(exact_part(TimeMark));
+    let time = exact_part(TimeOfDay).then(exact_part(Fraction)).then(exact_part(FromUtc));
+    let moment = day.or_not().then(time.or_not());
+    for (text, days, times) in [
+        ("", 0, 0),
+        ("2026-12-01T", 1, 0),
+        ("10:28:35Z", 0, 1),
+        ("2026-12-01t10:28:35.5+02:00", 1, 1),
+        ("2026-02-31T10:28:60-00:00", 1, 1),
+    ] {
+        let read = moment.parse(alloc, text)?;
+        let checked = moment.check(alloc, text)?;
+        assert!(rt; checked.has_output() && !checked.has_errors(), "{text}");
+        assert!(rt; read.into_output().is_some_and(|(day, time)| day.iter().count() == days && time.iter().count() == times), "{text}");
+    }
+    for text in ["2026-12-01", "10:28:35", "10:28:35.Z", "10:28:61Z", "2026-12-01T10:28:35+24:00", "2026-12-01T2026-12-01T"] {
+        assert!(rt; !moment.parse(alloc, text)?.has_output(), "{text}");
+        assert!(rt; !moment.check(alloc, text)?.has_output(), "{text}");
     }
     Ok(())
 }

@@ -298,6 +298,24 @@ fn each_item_and_each_member_that_is_wrong_is_told(rt: HostRuntime) {
     assert_lines(&rt, recovered, &rows);
 }
 
+/// Where a list or an object is part of a wrong item, a bracket in a string there is one as well.
+#[test]
+fn strings_within_the_brackets_of_a_wrong_item_are_not_known(rt: HostRuntime) -> Result<(), Fail> {
+    let alloc = rt.alloc();
+    for (text, has_output) in [
+        ("[[\"a\"] 1, 2]", true),
+        ("[\"]\" 1, 2]", true),
+        ("[[\"[]\"] 1, 2]", true),
+        ("[[\"]\"] 1, 2]", false),
+        ("[{\"a\": \"}\"} 1, 2]", false),
+        ("[[\"[\"] 1, 2]", false),
+    ] {
+        let parsed = recover_json(alloc, text)?;
+        assert!(rt; parsed.has_errors() && parsed.has_output() == has_output, "{text}");
+    }
+    Ok(())
+}
+
 /// Lists and objects count alike.
 #[test]
 fn what_is_too_deep_is_refused_and_nothing_crashes(rt: HostRuntime) -> Result<(), Fail> {

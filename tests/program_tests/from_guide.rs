@@ -75,6 +75,13 @@ fn each_line_that_is_wrong_is_told_in_one_run(rt: HostRuntime) {
              error 0..1 expected a number found 'x'; \
              error 18..19 expected a name found ';'",
         ),
+        // No name goes on in the next line, however the line ends.
+        (
+            "7;Ada\r8;5\u{2028}5;Di;7",
+            "ok [Payment { id: 5, name: \"Di\", cents: 7 }]; \
+             error 5..6 expected something else, ';' found '\\r'; \
+             error 9..12 expected something else, ';' found '\\u{2028}'",
+        ),
         ("", "ok []"),
     ];
     for (text, line) in rows {

@@ -163,13 +163,13 @@ fn trimmed(text: &str) -> &str
     }
 }
 
-/// The fields of a text such as `name,size` in each of its lines, record by record, just as RFC 4180 has them. A field in quotes may
+/// The fields of a text such as `name,size` in each of its lines, record by record, as RFC 4180 has them. A field in quotes may
 /// hold commas, line ends and quotes, of which each is written twice, as `"a ""b"", c"`; one without quotes has none of these, and
-/// any other character, beyond ASCII too. A line ends in CRLF, as the RFC has it, or in LF alone. The last one may be ended or not: a
-/// line end at the end of the text ends the record before it, and no empty one follows. So there is one record at least, of one
-/// field at least: those of the empty text are one record of one empty field. Records needn't have equally many fields. Of any
-/// other text, as where a quote stands in a field without quotes, or anything but a comma or a line end after one in quotes, there is
-/// no output.
+/// any other character, where the RFC has those of ASCII that print. A line ends in CRLF, as the RFC has it, or in LF alone. The
+/// last one may be ended or not: a line end at the end of the text ends the record before it, and no empty one follows. So there
+/// is one record at least, of one field at least: those of the empty text are one record of one empty field. Records needn't have
+/// equally many fields. Of any other text, as where a quote stands in a field without quotes, or anything but a comma or a line
+/// end after one in quotes, there is no output.
 pub fn parse_csv(alloc: Global, text: &str) -> Result<ParseResult<Vec<Vec<String>>, EmptyErr>, Stop>
     ensures exact { Exactly HoldsCsv (chars text.now) result }
     ensures read_back { (records : List (List (List ℕ))) → IsCsv (chars text.now) records → GivesBack records_of records result }

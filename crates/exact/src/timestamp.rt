@@ -389,9 +389,10 @@ impl<'src> ExactPart<'src, &'src str, char, EmptyText> for TimeMark {
     }
 }
 
-/// The moment that a text such as `2026-12-01T10:28:35.5+02:00` is, just as the grammar of RFC 3339 has it; which days a month
-/// has, and which minute a leap second, that grammar doesn't say. Of any other text there is no output. A run over a moment is
-/// never refused.
+/// The moment that a text such as `2026-12-01T10:28:35.5+02:00` is, just as the grammar of RFC 3339 has it, with an hour below 24, a
+/// minute below 60 and a second up to 60. What the RFC asks besides of days and leap seconds is not looked at: each month may have
+/// 31 days, and each minute a second of 60, so `2026-02-31T10:28:60Z` is a moment. `-00:00`, an offset that isn't known, is
+/// `Behind(0, 0)`. Of any other text there is no output. A run over a moment is never refused.
 pub fn parse_timestamp<'src>(
     alloc: Global,
     text: &'src str,

@@ -38,7 +38,8 @@ impl<'src> IsParser<&'src str, Payment, RichText> for OfLine {}
 
 impl<'src> Part<'src, &'src str, Payment, RichText> for OfLine {
     fn run(&self, wanted: bool, inp: &mut TextRef<'src, '_, RichText>) -> PResult<Option<Payment>> {
-        let name = none_of(";\n").repeated().at_least(1).collect::<String>();
+        let letter = none_of(';').and_is(text::newline().not());
+        let name = letter.repeated().at_least(1).collect::<String>();
         let line_end = text::newline().ignored().or(end());
         let payment = group((
             part_of(Number).then_ignore(just(';')),

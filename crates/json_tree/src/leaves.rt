@@ -220,8 +220,8 @@ impl<'src> Part<'src, &'src str, (), RichText> for AnyString {
 }
 
 /// An item that can't be read: what stands before a comma or a closing bracket, or nothing before a comma. Lists, objects and
-/// strings in it are taken whole; where one in it isn't closed, there is no such item, so that no text is gone through once for each
-/// of its brackets.
+/// strings in it are taken whole, lists and objects by their brackets alone, of which one in a string within them is one too;
+/// where one in it isn't closed, there is no such item, so that no text is gone through once for each of its brackets.
 #[derive(Clone, Copy)]
 pub struct WrongItem;
 

@@ -1,9 +1,10 @@
 //! JSON to a tree, with errors for people, and the tree as text again.
 #![tactic(auto)]
 
-ghost use Rattle.std.specs.Prelude.{◌≡◌, ◌+◌, ◌-◌, ◌^◌, min, [], IfOk, IsTrue, MatchOption, is_some};
+ghost use Rattle.std.specs.Prelude.{◌≡◌, ◌⊎◌, ◌+◌, ◌-◌, ◌^◌, min, [], IfOk, IfErr, IsTrue, MatchOption, is_some};
 ghost use Rattle.std.specs.Str.{chars};
 ghost use Rattle.chumsky.specs.Accepted.{ExactlyUnless};
+ghost use Rattle.chumsky_input.specs.declared.stop.Stop.TheVariants as why;
 ghost use Rattle.chumsky_exact.specs.Deep.{IsDeep};
 ghost use Rattle.exact.specs.JsonForms.{HoldsJson, IsJson};
 ghost use Rattle.exact.specs.JsonLevels as json;
@@ -167,10 +168,13 @@ pub fn read_json_within(
 
 /// Reads a value of which some may be wrong: `[1, nul, {"a": 2, b: 3}]` is `[1,null,{"a":2}]`, beside an error for each item and
 /// each member that can't be read. `null` stands for such an item, and such a member is left out. There is no value where a bracket
-/// or a quote isn't closed, where an item is missing before a closing bracket, and where the text goes on after the value.
+/// or a quote isn't closed, where an item is missing before a closing bracket, and where the text goes on after the value; nor
+/// always where a string with a bracket stands in a list or an object behind which its item goes on wrong, as in `[["]"] 1, 2]`.
+/// It is refused where `read_json` is.
 pub fn recover_json(alloc: Global, text: &str) -> Result<ParseResult<Json, Rich<char>>, Stop>
     ensures right { IfOk result (λ parsed. (json : Json) → HoldsJson (chars text.now) json → parsed.errors.items ≡ []) }
     ensures exact { IfOk result (λ parsed. parsed.errors.items ≡ [] → MatchOption parsed.output ⊥ (HoldsJson (chars text.now))) }
+    ensures refused { IfErr result (λ stop. (stop ≡ why.Memory) ⊎ IsDeep IsJson json.levels 101 (chars text.now)) }
 {
     let parsed = parse_json(alloc, text, LEVELS + 1)?;
     match parsed.into_output() {
