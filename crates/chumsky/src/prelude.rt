@@ -1,6 +1,6 @@
 //! What most programs need.
 pub use crate::config_parser_ext::{ConfigIterParserExt, ConfigParserExt};
-pub use crate::input::TextRef;
+pub use crate::input::{InputRef, TextRef};
 pub use crate::iter_parser_ext::IterParserExt;
 pub use crate::map_parser_ext::MapParserExt;
 pub use crate::parser_ext::ParserExt;
