@@ -7,10 +7,11 @@ use answers::extras::{Own, Quiet};
 use answers::leaves::{any_char, just_char, just_text};
 use arrayvec::ArrayVec;
 use chumsky::combinator::{Part, part_of, run_part};
+use chumsky::extra::ParserExtra;
 use chumsky::input::InputRef;
 use chumsky::pratt::{infix, left, prefix};
 use chumsky::prelude::*;
-use chumsky::primitive::{any_ref, select, select_ref};
+use chumsky::primitive::{Just, any_ref, select, select_ref};
 use chumsky::recursive::{MayStay, Moving, MovingItems, MovingPart, run_moving};
 use chumsky::{Fault, PResult};
 use std::process::Abort;
@@ -42,7 +43,7 @@ where
 }
 
 /// `just` of a text that has no characters.
-fn no_text<'src>() -> chumsky::primitive::Just<&'static str, Text<'src>, Own> {
+fn no_text<'src>() -> Just<&'static str, Text<'src>, Own> {
     just_text("")
 }
 
@@ -317,6 +318,65 @@ fn an_expression_moves_where_its_atom_does(rt: HostRuntime) {
     );
 }
 
+/// The errors of a text, on a state.
+type On<S> = extra::Full<Rich<char>, S, ()>;
+
+/// `just` of a text, with an extra.
+fn just_by<'src, E: ParserExtra<Text<'src>>>(text: &'static str) -> Just<&'static str, Text<'src>, E> {
+    just(text)
+}
+
+/// `just` of a text, under a character as its context.
+fn under<'src>(text: &'static str) -> Just<&'static str, Text<'src>, extra::Full<Rich<char>, (), char>> {
+    just(text)
+}
+
+#[test]
+fn under_another_context_or_state_a_parser_moves_as_before(rt: HostRuntime) {
+    let (a, none) = (|| just_text("a"), || no_text());
+    let on = |text| just_by::<On<SimpleState<usize>>>(text);
+    let made = |_: &()| 'x';
+    let set = just_text("a").configure(|c, _: &()| c);
+    assert_rows(
+        &rt,
+        &[
+            ("with_ctx", moves(under("a").with_ctx('x')), true),
+            ("with_ctx, none", moves(under("").with_ctx('x')), false),
+            ("map_ctx", moves(map_ctx(made, under("a"))), true),
+            ("map_ctx, none", moves(map_ctx(made, under(""))), false),
+            ("with_state", moves(on("a").with_state(SimpleState(0))), true),
+            ("with_state, none", moves(on("").with_state(SimpleState(0))), false),
+            ("contextual", moves(a().contextual()), true),
+            ("contextual, none", moves(none().contextual()), false),
+            ("configure", moves(set), false),
+        ],
+    );
+}
+
+#[test]
+fn a_parser_under_the_output_of_another_moves_where_one_of_the_two_does(rt: HostRuntime) {
+    let (a, none) = (|| just_char('a'), || no_text().to('x'));
+    let list = || under("b").repeated();
+    let inner = || just_by::<extra::Err<Rich<char>>>("x");
+    assert_rows(
+        &rt,
+        &[
+            ("then_with_ctx, first", moves(a().then_with_ctx(under(""))), true),
+            ("then_with_ctx, second", moves(none().then_with_ctx(under("b"))), true),
+            ("then_with_ctx, none", moves(none().then_with_ctx(under(""))), false),
+            ("ignore_with_ctx, first", moves(a().ignore_with_ctx(under(""))), true),
+            ("ignore_with_ctx, second", moves(none().ignore_with_ctx(under("b"))), true),
+            ("ignore_with_ctx, none", moves(none().ignore_with_ctx(under(""))), false),
+            ("items of then_with_ctx", moves(a().then_with_ctx(list()).count()), true),
+            ("items of then_with_ctx, none", moves(none().then_with_ctx(list()).count()), false),
+            ("items of ignore_with_ctx", moves(a().ignore_with_ctx(list()).count()), true),
+            ("items of ignore_with_ctx, none", moves(none().ignore_with_ctx(list()).count()), false),
+            ("nested_in", moves(inner().nested_in(a().to("x"))), true),
+            ("nested_in, none", moves(inner().nested_in(none().to("x"))), false),
+        ],
+    );
+}
+
 #[test]
 fn what_goes_back_is_not_said_to_move(rt: HostRuntime) {
     let a = || just_char('a');
@@ -365,6 +425,58 @@ fn a_type_of_ones_own_says_nothing_by_one_line(rt: HostRuntime) {
             ("a part", Letter.always_moves(), false),
             ("a part as a parser", moves(part_of(Letter)), false),
             ("made of it", moves(part_of(Letter).then(just_char('a'))), true),
+        ],
+    );
+}
+
+/// A parser type of one's own, that does as the parser within and says nothing of whether it moves.
+#[derive(Drop)]
+struct Mine<P>(P);
+
+impl<'src, P: IsParser<Text<'src>, char, Own>> IsParser<Text<'src>, char, Own> for Mine<P> {}
+
+impl<'src, P: Parser<'src, Text<'src>, char, Own>> Parser<'src, Text<'src>, char, Own> for Mine<P> {
+    ghost ready = { λ p. P.ready p.0 };
+
+    ghost meaning = { λ p. P.meaning p.0 };
+
+    ghost steady = { λ p. P.steady p.0 };
+
+    ghost same = { λ p. P.same p.0 };
+
+    ghost ends_after_start = { λ p. P.ends_after_start p.0 };
+
+    ghost agrees = { λ p. P.agrees p.0 };
+
+    ghost language = { λ p. P.language p.0 };
+
+    ghost accepts = { λ p. P.accepts p.0 };
+
+    fn go_emit(&self, inp: &mut InputRef<'src, '_, Text<'src>, Own>) -> PResult<char> {
+        self.0.go_emit(inp)
+    }
+
+    fn go_check(&self, inp: &mut InputRef<'src, '_, Text<'src>, Own>) -> PResult<()> {
+        self.0.go_check(inp)
+    }
+}
+
+impl<'src, P: Parser<'src, Text<'src>, char, Own>> Moving<'src, Text<'src>, char, Own> for Mine<P> {
+    ghost moved = { λ _ e. absurd (cc) };
+
+    fn always_moves(&self) -> bool {
+        false
+    }
+}
+
+#[test]
+fn a_parser_of_ones_own_says_nothing_by_an_impl(rt: HostRuntime) {
+    assert_rows(
+        &rt,
+        &[
+            ("a parser", moves(Mine(any_char())), false),
+            ("by reference", moves(&Mine(any_char())), false),
+            ("made of it", moves(Mine(any_char()).then(just_char('a'))), true),
         ],
     );
 }

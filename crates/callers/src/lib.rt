@@ -3,4 +3,5 @@
 
 pub mod builders;
 pub mod by_value;
+pub mod leaves;
 pub mod under;

@@ -9,6 +9,7 @@ use Rattle.chumsky_parser.specs.Memory.{NeverOutOfMemory}
 use Rattle.chumsky_parser.specs.Progress.{IsYes, Moves}
 use Rattle.chumsky_context.specs.OnState.{begun_in, OnCopy}
 use Rattle.chumsky_context.specs.Under.{begun_under, UnderValue, UnderMade}
+use Rattle.chumsky_context.specs.UnderLaws.{under-moves, under_made-moves}
 
 -- the part's, where a copy of the state takes no memory, nor does the state
 abbrev pub on_copy_language : {Tok V : Type 0} → Type 0 → Language Tok V → Language Tok V
@@ -28,7 +29,7 @@ module _ {Tok Cx St Er V W : Type 0} (part : Meaning Tok V St Er W) where
           decided = d.decided;
           further = d.further;
         };
-    moving = λ e b o m. h.moving e (begun_under v b) o m.runs;
+    moving = λ e. under-moves part (h.moving e) (Some v);
     sparing = λ q t b o m. h.sparing q t (begun_under v b) o m.runs;
   }
 
@@ -45,7 +46,7 @@ module _ {Tok Cx St Er V W : Type 0} (part : Meaning Tok V St Er W) where
           decided = d.decided;
           further = d.further;
         };
-    moving = λ e b o m. h.moving e (begun_under m.context b) o m.runs;
+    moving = λ e. under_made-moves part makes (h.moving e);
     sparing = λ q t b o m. h.sparing q t (begun_under m.context b) o m.runs;
   }
 
@@ -63,7 +64,7 @@ module _ {Tok Cx St T S Er V : Type 0} (copies : S → Type 0) (safe : Type 0) (
         ];
   }
 
-  on_copy-moves : Moves part → Moves (OnCopy {St = St} copies safe seen part)
+  pub on_copy-moves : Moves part → Moves (OnCopy {St = St} copies safe seen part)
   on_copy-moves h b o m y = elim m.cases [
     | inl r ↦ absurd (subst IsYes r.1 y)
     | inr k ↦

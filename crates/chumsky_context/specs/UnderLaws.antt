@@ -1,9 +1,11 @@
 -- The laws of runs under another context.
-use Rattle.std.proofs.Common.{◌≡◌, ◌≤◌, true, Option, Some, None, subst}
+use Rattle.std.proofs.Common.{◌≡◌, ◌≤◌, ◌<◌, Bool, true, ◌||◌, Option, Some, None, subst, inl, inr}
 use Rattle.chumsky_input.specs.Outcome.{Meaning, Beginning, Outcome, IsAnswer, SameValue, Alike, Agree, EndsAfterStart, Agreeing}
 use Rattle.chumsky_parser.specs.Chained.{Asked, both, SamePair}
 use Rattle.chumsky_parser.specs.Laws.{chained-ends, chained-agrees, asked-ends, asked-agrees, given-ends, given-agrees}
 use Rattle.chumsky_parser.specs.Items.{Next, SameNext, ItemsEnd, ItemsAgree}
+use Rattle.chumsky_parser.specs.Progress.{IsYes, Moves, ItemsMove}
+use Rattle.chumsky_parser.specs.ProgressLaws.{either-true, asked-moves, chained-first, chained-second}
 use Rattle.chumsky_context.specs.Configured.{IsDeterministic}
 use Rattle.chumsky_context.specs.CarriedLaws.{carried-ends, carried-agrees}
 use Rattle.chumsky_context.specs.Under.{begun_under, RunsUnder, UnderValue, UnderMade, IgnoringUnder, SequenceUnder, BeginsUnder, GivesUnder, AlikeUnder, SameAreEqual}
@@ -18,6 +20,16 @@ module _ {Tok Cx St Er V W : Type 0} (part : Meaning Tok V St Er W) where
 
   pub under_made-ends : (makes : Cx → V → Type 0) → EndsAfterStart part → EndsAfterStart (UnderMade makes part)
   under_made-ends makes h b o m a = h (begun_under m.context b) o m.runs a
+
+  runs_under-moves : Moves part → (v : Option V) (b : Beginning Tok Cx St) (o : Outcome W Er St) → RunsUnder part v b o → IsYes o.verdict → b.start < o.end
+  runs_under-moves h (Some v) b o m y = h (begun_under v b) o m y
+  runs_under-moves h None b o m y = absurd m
+
+  pub under-moves : Moves part → (v : Option V) → Moves (UnderValue {Cx = Cx} part v)
+  under-moves h v b o m y = runs_under-moves h v b o m.runs y
+
+  pub under_made-moves : (makes : Cx → V → Type 0) → Moves part → Moves (UnderMade makes part)
+  under_made-moves makes h b o m y = h (begun_under m.context b) o m.runs y
 
   pub under_made-agrees : (makes : Cx → V → Type 0) → IsDeterministic makes → (same : W → W → Type 0) → Agreeing same part part → Agreeing same (UnderMade makes part) (UnderMade makes part)
   under_made-agrees makes one same h b c o q alike m n a z =
@@ -52,6 +64,20 @@ module _ {Tok Cx St Er V W : Type 0} (first : Meaning Tok Cx St Er V) (second : 
   pub sequence_under-ends : EndsAfterStart first → EndsAfterStart second → EndsAfterStart (SequenceUnder first second)
   sequence_under-ends f s = chained-ends (Asked true first) _ (asked-ends true first f) (λ v. chained-ends (UnderValue second v) _ (under-ends second s v) (λ w. given-ends (both v w)))
 
+  pub ignoring_under-moves : (a b : Bool) → EndsAfterStart first → EndsAfterStart second → (a ≡ true → Moves first) → (b ≡ true → Moves second) → (a || b) ≡ true → Moves (IgnoringUnder first second)
+  ignoring_under-moves a b ef es hf hs e =
+      elim (either-true a b e) [
+        | inl x ↦ chained-first (Asked true first) _ (asked-moves true first (hf x)) (λ v. under-ends second es v)
+        | inr x ↦ chained-second (Asked true first) _ (asked-ends true first ef) (λ v. under-moves second (hs x) v)
+      ]
+
+  pub sequence_under-moves : (a b : Bool) → EndsAfterStart first → EndsAfterStart second → (a ≡ true → Moves first) → (b ≡ true → Moves second) → (a || b) ≡ true → Moves (SequenceUnder first second)
+  sequence_under-moves a b ef es hf hs e =
+      elim (either-true a b e) [
+        | inl x ↦ chained-first (Asked true first) _ (asked-moves true first (hf x)) (λ v. chained-ends (UnderValue second v) _ (under-ends second es v) (λ w. given-ends (both v w)))
+        | inr x ↦ chained-second (Asked true first) _ (asked-ends true first ef) (λ v. chained-first (UnderValue second v) _ (under-moves second (hs x) v) (λ w. given-ends (both v w)))
+      ]
+
   module _ (sv : V → V → Type 0) (sw : W → W → Type 0) (equal : SameAreEqual sv) where
     pub ignoring_under-agrees : Agreeing sv first first → Agreeing sw second second → Agreeing sw (IgnoringUnder first second) (IgnoringUnder first second)
     ignoring_under-agrees f s = chained-agrees (Asked true first) (Asked true first) _ _ sv sw (asked-agrees true first sv f) (λ v w e. under-agrees second second sv sw equal s v w e)
@@ -79,6 +105,10 @@ module _ {Tok Cx St Er V S W : Type 0} (first : Meaning Tok Cx St Er V) (begins 
         begin = chained-ends first _ f (λ v. chained-ends (UnderValue begins v) _ (under-ends begins h.begin v) (λ s. given-ends (both v s)));
         step = λ s. carried-ends (λ t. (s.0, t)) _ (under-ends (gives s.1) (h.step s.1) (Some s.0));
       }
+
+  -- the first part runs where the iteration is made
+  pub under_items-move : EndsAfterStart begins → Moves first → ItemsMove (BeginsUnder first begins) (GivesUnder gives)
+  under_items-move n h = record { by = inl (chained-first first _ h (λ v. chained-ends (UnderValue begins v) _ (under-ends begins n v) (λ s. given-ends (both v s)))) }
 
   module _ (sv : V → V → Type 0) (sw : W → W → Type 0) (alike : S → S → Type 0) (equal : SameAreEqual sv) where
     under_step : ((s t : S) → alike s t → Agreeing (SameNext sw alike) (gives s) (gives t)) → (v w : V) (s t : S)

@@ -12,6 +12,8 @@ use Rattle.chumsky_input.specs.Run.{begin, answer, LeavesBy}
 use Rattle.chumsky_input.specs.Outcome.{Meaning, Beginning, Outcome, Verdict, Yes, No, Halt, Clash, IsAnswer, SameValue, SameAnswer, Agree, EndsAfterStart, Agreeing}
 use Rattle.chumsky_parser.specs.Chained.{Asked}
 use Rattle.chumsky_parser.specs.Laws.{chained-ends, chained-agrees, asked-ends, asked-agrees}
+use Rattle.chumsky_parser.specs.Progress.{Moves}
+use Rattle.chumsky_parser.specs.ProgressLaws.{asked-moves, chained-first}
 use Rattle.chumsky_context.specs.Within.{RunReport, verdict_of, held_at_start, ReportsRun, event_at, outcome_of_report, OrOutOfMemory, Within, RunsWhole, MeansNestedIn, SameOverBoth}
 
 module _ {V Er St : Type 0} where
@@ -128,6 +130,9 @@ module _ {J Tok Sp Cu Mk Er St I Tok' Sp' Mk' Cx V : Type 0} (source : input_tra
 
   pub nested_in-ends : EndsAfterStart outer → EndsAfterStart (MeansNestedIn source errors states errors' states' inner outer)
   nested_in-ends f b o m a = chained-ends (Asked true outer) (Within source errors states errors' states' inner b.start) (asked-ends true outer f) (λ v. within-ends b.start v) b o m a
+
+  pub nested_in-moves : Moves outer → Moves (MeansNestedIn source errors states errors' states' inner outer)
+  nested_in-moves h b o m y = chained-first (Asked true outer) (Within source errors states errors' states' inner b.start) (asked-moves true outer h) (λ v. within-ends b.start v) b o m y
 
   -- reports of outcomes that agree are told alike
   told-agrees : (sv : V → V → Type 0) (sj : J → J → Type 0) → SameOverBoth source errors states errors' states' sj → (place place' end end' : ℕ) → place ≡ place' → end ≡ end'

@@ -1,5 +1,5 @@
 //! `Contextual`: a parser that the context can turn off.
-ghost use Rattle.std.specs.Prelude.{Bool, ◌≡◌, false};
+ghost use Rattle.std.specs.Prelude.{Bool, ◌≡◌};
 
 use crate::config::{ConfigParser, Configurable, IsConfigParser};
 use chumsky_input::extra::ParserExtra;
@@ -92,16 +92,16 @@ impl<'src, I: Input<'src>, O, E: ParserExtra<I>, A: Parser<'src, I, O, E>> Confi
     }
 }
 
-impl<'src, I: Input<'src>, O, E: ParserExtra<I>, A: Parser<'src, I, O, E>> Moving<'src, I, O, E>
+impl<'src, I: Input<'src>, O, E: ParserExtra<I>, A: Moving<'src, I, O, E>> Moving<'src, I, O, E>
     for Contextual<A> {
-    ghost use Rattle.chumsky_parser.specs.ProgressLaws.{never};
+    ghost moves = { λ p. A.moves p.inner };
 
-    ghost moved = { λ _. never };
+    ghost moved = { λ p. A.moved p.inner };
 
     fn always_moves(&self) -> bool
-        ensures { result ≡ false }
+        ensures { result ≡ A.moves self.now.inner }
     {
-        false
+        self.inner.always_moves()
     }
 }
 

@@ -1,6 +1,6 @@
 //! `IgnoreWithCtx`: a parser, and another under its output, for the output of the second.
 ghost use Rattle.chumsky_context.specs.Under.{SameAreEqual};
-ghost use Rattle.std.specs.Prelude.{◌≡◌, ℕ, false};
+ghost use Rattle.std.specs.Prelude.{◌≡◌, ℕ, ◌||◌};
 
 use crate::under::{check_under, emit_under};
 use chumsky_input::error::{EmptyErr, Error};
@@ -73,18 +73,20 @@ where
     I::Token: 'src,
     O: Drop,
     E: ParserExtra<I>,
-    A: Parser<'src, I, O, E>,
+    A: Moving<'src, I, O, E>,
     X: ParserExtra<I, Error = E::Error, State = E::State, Context = O>,
-    B: Parser<'src, I, U, X>,
+    B: Moving<'src, I, U, X>,
 {
-    ghost use Rattle.chumsky_parser.specs.ProgressLaws.{never};
+    ghost use Rattle.chumsky_context.specs.UnderLaws.{ignoring_under-moves};
 
-    ghost moved = { λ _. never };
+    ghost moves = { λ p. A.moves p.parser || B.moves p.then };
+
+    ghost moved = { λ p. ignoring_under-moves _ _ (A.moves p.parser) (B.moves p.then) (A.ends_after_start p.parser) (B.ends_after_start p.then) (A.moved p.parser) (B.moved p.then) };
 
     fn always_moves(&self) -> bool
-        ensures { result ≡ false }
+        ensures { result ≡ (A.moves self.now.parser || B.moves self.now.then) }
     {
-        false
+        self.parser.always_moves() || self.then.always_moves()
     }
 }
 

@@ -1,5 +1,5 @@
 //! `MapCtx`: a parser under a context that is made of the run's.
-ghost use Rattle.std.specs.Prelude.{◌≡◌, ⊤, false};
+ghost use Rattle.std.specs.Prelude.{◌≡◌, ⊤};
 ghost use Rattle.std.specs.Fn.{FnReturnsAt};
 ghost use Rattle.chumsky_context.specs.Configured.{IsDeterministic};
 
@@ -141,17 +141,19 @@ where
     X: ParserExtra<I, Error = E::Error, State = E::State>,
     X::Context: Drop,
     E: ParserExtra<I>,
-    A: Parser<'src, I, O, X>,
+    A: Moving<'src, I, O, X>,
     F: ContextMapper<E::Context, X::Context>,
 {
-    ghost use Rattle.chumsky_parser.specs.ProgressLaws.{never};
+    ghost use Rattle.chumsky_context.specs.UnderLaws.{under_made-moves};
 
-    ghost moved = { λ _. never };
+    ghost moves = { λ p. A.moves p.parser };
+
+    ghost moved = { λ p e. under_made-moves _ (F.gives p.mapper) (A.moved p.parser e) };
 
     fn always_moves(&self) -> bool
-        ensures { result ≡ false }
+        ensures { result ≡ A.moves self.now.parser }
     {
-        false
+        self.parser.always_moves()
     }
 }
 

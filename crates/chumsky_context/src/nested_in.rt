@@ -1,6 +1,6 @@
 //! `NestedIn`: a parser over an input that another parser gives.
 ghost use Rattle.chumsky_context.specs.Within.{SteadyNested};
-ghost use Rattle.std.specs.Prelude.{◌≡◌, ℕ, false};
+ghost use Rattle.std.specs.Prelude.{◌≡◌, ℕ};
 
 use crate::within::{check_within, emit_within};
 use chumsky_input::error::Error;
@@ -101,16 +101,18 @@ where
     E::State: Inspector<J, Mark = M>,
     M: Drop,
     A: Parser<'src, J, U, Full<E::Error, E::State, E::Context>>,
-    B: Parser<'src, I, J, E>,
+    B: Moving<'src, I, J, E>,
 {
-    ghost use Rattle.chumsky_parser.specs.ProgressLaws.{never};
+    ghost use Rattle.chumsky_context.specs.WithinLaws.{nested_in-moves};
 
-    ghost moved = { λ _. never };
+    ghost moves = { λ p. B.moves p.outer };
+
+    ghost moved = { λ p e. nested_in-moves _ _ _ _ _ _ _ (B.moved p.outer e) };
 
     fn always_moves(&self) -> bool
-        ensures { result ≡ false }
+        ensures { result ≡ B.moves self.now.outer }
     {
-        false
+        self.outer.always_moves()
     }
 }
 

@@ -1,5 +1,5 @@
 //! `ThenWithCtx`: a parser, and another under its output, for both outputs.
-ghost use Rattle.std.specs.Prelude.{◌≡◌, false};
+ghost use Rattle.std.specs.Prelude.{◌≡◌, ◌||◌};
 ghost use Rattle.chumsky_context.specs.Under.{SameAreEqual};
 
 use crate::under::{check_under, emit_under};
@@ -74,18 +74,20 @@ where
     I::Token: 'src,
     O: Drop,
     E: ParserExtra<I>,
-    A: Parser<'src, I, O, E>,
+    A: Moving<'src, I, O, E>,
     X: ParserExtra<I, Error = E::Error, State = E::State, Context = O>,
-    B: Parser<'src, I, U, X>,
+    B: Moving<'src, I, U, X>,
 {
-    ghost use Rattle.chumsky_parser.specs.ProgressLaws.{never};
+    ghost use Rattle.chumsky_context.specs.UnderLaws.{sequence_under-moves};
 
-    ghost moved = { λ _. never };
+    ghost moves = { λ p. A.moves p.parser || B.moves p.then };
+
+    ghost moved = { λ p. sequence_under-moves _ _ (A.moves p.parser) (B.moves p.then) (A.ends_after_start p.parser) (B.ends_after_start p.then) (A.moved p.parser) (B.moved p.then) };
 
     fn always_moves(&self) -> bool
-        ensures { result ≡ false }
+        ensures { result ≡ (A.moves self.now.parser || B.moves self.now.then) }
     {
-        false
+        self.parser.always_moves() || self.then.always_moves()
     }
 }
 

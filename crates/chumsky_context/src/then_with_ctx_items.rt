@@ -1,5 +1,5 @@
 //! `ThenWithCtx` as a parser of items: those of its second part, under the output of the first.
-ghost use Rattle.std.specs.Prelude.{◌≡◌, false};
+ghost use Rattle.std.specs.Prelude.{◌≡◌};
 ghost use Rattle.chumsky_context.specs.Under.{SameAreEqual};
 
 use crate::items_under::{make_iter_under, next_check_under, next_emit_under};
@@ -10,7 +10,7 @@ use chumsky_input::input::Input;
 use chumsky_input::input_ref::InputRef;
 use chumsky_input::stop::PResult;
 use chumsky_parser::iter::{IsIterParser, IterParser, IterParserDebug, Iterates};
-use chumsky_parser::moving::MovingItems;
+use chumsky_parser::moving::{Moving, MovingItems};
 use chumsky_parser::parser::{IsParser, Parser};
 
 impl<I, O, U, E, X, A: IsParser<I, O, E>, B: IsIterParser<I, U, X>> IsIterParser<I, U, E>
@@ -83,24 +83,27 @@ where
     }
 }
 
+/// The first parser runs where the iteration is made.
 impl<'src, I, O, U, E, X, A, B> MovingItems<'src, I, U, E> for ThenWithCtx<A, B, O, I, X>
 where
     I: Input<'src>,
     I::Token: 'src,
     O: Drop,
     E: ParserExtra<I>,
-    A: Parser<'src, I, O, E>,
+    A: Moving<'src, I, O, E>,
     X: ParserExtra<I, Error = E::Error, State = E::State, Context = O>,
     B: IterParser<'src, I, U, X>,
 {
-    ghost use Rattle.chumsky_parser.specs.ProgressLaws.{never};
+    ghost use Rattle.chumsky_context.specs.UnderLaws.{under_items-move};
 
-    ghost first_moved = { λ _. never };
+    ghost first_moves = { λ p. A.moves p.parser };
+
+    ghost first_moved = { λ p e d. under_items-move _ _ _ (B.ends_after_start p.then d).begin (A.moved p.parser e) };
 
     fn first_always_moves(&self) -> bool
-        ensures { result ≡ false }
+        ensures { result ≡ A.moves self.now.parser }
     {
-        false
+        self.parser.always_moves()
     }
 }
 

@@ -1,5 +1,5 @@
 //! `WithCtx`: a parser under a context of its own.
-ghost use Rattle.std.specs.Prelude.{◌≡◌, false};
+ghost use Rattle.std.specs.Prelude.{◌≡◌};
 
 use crate::under::{check_under, emit_under};
 use chumsky_input::extra::{Full, ParserExtra};
@@ -66,16 +66,19 @@ where
     I: Input<'src>,
     I::Token: 'src,
     E: ParserExtra<I>,
-    A: Parser<'src, I, O, Full<E::Error, E::State, X>>,
+    A: Moving<'src, I, O, Full<E::Error, E::State, X>>,
 {
-    ghost use Rattle.chumsky_parser.specs.ProgressLaws.{never};
+    ghost use Rattle.std.specs.Prelude.{Some};
+    ghost use Rattle.chumsky_context.specs.UnderLaws.{under-moves};
 
-    ghost moved = { λ _. never };
+    ghost moves = { λ p. A.moves p.parser };
+
+    ghost moved = { λ p e. under-moves _ (A.moved p.parser e) (Some p.ctx) };
 
     fn always_moves(&self) -> bool
-        ensures { result ≡ false }
+        ensures { result ≡ A.moves self.now.parser }
     {
-        false
+        self.parser.always_moves()
     }
 }
 

@@ -147,16 +147,18 @@ where
     I::Token: 'src,
     E: ParserExtra<I>,
     S: Inspector<I> + Clone + Drop,
-    A: Parser<'src, I, O, Full<E::Error, S, E::Context>>,
+    A: Moving<'src, I, O, Full<E::Error, S, E::Context>>,
 {
-    ghost use Rattle.chumsky_parser.specs.ProgressLaws.{never};
+    ghost use Rattle.chumsky_context.specs.UnderLanguage.{on_copy-moves};
 
-    ghost moved = { λ _. never };
+    ghost moves = { λ p. A.moves p.parser };
+
+    ghost moved = { λ p e. on_copy-moves _ _ _ _ (A.moved p.parser e) };
 
     fn always_moves(&self) -> bool
-        ensures { result ≡ false }
+        ensures { result ≡ A.moves self.now.parser }
     {
-        false
+        self.parser.always_moves()
     }
 }
 
