@@ -1,15 +1,12 @@
-//! The callers of `callers::by_value`, of `callers::leaves` and of `callers::under`, run as they say.
+//! The callers of `callers::by_value` and of `callers::under`, run as they say.
 use super::builders::assert_rows;
 use answers::asserts::assert_line;
-use chumsky::Stop;
 use chumsky::prelude::*;
 use callers::by_value::{
     as_often, as_often_or_refused, capitals, greatest, greatest_of_a_sentence, greatest_of_some,
     number, one_less_often, sum, vowel,
 };
-use callers::leaves::{Refused, sum_of_leaves};
 use callers::under::{above_four, at_most_three, by_the_first, checked, counted_apart};
-use std::alloc::Global;
 use std::process::Abort;
 
 #[test]
@@ -71,23 +68,4 @@ fn states_are_those_of_the_caller(rt: HostRuntime) {
     let (answer, state) = checked(rt.alloc(), "ab");
     assert_line(&rt, answer, "ok ()");
     assert_eq!(&rt; state, 7);
-}
-
-/// What the leaves of a text come to, or that the run is refused.
-fn sum_or_stop(alloc: Global, text: &str) -> Result<ParseResult<usize, Rich<char>>, Stop> {
-    sum_of_leaves(alloc, text).map_err(|refused| match refused {
-        Refused::Running(stop) => stop,
-        _ => Stop::TooDeep,
-    })
-}
-
-#[test]
-fn leaves_of_eight_types_stand_in_a_chain(rt: HostRuntime) {
-    let rows = [
-        ("", "ok 0"),
-        ("abbcefghij12", "ok 36"),
-        ("aa12bb", "ok 12"),
-        ("fx", "error 1..2 expected 'g' found 'x'"),
-    ];
-    assert_rows(&rt, sum_or_stop, &rows);
 }

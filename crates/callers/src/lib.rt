@@ -3,5 +3,4 @@
 
 pub mod builders;
 pub mod by_value;
-pub mod leaves;
 pub mod under;
