@@ -1,5 +1,5 @@
 //! What a run sets aside while something runs by itself, and brings back after it.
-ghost use Rattle.std.specs.Prelude.{◌≡◌, None, option_map, map};
+ghost use Rattle.std.specs.Prelude.{◌≡◌, None, option_map, map, length};
 ghost use Rattle.chumsky_input.specs.Held.{held, located};
 ghost use Rattle.chumsky_input.specs.Aside.{without_errors};
 ghost use Rattle.chumsky_input.specs.OneCall.{BringsBack, EmitsBefore, KeepsBefore, HandsOutLast};
@@ -28,6 +28,14 @@ impl<'src, 'p, I: Input<'src>, E: ParserExtra<I>> InputRef<'src, 'p, I, E> {
         ensures lent { self.new.state.ghost_name ≡ self.old.state.ghost_name }
     {
         self.kept.take()
+    }
+
+    /// Keeps this error, or none, in place of the one that is kept.
+    #[inline(always)]
+    pub fn put_kept(&mut self, kept: Option<Located<E::Error>>)
+        ensures { self.new ≡ record self.old { kept = kept } }
+    {
+        self.kept = kept;
     }
 
     /// Puts an older error before the one that is kept: they count as two events, in this order. A refused merge keeps
@@ -94,6 +102,23 @@ impl<'src, 'p, I: Input<'src>, E: ParserExtra<I>> InputRef<'src, 'p, I, E> {
         let kept = self.kept.take();
         let emitted = std::mem::replace(&mut self.emitted, Vec::new(self.alloc));
         Aside { kept, emitted }
+    }
+
+    /// Holds these errors in place of those that it held.
+    #[inline(always)]
+    pub fn put_errors(&mut self, errors: Aside<E::Error>)
+        ensures { self.new ≡ record self.old { kept = errors.kept; emitted = errors.emitted } }
+    {
+        self.kept = errors.kept;
+        self.emitted = errors.emitted;
+    }
+
+    /// How many errors it has emitted.
+    #[inline]
+    pub fn emitted_count(&self) -> usize
+        ensures { result ≡ length self.now.emitted.items }
+    {
+        self.emitted.len()
     }
 
     /// Brings back what was set aside, before what is held now. A refusal changes nothing but what is kept and emitted.

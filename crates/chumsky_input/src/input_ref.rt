@@ -38,13 +38,13 @@ pub struct Checkpoint<C, M> {
 /// What a parser is lent by a run: a cursor into the input, the state, the context, the error of the furthest failure
 /// so far and the errors that were emitted; and, for itself, the first stop of a parser that a closure ran on it.
 pub struct InputRef<'src, 'p, I: Input<'src>, E: ParserExtra<I>> {
-    pub cursor: I::Cursor,
+    pub(crate) cursor: I::Cursor,
     pub state: &'p mut E::State,
-    pub context: &'p E::Context,
-    pub kept: Option<Located<E::Error>>,
-    pub emitted: Vec<E::Error>,
-    pub alloc: Global,
-    pub source: PhantomData<(&'src I::Token, I)>,
+    pub(crate) context: &'p E::Context,
+    pub(crate) kept: Option<Located<E::Error>>,
+    pub(crate) emitted: Vec<E::Error>,
+    pub(crate) alloc: Global,
+    source: PhantomData<(&'src I::Token, I)>,
     stopped: Option<Stop>,
 }
 
@@ -149,6 +149,14 @@ impl<'src, 'p, I: Input<'src>, E: ParserExtra<I>> InputRef<'src, 'p, I, E> {
         ensures { result ≡ self.now.cursor }
     {
         self.cursor
+    }
+
+    /// Moves to a cursor of this input. Nothing else changes: the state isn't told.
+    #[inline(always)]
+    pub fn move_to(&mut self, to: I::Cursor)
+        ensures { self.new ≡ record self.old { cursor = to } }
+    {
+        self.cursor = to;
     }
 
     /// The span from a cursor of this input, not past the present one, to the present one.
