@@ -159,6 +159,15 @@ impl<'src, 'p, I: Input<'src>, E: ParserExtra<I>> InputRef<'src, 'p, I, E> {
         self.cursor = to;
     }
 
+    /// Stands at a cursor, and under a context, that it had: a closure that is lent a run may have put another in its place.
+    #[inline]
+    pub fn restore(&mut self, cursor: I::Cursor, context: &'p E::Context)
+        ensures { self.new ≡ record self.old { cursor = cursor; context = context.entry } }
+    {
+        self.cursor = cursor;
+        self.context = context;
+    }
+
     /// The span from a cursor of this input, not past the present one, to the present one.
     #[inline]
     pub fn span_since(&self, before: &I::Cursor) -> I::Span
