@@ -24,7 +24,7 @@ fn a_cheap_error_shows_where(rt: HostRuntime) {
 fn a_label_is_expected_beside_tokens(rt: HostRuntime) {
     let month = custom::<_, &str, char, RichText>(|inp| match inp.parse(just('J')) {
         Err(Failure::Error(error)) => {
-            Err(Failure::Error(error.with_label(inp.alloc, "a month")?))
+            Err(Failure::Error(error.with_label(inp.alloc(), "a month")?))
         }
         other => other,
     });

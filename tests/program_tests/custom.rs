@@ -22,12 +22,12 @@ fn an_error_of_a_closure_stands_at_its_start(rt: HostRuntime) {
 #[test]
 fn of_two_messages_at_one_place_the_first_stands(rt: HostRuntime) {
     let first = custom::<_, &str, char, Own>(|inp| {
-        let message = String::from_str(inp.alloc, "first")?;
+        let message = String::from_str(inp.alloc(), "first")?;
         let span = SimpleSpan { start: 0, end: 0 };
         Err(Failure::Error(Rich::custom(span, message)))
     });
     let second = custom::<_, &str, char, Own>(|inp| {
-        let message = String::from_str(inp.alloc, "second")?;
+        let message = String::from_str(inp.alloc(), "second")?;
         let span = SimpleSpan { start: 0, end: 1 };
         Err(Failure::Error(Rich::custom(span, message)))
     });
@@ -65,9 +65,9 @@ fn a_closure_runs_over_bytes(rt: HostRuntime) {
 fn an_error_that_a_first_alternative_emits_goes_with_it(rt: HostRuntime) {
     let emitting = custom::<_, &str, char, Own>(|inp| {
         let here = SimpleSpan { start: 0, end: 0 };
-        inp.emit(Rich::custom(here, String::new(inp.alloc)))?;
+        inp.emit(Rich::custom(here, String::new(inp.alloc())))?;
         let span = SimpleSpan { start: 0, end: 1 };
-        Err(Failure::Error(Rich::custom(span, String::new(inp.alloc))))
+        Err(Failure::Error(Rich::custom(span, String::new(inp.alloc()))))
     });
     let rows = [("a", "ok 'a'"), ("", "error 0..1 \"\"")];
     assert_answers(&rt, &emitting.or(any_char()), &rows);
@@ -77,9 +77,9 @@ fn an_error_that_a_first_alternative_emits_goes_with_it(rt: HostRuntime) {
 fn an_error_that_a_last_alternative_emits_stays(rt: HostRuntime) {
     let emitting = custom::<_, &str, char, Own>(|inp| {
         let here = SimpleSpan { start: 0, end: 0 };
-        inp.emit(Rich::custom(here, String::new(inp.alloc)))?;
+        inp.emit(Rich::custom(here, String::new(inp.alloc())))?;
         let span = SimpleSpan { start: 0, end: 1 };
-        Err(Failure::Error(Rich::custom(span, String::new(inp.alloc))))
+        Err(Failure::Error(Rich::custom(span, String::new(inp.alloc()))))
     });
     let rows = [("a", "error 0..0 \"\"; error 0..1 \"\"")];
     assert_answers(&rt, &just_char('c').or(emitting), &rows);

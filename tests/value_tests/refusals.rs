@@ -25,7 +25,7 @@ fn an_emitter_has_room(rt: HostRuntime) {
 fn a_run_emits(rt: HostRuntime) {
     let emitting = custom::<_, &str, char, Own>(|inp| {
         let here = SimpleSpan { start: 0, end: 1 };
-        inp.emit(Rich::custom(here, String::new(inp.alloc)))?;
+        inp.emit(Rich::custom(here, String::new(inp.alloc())))?;
         Ok('x')
     });
     assert_answers(&rt, &emitting, &[("", "ok 'x'; error 0..1 \"\"")]);

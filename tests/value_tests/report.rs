@@ -225,7 +225,7 @@ fn white_space_is_said_once(rt: HostRuntime) {
 fn a_label_stands_as_it_is(rt: HostRuntime) {
     let month = custom::<_, &str, char, Own>(|inp| match inp.parse(just_char('J')) {
         Err(Failure::Error(error)) => {
-            Err(Failure::Error(error.with_label(inp.alloc, "a month")?))
+            Err(Failure::Error(error.with_label(inp.alloc(), "a month")?))
         }
         other => other,
     });
@@ -242,7 +242,7 @@ fn a_label_stands_as_it_is(rt: HostRuntime) {
 #[test]
 fn each_error_has_a_report(rt: HostRuntime) {
     let emitting = custom::<_, &str, char, Own>(|inp| {
-        let message = String::from_str(inp.alloc, "first")?;
+        let message = String::from_str(inp.alloc(), "first")?;
         let span = SimpleSpan { start: 0, end: 2 };
         inp.emit(Rich::custom(span, message))?;
         Ok('x')
@@ -358,6 +358,26 @@ fn control_characters_of_the_line_show_as_signs(rt: HostRuntime) {
     let expected = "days.txt:1:9: no such day\n\u{241b}[31mr\u{e9}d\u{2400}\u{2407}\u{fffd}\u{2421}\tx \n        ^^^^^^";
     let printed = report_of_message(rt.alloc(), text, 9, 16).expect(&rt, "out of memory");
     assert_eq!(rt; printed.as_str(), expected);
+}
+
+/// A byte order mark, a mark that turns the direction, and one of width zero, in the line and between quotes.
+#[test]
+fn hidden_characters_show(rt: HostRuntime) {
+    let rows = [
+        (
+            "\u{feff}ab",
+            "input:1:1: expected 'a', found '\\u{feff}'\n\u{fffd}ab\n^\n",
+        ),
+        (
+            "a\u{202e}\u{200b}b",
+            "input:1:2: expected 'b', found '\\u{202e}'\na\u{fffd}\u{fffd}b\n ^\n",
+        ),
+        (
+            "a\u{2010}\u{2060}",
+            "input:1:2: expected 'b', found '\u{2010}'\na\u{2010}\u{fffd}\n ^\n",
+        ),
+    ];
+    assert_reports(&rt, &just_text("ab"), &rows);
 }
 
 /// A span that begins or ends within a character.

@@ -132,6 +132,6 @@ fn expect_nothing<'src, I: Input<'src>, E: ParserExtra<I>>(
     ensures fails { ExpectsNothing I.Input E.Error.Error E.State.Inspector inp.old inp.new result }
     ensures lent { inp.new.state.ghost_name ≡ inp.old.state.ghost_name }
 {
-    let here = inp.cursor;
+    let here = inp.cursor();
     inp.expected(&here, &here, Plain::Nothing, None)
 }

@@ -66,7 +66,7 @@ impl<
         state: &mut A::IterState,
         debug: IterParserDebug,
     ) -> PResult<Option<U>> {
-        let before = inp.cursor;
+        let before = inp.cursor();
         match next_item(&self.parser, inp, state, debug)? {
             None => Ok(None),
             Some(item) => Ok(Some(self.mapper.apply_with(item, &before, inp))),

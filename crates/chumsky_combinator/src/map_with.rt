@@ -94,7 +94,7 @@ where
 
     #[inline(always)]
     fn go_emit(&self, inp: &mut InputRef<'src, '_, I, E>) -> PResult<U> {
-        let before = inp.cursor;
+        let before = inp.cursor();
         let value = self.parser.go_emit(inp)?;
         Ok(self.mapper.apply_with(value, &before, inp))
     }

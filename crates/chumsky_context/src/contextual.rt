@@ -79,7 +79,7 @@ impl<'src, I: Input<'src>, O, E: ParserExtra<I>, A: Parser<'src, I, O, E>> Confi
         if cfg {
             return self.inner.go_emit(inp);
         }
-        let here = inp.cursor;
+        let here = inp.cursor();
         Err(inp.expected(&here, &here, Plain::NothingElse, None))
     }
 
@@ -87,7 +87,7 @@ impl<'src, I: Input<'src>, O, E: ParserExtra<I>, A: Parser<'src, I, O, E>> Confi
         if cfg {
             return self.inner.go_check(inp);
         }
-        let here = inp.cursor;
+        let here = inp.cursor();
         Err(inp.expected(&here, &here, Plain::NothingElse, None))
     }
 }

@@ -31,8 +31,7 @@ where
     ensures may { IfOk result.answer (P.may_step parser.now) }
 {
     let mut inp: InputRef<'src, '_, I, E> = InputRef::resume(alloc, cursor, state, context);
-    inp.kept = errors.kept;
-    inp.emitted = errors.emitted;
+    inp.put_errors(errors);
     let answer = parser.make_iter(&mut inp);
     let Finished {
         cursor,
@@ -66,8 +65,7 @@ where
     ensures may { IfOk result.answer (λ o. OnSome o (P.may_step parser.now items.new)) }
 {
     let mut inp: InputRef<'src, '_, I, E> = InputRef::resume(alloc, cursor, state, context);
-    inp.kept = errors.kept;
-    inp.emitted = errors.emitted;
+    inp.put_errors(errors);
     let answer = parser.next_emit(&mut inp, items, debug);
     let Finished {
         cursor,
@@ -101,8 +99,7 @@ where
     ensures may { IfOk result.answer (λ o. OnSome o (P.may_step parser.now items.new)) }
 {
     let mut inp: InputRef<'src, '_, I, E> = InputRef::resume(alloc, cursor, state, context);
-    inp.kept = errors.kept;
-    inp.emitted = errors.emitted;
+    inp.put_errors(errors);
     let answer = parser.next_check(&mut inp, items, debug);
     let Finished {
         cursor,
@@ -136,21 +133,15 @@ where
     ensures lent { inp.new.state.ghost_name ≡ inp.old.state.ghost_name }
 {
     let errors = inp.set_aside();
+    let here = inp.cursor();
+    let alloc = inp.alloc();
     let Returned {
         answer,
         cursor,
         errors,
-    } = make_iter_parts::<I, O, X, P>(
-        parser,
-        inp.cursor,
-        errors,
-        &mut *inp.state,
-        context,
-        inp.alloc,
-    );
-    inp.cursor = cursor;
-    inp.kept = errors.kept;
-    inp.emitted = errors.emitted;
+    } = make_iter_parts::<I, O, X, P>(parser, here, errors, &mut *inp.state, context, alloc);
+    inp.move_to(cursor);
+    inp.put_errors(errors);
     answer
 }
 
@@ -175,6 +166,8 @@ where
     ensures lent { inp.new.state.ghost_name ≡ inp.old.state.ghost_name }
 {
     let errors = inp.set_aside();
+    let here = inp.cursor();
+    let alloc = inp.alloc();
     let Returned {
         answer,
         cursor,
@@ -183,15 +176,14 @@ where
         parser,
         items,
         debug,
-        inp.cursor,
+        here,
         errors,
         &mut *inp.state,
         context,
-        inp.alloc,
+        alloc,
     );
-    inp.cursor = cursor;
-    inp.kept = errors.kept;
-    inp.emitted = errors.emitted;
+    inp.move_to(cursor);
+    inp.put_errors(errors);
     answer
 }
 
@@ -216,6 +208,8 @@ where
     ensures lent { inp.new.state.ghost_name ≡ inp.old.state.ghost_name }
 {
     let errors = inp.set_aside();
+    let here = inp.cursor();
+    let alloc = inp.alloc();
     let Returned {
         answer,
         cursor,
@@ -224,14 +218,13 @@ where
         parser,
         items,
         debug,
-        inp.cursor,
+        here,
         errors,
         &mut *inp.state,
         context,
-        inp.alloc,
+        alloc,
     );
-    inp.cursor = cursor;
-    inp.kept = errors.kept;
-    inp.emitted = errors.emitted;
+    inp.move_to(cursor);
+    inp.put_errors(errors);
     answer
 }

@@ -75,13 +75,13 @@ where
     ghost accepts = { λ _. of_unsaid };
 
     fn go_emit(&self, inp: &mut InputRef<'src, '_, I, E>) -> PResult<U> {
-        let place = I::place(&inp.cursor);
+        let place = I::place(&inp.cursor());
         let input = self.outer.go_emit(inp)?;
         emit_within(&self.parser, input, place, inp)
     }
 
     fn go_check(&self, inp: &mut InputRef<'src, '_, I, E>) -> PResult<()> {
-        let place = I::place(&inp.cursor);
+        let place = I::place(&inp.cursor());
         let input = self.outer.go_emit(inp)?;
         check_within(&self.parser, input, place, inp)
     }

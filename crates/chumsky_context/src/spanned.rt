@@ -50,7 +50,7 @@ impl<'src, I: Input<'src>, O, E: ParserExtra<I>, A: Parser<'src, I, O, E>> Parse
 
     #[inline(always)]
     fn go_emit(&self, inp: &mut InputRef<'src, '_, I, E>) -> PResult<SpannedOutput<O, I::Span>> {
-        let before = inp.cursor;
+        let before = inp.cursor();
         let inner = self.parser.go_emit(inp)?;
         let span = inp.span_since(&before);
         Ok(SpannedOutput { inner, span })

@@ -50,7 +50,7 @@ impl<'src, I: SliceInput<'src>, O, E: ParserExtra<I>, A: Parser<'src, I, O, E>> 
 
     #[inline(always)]
     fn go_emit(&self, inp: &mut InputRef<'src, '_, I, E>) -> PResult<I::Slice> {
-        let before = inp.cursor;
+        let before = inp.cursor();
         self.parser.go_check(inp)?;
         Ok(inp.slice_since(&before))
     }

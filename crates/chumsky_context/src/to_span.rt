@@ -49,7 +49,7 @@ impl<'src, I: Input<'src>, O, E: ParserExtra<I>, A: Parser<'src, I, O, E>> Parse
 
     #[inline(always)]
     fn go_emit(&self, inp: &mut InputRef<'src, '_, I, E>) -> PResult<I::Span> {
-        let before = inp.cursor;
+        let before = inp.cursor();
         self.parser.go_check(inp)?;
         Ok(inp.span_since(&before))
     }

@@ -66,7 +66,7 @@ where
     ghost accepts = { λ _ _. of_unsaid_items };
 
     fn make_iter(&self, inp: &mut InputRef<'src, '_, I, E>) -> PResult<(A::IterState, A::Config)> {
-        let here = inp.cursor;
+        let here = inp.cursor();
         let span = I::span(&here, &here);
         match self
             .configurer

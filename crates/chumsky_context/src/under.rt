@@ -34,8 +34,7 @@ where
         (cursor, errors, state.old) (result.cursor, result.errors, state.new) (with_value result.answer) }
 {
     let mut inp: InputRef<'src, '_, I, E> = InputRef::resume(alloc, cursor, state, context);
-    inp.kept = errors.kept;
-    inp.emitted = errors.emitted;
+    inp.put_errors(errors);
     let answer = parser.go_emit(&mut inp);
     let Finished {
         cursor,
@@ -66,8 +65,7 @@ where
         (cursor, errors, state.old) (result.cursor, result.errors, state.new) (without_value result.answer) }
 {
     let mut inp: InputRef<'src, '_, I, E> = InputRef::resume(alloc, cursor, state, context);
-    inp.kept = errors.kept;
-    inp.emitted = errors.emitted;
+    inp.put_errors(errors);
     let answer = parser.go_check(&mut inp);
     let Finished {
         cursor,
@@ -103,21 +101,15 @@ where
     ensures lent { inp.new.state.ghost_name ≡ inp.old.state.ghost_name }
 {
     let errors = inp.set_aside();
+    let here = inp.cursor();
+    let alloc = inp.alloc();
     let Returned {
         answer,
         cursor,
         errors,
-    } = emit_parts::<I, O, X, P>(
-        parser,
-        inp.cursor,
-        errors,
-        &mut *inp.state,
-        context,
-        inp.alloc,
-    );
-    inp.cursor = cursor;
-    inp.kept = errors.kept;
-    inp.emitted = errors.emitted;
+    } = emit_parts::<I, O, X, P>(parser, here, errors, &mut *inp.state, context, alloc);
+    inp.move_to(cursor);
+    inp.put_errors(errors);
     answer
 }
 
@@ -140,20 +132,14 @@ where
     ensures lent { inp.new.state.ghost_name ≡ inp.old.state.ghost_name }
 {
     let errors = inp.set_aside();
+    let here = inp.cursor();
+    let alloc = inp.alloc();
     let Returned {
         answer,
         cursor,
         errors,
-    } = check_parts::<I, O, X, P>(
-        parser,
-        inp.cursor,
-        errors,
-        &mut *inp.state,
-        context,
-        inp.alloc,
-    );
-    inp.cursor = cursor;
-    inp.kept = errors.kept;
-    inp.emitted = errors.emitted;
+    } = check_parts::<I, O, X, P>(parser, here, errors, &mut *inp.state, context, alloc);
+    inp.move_to(cursor);
+    inp.put_errors(errors);
     answer
 }

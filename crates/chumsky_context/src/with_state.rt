@@ -93,15 +93,14 @@ where
         errors,
     } = emit_parts::<I, O, Full<E::Error, S, E::Context>, P>(
         parser,
-        inp.cursor,
+        inp.cursor(),
         errors,
         state,
-        inp.context,
-        inp.alloc,
+        inp.ctx(),
+        inp.alloc(),
     );
-    inp.cursor = cursor;
-    inp.kept = errors.kept;
-    inp.emitted = errors.emitted;
+    inp.move_to(cursor);
+    inp.put_errors(errors);
     answer
 }
 
@@ -129,15 +128,14 @@ where
         errors,
     } = check_parts::<I, O, Full<E::Error, S, E::Context>, P>(
         parser,
-        inp.cursor,
+        inp.cursor(),
         errors,
         state,
-        inp.context,
-        inp.alloc,
+        inp.ctx(),
+        inp.alloc(),
     );
-    inp.cursor = cursor;
-    inp.kept = errors.kept;
-    inp.emitted = errors.emitted;
+    inp.move_to(cursor);
+    inp.put_errors(errors);
     answer
 }
 

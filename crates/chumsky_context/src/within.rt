@@ -41,7 +41,7 @@ where
     match answer {
         Ok(value) => report_kept(Ok(value), inp),
         Err(Fault::Fail) => report_kept(Err(Fault::Fail), inp),
-        Err(Fault::Stop(stop)) => stopped(stop, inp.alloc),
+        Err(Fault::Stop(stop)) => stopped(stop, inp.alloc()),
     }
 }
 
@@ -191,8 +191,7 @@ where
         Some(error) => Some(Located { place, error }),
     };
     let older = inp.set_aside();
-    inp.kept = kept;
-    inp.emitted = emitted;
+    inp.put_errors(Aside { kept, emitted });
     inp.bring_back(older)
 }
 
@@ -220,6 +219,8 @@ where
         (P.meaning parser.now) place input true inp.old inp.new (with_value result) }
     ensures lent { inp.new.state.ghost_name ≡ inp.old.state.ghost_name }
 {
+    let context = inp.ctx();
+    let alloc = inp.alloc();
     let RunReport {
         answer,
         error,
@@ -228,8 +229,8 @@ where
         parser,
         input,
         &mut *inp.state,
-        inp.context,
-        inp.alloc,
+        context,
+        alloc,
     );
     add_errors(place, error, emitted, inp)?;
     answer
@@ -257,6 +258,8 @@ where
         (P.meaning parser.now) place input false inp.old inp.new (without_value result) }
     ensures lent { inp.new.state.ghost_name ≡ inp.old.state.ghost_name }
 {
+    let context = inp.ctx();
+    let alloc = inp.alloc();
     let RunReport {
         answer,
         error,
@@ -265,8 +268,8 @@ where
         parser,
         input,
         &mut *inp.state,
-        inp.context,
-        inp.alloc,
+        context,
+        alloc,
     );
     add_errors(place, error, emitted, inp)?;
     answer

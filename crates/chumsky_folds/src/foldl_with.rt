@@ -64,7 +64,7 @@ impl<
 
     #[inline(always)]
     fn go_emit(&self, inp: &mut InputRef<'src, '_, I, E>) -> PResult<O> {
-        let before = inp.cursor;
+        let before = inp.cursor();
         let first = self.parser.go_emit(inp)?;
         fold_with::<I, O, U, E, B, F>(first, &before, &self.items, &self.folder, inp)
     }

@@ -98,7 +98,7 @@ fn collect_placed<'src, I: Input<'src>, O: Drop, E: ParserExtra<I>, A: IterParse
         nonconsumption_is_ok: false,
     };
     loop {
-        let before = inp.cursor;
+        let before = inp.cursor();
         match next_item(parser, inp, &mut state, debug)? {
             None => return Ok(items),
             Some(item) => {

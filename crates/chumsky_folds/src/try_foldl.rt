@@ -96,7 +96,7 @@ where
     ensures ran { (w : Bool) → Runs I.Input E.Error.Error E.State.Inspector (DoesFoldTried F.gives A.meaning B.begins B.gives fold.now E.Error.Error E.State.Inspector) w inp.old inp.new (asked w result) }
     ensures lent { inp.new.state.ghost_name ≡ inp.old.state.ghost_name }
 {
-    let before = inp.cursor;
+    let before = inp.cursor();
     let first = fold.parser.go_emit(inp)?;
     try_fold_with::<I, O, U, E, B, F>(first, &before, &fold.items, &fold.folder, inp)
 }
@@ -132,7 +132,7 @@ fn try_fold_with<
         nonconsumption_is_ok: false,
     };
     loop {
-        let before = inp.cursor;
+        let before = inp.cursor();
         match next_item(parser, inp, &mut state, debug)? {
             None => return Ok(accumulator),
             Some(item) => {

@@ -9,7 +9,7 @@ use Rattle.chumsky_input.specs.Held.{Held, first_stop}
 use Rattle.chumsky_input.specs.Outcome.{Meaning, Yes, Halt}
 use Rattle.chumsky_input.specs.Primary.{primary}
 use Rattle.chumsky_input.specs.Run.{Ran, with_value}
-use Rattle.chumsky_input.specs.Aside.{SameButErrors, ClashesWith, brought_back}
+use Rattle.chumsky_input.specs.Aside.{SameButErrors, ClashesWith, brought_back, without_errors}
 use Rattle.chumsky_input.specs.declared.emitter.Emitter.{Emitter}
 use Rattle.chumsky_input.specs.Extra.{shown_from}
 use Rattle.chumsky_input.proofs.PrimaryLemmas.{kept-same}
@@ -89,13 +89,16 @@ module _ {Tok Cx St Er : Type 0} (old : Held Tok Cx St Er) (r : Option (List Er)
   pub emits_none : es ≡ [] → EmitsAfter r old old
   emits_none n = (es, e, ap (λ z. record old { emitted = z }) (sym (append-nil old.emitted) ∙ ap (λ z. old.emitted ++ z) (sym n)))
 
-  -- the older errors are brought back before these
-  pub emits_back : (merged : Er → Er → Er) (safe : Type 0) (new : Held Tok Cx St Er) {U A : Type 0} (q : Result U A)
-      → MatchResult q (λ _. new ≡ brought_back merged None old.emitted (record old { emitted = es }))
-      (λ _. (ClashesWith safe None old.kept ⊎ (es ≡ [] → ⊥)) × SameButErrors (record old { emitted = es }) new)
+  -- the older errors are set aside, and brought back before these
+  pub emits_back : (merged : Er → Er → Er) (safe : Type 0) (bare new : Held Tok Cx St Er) {U A : Type 0} (q : Result U A) → bare ≡ without_errors old
+      → MatchResult q (λ _. new ≡ brought_back merged old.kept old.emitted (record bare { kept = None; emitted = es }))
+      (λ _. (ClashesWith safe old.kept None ⊎ (es ≡ [] → ⊥)) × SameButErrors (record bare { kept = None; emitted = es }) new)
       → MatchResult q (λ _. EmitsAfter r old new) (λ _. (r ≡ Some [] → ⊥) × SameButErrors old new)
-  emits_back merged safe new (Ok u) k =
-      let one : primary merged (option_to_list old.kept) ≡ old.kept = sym (kept-same merged old.kept ∙ ap (primary merged) (append-nil (option_to_list old.kept))) in
-      (es, e, k ∙ ap (λ z. record old { kept = z; emitted = old.emitted ++ es }) one)
-  emits_back merged safe new (Err a) (inl c, s) = absurd c.3
-  emits_back merged safe new (Err a) (inr c, s) = ((λ q. let none : es ≡ [] = cc (e, q) in c none), s)
+  emits_back merged safe bare new (Ok u) b k = (
+    es,
+    e,
+    k ∙ ap (λ (z : Held Tok Cx St Er). record z { kept = primary merged (option_to_list old.kept ++ []); emitted = old.emitted ++ es }) b
+        ∙ ap (λ z. record old { kept = z; emitted = old.emitted ++ es }) (sym (kept-same merged old.kept)),
+  )
+  emits_back merged safe bare new (Err a) b (inl c, s) = let clash = c.1 in let no : ⊥ = cc in absurd no
+  emits_back merged safe bare new (Err a) b (inr c, s) = ((λ q. let none : es ≡ [] = cc (e, q) in c none), s ∙ ap (λ (z : Held Tok Cx St Er). record z { kept = new.kept; emitted = new.emitted }) b)

@@ -54,10 +54,10 @@ where
         let before = inp.save()?;
         match self.parser.go_emit(inp) {
             Ok(value) => {
-                let end = inp.cursor;
-                inp.cursor = before.cursor;
+                let end = inp.cursor();
+                inp.move_to(before.cursor);
                 self.other.go_check(inp)?;
-                inp.cursor = end;
+                inp.move_to(end);
                 Ok(value)
             }
             Err(Fault::Fail) => {
@@ -73,10 +73,10 @@ where
         let before = inp.save()?;
         match self.parser.go_check(inp) {
             Ok(()) => {
-                let past = inp.cursor;
-                inp.cursor = before.cursor;
+                let past = inp.cursor();
+                inp.move_to(before.cursor);
                 self.other.go_check(inp)?;
-                inp.cursor = past;
+                inp.move_to(past);
                 Ok(())
             }
             Err(Fault::Fail) => {

@@ -121,7 +121,7 @@ where
         (⟦<Filter<A, F> as Parser<'src, I, O, E>>⟧.meaning filter.now) inp.old inp.new result }
     ensures lent { inp.new.state.ghost_name ≡ inp.old.state.ghost_name }
 {
-    let start = inp.cursor;
+    let start = inp.cursor();
     let older = inp.take_kept();
     match filter.parser.go_emit(inp) {
         Ok(value) => {
@@ -129,8 +129,8 @@ where
                 inp.keep_before(older)?;
                 return Ok(value);
             }
-            inp.kept = older;
-            let past = inp.cursor;
+            inp.put_kept(older);
+            let past = inp.cursor();
             Err(something_else(&start, &past, inp))
         }
         Err(Fault::Fail) => Err(fail_as_one(older, inp)),

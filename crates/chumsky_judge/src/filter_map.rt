@@ -126,7 +126,7 @@ where
         (⟦<FilterMap<A, O, F, U> as Parser<'src, I, U, E>>⟧.meaning filter_map.now) inp.old inp.new result }
     ensures lent { inp.new.state.ghost_name ≡ inp.old.state.ghost_name }
 {
-    let start = inp.cursor;
+    let start = inp.cursor();
     let older = inp.take_kept();
     match filter_map.parser.go_emit(inp) {
         Ok(value) => match filter_map.picker.pick(value) {
@@ -135,8 +135,8 @@ where
                 Ok(output)
             }
             None => {
-                inp.kept = older;
-                let past = inp.cursor;
+                inp.put_kept(older);
+                let past = inp.cursor();
                 Err(something_else(&start, &past, inp))
             }
         },

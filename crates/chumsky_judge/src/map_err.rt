@@ -89,12 +89,12 @@ fn map_kept<'src, I: Input<'src>, E: ParserExtra<I>, F: Fn(E::Error) -> E::Error
 {
     match inp.take_kept() {
         None => {
-            inp.kept = older;
+            inp.put_kept(older);
             Fault::Fail
         }
         Some(kept) => {
             let error = mapper(kept.error);
-            inp.kept = older;
+            inp.put_kept(older);
             inp.add_event(kept.place, error)
         }
     }

@@ -52,7 +52,7 @@ where
 
     #[inline]
     fn go_emit(&self, inp: &mut InputRef<'src, '_, I, E>) -> PResult<O> {
-        let start = inp.cursor;
+        let start = inp.cursor();
         let older = inp.take_kept();
         match self.parser.go_emit(inp) {
             Ok(value) => {
@@ -66,7 +66,7 @@ where
 
     #[inline]
     fn go_check(&self, inp: &mut InputRef<'src, '_, I, E>) -> PResult<()> {
-        let start = inp.cursor;
+        let start = inp.cursor();
         let older = inp.take_kept();
         match self.parser.go_check(inp) {
             Ok(()) => {
@@ -101,12 +101,12 @@ where
 {
     match inp.take_kept() {
         None => {
-            inp.kept = older;
+            inp.put_kept(older);
             Fault::Fail
         }
         Some(kept) => {
             let error = call_with_extra(mapper, kept.error, start, inp);
-            inp.kept = older;
+            inp.put_kept(older);
             inp.add_event(kept.place, error)
         }
     }

@@ -51,7 +51,7 @@ where
 
     #[inline]
     fn go_emit(&self, inp: &mut InputRef<'src, '_, I, E>) -> PResult<O> {
-        let start = inp.cursor;
+        let start = inp.cursor();
         let older = inp.take_kept();
         match self.parser.go_emit(inp) {
             Ok(value) => {
@@ -59,7 +59,7 @@ where
                 Ok(value)
             }
             Err(Fault::Fail) => {
-                let span = I::span(&start, &inp.cursor);
+                let span = I::span(&start, &inp.cursor());
                 Err(map_kept_with_state(&self.mapper, span, older, inp))
             }
             Err(Fault::Stop(stop)) => Err(Fault::Stop(stop)),
@@ -68,7 +68,7 @@ where
 
     #[inline]
     fn go_check(&self, inp: &mut InputRef<'src, '_, I, E>) -> PResult<()> {
-        let start = inp.cursor;
+        let start = inp.cursor();
         let older = inp.take_kept();
         match self.parser.go_check(inp) {
             Ok(()) => {
@@ -76,7 +76,7 @@ where
                 Ok(())
             }
             Err(Fault::Fail) => {
-                let span = I::span(&start, &inp.cursor);
+                let span = I::span(&start, &inp.cursor());
                 Err(map_kept_with_state(&self.mapper, span, older, inp))
             }
             Err(Fault::Stop(stop)) => Err(Fault::Stop(stop)),
@@ -103,12 +103,12 @@ where
 {
     match inp.take_kept() {
         None => {
-            inp.kept = older;
+            inp.put_kept(older);
             Fault::Fail
         }
         Some(kept) => {
             let error = call_with_state(mapper, kept.error, span, inp);
-            inp.kept = older;
+            inp.put_kept(older);
             inp.add_event(kept.place, error)
         }
     }

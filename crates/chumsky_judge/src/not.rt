@@ -72,14 +72,14 @@ fn deny<'src, I: Input<'src>, O, E: ParserExtra<I>, A: Parser<'src, I, O, E>>(
     let older = inp.take_kept();
     match part.go_check(inp) {
         Ok(()) => {
-            let past = inp.cursor;
+            let past = inp.cursor();
             inp.rewind(&before)?;
-            inp.kept = older;
+            inp.put_kept(older);
             Err(something_else(&before.cursor, &past, inp))
         }
         Err(Fault::Fail) => {
             inp.rewind(&before)?;
-            inp.kept = older;
+            inp.put_kept(older);
             Ok(())
         }
         Err(Fault::Stop(stop)) => Err(Fault::Stop(stop)),

@@ -45,13 +45,13 @@ impl<'src, I: Input<'src>, O: Drop, E: ParserExtra<I>, A: Parser<'src, I, O, E>>
 
     #[inline]
     fn go_emit(&self, inp: &mut InputRef<'src, '_, I, E>) -> PResult<O> {
-        let start = inp.cursor;
+        let start = inp.cursor();
         let older = inp.take_kept();
         match self.parser.go_emit(inp) {
             Ok(value) => {
-                inp.cursor = start;
+                inp.move_to(start);
                 if inp.keeps_past(I::place(&start)) {
-                    inp.kept = older;
+                    inp.put_kept(older);
                     return Ok(value);
                 }
                 inp.keep_before(older)?;
@@ -64,13 +64,13 @@ impl<'src, I: Input<'src>, O: Drop, E: ParserExtra<I>, A: Parser<'src, I, O, E>>
 
     #[inline]
     fn go_check(&self, inp: &mut InputRef<'src, '_, I, E>) -> PResult<()> {
-        let start = inp.cursor;
+        let start = inp.cursor();
         let older = inp.take_kept();
         match self.parser.go_check(inp) {
             Ok(()) => {
-                inp.cursor = start;
+                inp.move_to(start);
                 if inp.keeps_past(I::place(&start)) {
-                    inp.kept = older;
+                    inp.put_kept(older);
                     return Ok(());
                 }
                 inp.keep_before(older)?;

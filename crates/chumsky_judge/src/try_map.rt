@@ -115,18 +115,18 @@ where
         (⟦<TryMap<A, O, F, U> as Parser<'src, I, U, E>>⟧.meaning try_map.now) inp.old inp.new result }
     ensures lent { inp.new.state.ghost_name ≡ inp.old.state.ghost_name }
 {
-    let start = inp.cursor;
+    let start = inp.cursor();
     let older = inp.take_kept();
     match try_map.parser.go_emit(inp) {
         Ok(value) => {
-            let span = I::span(&start, &inp.cursor);
+            let span = I::span(&start, &inp.cursor());
             match try_map.mapper.try_apply(value, span) {
                 Ok(output) => {
                     inp.keep_before(older)?;
                     Ok(output)
                 }
                 Err(error) => {
-                    inp.kept = older;
+                    inp.put_kept(older);
                     Err(inp.add_event(I::place(&start), error))
                 }
             }

@@ -88,7 +88,7 @@ where
         (⟦<TryMapWith<A, O, F, U> as Parser<'src, I, U, E>>⟧.meaning try_map.now) inp.old inp.new result }
     ensures lent { inp.new.state.ghost_name ≡ inp.old.state.ghost_name }
 {
-    let start = inp.cursor;
+    let start = inp.cursor();
     let older = inp.take_kept();
     match try_map.parser.go_emit(inp) {
         Ok(value) => match call_with_extra(&try_map.mapper, value, &start, inp) {
@@ -97,7 +97,7 @@ where
                 Ok(output)
             }
             Err(error) => {
-                inp.kept = older;
+                inp.put_kept(older);
                 Err(inp.add_event(I::place(&start), error))
             }
         },

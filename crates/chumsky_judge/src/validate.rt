@@ -16,7 +16,7 @@ use chumsky_input::map_extra::MapExtra;
 use chumsky_input::stop::PResult;
 use chumsky_parser::moving::Moving;
 use chumsky_parser::parser::{IsParser, Parser};
-use std::alloc::AllocError;
+use std::alloc::{AllocError, Global};
 use std::marker::PhantomData;
 
 /// A parser whose output goes through a closure that is shown the run and may emit errors. See `validate`.
@@ -89,7 +89,7 @@ where
         (⟦<Validate<A, O, F, U> as Parser<'src, I, U, E>>⟧.meaning validate.now) inp.old inp.new result }
     ensures lent { inp.new.state.ghost_name ≡ inp.old.state.ghost_name }
 {
-    let start = inp.cursor;
+    let start = inp.cursor();
     let value = validate.parser.go_emit(inp)?;
     let (output, emitter) = call_with_emitter(&validate.validator, value, &start, inp);
     emit_all(emitter, inp)?;
@@ -119,15 +119,49 @@ where
     ensures moves { Changes I.Input E.Error.Error E.State.Inspector SameButState inp.old inp.new }
     ensures lent { inp.new.state.ghost_name ≡ inp.old.state.ghost_name }
 {
+    let (to, context, alloc) = (inp.cursor(), inp.ctx(), inp.alloc());
+    validate_shown::<I, E, O, U, F>(
+        validator,
+        value,
+        since,
+        &to,
+        &mut *inp.state,
+        context,
+        alloc,
+    )
+}
+
+/// Calls a validator with a value, an extra that shows what lies between two cursors, and an emitter that has emitted nothing.
+#[inline]
+fn validate_shown<'src, I, E, O, U, F>(
+    validator: &F,
+    value: O,
+    from: &I::Cursor,
+    to: &I::Cursor,
+    state: &mut E::State,
+    context: &E::Context,
+    alloc: Global,
+) -> (U, Emitter<E::Error>)
+where
+    I: Input<'src>,
+    E: ParserExtra<I>,
+    F: Fn(O, &mut MapExtra<'src, '_, I, E>, &mut Emitter<E::Error>) -> U,
+    requires callable { MayValidate I.Input E.State.Inspector F.Fn validator.now }
+    requires tokens { I.cursor_tokens from.now ≡ I.cursor_tokens to.now }
+    requires order { I.place from.now ≤ I.place to.now }
+    ensures { Validates I.Input E.State.Inspector F.Fn validator.now value
+        (record { tokens = I.cursor_tokens to.now; from = I.place from.now; to = I.place to.now; context = context.now; state = E.State.seen state.old })
+        result.0 (E.State.seen state.new) result.1 }
+{
     let mut extra: MapExtra<'src, '_, I, E> = MapExtra {
-        from: *since,
-        to: inp.cursor,
-        state: &mut *inp.state,
-        context: inp.context,
-        alloc: inp.alloc,
+        from: *from,
+        to: *to,
+        state,
+        context,
+        alloc,
         source: PhantomData,
     };
-    let mut emitter = Emitter::new(inp.alloc);
+    let mut emitter = Emitter::new(alloc);
     let output = validator(value, &mut extra, &mut emitter);
     let MapExtra {
         from: _,
@@ -156,11 +190,12 @@ fn emit_all<'src, I: Input<'src>, E: ParserExtra<I>>(
     if errors.is_empty() {
         return Ok(());
     }
-    let older = std::mem::replace(&mut inp.emitted, errors);
-    inp.bring_back(Aside {
+    let older = inp.set_aside();
+    inp.put_errors(Aside {
         kept: None,
-        emitted: older,
-    })
+        emitted: errors,
+    });
+    inp.bring_back(older)
 }
 
 impl<'src, I, O, U, E, A, F> Moving<'src, I, U, E> for Validate<A, O, F, U>

@@ -54,7 +54,7 @@ where
 
     #[inline]
     fn go_emit(&self, inp: &mut InputRef<'src, '_, I, E>) -> PResult<O> {
-        let start = I::place(&inp.cursor);
+        let start = I::place(&inp.cursor());
         let older = inp.take_kept();
         match self.parser.go_emit(inp) {
             Ok(value) => {
@@ -71,7 +71,7 @@ where
 
     #[inline]
     fn go_check(&self, inp: &mut InputRef<'src, '_, I, E>) -> PResult<()> {
-        let start = I::place(&inp.cursor);
+        let start = I::place(&inp.cursor());
         let older = inp.take_kept();
         match self.parser.go_check(inp) {
             Ok(()) => {
@@ -141,10 +141,10 @@ where
         Some(kept) => {
             let Located { place, error } = kept;
             if place == start {
-                let told = error.label_with(inp.alloc, label)?;
-                inp.kept = Some(Located { place, error: told });
+                let told = error.label_with(inp.alloc(), label)?;
+                inp.put_kept(Some(Located { place, error: told }));
             } else {
-                inp.kept = Some(Located { place, error });
+                inp.put_kept(Some(Located { place, error }));
             }
             Ok(())
         }

@@ -53,8 +53,7 @@ where
     ensures { ClosesFrom I.Input E.Error.Error E.State.Inspector phase cursor older state.old context.now state.new result.errors.items result.answer }
 {
     let mut inp: InputRef<'src, '_, I, E> = InputRef::resume(alloc, cursor, state, context);
-    inp.kept = older.kept;
-    inp.emitted = older.emitted;
+    inp.put_errors(older);
     let ended = run_end(phase, &mut inp);
     let answer = settle(&mut inp, ended);
     let Finished {

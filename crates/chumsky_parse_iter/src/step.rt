@@ -96,8 +96,7 @@ where
     ensures may { IfOk result.answer (λ o. IfSome o (λ x. P.may_step parser.now x.1)) }
 {
     let mut inp: InputRef<'src, '_, I, E> = InputRef::resume(alloc, cursor, state, context);
-    inp.kept = older.kept;
-    inp.emitted = older.emitted;
+    inp.put_errors(older);
     let answer = run_step::<I, O, E, P>(parser, iteration, &mut inp);
     let Finished {
         cursor,

@@ -83,12 +83,15 @@ where
     ensures moves { OnlyState I.Input E.Error.Error E.State.Inspector inp.old inp.new }
     ensures lent { inp.new.state.ghost_name ≡ inp.old.state.ghost_name }
 {
+    let to = inp.cursor();
+    let context = inp.ctx();
+    let alloc = inp.alloc();
     let mut extra: MapExtra<'src, '_, I, E> = MapExtra {
         from: *since,
-        to: inp.cursor,
+        to,
         state: &mut *inp.state,
-        context: inp.context,
-        alloc: inp.alloc,
+        context,
+        alloc,
         source: PhantomData,
     };
     let answer = closure(first, second, third, &mut extra);

@@ -86,7 +86,7 @@ where
     ensures lighter { let weight = total (R.syntax operators.now).number (length (I.cursor_tokens inp.old.cursor).list) I.Input in weight stack.new.items inp.new.cursor result < weight stack.old.items inp.old.cursor (Todo.Begin least) }
     ensures lent { inp.new.state.ghost_name ≡ inp.old.state.ghost_name }
 {
-    let start = inp.cursor;
+    let start = inp.cursor();
     match inp.save() {
         Ok(before) => Todo::Prefixes(Heading {
             level: Open { least, start },
@@ -131,7 +131,7 @@ where
                 let before = &head.before;
                 match attempt::<I, O, E, P, R, A, B, D>(way, operators, head.next, before, inp) {
                     Tried::Read(found) => {
-                        if I::place(&inp.cursor) <= I::place(&head.level.start) {
+                        if I::place(&inp.cursor()) <= I::place(&head.level.start) {
                             return Todo::Answer(Err(Fault::Stop(Stop::NoProgress)));
                         }
                         let frame = PrefixFrame {
@@ -286,7 +286,7 @@ where
                 let before = &turn.before;
                 match attempt::<I, O, E, P, R, A, B, D>(way, operators, turn.next, before, inp) {
                     Tried::Read(found) => {
-                        if I::place(&inp.cursor) <= I::place(&turn.before.cursor) {
+                        if I::place(&inp.cursor()) <= I::place(&turn.before.cursor) {
                             return Todo::Answer(Err(Fault::Stop(Stop::NoProgress)));
                         }
                         let operands = Operands::Before(turn.value);
@@ -358,7 +358,7 @@ where
                 match attempt::<I, O, E, P, R, A, B, D>(way, operators, turn.next, before, inp) {
                     Tried::Read(found) => {
                         let then_below = bound_after(chains, turn.below, left);
-                        if I::place(&inp.cursor) <= I::place(&turn.level.start) {
+                        if I::place(&inp.cursor()) <= I::place(&turn.level.start) {
                             return Todo::Answer(Err(Fault::Stop(Stop::NoProgress)));
                         }
                         let frame = InfixFrame {
@@ -526,7 +526,7 @@ where
     } = p;
     match answer {
         Ok(operand) => {
-            if I::place(&inp.cursor) <= I::place(&before.cursor) {
+            if I::place(&inp.cursor()) <= I::place(&before.cursor) {
                 return Todo::Answer(Err(Fault::Stop(Stop::NoProgress)));
             }
             let output = way.fold(

@@ -49,7 +49,7 @@ impl<'src, I: ValueInput<'src>, E: ParserExtra<I>> Parser<'src, I, I::Token, E> 
         match inp.next() {
             Ok(Some(token)) => Ok(token),
             Ok(None) => {
-                let here = inp.cursor;
+                let here = inp.cursor();
                 Err(inp.expected(&here, &here, Plain::Any, None))
             }
             Err(_) => Err(Fault::Stop(Stop::Memory)),
@@ -61,7 +61,7 @@ impl<'src, I: ValueInput<'src>, E: ParserExtra<I>> Parser<'src, I, I::Token, E> 
         if inp.advance() {
             return Ok(());
         }
-        let here = inp.cursor;
+        let here = inp.cursor();
         Err(inp.expected(&here, &here, Plain::Any, None))
     }
 }

@@ -50,7 +50,7 @@ impl<'src, I: BorrowInput<'src>, E: ParserExtra<I>> Parser<'src, I, &'src I::Tok
         match inp.next_ref() {
             Some(token) => Ok(token),
             None => {
-                let here = inp.cursor;
+                let here = inp.cursor();
                 Err(inp.expected(&here, &here, Plain::Any, None))
             }
         }
@@ -61,7 +61,7 @@ impl<'src, I: BorrowInput<'src>, E: ParserExtra<I>> Parser<'src, I, &'src I::Tok
         if inp.advance() {
             return Ok(());
         }
-        let here = inp.cursor;
+        let here = inp.cursor();
         Err(inp.expected(&here, &here, Plain::Any, None))
     }
 }

@@ -136,8 +136,8 @@ where
     ensures ran { (wanted : Bool) → Runs I.Input E.Error.Error E.State.Inspector (MeansCustom E.Error.seen (F.gives parser.now.reader E.Error.Error E.State.Inspector)) wanted inp.old inp.new (asked wanted result) }
     ensures lent { inp.new.state.ghost_name ≡ inp.old.state.ghost_name }
 {
-    let start = inp.cursor;
-    let context = inp.context;
+    let start = inp.cursor();
+    let context = inp.ctx();
     let older = inp.set_aside();
     match parser.reader.read(inp) {
         Ok(value) => {
@@ -149,8 +149,7 @@ where
             Err(inp.add_event(I::place(&start), error))
         }
         Err(Failure::Stop(stop)) => {
-            inp.cursor = start;
-            inp.context = context;
+            inp.restore(start, context);
             Err(Fault::Stop(stop))
         }
     }

@@ -50,7 +50,7 @@ impl<'src, I: Input<'src>, E: ParserExtra<I>> Parser<'src, I, (), E> for End<I, 
         match inp.next_maybe() {
             None => Ok(()),
             Some(token) => {
-                let past = inp.cursor;
+                let past = inp.cursor();
                 inp.rewind(&before)?;
                 Err(inp.expected(&before.cursor, &past, Plain::EndOfInput, Some(token)))
             }
@@ -63,7 +63,7 @@ impl<'src, I: Input<'src>, E: ParserExtra<I>> Parser<'src, I, (), E> for End<I, 
         match inp.next_maybe() {
             None => Ok(()),
             Some(token) => {
-                let past = inp.cursor;
+                let past = inp.cursor();
                 inp.rewind(&before)?;
                 Err(inp.expected(&before.cursor, &past, Plain::EndOfInput, Some(token)))
             }

@@ -58,7 +58,7 @@ where
 
     #[inline(always)]
     fn go_emit(&self, inp: &mut InputRef<'src, '_, I, E>) -> PResult<I::Token> {
-        let mut past = inp.cursor;
+        let mut past = inp.cursor();
         let found = I::next_maybe(&mut past);
         if let Some(token) = stranger(&self.seq, &found) {
             let value = I::value_of(token)?;
@@ -71,7 +71,7 @@ where
 
     #[inline(always)]
     fn go_check(&self, inp: &mut InputRef<'src, '_, I, E>) -> PResult<()> {
-        let mut past = inp.cursor;
+        let mut past = inp.cursor();
         let found = I::next_maybe(&mut past);
         if let Some(token) = stranger(&self.seq, &found) {
             take(token, past, inp);
@@ -109,7 +109,7 @@ fn expect_another<'src, I: Input<'src>, E: ParserExtra<I>>(
     ensures fails { FailsExpecting I.Input E.Error.Error E.State.Inspector (wanted.SomethingElse ∷ []) found.entry inp.old.cursor past.now inp.old inp.new result }
     ensures lent { inp.new.state.ghost_name ≡ inp.old.state.ghost_name }
 {
-    let here = inp.cursor;
+    let here = inp.cursor();
     inp.expected(&here, past, Plain::SomethingElse, found)
 }
 

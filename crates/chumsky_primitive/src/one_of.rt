@@ -61,7 +61,7 @@ where
 
     #[inline(always)]
     fn go_emit(&self, inp: &mut InputRef<'src, '_, I, E>) -> PResult<I::Token> {
-        let mut past = inp.cursor;
+        let mut past = inp.cursor();
         let found = I::next_maybe(&mut past);
         if let Some(token) = member(&self.seq, &found) {
             let value = I::value_of(token)?;
@@ -74,7 +74,7 @@ where
 
     #[inline(always)]
     fn go_check(&self, inp: &mut InputRef<'src, '_, I, E>) -> PResult<()> {
-        let mut past = inp.cursor;
+        let mut past = inp.cursor();
         let found = I::next_maybe(&mut past);
         if let Some(token) = member(&self.seq, &found) {
             take(token, past, inp);
@@ -115,7 +115,7 @@ where
     ensures fails { FailsExpecting I.Input E.Error.Error E.State.Inspector (map wanted.Token (S.members seq.now)) found.entry inp.old.cursor past.now inp.old inp.new result }
     ensures lent { inp.new.state.ghost_name ≡ inp.old.state.ghost_name }
 {
-    let here = inp.cursor;
+    let here = inp.cursor();
     inp.expected_each(&here, past, Members::of(seq), found)
 }
 

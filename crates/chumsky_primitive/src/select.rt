@@ -82,7 +82,7 @@ where
     let before = inp.save()?;
     match inp.next_maybe() {
         None => {
-            let here = inp.cursor;
+            let here = inp.cursor();
             Err(inp.expected(&here, &here, Plain::SomethingElse, None))
         }
         Some(found) => {
@@ -106,7 +106,7 @@ pub(crate) fn miss<'src, I: Input<'src>, E: ParserExtra<I>>(
     ensures misses { MissesToken I.Input E.Error.Error E.State.Inspector before.now found.entry inp.old inp.new result }
     ensures lent { inp.new.state.ghost_name ≡ inp.old.state.ghost_name }
 {
-    let past = inp.cursor;
+    let past = inp.cursor();
     match inp.rewind(before) {
         Ok(_) => inp.expected(&before.cursor, &past, Plain::SomethingElse, Some(found)),
         Err(_) => Fault::Stop(Stop::Memory),

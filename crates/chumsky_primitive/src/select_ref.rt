@@ -83,7 +83,7 @@ where
     let before = inp.save()?;
     match inp.next_ref() {
         None => {
-            let here = inp.cursor;
+            let here = inp.cursor();
             Err(inp.expected(&here, &here, Plain::SomethingElse, None))
         }
         Some(token) => match call_with_extra(filter, token, &before.cursor, inp) {

@@ -19,7 +19,7 @@ pub fn take<'src, I: Input<'src>, E: ParserExtra<I>>(
     ensures moves { MovesPast I.Input E.Error.Error E.State.Inspector token.now past inp.old inp.new }
     ensures lent { inp.new.state.ghost_name ≡ inp.old.state.ghost_name }
 {
-    inp.cursor = past;
+    inp.move_to(past);
     inp.state.on_token(token);
 }
 

@@ -162,7 +162,7 @@ where
         ((pairs.now.start, pairs.now.end) ∷ pairs.now.others) pairs.now.end) w inp.old inp.new (without_value result) }
     ensures lent { inp.new.state.ghost_name ≡ inp.old.state.ghost_name }
 {
-    let mut open: Vec<T> = Vec::new(inp.alloc);
+    let mut open: Vec<T> = Vec::new(inp.alloc());
     let mut innermost = pairs.end;
     loop {
         let role = take_fitting(pairs, &innermost, inp)?;

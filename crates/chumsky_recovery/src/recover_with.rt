@@ -160,7 +160,7 @@ fn take_aside<'src, I: Input<'src>, E: ParserExtra<I>>(
     ensures lent { inp.new.state.ghost_name ≡ inp.old.state.ghost_name }
 {
     let kept = inp.take_kept();
-    let end = inp.cursor;
+    let end = inp.cursor();
     inp.rewind(before)?;
     Ok(Failed { kept, end })
 }
@@ -188,7 +188,7 @@ fn tell_or_fail<'src, V: Drop, I: Input<'src>, E: ParserExtra<I>>(
         Err(Fault::Stop(stop)) => Err(Fault::Stop(stop)),
         Err(Fault::Fail) => {
             inp.rewind(before)?;
-            inp.kept = failed.kept;
+            inp.put_kept(failed.kept);
             Err(Fault::Fail)
         }
     }
@@ -208,7 +208,7 @@ fn tell<'src, I: Input<'src>, E: ParserExtra<I>>(
         Some(kept) => inp.emit(kept.error),
         None => {
             let span = I::span(&failed.end, &failed.end);
-            let error = E::Error::expected_found(inp.alloc, One { left: None }, None, span)?;
+            let error = E::Error::expected_found(inp.alloc(), One { left: None }, None, span)?;
             inp.emit(error)
         }
     }

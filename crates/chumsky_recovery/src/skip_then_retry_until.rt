@@ -120,7 +120,7 @@ where
     ensures lent { inp.new.state.ghost_name ≡ inp.old.state.ghost_name }
 {
     let found = found_or_skipped::<O, I, (), (), E, U, S>(&strategy.until, &strategy.skip, inp)?;
-    inp.kept = None;
+    inp.put_kept(None);
     if found {
         return Err(Fault::Fail);
     }
@@ -160,7 +160,7 @@ where
     ensures lent { inp.new.state.ghost_name ≡ inp.old.state.ghost_name }
 {
     let found = found_or_skipped::<O, I, (), (), E, U, S>(&strategy.until, &strategy.skip, inp)?;
-    inp.kept = None;
+    inp.put_kept(None);
     if found {
         return Err(Fault::Fail);
     }
@@ -185,7 +185,7 @@ fn if_quiet<'src, V: Drop, I: Input<'src>, E: ParserExtra<I>>(
 {
     match answer {
         Ok(value) => {
-            if inp.emitted.len() == before.emitted {
+            if inp.emitted_count() == before.emitted {
                 return Ok(Some(value));
             }
             drop(value);
@@ -213,7 +213,7 @@ fn forget<'src, I: Input<'src>, E: ParserExtra<I>>(
         (held I.Input E.Error.Error E.State.Inspector inp.new) result }
     ensures lent { inp.new.state.ghost_name ≡ inp.old.state.ghost_name }
 {
-    inp.kept = None;
+    inp.put_kept(None);
     inp.rewind(before)
 }
 

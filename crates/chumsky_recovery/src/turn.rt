@@ -61,9 +61,9 @@ fn skip_on<'src, X, I: Input<'src>, W, E: ParserExtra<I>, S: Parser<'src, I, W, 
         (held I.Input E.Error.Error E.State.Inspector inp.new).place) }
     ensures lent { inp.new.state.ghost_name ≡ inp.old.state.ghost_name }
 {
-    let start = I::place(&inp.cursor);
+    let start = I::place(&inp.cursor());
     skip.go_check(inp)?;
-    if I::place(&inp.cursor) == start {
+    if I::place(&inp.cursor()) == start {
         return Err(Fault::Stop(Stop::NoProgress));
     }
     Ok(())

@@ -1,5 +1,5 @@
 -- Lines and columns of a text, which is given as its bytes.
-use Rattle.std.specs.Prelude.{ℕ, ◌+◌, ◌-◌, Bool, ◌||◌, List, length, take, ◌==◌}
+use Rattle.std.specs.Prelude.{ℕ, ◌+◌, ◌-◌, Bool, ◌||◌, ◌&&◌, nat_le, List, length, take, ◌==◌}
 use Rattle.std.specs.List.{count_by, suffix_len, after_last}
 use Rattle.std.specs.Fmt.{is_char_start}
 
@@ -34,3 +34,11 @@ is_break b = b == 10 || b == 13
 -- where a text ends, but for the line feeds and carriage returns at its end
 abbrev pub text_end : List ℕ → ℕ
 text_end text = length text - suffix_len is_break text
+
+-- from one number to another
+abbrev is_within : ℕ → ℕ → ℕ → Bool
+is_within first last c = nat_le first c && nat_le c last
+
+-- characters that show nothing, or turn the direction in which others show: marks of width zero, line and paragraph separators, directions, and the byte order mark
+abbrev pub is_hidden : ℕ → Bool
+is_hidden c = is_within 8203 8207 c || (is_within 8232 8238 c || (is_within 8288 8303 c || (c == 1564 || c == 65279)))

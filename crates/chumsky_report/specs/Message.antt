@@ -6,16 +6,17 @@ use Rattle.std.specs.List.{list_any}
 use Rattle.std.specs.Option.{unwrap_or}
 use Rattle.std.specs.Str.{bytes_eq}
 use Rattle.std.specs.Fmt.{digits, format_spec, padded_integral}
+use Rattle.chumsky_report.specs.Line.{is_hidden}
 use Rattle.chumsky_input.specs.Rich.{rich_found, rich_patterns, rich_message}
 use Rattle.chumsky_input.specs.declared.rich.Rich.{Rich}
 use Rattle.chumsky_input.specs.declared.rich.RichPattern.{RichPattern}
 use Rattle.chumsky_input.specs.declared.rich.RichPattern.TheVariants as Pattern
 
--- a character as it is written in a program: control characters, quotes and backslashes are escaped
+-- a character as it is written in a program: control characters, hidden ones, quotes and backslashes are escaped
 abbrev pub escaped : ℕ → List ℕ
 escaped c = if c == 10 then codes "\\n" else (if c == 13 then codes "\\r" else (if c == 9 then codes "\\t"
     else (if c == 39 || c == 92 then codes "\\" ++ encode_utf8 c
-    else (if is_control c then codes "\\u{" ++ (digits 16 false c ++ codes "}") else encode_utf8 c))))
+    else (if is_control c || is_hidden c then codes "\\u{" ++ (digits 16 false c ++ codes "}") else encode_utf8 c))))
 
 abbrev pub character_text : ℕ → List ℕ
 character_text c = codes "'" ++ (escaped c ++ codes "'")

@@ -1,13 +1,13 @@
 -- The part of a line that a report shows, by its characters.
-use Rattle.std.specs.Prelude.{ℕ, ◌+◌, ◌-◌, min, Bool, if◌then◌else◌, nat_le, List, [], ◌∷◌, ◌++◌, length, take, drop, reverse, flat_map, ◌==◌}
+use Rattle.std.specs.Prelude.{ℕ, ◌+◌, ◌-◌, min, Bool, ◌||◌, if◌then◌else◌, nat_le, List, [], ◌∷◌, ◌++◌, length, take, drop, reverse, flat_map, ◌==◌}
 use Rattle.std.specs.List.{before_first}
 use Rattle.std.specs.Char.{encode_utf8, is_control}
 use Rattle.std.specs.Str.{chars}
-use Rattle.chumsky_report.specs.Line.{is_line_end}
+use Rattle.chumsky_report.specs.Line.{is_line_end, is_hidden}
 
--- what stands for a character: a sign for a control character, but a space for a carriage return and a tab for a tab
+-- what stands for a character: a sign for a control character and for one that is hidden, but a space for a carriage return and a tab for a tab
 abbrev pub sign : ℕ → ℕ
-sign c = if c == 9 then 9 else (if c == 13 then 32 else (if nat_le c 31 then 9216 + c else (if c == 127 then 9249 else (if is_control c then 65533 else c))))
+sign c = if c == 9 then 9 else (if c == 13 then 32 else (if nat_le c 31 then 9216 + c else (if c == 127 then 9249 else (if is_control c || is_hidden c then 65533 else c))))
 
 abbrev pub signs : List ℕ → List ℕ
 signs cs = flat_map (λ c. encode_utf8 (sign c)) cs

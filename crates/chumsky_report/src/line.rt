@@ -1,7 +1,7 @@
 //! Lines and columns of a text.
 ghost use Rattle.std.specs.Prelude.{◌≡◌, ◌+◌, ◌^◌, ◌<◌, ◌≤◌, length};
 ghost use Rattle.std.specs.Str.{IsCharBoundary};
-ghost use Rattle.chumsky_report.specs.Line.{characters, line_number, column_number, text_end};
+ghost use Rattle.chumsky_report.specs.Line.{characters, line_number, column_number, text_end, is_hidden};
 ghost use Rattle.chumsky_report.specs.Place.{IsPlace, place_after};
 
 /// Where an offset of a text stands. Both numbers count from one.
@@ -82,4 +82,18 @@ pub fn text_end(text: &str) -> usize
         end -= 1;
     }
     end
+}
+
+/// Whether a character shows nothing, or turns the direction in which others show: it has width zero, separates lines or
+/// paragraphs, sets a direction, or is the byte order mark.
+pub(crate) fn is_hidden(character: char) -> bool
+    ensures { result ≡ is_hidden character }
+{
+    match character {
+        '\u{200b}'..='\u{200f}' => true,
+        '\u{2028}'..='\u{202e}' => true,
+        '\u{2060}'..='\u{206f}' => true,
+        '\u{61c}' | '\u{feff}' => true,
+        _ => false,
+    }
 }

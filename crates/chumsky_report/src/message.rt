@@ -4,6 +4,7 @@ ghost use Rattle.std.specs.Option.{option_copied};
 ghost use Rattle.std.specs.Fmt.{WritesOnOk};
 ghost use Rattle.chumsky_report.specs.Message.{character_text, character_word, byte_text, no_word, pattern_text, follows, following, item_length, run_word, run_text, item_text, is_label, wider_word, has_label, is_labelled, listed, items, found_text, message_text};
 
+use crate::line::is_hidden;
 use chumsky_input::rich::{Rich, RichPattern};
 use std::fmt;
 use std::fmt::{Display, Formatter};
@@ -44,7 +45,11 @@ impl Display for Quoted {
             '\r' => write!(f, "'\\r'"),
             '\t' => write!(f, "'\\t'"),
             '\'' | '\\' => write!(f, "'\\{character}'"),
-            _ if character.is_control() => write!(f, "'\\u{{{:x}}}'", u32::from(character)),
+            _ if character.is_control() || is_hidden(character) => write!(
+                f,
+                "'\\u{{{:x}}}'",
+                u32::from(character)
+            ),
             _ => write!(f, "'{character}'"),
         }
     }

@@ -31,8 +31,9 @@ use std::fmt::{Display, Formatter};
 /// ten digits are left out beside the label `digit`, and the label `inline whitespace` beside `whitespace`.
 ///
 /// Of a line of more than 160 characters, so many round the place are shown, with `…` where others are left out. Control
-/// characters of the line show as signs, as `␛`. At the end of a text the report points behind the last line that has
-/// something.
+/// characters of the line show as signs, as `␛`, and those that show nothing or turn the direction of others as `�`: so no
+/// text writes to the terminal, and each character has its column. Between quotes all of these are escaped. At the end of a
+/// text the report points behind the last line that has something.
 ///
 /// A text stands for itself, or for many errors a [`LineIndex`](crate::index::LineIndex) of it.
 #[derive(Clone, Copy)]

@@ -6,6 +6,7 @@ ghost use Rattle.chumsky_report.specs.Cut.{WithoutLast, WithoutFirst, CutsBehind
 ghost use Rattle.chumsky_report.specs.Shown.{line_of, below_of};
 ghost use Rattle.chumsky_report.specs.Window.{sign, signs, below, of_line, dots, below_dots, shown_ahead, line_text, below_line};
 
+use crate::line::is_hidden;
 use std::fmt;
 use std::fmt::{Display, Formatter};
 
@@ -170,7 +171,7 @@ fn write_dots<W: fmt::Write>(f: &mut Formatter<W>, all: bool) -> fmt::Result
     if all { Ok(()) } else { write!(f, "{}", '…') }
 }
 
-/// Writes the characters of a text, with signs for control characters.
+/// Writes the characters of a text, with signs for control characters and hidden ones.
 fn write_signs<W: fmt::Write>(f: &mut Formatter<W>, text: &str) -> fmt::Result
     ensures { WritesOnOk W.write_str_gives f.old result (signs (chars text.now)) f.new }
 {
@@ -180,7 +181,8 @@ fn write_signs<W: fmt::Write>(f: &mut Formatter<W>, text: &str) -> fmt::Result
     Ok(())
 }
 
-/// What stands for a character: a sign for a control character, but a space for a carriage return and a tab for a tab.
+/// What stands for a character: a sign for a control character and for one that is hidden, but a space for a carriage return
+/// and a tab for a tab.
 fn sign(character: char) -> char
     ensures { result ≡ sign character }
 {
@@ -190,6 +192,7 @@ fn sign(character: char) -> char
         '\0'..='\u{1f}' => char::from_u32(0x2400 + u32::from(character)).unwrap_or('\u{fffd}'),
         '\u{7f}' => '\u{2421}',
         '\u{80}'..='\u{9f}' => '\u{fffd}',
+        _ if is_hidden(character) => '\u{fffd}',
         _ => character,
     }
 }

@@ -27,9 +27,9 @@ fn moving<
         D.wanted inp.old inp.new (shown_by (λ r. Some (Some (D.shown r))) result) }
     ensures lent { inp.new.state.ghost_name ≡ inp.old.state.ghost_name }
 {
-    let start = I::place(&inp.cursor);
+    let start = I::place(&inp.cursor());
     let value = mode.go(part, inp)?;
-    if start < I::place(&inp.cursor) {
+    if start < I::place(&inp.cursor()) {
         Ok(value)
     } else {
         Err(Fault::Fail)

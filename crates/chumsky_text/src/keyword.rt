@@ -54,7 +54,7 @@ impl<'src, 'k, K: Lexeme<I::Token>, I: TextInput<'src>, E: ParserExtra<I>> Parse
 
     #[inline]
     fn go_emit(&self, inp: &mut InputRef<'src, '_, I, E>) -> PResult<I::Slice> {
-        let before = inp.cursor;
+        let before = inp.cursor();
         match take_first(&self.kind, inp) {
             None => Err(expect_here(Plain::Label(self.word), inp)),
             Some(rest) => {
@@ -71,7 +71,7 @@ impl<'src, 'k, K: Lexeme<I::Token>, I: TextInput<'src>, E: ParserExtra<I>> Parse
 
     #[inline]
     fn go_check(&self, inp: &mut InputRef<'src, '_, I, E>) -> PResult<()> {
-        let before = inp.cursor;
+        let before = inp.cursor();
         match take_first(&self.kind, inp) {
             None => Err(expect_here(Plain::Label(self.word), inp)),
             Some(rest) => {

@@ -47,7 +47,7 @@ impl<'src, K: Kind<I::Token>, I: SliceInput<'src>, E: ParserExtra<I>> Parser<'sr
 
     #[inline(always)]
     fn go_emit(&self, inp: &mut InputRef<'src, '_, I, E>) -> PResult<I::Slice> {
-        let before = inp.cursor;
+        let before = inp.cursor();
         skip_run(&self.kind, inp);
         let taken = inp.slice_since(&before);
         end_run(&self.kind, inp)?;

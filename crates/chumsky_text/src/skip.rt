@@ -41,7 +41,7 @@ pub(crate) fn take_one<'src, K: Kind<I::Token>, I: Input<'src>, E: ParserExtra<I
         (StepsBy E.State.after (K.holds kind.now) result) inp.old inp.new }
     ensures lent { inp.new.state.ghost_name ≡ inp.old.state.ghost_name }
 {
-    let mut past = inp.cursor;
+    let mut past = inp.cursor();
     match I::next_maybe(&mut past) {
         None => false,
         Some(token) => {
@@ -66,7 +66,7 @@ pub(crate) fn take_first<'src, K: Lexeme<I::Token>, I: Input<'src>, E: ParserExt
         (BeginsBy E.State.after (K.holds kind.now) (λ t. K.rest_after kind.now t) K.Rest.fits result) inp.old inp.new }
     ensures lent { inp.new.state.ghost_name ≡ inp.old.state.ghost_name }
 {
-    let mut past = inp.cursor;
+    let mut past = inp.cursor();
     let first = I::next_maybe(&mut past)?;
     if !kind.test(first.get()) {
         return None;
@@ -88,7 +88,7 @@ fn take<'src, I: Input<'src>, E: ParserExtra<I>>(
         inp.old inp.new }
     ensures lent { inp.new.state.ghost_name ≡ inp.old.state.ghost_name }
 {
-    inp.cursor = past;
+    inp.move_to(past);
     inp.state.on_token(token);
 }
 
@@ -103,7 +103,7 @@ pub(crate) fn expect_here<'src, I: Input<'src>, E: ParserExtra<I>>(
         inp.old inp.new result }
     ensures lent { inp.new.state.ghost_name ≡ inp.old.state.ghost_name }
 {
-    let here = inp.cursor;
+    let here = inp.cursor();
     let mut past = here;
     let found = I::next_maybe(&mut past);
     inp.expected(&here, &past, what, found)
@@ -122,7 +122,7 @@ pub(crate) fn expect_since<'src, I: Input<'src>, E: ParserExtra<I>>(
         inp.old inp.new result }
     ensures lent { inp.new.state.ghost_name ≡ inp.old.state.ghost_name }
 {
-    let end = inp.cursor;
+    let end = inp.cursor();
     inp.expected(from, &end, what, None)
 }
 

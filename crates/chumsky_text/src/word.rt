@@ -47,7 +47,7 @@ impl<'src, K: Lexeme<I::Token>, I: SliceInput<'src>, E: ParserExtra<I>> Parser<'
 
     #[inline(always)]
     fn go_emit(&self, inp: &mut InputRef<'src, '_, I, E>) -> PResult<I::Slice> {
-        let before = inp.cursor;
+        let before = inp.cursor();
         match take_first(&self.kind, inp) {
             None => Err(expect_here(self.kind.expected(), inp)),
             Some(rest) => {

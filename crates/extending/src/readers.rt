@@ -19,7 +19,7 @@ impl<'src> Reader<'src, &'src str, &'static str, RichText> for TwoAndAnError {
         inp.next()?;
         inp.next()?;
         let span = SimpleSpan { start: 0, end: 2 };
-        Err(Failure::Error(Rich::custom(span, String::new(inp.alloc))))
+        Err(Failure::Error(Rich::custom(span, String::new(inp.alloc()))))
     }
 }
 

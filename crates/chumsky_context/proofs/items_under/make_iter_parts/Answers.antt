@@ -4,5 +4,5 @@ use Rattle.chumsky_context.proofs.items_under.make_iter_parts.Goals as goal
 
 pub returns-clause-ran : goal.returns-clause-ran
 returns-clause-ran g c =
-    ran-parts c.resume-inp.ensures.begins c.make_iter-answer.ensures.ran (search rules)
+    ran-parts c.resume-inp.ensures.begins (rw c.put_errors.ensures at c.make_iter-answer.ensures.ran) (search rules)
     (cc (c.finish-cursor.ensures.cursor, c.finish-cursor.ensures.kept, c.finish-cursor.ensures.emitted))

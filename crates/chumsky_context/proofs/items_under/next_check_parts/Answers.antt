@@ -4,5 +4,5 @@ use Rattle.chumsky_context.proofs.items_under.next_check_parts.Goals as goal
 
 pub returns-clause-ran : goal.returns-clause-ran
 returns-clause-ran g c =
-    ran-parts c.resume-inp.ensures.begins c.next_check-answer.ensures.ran (search rules)
+    ran-parts c.resume-inp.ensures.begins (rw c.put_errors.ensures at c.next_check-answer.ensures.ran) (search rules)
     (cc (c.finish-cursor.ensures.cursor, c.finish-cursor.ensures.kept, c.finish-cursor.ensures.emitted))

@@ -47,12 +47,14 @@ loop-items-preserved g c =
     record {
       so = record {
         items = so.items ++ (c.in-Some.item, mid.place) ∷ [];
-        held = places-pushed g.I.Input _ _ _ _ c.in-Ok.ensures.items so.held;
+        held = places-pushed g.I.Input _ _ _ _ (rw c.cursor-before.ensures at c.in-Ok.ensures.items) so.held;
         from =
             steps-more so.from (placed-item c.next_item.ensures.ran (emit_item _ c.in_ok-next_item.was c.in-Some.is))
             refl (λ z. omega (arith, z)) (ran-appended so.items (c.in-Some.item, mid.place));
       };
-      within = starts-pushed g.I.Input mid new _ _ _ c.in-Ok.ensures.items refl refl c.next_item.ensures.tokens c.in_ok-next_item.ensures.onward c.loop-items.invariant.within;
+      within =
+          starts-pushed g.I.Input mid new _ _ _ (rw c.cursor-before.ensures at c.in-Ok.ensures.items) refl refl
+          c.next_item.ensures.tokens c.in_ok-next_item.ensures.onward c.loop-items.invariant.within;
       may = search rules;
       lent = search rules;
     }

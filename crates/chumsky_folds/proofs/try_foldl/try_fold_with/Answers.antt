@@ -41,7 +41,7 @@ returns-in-Err-clause-ran g c =
     (steps-refused c.loop-state.invariant.so
     (placed-item c.next_item.ensures.ran (emit_item _ c.in_ok-next_item.was c.in-Some.is))
     refl (λ z. omega (arith, z))
-    (ran-refused _ _ _ c.in-Err.ensures.moves c.in-Err.ensures.gives (rw c.place.ensures at c.add_event.ensures.adds)))
+    (ran-refused _ _ _ c.in-Err.ensures.moves c.in-Err.ensures.gives (rw (c.place.ensures, c.cursor-before.ensures) at c.add_event.ensures.adds)))
 
 pub loop-state-preserved : goal.loop-state-preserved
 loop-state-preserved g c =

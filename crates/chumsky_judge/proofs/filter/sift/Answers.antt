@@ -27,7 +27,7 @@ returns-else-passes-clause-ran g c w =
     let kept = ap (λ k. record (held g.I.Input g.E.Error.Error g.E.State.Inspector c.go_emit.new.inp) { kept = k }) c.take_kept-older.ensures.kept in
     vetted_fails ran _ (held g.I.Input g.E.Error.Error g.E.State.Inspector c.go_emit.new.inp)
     refl _ refl (record { passes = false; says = rw c.if-passes.false at c.passes.ensures; answer = refl; keeps = refl })
-    kept c.something_else.ensures.fails
+    kept (rw (c.cursor-past.ensures, c.put_kept.ensures, c.cursor-start.ensures) at c.something_else.ensures.fails)
 
 pub returns-in-Err-Fail-clause-ran : goal.returns-in-Err-Fail-clause-ran
 returns-in-Err-Fail-clause-ran g c w =

@@ -27,7 +27,7 @@ returns-in-None-clause-ran g c w =
     vetted_fails (rw c.take_kept-older.ensures.leaves at c.in-Ok.ensures.ran) _
     (held g.I.Input g.E.Error.Error g.E.State.Inspector c.go_emit.new.inp)
     refl _ refl (record { pick = None; says = rw c.in-None.is at c.pick.ensures; answer = refl; keeps = refl }) kept
-    c.something_else.ensures.fails
+    (rw (c.cursor-past.ensures, c.put_kept.ensures, c.cursor-start.ensures) at c.something_else.ensures.fails)
 
 pub returns-in-Err-Fail-clause-ran : goal.returns-in-Err-Fail-clause-ran
 returns-in-Err-Fail-clause-ran g c w =

@@ -15,4 +15,4 @@ returns-in-Some-clause-maps g c =
       state_kept (held g.I.Input g.E.Error.Error g.E.State.Inspector c.args.inp.now)
           (held g.I.Input g.E.Error.Error g.E.State.Inspector c.take_kept.new.self) c.in-Some.ensures.leaves,
     )
-    c.add_event.ensures.adds
+    (rw c.put_kept-in-Some.ensures at c.add_event.ensures.adds)

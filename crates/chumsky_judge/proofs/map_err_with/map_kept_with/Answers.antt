@@ -13,4 +13,4 @@ returns-in-Some-clause-maps g c =
     maps_some g.E.Error.Error.merged g.E.Error.Error.takes_no_memory _ _ _ _ _ moved.state old taken moved _ _ _
     c.in-Some.ensures.kept c.in-Some.ensures.leaves c.call_with_extra-error.ensures.moves refl
     (record { error = c.in-Some.kept.error; result = c.call_with_extra-error.result; counts = refl; result_counts = refl; answers = subst (λ z. MayAnswer g.I.Input g.E.State.Inspector g.F.Fn c.args.mapper.now c.in-Some.kept.error z c.call_with_extra-error.result moved.state) shown c.call_with_extra-error.ensures.answers })
-    c.add_event.ensures.adds
+    (rw c.put_kept-in-Some.ensures at c.add_event.ensures.adds)

@@ -16,4 +16,4 @@ returns-in-Some-clause-maps g c =
     (g.E.Error.Error.seen c.in-Some.kept.error) (g.E.Error.Error.seen c.call_with_state-error.result)
     moved.state)
     (state_kept old taken c.in-Some.ensures.leaves) c.call_with_state-error.ensures.maps)
-    c.add_event.ensures.adds
+    (rw c.put_kept-in-Some.ensures at c.add_event.ensures.adds)

@@ -37,7 +37,7 @@ returns-in-Ok-clause-ran g c w =
     (marks g.I.Input g.E.State.Inspector c.in_ok-before.before) c.in_ok-before.ensures
     (held g.I.Input g.E.Error.Error g.E.State.Inspector c.go_check.new.inp) _ _ _ _
     (held g.I.Input g.E.Error.Error g.E.State.Inspector c.rewind.new.self) _ _ _ ran
-    c.in_ok-rewind-in-Ok.ensures.back kept refl refl refl c.something_else.ensures.fails
+    c.in_ok-rewind-in-Ok.ensures.back kept refl refl refl (rw (c.put_kept.ensures, c.cursor-past.ensures) at c.something_else.ensures.fails)
 
 pub returns-in_err-rewind-in-Err-Fail-clause-ran : goal.returns-in_err-rewind-in-Err-Fail-clause-ran
 returns-in_err-rewind-in-Err-Fail-clause-ran g c w =
@@ -56,13 +56,14 @@ pub returns-in-Err-Fail-clause-ran : goal.returns-in-Err-Fail-clause-ran
 returns-in-Err-Fail-clause-ran g c w =
     let ran = rw (c.take_kept-older.ensures.leaves, c.in-Err-Fail.field-0-is) at c.in-Err-Fail.ensures.ran in
     let kept = ap (λ k. record (held g.I.Input g.E.Error.Error g.E.State.Inspector c.rewind-in-Err-Fail.new.self) { kept = k }) c.take_kept-older.ensures.kept in
-    not_no g.I.Input g.E.Error.Error g.E.State.Inspector
+    rw c.put_kept-in-Err-Fail.ensures
+    (not_no g.I.Input g.E.Error.Error g.E.State.Inspector
     (g.A.Parser.meaning c.args.part.now g.E.Error.Error g.E.State.Inspector) w
     (held g.I.Input g.E.Error.Error g.E.State.Inspector c.args.inp.now)
     (marks g.I.Input g.E.State.Inspector c.in_ok-before.before) c.in_ok-before.ensures
     (held g.I.Input g.E.Error.Error g.E.State.Inspector c.go_check.new.inp)
     (held g.I.Input g.E.Error.Error g.E.State.Inspector c.rewind-in-Err-Fail.new.self) _ ran
-    c.in_ok-rewind-in-Err-Fail.ensures.back kept
+    c.in_ok-rewind-in-Err-Fail.ensures.back kept)
 
 pub returns-clause-ran : goal.returns-clause-ran
 returns-clause-ran g c w =

@@ -8,7 +8,7 @@ use Rattle.chumsky_judge.proofs.try_map.attempt.Goals as goal
 pub returns-in_err-keep_before-in-Ok-try_apply-clause-ran : goal.returns-in_err-keep_before-in-Ok-try_apply-clause-ran
 returns-in_err-keep_before-in-Ok-try_apply-clause-ran g c w =
     let e : c.from_residual.result ≡ Err (fault.Stop Memory) = search rules in
-    let says = rw c.span-span.ensures at c.in-Ok-try_apply.ensures in
+    let says = rw (c.span-span.ensures, c.cursor-start.ensures, c.cursor.ensures) at c.in-Ok-try_apply.ensures in
     rw e
     (vetted_yes_refused (rw c.take_kept-older.ensures.leaves at c.in-Ok.ensures.ran) _
     (held g.I.Input g.E.Error.Error g.E.State.Inspector c.go_emit.new.inp)
@@ -17,7 +17,7 @@ returns-in_err-keep_before-in-Ok-try_apply-clause-ran g c w =
 
 pub returns-in_ok-keep_before-in-Ok-try_apply-clause-ran : goal.returns-in_ok-keep_before-in-Ok-try_apply-clause-ran
 returns-in_ok-keep_before-in-Ok-try_apply-clause-ran g c w =
-    let says = rw c.span-span.ensures at c.in-Ok-try_apply.ensures in
+    let says = rw (c.span-span.ensures, c.cursor-start.ensures, c.cursor.ensures) at c.in-Ok-try_apply.ensures in
     vetted_yes (rw c.take_kept-older.ensures.leaves at c.in-Ok.ensures.ran) _
     (held g.I.Input g.E.Error.Error g.E.State.Inspector c.go_emit.new.inp)
     refl c.in-Ok-try_apply.output (record { ruling = Ok c.in-Ok-try_apply.output; says = says; answer = refl; keeps = refl })
@@ -25,12 +25,12 @@ returns-in_ok-keep_before-in-Ok-try_apply-clause-ran g c w =
 
 pub returns-in-Err-clause-ran : goal.returns-in-Err-clause-ran
 returns-in-Err-clause-ran g c w =
-    let says = rw c.span-span.ensures at c.in-Err.ensures in
+    let says = rw (c.span-span.ensures, c.cursor-start.ensures, c.cursor.ensures) at c.in-Err.ensures in
     let kept = ap (λ k. record (held g.I.Input g.E.Error.Error g.E.State.Inspector c.go_emit.new.inp) { kept = k }) c.take_kept-older.ensures.kept in
     vetted_adds (rw c.take_kept-older.ensures.leaves at c.in-Ok.ensures.ran) _
     (held g.I.Input g.E.Error.Error g.E.State.Inspector c.go_emit.new.inp)
     refl _ (record { ruling = Err c.in-Err.error; says = says; answer = refl; keeps = refl }) kept
-    (rw c.place.ensures at c.add_event.ensures.adds)
+    (rw (c.place.ensures, c.cursor-start.ensures, c.put_kept.ensures) at c.add_event.ensures.adds)
 
 pub returns-in-Err-Fail-clause-ran : goal.returns-in-Err-Fail-clause-ran
 returns-in-Err-Fail-clause-ran g c w =

@@ -14,7 +14,7 @@ returns-in_err-keep_before-in-Ok-call_with_extra-clause-ran g c w =
     (held g.I.Input g.E.Error.Error g.E.State.Inspector c.call_with_extra.new.inp).state
     (held g.I.Input g.E.Error.Error g.E.State.Inspector c.call_with_extra.new.inp)
     c.in-Ok-call_with_extra.ensures.moves c.in-Ok-call_with_extra.output
-    (record { ruling = (Ok c.in-Ok-call_with_extra.output); answers = (subst (λ z. MayAnswer g.I.Input g.E.State.Inspector g.F.Fn c.args.try_map.now.mapper c.in-Ok.value z (Ok c.in-Ok-call_with_extra.output) (held g.I.Input g.E.Error.Error g.E.State.Inspector c.call_with_extra.new.inp).state) (shown_same w (held g.I.Input g.E.Error.Error g.E.State.Inspector c.args.inp.now) (held g.I.Input g.E.Error.Error g.E.State.Inspector c.go_emit.new.inp) (rw c.take_kept-older.ensures.leaves at c.in-Ok.ensures.ran)) c.in-Ok-call_with_extra.ensures.answers); answer = refl })
+    (record { ruling = (Ok c.in-Ok-call_with_extra.output); answers = (subst (λ z. MayAnswer g.I.Input g.E.State.Inspector g.F.Fn c.args.try_map.now.mapper c.in-Ok.value z (Ok c.in-Ok-call_with_extra.output) (held g.I.Input g.E.Error.Error g.E.State.Inspector c.call_with_extra.new.inp).state) (shown_same w (held g.I.Input g.E.Error.Error g.E.State.Inspector c.args.inp.now) (held g.I.Input g.E.Error.Error g.E.State.Inspector c.go_emit.new.inp) (rw c.take_kept-older.ensures.leaves at c.in-Ok.ensures.ran)) (rw c.cursor-start.ensures at c.in-Ok-call_with_extra.ensures.answers)); answer = refl })
     (rw c.take_kept-older.ensures.kept at c.in_err-keep_before-in-Ok-call_with_extra.ensures.keeps))
 
 pub returns-in_ok-keep_before-in-Ok-call_with_extra-clause-ran : goal.returns-in_ok-keep_before-in-Ok-call_with_extra-clause-ran
@@ -23,7 +23,7 @@ returns-in_ok-keep_before-in-Ok-call_with_extra-clause-ran g c w =
     (held g.I.Input g.E.Error.Error g.E.State.Inspector c.call_with_extra.new.inp).state
     (held g.I.Input g.E.Error.Error g.E.State.Inspector c.call_with_extra.new.inp)
     c.in-Ok-call_with_extra.ensures.moves c.in-Ok-call_with_extra.output
-    (record { ruling = (Ok c.in-Ok-call_with_extra.output); answers = (subst (λ z. MayAnswer g.I.Input g.E.State.Inspector g.F.Fn c.args.try_map.now.mapper c.in-Ok.value z (Ok c.in-Ok-call_with_extra.output) (held g.I.Input g.E.Error.Error g.E.State.Inspector c.call_with_extra.new.inp).state) (shown_same w (held g.I.Input g.E.Error.Error g.E.State.Inspector c.args.inp.now) (held g.I.Input g.E.Error.Error g.E.State.Inspector c.go_emit.new.inp) (rw c.take_kept-older.ensures.leaves at c.in-Ok.ensures.ran)) c.in-Ok-call_with_extra.ensures.answers); answer = refl })
+    (record { ruling = (Ok c.in-Ok-call_with_extra.output); answers = (subst (λ z. MayAnswer g.I.Input g.E.State.Inspector g.F.Fn c.args.try_map.now.mapper c.in-Ok.value z (Ok c.in-Ok-call_with_extra.output) (held g.I.Input g.E.Error.Error g.E.State.Inspector c.call_with_extra.new.inp).state) (shown_same w (held g.I.Input g.E.Error.Error g.E.State.Inspector c.args.inp.now) (held g.I.Input g.E.Error.Error g.E.State.Inspector c.go_emit.new.inp) (rw c.take_kept-older.ensures.leaves at c.in-Ok.ensures.ran)) (rw c.cursor-start.ensures at c.in-Ok-call_with_extra.ensures.answers)); answer = refl })
     (rw c.take_kept-older.ensures.kept at c.in_ok-keep_before-in-Ok-call_with_extra.ensures.keeps)
 
 pub returns-in-Err-clause-ran : goal.returns-in-Err-clause-ran
@@ -32,8 +32,8 @@ returns-in-Err-clause-ran g c w =
     vetted_adds (rw c.take_kept-older.ensures.leaves at c.in-Ok.ensures.ran)
     (held g.I.Input g.E.Error.Error g.E.State.Inspector c.call_with_extra.new.inp).state
     (held g.I.Input g.E.Error.Error g.E.State.Inspector c.call_with_extra.new.inp) c.in-Err.ensures.moves _
-    (record { ruling = (Err c.in-Err.error); answers = (subst (λ z. MayAnswer g.I.Input g.E.State.Inspector g.F.Fn c.args.try_map.now.mapper c.in-Ok.value z (Err c.in-Err.error) (held g.I.Input g.E.Error.Error g.E.State.Inspector c.call_with_extra.new.inp).state) (shown_same w (held g.I.Input g.E.Error.Error g.E.State.Inspector c.args.inp.now) (held g.I.Input g.E.Error.Error g.E.State.Inspector c.go_emit.new.inp) (rw c.take_kept-older.ensures.leaves at c.in-Ok.ensures.ran)) c.in-Err.ensures.answers); answer = refl })
-    kept (rw c.place.ensures at c.add_event.ensures.adds)
+    (record { ruling = (Err c.in-Err.error); answers = (subst (λ z. MayAnswer g.I.Input g.E.State.Inspector g.F.Fn c.args.try_map.now.mapper c.in-Ok.value z (Err c.in-Err.error) (held g.I.Input g.E.Error.Error g.E.State.Inspector c.call_with_extra.new.inp).state) (shown_same w (held g.I.Input g.E.Error.Error g.E.State.Inspector c.args.inp.now) (held g.I.Input g.E.Error.Error g.E.State.Inspector c.go_emit.new.inp) (rw c.take_kept-older.ensures.leaves at c.in-Ok.ensures.ran)) (rw c.cursor-start.ensures at c.in-Err.ensures.answers)); answer = refl })
+    kept (rw (c.place.ensures, c.cursor-start.ensures, c.put_kept.ensures) at c.add_event.ensures.adds)
 
 pub returns-in-Err-Fail-clause-ran : goal.returns-in-Err-Fail-clause-ran
 returns-in-Err-Fail-clause-ran g c w =

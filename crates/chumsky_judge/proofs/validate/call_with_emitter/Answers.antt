@@ -1,19 +1,4 @@
-use Rattle.std.proofs.Common.{rules, refl, sym}
 use Rattle.chumsky_judge.proofs.validate.call_with_emitter.Goals as goal
 
 pub returns-clause-validates : goal.returns-clause-validates
-returns-clause-validates g c =
-    let kept = c.requires.callable.keeps _ _ _ _ _ _ (sym c.requires.tokens, c.requires.order) c.validator-output.ensures in
-    record {
-      lent = _;
-      left = _;
-      fresh = _;
-      after = _;
-      met = c.validator-output.ensures;
-      in_order = (sym c.requires.tokens, c.requires.order);
-      shows = refl;
-      none = search rules;
-      not_refused = search rules;
-      leaves = search (rules, kept);
-      emits = refl;
-    }
+returns-clause-validates g c = rw (c.cursor-to.ensures, c.ctx-context.ensures) at c.validate_shown.ensures

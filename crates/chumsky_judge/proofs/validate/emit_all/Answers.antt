@@ -20,5 +20,6 @@ returns-clause-emits g c =
     emits_back (held g.I.Input g.E.Error.Error g.E.State.Inspector c.args.inp.now)
     (emitted_by g.E.Error.Error.seen c.args.emitter) (map g.E.Error.Error.seen c.in_ok-errors.errors.items) all
     g.E.Error.Error.merged g.E.Error.Error.takes_no_memory
-    (held g.I.Input g.E.Error.Error g.E.State.Inspector c.bring_back.new.self) c.bring_back.result
-    (rw (c.replace-older.ensures.value, c.replace-older.ensures.after) at c.bring_back.ensures.back)
+    (held g.I.Input g.E.Error.Error g.E.State.Inspector c.set_aside-older.new.self)
+    (held g.I.Input g.E.Error.Error g.E.State.Inspector c.bring_back.new.self) c.bring_back.result c.set_aside-older.ensures.leaves
+    (rw (c.put_errors.ensures, c.set_aside-older.ensures.kept, c.set_aside-older.ensures.emitted) at c.bring_back.ensures.back)

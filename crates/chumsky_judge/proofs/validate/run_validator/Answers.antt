@@ -13,7 +13,7 @@ returns-in_err-emit_all-clause-ran g c w =
     validate_refused (rw (emit_ok c.in_ok-value.was) at c.go_emit.ensures.ran) _
     (held g.I.Input g.E.Error.Error g.E.State.Inspector c.call_with_emitter-output.new.inp)
     c.call_with_emitter-output.ensures.moves _
-    (record { emitter = c.call_with_emitter-output.result.1; validates = c.call_with_emitter-output.ensures.validates; counts = refl })
+    (record { emitter = c.call_with_emitter-output.result.1; validates = rw c.cursor-start.ensures at c.call_with_emitter-output.ensures.validates; counts = refl })
     c.in_err-emit_all.ensures.emits (search rules)
 
 pub returns-clause-ran : goal.returns-clause-ran
@@ -21,5 +21,5 @@ returns-clause-ran g c w =
     validate_yes (rw (emit_ok c.in_ok-value.was) at c.go_emit.ensures.ran) _
     (held g.I.Input g.E.Error.Error g.E.State.Inspector c.call_with_emitter-output.new.inp)
     c.call_with_emitter-output.ensures.moves _
-    (record { emitter = c.call_with_emitter-output.result.1; validates = c.call_with_emitter-output.ensures.validates; counts = refl })
+    (record { emitter = c.call_with_emitter-output.result.1; validates = rw c.cursor-start.ensures at c.call_with_emitter-output.ensures.validates; counts = refl })
     c.in_ok-emit_all.ensures.emits

@@ -10,7 +10,7 @@ returns-then-place-clause-goes g c =
     λ to w. (
       w.2.0,
       infix_still _ _ _ _ w.2.0 _ _ _ _ _ _ _ w.2.2 _ (rw c.in-Ok.is at w.1)
-          (omega (arith, c.if-place.true, c.place.ensures, c.place-in-Ok.ensures, w.2.2.at)),
+          (omega (arith, c.if-place.true, rw c.cursor.ensures at c.place.ensures, c.place-in-Ok.ensures, w.2.2.at)),
       w.2.3,
     )
 
@@ -20,7 +20,7 @@ returns-in-Ok-clause-goes g c =
       w.2.0,
       w.2.1,
       infix_ok _ _ _ _ w.2.0 _ _ _ _ _ _ _ w.2.2 _ _ (rw c.in-Ok.is at w.1)
-          (omega (arith, c.if-place.false, c.place.ensures, c.place-in-Ok.ensures, w.2.2.at))
+          (omega (arith, c.if-place.false, rw c.cursor.ensures at c.place.ensures, c.place-in-Ok.ensures, w.2.2.at))
           (rw w.2.1.place at c.fold-output.ensures.ran)
           (ap (λ (z : Held _ _ _ _). z.place) c.fold-output.ensures.moves),
       w.2.3,
@@ -66,7 +66,7 @@ returns-in-Ok-clause-lighter g c =
     let m : g.I.Input.place c.fold-output.new.inp.cursor ≡ g.I.Input.place c.args.inp.now.cursor = ap (λ (z : Held _ _ _ _). z.place) c.fold-output.ensures.moves in
     beside_frame _ _ _
     (heard_both _ _ _ _ _ _
-    (fewer _ _ _ (omega (arith, m, c.if-place.false, c.place.ensures, c.place-in-Ok.ensures))
+    (fewer _ _ _ (omega (arith, m, c.if-place.false, rw c.cursor.ensures at c.place.ensures, c.place-in-Ok.ensures))
     (let w = (g.met.I.Input c.lifetimes (search rules)).within c.args.inp.now.cursor in omega (arith, m, w))))
 
 pub returns-in-Err-Stop-clause-lighter : goal.returns-in-Err-Stop-clause-lighter

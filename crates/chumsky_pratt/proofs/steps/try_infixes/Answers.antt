@@ -32,7 +32,7 @@ returns-then-place-clause-goes g c =
       w.0,
       infix_stays _ _ _ _ w.0 _ _ _ _ _ w.2 (omega (arith, c.tries.invariant.upto, c.if-turn-count.false, c.count.ensures)) _ _ _ (sym c.fixity.ensures ∙ c.in-Infix.is)
           (omega (arith, c.if-left-turn.false, w.1.least)) (omega (arith, c.if-turn-left.false)) _ (rw c.in-Read.is at c.attempt.ensures.tried)
-          (omega (arith, c.if-place.true, c.place.ensures, c.place-in-Read.ensures, w.1.place)),
+          (omega (arith, c.if-place.true, rw c.cursor.ensures at c.place.ensures, c.place-in-Read.ensures, w.1.place)),
       w.3,
     )
 
@@ -53,13 +53,13 @@ returns-in-Read-clause-goes g c =
       w.1,
       infix_waits _ _ _ _ w.0 _ _ _ _ _ w.2 (omega (arith, c.tries.invariant.upto, c.if-turn-count.false, c.count.ensures)) _ _ _ (sym c.fixity.ensures ∙ c.in-Infix.is)
           (omega (arith, c.if-left-turn.false, w.1.least)) (omega (arith, c.if-turn-left.false)) _ (rw c.in-Read.is at c.attempt.ensures.tried)
-          (omega (arith, c.if-place.false, c.place.ensures, c.place-in-Read.ensures, w.1.place))
+          (omega (arith, c.if-place.false, rw c.cursor.ensures at c.place.ensures, c.place-in-Read.ensures, w.1.place))
           ((g.met.I.Input c.lifetimes (search rules)).within _) _ (omega arith) _ c.bound_after-then_below.ensures,
       w.3,
     )
     (infix_unpushed _ _ _ _ w.0 _ _ _ _ _ w.2 (omega (arith, c.tries.invariant.upto, c.if-turn-count.false, c.count.ensures)) _ _ _
     (sym c.fixity.ensures ∙ c.in-Infix.is) (omega (arith, c.if-left-turn.false, w.1.least)) (omega (arith, c.if-turn-left.false)) _
-    (rw c.in-Read.is at c.attempt.ensures.tried) (omega (arith, c.if-place.false, c.place.ensures, c.place-in-Read.ensures, w.1.place))) w.3
+    (rw c.in-Read.is at c.attempt.ensures.tried) (omega (arith, c.if-place.false, rw c.cursor.ensures at c.place.ensures, c.place-in-Read.ensures, w.1.place))) w.3
 
 pub returns-then-turn-count-clause-lighter : goal.returns-then-turn-count-clause-lighter
 returns-then-turn-count-clause-lighter g c = beside_below _ _ _ _ (infix_some _ _ _ _ _) c.tries.invariant.lighter
@@ -75,7 +75,7 @@ returns-in-Read-clause-lighter g c =
     below_most _ _ _
     (waited_less _ _ g.I.Input _ _ _ _ _ _ _ c.wait.ensures
     (infix_wait _ _ _ _ _ _ (omega (arith, c.tries.invariant.upto, c.if-turn-count.false, c.count.ensures))
-    (fewer _ _ _ (omega (arith, c.if-place.false, c.place.ensures, c.place-in-Read.ensures))
+    (fewer _ _ _ (omega (arith, c.if-place.false, rw c.cursor.ensures at c.place.ensures, c.place-in-Read.ensures))
     (let k = (g.met.I.Input c.lifetimes (search rules)).within c.attempt.new.inp.cursor in
     let t = rw c.in-Read.is at c.attempt.ensures.tried in
     let e = ap length (same_list (t.same.tokens ∙ c.tries.invariant.tokens)) in omega (arith, k, e)))))

@@ -36,7 +36,7 @@ returns-then-place-clause-goes g c =
       w.0,
       postfix_stays _ _ _ _ w.0 _ _ _ _ _ w.2 (omega (arith, c.tries.invariant.upto, c.if-turn-count.false, c.count.ensures)) _ (sym c.fixity.ensures ∙ c.in-Postfix.is)
           (omega (arith, c.if-power-turn.false, w.1.least)) _ (rw c.in-Read.is at c.attempt.ensures.tried)
-          (omega (arith, c.if-place.true, c.place.ensures, c.place-in-Read.ensures, w.2.at)),
+          (omega (arith, c.if-place.true, rw c.cursor.ensures at c.place.ensures, c.place-in-Read.ensures, w.2.at)),
       w.3,
     )
 
@@ -57,7 +57,7 @@ returns-in-Read-clause-goes g c =
       w.1,
       postfix_goes _ _ _ _ w.0 _ _ _ _ _ w.2 (omega (arith, c.tries.invariant.upto, c.if-turn-count.false, c.count.ensures)) _ (sym c.fixity.ensures ∙ c.in-Postfix.is)
           (omega (arith, c.if-power-turn.false, w.1.least)) _ _ (rw c.in-Read.is at c.attempt.ensures.tried)
-          (omega (arith, c.if-place.false, c.place.ensures, c.place-in-Read.ensures, w.2.at))
+          (omega (arith, c.if-place.false, rw c.cursor.ensures at c.place.ensures, c.place-in-Read.ensures, w.2.at))
           (rw w.1.place at c.fold-output.ensures.ran)
           (ap (λ (z : Held _ _ _ _). z.place) c.fold-output.ensures.moves),
       w.3,
@@ -74,7 +74,7 @@ returns-in-Read-clause-lighter g c =
     let m : g.I.Input.place c.fold-output.new.inp.cursor ≡ g.I.Input.place c.attempt.new.inp.cursor = ap (λ (z : Held _ _ _ _). z.place) c.fold-output.ensures.moves in
     beside_below _ _ _ _
     (postfix_value _ _ _ _ _ _
-    (fewer _ _ _ (omega (arith, m, c.if-place.false, c.place.ensures, c.place-in-Read.ensures))
+    (fewer _ _ _ (omega (arith, m, c.if-place.false, rw c.cursor.ensures at c.place.ensures, c.place-in-Read.ensures))
     (let k = (g.met.I.Input c.lifetimes (search rules)).within c.attempt.new.inp.cursor in
     let t = rw c.in-Read.is at c.attempt.ensures.tried in
     let e = ap length (same_list (t.same.tokens ∙ c.tries.invariant.tokens)) in omega (arith, m, k, e))))

@@ -31,7 +31,7 @@ returns-then-place-clause-goes g c =
     λ to v. let w = c.tries.invariant.goes to v in (
       w.0,
       read_stays _ _ _ _ w.0 _ _ _ w.2 (omega (arith, c.tries.invariant.upto, c.if-head-count.false, c.count.ensures)) _ (sym c.fixity.ensures ∙ c.in-Prefix.is) _
-          (rw c.in-Read.is at c.attempt.ensures.tried) (omega (arith, c.if-place.true, c.place.ensures, c.place-in-Read.ensures, w.1.place)),
+          (rw c.in-Read.is at c.attempt.ensures.tried) (omega (arith, c.if-place.true, rw c.cursor.ensures at c.place.ensures, c.place-in-Read.ensures, w.1.place)),
       w.3,
     )
 
@@ -51,12 +51,12 @@ returns-in-Read-clause-goes g c =
       w.0,
       w.1,
       read_waits _ _ _ _ w.0 _ _ _ w.2 (omega (arith, c.tries.invariant.upto, c.if-head-count.false, c.count.ensures)) _ (sym c.fixity.ensures ∙ c.in-Prefix.is) _
-          (rw c.in-Read.is at c.attempt.ensures.tried) (omega (arith, c.if-place.false, c.place.ensures, c.place-in-Read.ensures, w.1.place))
+          (rw c.in-Read.is at c.attempt.ensures.tried) (omega (arith, c.if-place.false, rw c.cursor.ensures at c.place.ensures, c.place-in-Read.ensures, w.1.place))
           ((g.met.I.Input c.lifetimes (search rules)).within _) _ (omega arith),
       w.3,
     )
     (read_lacks _ _ _ _ w.0 _ _ _ w.2 (omega (arith, c.tries.invariant.upto, c.if-head-count.false, c.count.ensures)) _ (sym c.fixity.ensures ∙ c.in-Prefix.is) _
-    (rw c.in-Read.is at c.attempt.ensures.tried) (omega (arith, c.if-place.false, c.place.ensures, c.place-in-Read.ensures, w.1.place))) w.3
+    (rw c.in-Read.is at c.attempt.ensures.tried) (omega (arith, c.if-place.false, rw c.cursor.ensures at c.place.ensures, c.place-in-Read.ensures, w.1.place))) w.3
 
 pub returns-then-place-clause-lighter : goal.returns-then-place-clause-lighter
 returns-then-place-clause-lighter g c = beside_below _ _ _ _ (prefix_some _ _ _ _) c.tries.invariant.lighter
@@ -69,7 +69,7 @@ returns-in-Read-clause-lighter g c =
     below_most _ _ _
     (waited_less _ _ g.I.Input _ _ _ _ _ _ _ c.wait.ensures
     (prefix_wait _ _ _ _ _ (omega (arith, c.tries.invariant.upto, c.if-head-count.false, c.count.ensures))
-    (fewer _ _ _ (omega (arith, c.if-place.false, c.place.ensures, c.place-in-Read.ensures))
+    (fewer _ _ _ (omega (arith, c.if-place.false, rw c.cursor.ensures at c.place.ensures, c.place-in-Read.ensures))
     (let k = (g.met.I.Input c.lifetimes (search rules)).within c.attempt.new.inp.cursor in
     let t = rw c.in-Read.is at c.attempt.ensures.tried in
     let e = ap length (same_list (t.same.tokens ∙ c.tries.invariant.tokens)) in omega (arith, k, e)))))

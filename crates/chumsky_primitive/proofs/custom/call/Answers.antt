@@ -43,12 +43,13 @@ returns-in_ok-bring_back-in-Err-Error-clause-ran g c w =
     (rw c.in-Err-Error.field-0-is at c.in-Err-Error.ensures.forward)
     (rw c.in-Err-Error.field-0-is at c.in-Err-Error.ensures.gives) c.set_aside-older.ensures.leaves
     (rw (c.set_aside-older.ensures.kept, c.set_aside-older.ensures.emitted) at c.in_ok-bring_back-in-Err-Error.ensures.back)
-    (rw c.place.ensures at c.add_event.ensures.adds) w
+    (rw (c.place.ensures, c.cursor-start.ensures) at c.add_event.ensures.adds) w
 
 pub returns-in-Err-Stop-clause-ran : goal.returns-in-Err-Stop-clause-ran
 returns-in-Err-Stop-clause-ran g c w =
-    custom_stops g.E.Error.Error.merged g.E.Error.Error.takes_no_memory g.E.Error.Error.seen
+    rw (c.restore.ensures, c.cursor-start.ensures, c.ctx-context.ensures)
+    (custom_stops g.E.Error.Error.merged g.E.Error.Error.takes_no_memory g.E.Error.Error.seen
     (g.F.Reader.gives c.args.parser.now.reader g.E.Error.Error g.E.State.Inspector)
     (held g.I.Input g.E.Error.Error g.E.State.Inspector c.args.inp.now) _ _
     (rw c.in-Err-Stop.field-0-is at c.in-Err-Stop.ensures.forward)
-    (rw c.in-Err-Stop.field-0-is at c.in-Err-Stop.ensures.gives) c.set_aside-older.ensures.leaves w
+    (rw c.in-Err-Stop.field-0-is at c.in-Err-Stop.ensures.gives) c.set_aside-older.ensures.leaves w)

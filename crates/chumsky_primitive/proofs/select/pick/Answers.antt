@@ -18,7 +18,7 @@ returns-in-None-clause-ran g c =
     λ w. select_ends_input g.I.Input g.I.ValueInput.takes_no_memory g.E.Error.Error g.E.State.Inspector (PicksValue g.I.Input g.E.State.Inspector g.I.ValueInput.seen g.F.Fn c.args.filter.now) w
     (held g.I.Input g.E.Error.Error g.E.State.Inspector c.args.inp.now)
     (held g.I.Input g.E.Error.Error g.E.State.Inspector c.next_maybe.new.self) _ _ c.in-None.ensures.taken
-    c.in-None.ensures.moves c.expected.ensures.fails
+    c.in-None.ensures.moves (rw c.cursor-here.ensures at c.expected.ensures.fails)
 
 pub returns-in_err-token-in-Some-clause-ran : goal.returns-in_err-token-in-Some-clause-ran
 returns-in_err-token-in-Some-clause-ran g c =

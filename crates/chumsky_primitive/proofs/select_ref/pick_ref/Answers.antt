@@ -18,7 +18,7 @@ returns-in-None-clause-ran g c =
     λ w. select_ends_input g.I.Input (λ _. ⊤) g.E.Error.Error g.E.State.Inspector (PicksRef g.I.Input g.E.State.Inspector g.F.Fn c.args.filter.now) w
     (held g.I.Input g.E.Error.Error g.E.State.Inspector c.args.inp.now)
     (held g.I.Input g.E.Error.Error g.E.State.Inspector c.next_ref.new.self) _ _ c.in-None.ensures.taken
-    c.in-None.ensures.moves c.expected.ensures.fails
+    c.in-None.ensures.moves (rw c.cursor-here.ensures at c.expected.ensures.fails)
 
 pub returns-in-Some-call_with_extra-clause-ran : goal.returns-in-Some-call_with_extra-clause-ran
 returns-in-Some-call_with_extra-clause-ran g c =

@@ -10,4 +10,5 @@ pub returns-in-None-clause-ran : goal.returns-in-None-clause-ran
 returns-in-None-clause-ran g c = maps_with-ended c.next_item.ensures.ran (emit_end _ c.in_ok-next_item.was c.in-None.is)
 
 pub returns-in-Some-clause-ran : goal.returns-in-Some-clause-ran
-returns-in-Some-clause-ran g c = maps_with-item c.next_item.ensures.ran (emit_item _ c.in_ok-next_item.was c.in-Some.is) c.apply_with.ensures.moves c.apply_with.ensures.gives
+returns-in-Some-clause-ran g c = maps_with-item c.next_item.ensures.ran (emit_item _ c.in_ok-next_item.was c.in-Some.is) c.apply_with.ensures.moves
+    (rw c.cursor-before.ensures at c.apply_with.ensures.gives)

@@ -15,12 +15,13 @@ pub returns-in_err-go_check-in-Ok-clause-ran : goal.returns-in_err-go_check-in-O
 returns-in_err-go_check-in-Ok-clause-ran g c =
     let e : c.from_residual-in_err-go_check-in-Ok.result ≡ Err c.in_err-go_check-in-Ok.field-0.0 = search rules in
     let here = ap (λ m. record (held g.I.Input g.E.Error.Error g.E.State.Inspector c.go_emit.new.inp) { tokens = m.tokens; place = m.place }) c.in_ok-before.ensures in
-    rw (emit_err e) (and_is_missing (rw (emit_ok c.in-Ok.is) at c.go_emit.ensures.ran) here (rw (check_err c.in_err-go_check-in-Ok.was) at c.go_check.ensures.ran))
+    rw (emit_err e) (and_is_missing (rw (emit_ok c.in-Ok.is) at c.go_emit.ensures.ran) here (rw (c.move_to.ensures, check_err c.in_err-go_check-in-Ok.was) at c.go_check.ensures.ran))
 
 pub returns-in-Ok-clause-ran : goal.returns-in-Ok-clause-ran
 returns-in-Ok-clause-ran g c =
     let here = ap (λ m. record (held g.I.Input g.E.Error.Error g.E.State.Inspector c.go_emit.new.inp) { tokens = m.tokens; place = m.place }) c.in_ok-before.ensures in
-    and_is_yes (rw (emit_ok c.in-Ok.is) at c.go_emit.ensures.ran) here (rw (check_ok c.in_ok-go_check-in-Ok.was) at c.go_check.ensures.ran) refl
+    rw (c.move_to-in-Ok.ensures, c.cursor-end.ensures)
+    (and_is_yes (rw (emit_ok c.in-Ok.is) at c.go_emit.ensures.ran) here (rw (c.move_to.ensures, check_ok c.in_ok-go_check-in-Ok.was) at c.go_check.ensures.ran) refl)
 
 pub returns-in_err-rewind-in-Err-Fail-clause-ran : goal.returns-in_err-rewind-in-Err-Fail-clause-ran
 returns-in_err-rewind-in-Err-Fail-clause-ran g c =

@@ -24,7 +24,7 @@ returns-in-Err-Fail-clause-ran g c =
     (shown_same false (held g.I.Input g.E.Error.Error g.E.State.Inspector c.args.inp.now)
     (held g.I.Input g.E.Error.Error g.E.State.Inspector c.go_check.new.inp)
     (rw (c.take_kept-older.ensures.leaves, c.in-Err-Fail.field-0-is) at c.in-Err-Fail.ensures.ran))
-    (rw c.take_kept-older.ensures.kept at c.map_kept_with.ensures.maps)
+    (rw (c.take_kept-older.ensures.kept, c.cursor-start.ensures) at c.map_kept_with.ensures.maps)
 
 pub returns-in-Err-Stop-clause-ran : goal.returns-in-Err-Stop-clause-ran
 returns-in-Err-Stop-clause-ran g c =

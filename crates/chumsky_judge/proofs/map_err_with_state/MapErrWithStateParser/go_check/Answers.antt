@@ -19,7 +19,7 @@ returns-in_ok-keep_before-in-Ok-clause-ran g c =
 pub returns-in-Err-Fail-clause-ran : goal.returns-in-Err-Fail-clause-ran
 returns-in-Err-Fail-clause-ran g c =
     map_err_no (rw (c.take_kept-older.ensures.leaves, c.in-Err-Fail.field-0-is) at c.in-Err-Fail.ensures.ran)
-    refl (rw (c.take_kept-older.ensures.kept, c.span-span.ensures) at c.map_kept_with_state.ensures.maps)
+    refl (rw (c.take_kept-older.ensures.kept, c.span-span.ensures, c.cursor-start.ensures, c.cursor.ensures) at c.map_kept_with_state.ensures.maps)
 
 pub returns-in-Err-Stop-clause-ran : goal.returns-in-Err-Stop-clause-ran
 returns-in-Err-Stop-clause-ran g c =

@@ -9,10 +9,11 @@ use Rattle.chumsky_judge.proofs.rewind.RewindParser.go_check.Goals as goal
 
 pub returns-then-keeps_past-clause-ran : goal.returns-then-keeps_past-clause-ran
 returns-then-keeps_past-clause-ran g c =
-    let past = rw c.place.ensures at (c.keeps_past.ensures.past c.if-keeps_past.true) in
-    rewind_past (rw (c.take_kept-older.ensures.leaves, check_ok c.in-Ok.is) at c.go_check.ensures.ran) past
+    let past = rw (c.place.ensures, c.cursor-start.ensures, c.move_to.ensures) at (c.keeps_past.ensures.past c.if-keeps_past.true) in
+    rw (c.put_kept.ensures, c.move_to.ensures, c.cursor-start.ensures)
+    (rewind_past (rw (c.take_kept-older.ensures.leaves, check_ok c.in-Ok.is) at c.go_check.ensures.ran) past
     (ap (λ k. record (held g.I.Input g.E.Error.Error g.E.State.Inspector c.go_check.new.inp) { tokens = (held g.I.Input g.E.Error.Error g.E.State.Inspector c.args.inp.now).tokens; place = (held g.I.Input g.E.Error.Error g.E.State.Inspector c.args.inp.now).place; kept = k })
-    c.take_kept-older.ensures.kept)
+    c.take_kept-older.ensures.kept))
 
 pub returns-in_err-keep_before-in-Ok-clause-ran : goal.returns-in_err-keep_before-in-Ok-clause-ran
 returns-in_err-keep_before-in-Ok-clause-ran g c =
@@ -20,22 +21,22 @@ returns-in_err-keep_before-in-Ok-clause-ran g c =
     let not_past : KeepsPast (held g.I.Input g.E.Error.Error g.E.State.Inspector c.args.inp.now).place
     (held g.I.Input g.E.Error.Error g.E.State.Inspector c.go_check.new.inp).kept
     → ⊥ =
-    (λ k. let t = c.keeps_past.ensures.converse (rw c.place.ensures k) in let no : ⊥
+    (λ k. let t = c.keeps_past.ensures.converse (rw (c.place.ensures, c.cursor-start.ensures, c.move_to.ensures) k) in let no : ⊥
     = (let f = c.if-keeps_past.false in cc) in absurd no)
     in
     rw (check_err e)
     (rewind_here_refused (rw (c.take_kept-older.ensures.leaves, check_ok c.in-Ok.is) at c.go_check.ensures.ran)
-    not_past refl (rw c.take_kept-older.ensures.kept at c.in_err-keep_before-in-Ok.ensures.keeps))
+    not_past refl (rw (c.move_to.ensures, c.cursor-start.ensures, c.take_kept-older.ensures.kept) at c.in_err-keep_before-in-Ok.ensures.keeps))
 
 pub returns-in_ok-keep_before-in-Ok-clause-ran : goal.returns-in_ok-keep_before-in-Ok-clause-ran
 returns-in_ok-keep_before-in-Ok-clause-ran g c =
     let not_past : KeepsPast (held g.I.Input g.E.Error.Error g.E.State.Inspector c.args.inp.now).place
     (held g.I.Input g.E.Error.Error g.E.State.Inspector c.go_check.new.inp).kept
     → ⊥ =
-    (λ k. let t = c.keeps_past.ensures.converse (rw c.place.ensures k) in let no : ⊥
+    (λ k. let t = c.keeps_past.ensures.converse (rw (c.place.ensures, c.cursor-start.ensures, c.move_to.ensures) k) in let no : ⊥
     = (let f = c.if-keeps_past.false in cc) in absurd no)
     in
-    rewind_here (rw (c.take_kept-older.ensures.leaves, check_ok c.in-Ok.is) at c.go_check.ensures.ran) not_past refl (rw c.take_kept-older.ensures.kept at c.in_ok-keep_before-in-Ok.ensures.keeps)
+    rewind_here (rw (c.take_kept-older.ensures.leaves, check_ok c.in-Ok.is) at c.go_check.ensures.ran) not_past refl (rw (c.move_to.ensures, c.cursor-start.ensures, c.take_kept-older.ensures.kept) at c.in_ok-keep_before-in-Ok.ensures.keeps)
 
 pub returns-in-Err-Fail-clause-ran : goal.returns-in-Err-Fail-clause-ran
 returns-in-Err-Fail-clause-ran g c =

@@ -10,12 +10,12 @@ returns-in_err-keep_labelled-in-Ok-clause-ran g c =
     let e : c.from_residual.result ≡ Err (fault.Stop Memory) = search rules in
     rw (check_err e)
     (labelled_yes_lost (rw (c.take_kept-older.ensures.leaves, check_ok c.in-Ok.is) at c.go_check.ensures.ran)
-    (rw (c.place-start.ensures, c.take_kept-older.ensures.kept) at c.in_err-keep_labelled-in-Ok.ensures.keeps))
+    (rw (c.place-start.ensures, c.cursor.ensures, c.take_kept-older.ensures.kept) at c.in_err-keep_labelled-in-Ok.ensures.keeps))
 
 pub returns-in_ok-keep_labelled-in-Ok-clause-ran : goal.returns-in_ok-keep_labelled-in-Ok-clause-ran
 returns-in_ok-keep_labelled-in-Ok-clause-ran g c =
     labelled_yes (rw (c.take_kept-older.ensures.leaves, check_ok c.in-Ok.is) at c.go_check.ensures.ran)
-    (rw (c.place-start.ensures, c.take_kept-older.ensures.kept) at c.in_ok-keep_labelled-in-Ok.ensures.keeps)
+    (rw (c.place-start.ensures, c.cursor.ensures, c.take_kept-older.ensures.kept) at c.in_ok-keep_labelled-in-Ok.ensures.keeps)
 
 pub returns-in_err-keep_labelled-in-Err-Fail-clause-ran : goal.returns-in_err-keep_labelled-in-Err-Fail-clause-ran
 returns-in_err-keep_labelled-in-Err-Fail-clause-ran g c =
@@ -23,12 +23,12 @@ returns-in_err-keep_labelled-in-Err-Fail-clause-ran g c =
     rw (check_err e)
     (labelled_no_lost
     (rw (c.take_kept-older.ensures.leaves, c.in-Err-Fail.field-0-is) at c.in-Err-Fail.ensures.ran)
-    (rw (c.place-start.ensures, c.take_kept-older.ensures.kept) at c.in_err-keep_labelled-in-Err-Fail.ensures.keeps))
+    (rw (c.place-start.ensures, c.cursor.ensures, c.take_kept-older.ensures.kept) at c.in_err-keep_labelled-in-Err-Fail.ensures.keeps))
 
 pub returns-in_ok-keep_labelled-in-Err-Fail-clause-ran : goal.returns-in_ok-keep_labelled-in-Err-Fail-clause-ran
 returns-in_ok-keep_labelled-in-Err-Fail-clause-ran g c =
     labelled_no (rw (c.take_kept-older.ensures.leaves, c.in-Err-Fail.field-0-is) at c.in-Err-Fail.ensures.ran)
-    (rw (c.place-start.ensures, c.take_kept-older.ensures.kept) at c.in_ok-keep_labelled-in-Err-Fail.ensures.keeps)
+    (rw (c.place-start.ensures, c.cursor.ensures, c.take_kept-older.ensures.kept) at c.in_ok-keep_labelled-in-Err-Fail.ensures.keeps)
 
 pub returns-in-Err-Stop-clause-ran : goal.returns-in-Err-Stop-clause-ran
 returns-in-Err-Stop-clause-ran g c =

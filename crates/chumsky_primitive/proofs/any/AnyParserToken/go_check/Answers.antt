@@ -15,4 +15,5 @@ returns-clause-ran g c =
     let old = held g.I.Input g.E.Error.Error g.E.State.Inspector c.args.inp.now in
     let mid = held g.I.Input g.E.Error.Error g.E.State.Inspector c.advance.new.self in
     let s = any_stays g.E.State.Inspector.after old mid (search rules) c.advance.ensures.moves in
-    any_misses g.I.Input (CountsAs g.I.ValueInput.seen) g.I.ValueInput.takes_no_memory g.E.Error.Error g.E.State.Inspector old false mid _ _ s.0 s.1 c.expected.ensures.fails
+    any_misses g.I.Input (CountsAs g.I.ValueInput.seen) g.I.ValueInput.takes_no_memory g.E.Error.Error g.E.State.Inspector old false mid _ _ s.0 s.1
+    (rw c.cursor-here.ensures at c.expected.ensures.fails)

@@ -15,7 +15,7 @@ returns-in-Ok-None-clause-ran g c =
     let t = rw c.in-Ok-None.field-0-is at c.in-Ok-None.ensures.takes in
     any_misses g.I.Input (CountsAs g.I.ValueInput.seen) g.I.ValueInput.takes_no_memory g.E.Error.Error
     g.E.State.Inspector (held g.I.Input g.E.Error.Error g.E.State.Inspector c.args.inp.now) true
-    (held g.I.Input g.E.Error.Error g.E.State.Inspector c.next.new.self) _ _ t.0 t.1 c.expected.ensures.fails
+    (held g.I.Input g.E.Error.Error g.E.State.Inspector c.next.new.self) _ _ t.0 t.1 (rw c.cursor-here.ensures at c.expected.ensures.fails)
 
 pub returns-in-Err-clause-ran : goal.returns-in-Err-clause-ran
 returns-in-Err-clause-ran g c =

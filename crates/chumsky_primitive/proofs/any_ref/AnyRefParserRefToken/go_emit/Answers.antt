@@ -16,4 +16,4 @@ returns-in-None-clause-ran g c =
     any_misses g.I.Input PointsTo (λ _. ⊤) g.E.Error.Error g.E.State.Inspector
     (held g.I.Input g.E.Error.Error g.E.State.Inspector c.args.inp.now) true
     (held g.I.Input g.E.Error.Error g.E.State.Inspector c.next_ref.new.self) _ _ (sym c.in-None.ensures.taken)
-    c.in-None.ensures.moves c.expected.ensures.fails
+    c.in-None.ensures.moves (rw c.cursor-here.ensures at c.expected.ensures.fails)

@@ -1,4 +1,4 @@
-use Rattle.std.proofs.Common.{rules, ◌≡◌, Err, refl, true}
+use Rattle.std.proofs.Common.{rules, ◌≡◌, Err, refl, ap, true}
 use Rattle.chumsky_input.specs.declared.stop.Fault.TheVariants as fault
 use Rattle.chumsky_input.specs.declared.stop.Stop.TheVariants.{Memory}
 use Rattle.chumsky_input.specs.Held.{held, marks}
@@ -31,4 +31,4 @@ pub returns-clause-ran : goal.returns-clause-ran
 returns-clause-ran g c =
     end_misses g.I.Input g.E.Error.Error g.E.State.Inspector true (held g.I.Input g.E.Error.Error g.E.State.Inspector c.args.inp.now) _ (marks g.I.Input g.E.State.Inspector c.in_ok-before.before) _
     (held g.I.Input g.E.Error.Error g.E.State.Inspector c.next_maybe.new.self) (held g.I.Input g.E.Error.Error g.E.State.Inspector c.rewind.new.self) _ _
-    c.in-Some.ensures.taken c.in_ok-before.ensures c.in-Some.ensures.moves refl c.in_ok-rewind-in-Some.ensures.back c.expected.ensures.fails
+    c.in-Some.ensures.taken c.in_ok-before.ensures c.in-Some.ensures.moves (ap g.I.Input.place c.cursor-past.ensures) c.in_ok-rewind-in-Some.ensures.back c.expected.ensures.fails

@@ -16,8 +16,8 @@ returns-then-is_text-clause-ran g c =
     (held g.I.Input g.E.Error.Error g.E.State.Inspector c.take_first.new.inp)
     (held g.I.Input g.E.Error.Error g.E.State.Inspector c.skip_run.new.inp)
     (held g.I.Input g.E.Error.Error g.E.State.Inspector c.skip_run.new.inp) c.in-Some.rest c.in-Some.ensures.takes
-    (Some c.slice_since-taken.result) c.slice_since-taken.ensures (g.I.TextInput.spells c.args.self.now.word.now)
-    c.skip_run.ensures.moves (sym (c.is_text.ensures _ _ _ c.slice_since-taken.ensures) ∙ c.if-is_text.true)
+    (Some c.slice_since-taken.result) (rw c.cursor-before.ensures at c.slice_since-taken.ensures) (g.I.TextInput.spells c.args.self.now.word.now)
+    c.skip_run.ensures.moves (sym (c.is_text.ensures _ _ _ (rw c.cursor-before.ensures at c.slice_since-taken.ensures)) ∙ c.if-is_text.true)
 
 pub returns-else-is_text-clause-ran : goal.returns-else-is_text-clause-ran
 returns-else-is_text-clause-ran g c =
@@ -26,4 +26,4 @@ returns-else-is_text-clause-ran g c =
     (held g.I.Input g.E.Error.Error g.E.State.Inspector c.take_first.new.inp)
     (held g.I.Input g.E.Error.Error g.E.State.Inspector c.skip_run.new.inp) _ c.in-Some.rest
     c.in-Some.ensures.takes (g.I.TextInput.spells c.args.self.now.word.now) _ c.skip_run.ensures.moves
-    (sym (c.is_text.ensures _ _ _ c.slice_since-taken.ensures) ∙ c.if-is_text.false) c.expect_since.ensures.fails
+    (sym (c.is_text.ensures _ _ _ (rw c.cursor-before.ensures at c.slice_since-taken.ensures)) ∙ c.if-is_text.false) (rw c.cursor-before.ensures at c.expect_since.ensures.fails)

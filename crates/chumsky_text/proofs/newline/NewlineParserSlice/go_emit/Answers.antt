@@ -19,5 +19,5 @@ returns-in-Some-clause-ran g c =
     (held g.I.Input g.E.Error.Error g.E.State.Inspector c.take_first.new.inp)
     (held g.I.Input g.E.Error.Error g.E.State.Inspector c.take_one-more.new.inp)
     (held g.I.Input g.E.Error.Error g.E.State.Inspector c.take_one-more.new.inp) c.in-Some.rest
-    c.in-Some.ensures.takes (Some c.slice_since.result) c.slice_since.ensures c.take_one-more.result
+    c.in-Some.ensures.takes (Some c.slice_since.result) (rw c.cursor-before.ensures at c.slice_since.ensures) c.take_one-more.result
     refl c.take_one-more.ensures.takes

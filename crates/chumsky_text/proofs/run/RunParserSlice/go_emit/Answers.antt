@@ -12,11 +12,11 @@ returns-in_err-end_run-clause-ran g c =
     rw (emit_err e)
     (run_lacks _ _ _ _ _ _ _ (held g.I.Input g.E.Error.Error g.E.State.Inspector c.args.inp.now)
     (held g.I.Input g.E.Error.Error g.E.State.Inspector c.skip_run.new.inp) _
-    (Some c.slice_since-taken.result) c.slice_since-taken.ensures c.skip_run.ensures.moves
+    (Some c.slice_since-taken.result) (rw c.cursor-before.ensures at c.slice_since-taken.ensures) c.skip_run.ensures.moves
     c.in_err-end_run.ensures.ends)
 
 pub returns-clause-ran : goal.returns-clause-ran
 returns-clause-ran g c =
     run_ran _ _ _ _ _ _ _ (held g.I.Input g.E.Error.Error g.E.State.Inspector c.args.inp.now)
     (held g.I.Input g.E.Error.Error g.E.State.Inspector c.skip_run.new.inp) _ (Some c.slice_since-taken.result)
-    c.slice_since-taken.ensures c.skip_run.ensures.moves c.in_ok-end_run.ensures.ends
+    (rw c.cursor-before.ensures at c.slice_since-taken.ensures) c.skip_run.ensures.moves c.in_ok-end_run.ensures.ends

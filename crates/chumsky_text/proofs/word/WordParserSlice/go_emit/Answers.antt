@@ -20,7 +20,7 @@ returns-in_err-end_run-in-Some-clause-ran g c =
     _ _ _ (held g.I.Input g.E.Error.Error g.E.State.Inspector c.args.inp.now)
     (held g.I.Input g.E.Error.Error g.E.State.Inspector c.take_first.new.inp)
     (held g.I.Input g.E.Error.Error g.E.State.Inspector c.skip_run.new.inp) _ c.in-Some.rest
-    c.in-Some.ensures.takes (Some c.slice_since-taken.result) c.slice_since-taken.ensures g.K.Rest.Kind.wants
+    c.in-Some.ensures.takes (Some c.slice_since-taken.result) (rw c.cursor-before.ensures at c.slice_since-taken.ensures) g.K.Rest.Kind.wants
     c.skip_run.ensures.moves c.in_err-end_run-in-Some.ensures.ends)
 
 pub returns-in_ok-end_run-in-Some-clause-ran : goal.returns-in_ok-end_run-in-Some-clause-ran
@@ -29,5 +29,5 @@ returns-in_ok-end_run-in-Some-clause-ran g c =
     (held g.I.Input g.E.Error.Error g.E.State.Inspector c.args.inp.now)
     (held g.I.Input g.E.Error.Error g.E.State.Inspector c.take_first.new.inp)
     (held g.I.Input g.E.Error.Error g.E.State.Inspector c.skip_run.new.inp) _ c.in-Some.rest
-    c.in-Some.ensures.takes (Some c.slice_since-taken.result) c.slice_since-taken.ensures g.K.Rest.Kind.wants
+    c.in-Some.ensures.takes (Some c.slice_since-taken.result) (rw c.cursor-before.ensures at c.slice_since-taken.ensures) g.K.Rest.Kind.wants
     c.skip_run.ensures.moves c.in_ok-end_run-in-Some.ensures.ends
