@@ -1,5 +1,5 @@
 //! What makes one value of many, and is shown the run.
-ghost use Rattle.std.specs.Prelude.{◌≡◌};
+ghost use Rattle.std.specs.Prelude.{◌≡◌, ◌≤◌};
 ghost use Rattle.chumsky_folds.specs.CalledWithTwo.{KeepsStateOfTwo, AnswersTwo};
 ghost use Rattle.chumsky_folds.specs.Running.{InTokens, NotPast, OnlyState, AnswersSince};
 
@@ -8,6 +8,7 @@ use chumsky_input::extra::ParserExtra;
 use chumsky_input::input::Input;
 use chumsky_input::input_ref::InputRef;
 use chumsky_input::map_extra::MapExtra;
+use std::alloc::Global;
 use std::marker::PhantomData;
 
 /// What takes one item more into an accumulator, from the left, and is shown the run: what `foldl_with` calls. Each closure
@@ -179,13 +180,46 @@ where
     ensures moves { OnlyState I.Input E.Error.Error E.State.Inspector inp.old inp.new }
     ensures lent { inp.new.state.ghost_name ≡ inp.old.state.ghost_name }
 {
-    let to = inp.cursor();
-    let context = inp.ctx();
-    let alloc = inp.alloc();
+    let (to, context, alloc) = (inp.cursor(), inp.ctx(), inp.alloc());
+    show_two::<I, E, A, V, R, F>(
+        closure,
+        first,
+        second,
+        since,
+        &to,
+        &mut *inp.state,
+        context,
+        alloc,
+    )
+}
+
+/// Calls a closure with two values and an extra that shows what lies between two cursors.
+#[inline(always)]
+fn show_two<'src, I, E, A, V, R, F>(
+    closure: &F,
+    first: A,
+    second: V,
+    from: &I::Cursor,
+    to: &I::Cursor,
+    state: &mut E::State,
+    context: &E::Context,
+    alloc: Global,
+) -> R
+where
+    I: Input<'src>,
+    E: ParserExtra<I>,
+    F: Fn(A, V, &mut MapExtra<'src, '_, I, E>) -> R,
+    requires callable { KeepsStateOfTwo I.Input E.State.Inspector F.Fn closure.now }
+    requires tokens { I.cursor_tokens from.now ≡ I.cursor_tokens to.now }
+    requires order { I.place from.now ≤ I.place to.now }
+    ensures { AnswersTwo I.Input E.State.Inspector F.Fn closure.now (first, second)
+        (record { tokens = I.cursor_tokens to.now; from = I.place from.now; to = I.place to.now; context = context.now; state = E.State.seen state.old })
+        result (E.State.seen state.new) }
+{
     let mut extra: MapExtra<'src, '_, I, E> = MapExtra {
-        from: *since,
-        to,
-        state: &mut *inp.state,
+        from: *from,
+        to: *to,
+        state,
         context,
         alloc,
         source: PhantomData,

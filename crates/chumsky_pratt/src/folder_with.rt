@@ -1,5 +1,5 @@
 //! What makes one value of an infix operator and its operands, and is shown the run.
-ghost use Rattle.std.specs.Prelude.{◌≡◌};
+ghost use Rattle.std.specs.Prelude.{◌≡◌, ◌≤◌};
 ghost use Rattle.chumsky_folds.specs.Running.{InTokens, NotPast, OnlyState, AnswersSince};
 ghost use Rattle.chumsky_pratt.specs.CalledWithThree.{KeepsStateOfThree, AnswersThree};
 
@@ -7,6 +7,7 @@ use chumsky_input::extra::ParserExtra;
 use chumsky_input::input::Input;
 use chumsky_input::input_ref::InputRef;
 use chumsky_input::map_extra::MapExtra;
+use std::alloc::Global;
 use std::marker::PhantomData;
 
 /// What makes one value of an infix operator and its operands, and is shown the run: what `infix_with` calls. Each closure
@@ -83,13 +84,48 @@ where
     ensures moves { OnlyState I.Input E.Error.Error E.State.Inspector inp.old inp.new }
     ensures lent { inp.new.state.ghost_name ≡ inp.old.state.ghost_name }
 {
-    let to = inp.cursor();
-    let context = inp.ctx();
-    let alloc = inp.alloc();
+    let (to, context, alloc) = (inp.cursor(), inp.ctx(), inp.alloc());
+    show_three::<I, E, A, B, C, R, F>(
+        closure,
+        first,
+        second,
+        third,
+        since,
+        &to,
+        &mut *inp.state,
+        context,
+        alloc,
+    )
+}
+
+/// Calls a closure with three values and an extra that shows what lies between two cursors.
+#[inline(always)]
+fn show_three<'src, I, E, A, B, C, R, F>(
+    closure: &F,
+    first: A,
+    second: B,
+    third: C,
+    from: &I::Cursor,
+    to: &I::Cursor,
+    state: &mut E::State,
+    context: &E::Context,
+    alloc: Global,
+) -> R
+where
+    I: Input<'src>,
+    E: ParserExtra<I>,
+    F: Fn(A, B, C, &mut MapExtra<'src, '_, I, E>) -> R,
+    requires callable { KeepsStateOfThree I.Input E.State.Inspector F.Fn closure.now }
+    requires tokens { I.cursor_tokens from.now ≡ I.cursor_tokens to.now }
+    requires order { I.place from.now ≤ I.place to.now }
+    ensures { AnswersThree I.Input E.State.Inspector F.Fn closure.now (first, (second, third))
+        (record { tokens = I.cursor_tokens to.now; from = I.place from.now; to = I.place to.now; context = context.now; state = E.State.seen state.old })
+        result (E.State.seen state.new) }
+{
     let mut extra: MapExtra<'src, '_, I, E> = MapExtra {
-        from: *since,
-        to,
-        state: &mut *inp.state,
+        from: *from,
+        to: *to,
+        state,
         context,
         alloc,
         source: PhantomData,
