@@ -17,7 +17,8 @@ pub returns-in_ok-push_str-in-Number : goal.returns-in_ok-push_str-in-Number
 returns-in_ok-push_str-in-Number t c =
     let old = string_bytes c.args.text.now in
     let e : form_of c.args.expression.now ≡ number (chars c.in-Number.number.now) = ap form_of c.in-Number.is ∙ form-number c.in-Number.number in
-    pushed-text old (string_bytes c.push_str-in-Number.new.self) c.in-Number.number.now (IsUtf8-string_bytes c.args.text.now) c.in_ok-push_str-in-Number.ensures.bytes ∙ ap (λ f. chars old ++ written f) (sym e)
+    pushed-text old (string_bytes c.push_str-in-Number.new.self) c.in-Number.number.now (IsUtf8-string_bytes c.args.text.now)
+    c.in_ok-push_str-in-Number.ensures.bytes ∙ ap (λ f. chars old ++ written f) (sym e)
 
 pub returns-in_ok-push-in-List-2 : goal.returns-in_ok-push-in-List-2
 returns-in_ok-push-in-List-2 t c =

@@ -38,7 +38,9 @@ pub loop-index-preserved : goal.loop-index-preserved
 loop-index-preserved t c =
     let i = c.loop-index.index in
     let xs = c.deref-element-items.result.now in
-    element_printed i (i + 1) xs c.element-item.result (chars (string_bytes c.loop-index.text)) (chars (string_bytes c.push_comma.new.text)) (chars (string_bytes c.push_json.new.text)) _ c.loop-index-test.true refl c.element-item.is c.loop-index.invariant c.in_ok-push_comma-in-Array.ensures c.in_ok-push_json-in-Array.ensures
+    element_printed i (i + 1) xs c.element-item.result (chars (string_bytes c.loop-index.text)) (chars (string_bytes c.push_comma.new.text))
+    (chars (string_bytes c.push_json.new.text)) _ c.loop-index-test.true refl c.element-item.is c.loop-index.invariant
+    c.in_ok-push_comma-in-Array.ensures c.in_ok-push_json-in-Array.ensures
 
 pub loop-place-preserved : goal.loop-place-preserved
 loop-place-preserved t c =
@@ -46,7 +48,10 @@ loop-place-preserved t c =
     let xs = c.deref-member-items.result.now in
     let m = c.member-item.result in
     let before = chars (string_bytes c.loop-place.text) ++ comma_before i in
-    member_printed i (i + 1) xs m (chars (string_bytes c.loop-place.text)) (chars (string_bytes c.push_name.new.text)) (chars (string_bytes c.push_json-in-loop-place.new.text)) _ c.loop-place-test.true refl c.member-item.is c.loop-place.invariant (c.in_ok-push_name-in-Object.ensures ∙ ap (λ z. before ++ (string_text (chars z) ++ codes ":")) c.as_str-in-loop-place.ensures.value) c.in_ok-push_json-in-Object.ensures
+    member_printed i (i + 1) xs m (chars (string_bytes c.loop-place.text)) (chars (string_bytes c.push_name.new.text))
+    (chars (string_bytes c.push_json-in-loop-place.new.text)) _ c.loop-place-test.true refl
+    c.member-item.is c.loop-place.invariant (c.in_ok-push_name-in-Object.ensures ∙ ap (λ z. before ++ (string_text (chars z) ++ codes ":")) c.as_str-in-loop-place.ensures.value)
+    c.in_ok-push_json-in-Object.ensures
 
 pub returns-in_ok-push_plain-in-Array-2 : goal.returns-in_ok-push_plain-in-Array-2
 returns-in_ok-push_plain-in-Array-2 t c =
@@ -56,7 +61,9 @@ returns-in_ok-push_plain-in-Array-2 t c =
     let e : form_of c.args.value.now ≡ array (forms_of (map form_of xs)) = ap form_of c.in-Array.is ∙ form-array c.in-Array.elements ∙ ap (λ z. array (forms_of (map form_of z))) (sym c.deref-element-items.ensures.value) in
     let n : drop i xs ≡ [] = drop_all i xs c.loop-index-test.false in
     let none : elements_left i (drop i xs) ≡ [] = ap (elements_left i) n ∙ elements_left-none i in
-    list_printed 91 93 (elements_left i (drop i xs)) (drop 1 (elements_written (forms_of (map form_of xs)))) old (chars (string_bytes c.push_plain.new.text)) (chars (string_bytes c.loop-index.text)) (chars (string_bytes c.push_plain-in-Array.new.text)) c.in_ok-push_plain-in-Array.ensures c.loop-index.invariant none c.in_ok-push_plain-in-Array-2.ensures ∙ ap (λ f. old ++ written f) (sym e)
+    list_printed 91 93 (elements_left i (drop i xs)) (drop 1 (elements_written (forms_of (map form_of xs)))) old
+    (chars (string_bytes c.push_plain.new.text)) (chars (string_bytes c.loop-index.text)) (chars (string_bytes c.push_plain-in-Array.new.text)) c.in_ok-push_plain-in-Array.ensures
+    c.loop-index.invariant none c.in_ok-push_plain-in-Array-2.ensures ∙ ap (λ f. old ++ written f) (sym e)
 
 pub returns-in_ok-push_plain-in-Object-2 : goal.returns-in_ok-push_plain-in-Object-2
 returns-in_ok-push_plain-in-Object-2 t c =

@@ -16,4 +16,5 @@ returns c =
     let begun = chars (string_bytes c.push_plain.new.text) in
     let left = chars (string_bytes c.loop-character.text) in
     let all = flat_map character_text (chars c.args.string.now) in
-    list_printed 34 34 [] all old begun left (chars (string_bytes c.push_plain-2.new.text)) c.in_ok-push_plain.ensures (append-nil left ∙ c.loop-character.invariant ∙ ap (λ z. begun ++ flat_map character_text z) whole) refl c.in_ok-push_plain-2.ensures
+    list_printed 34 34 [] all old begun left (chars (string_bytes c.push_plain-2.new.text))
+    c.in_ok-push_plain.ensures (append-nil left ∙ c.loop-character.invariant ∙ ap (λ z. begun ++ flat_map character_text z) whole) refl c.in_ok-push_plain-2.ensures

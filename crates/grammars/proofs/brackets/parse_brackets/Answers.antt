@@ -16,4 +16,5 @@ returns c =
     let closing : c.to-2.result.parser.seq ≡ 41 = rw c.to-2.ensures.parser c.just-2.ensures in
     let built : just_to c.to.result.parser.seq c.to.result.value ∷ just_to c.to-2.result.parser.seq c.to-2.result.value ∷ [] ≡ leaves = rw (opening, c.to.ensures.value, closing, c.to-2.ensures.value) refl in
     exactly-by_one_rule IsBalanced depths brackets built refl refl c.in-Ok.ensures.rules c.in_ok-rules.ensures.rules enough sound
-    (λ v i. subst (IsBalanced (chars c.args.text.now)) (omega (arith, i.2, i.3, few, short)) i.1) (λ v i. complete i [] refl c.in-Ok.grammar.limit enough) (rw (c.exact.ensures, given.0) at c.parse.ensures.3.reads)
+    (λ v i. subst (IsBalanced (chars c.args.text.now)) (omega (arith, i.2, i.3, few, short)) i.1)
+    (λ v i. complete i [] refl c.in-Ok.grammar.limit enough) (rw (c.exact.ensures, given.0) at c.parse.ensures.3.reads)
